@@ -3,7 +3,6 @@ use Rattle.std.proofs.Common.{◌≡◌, ◌⊎◌, ℕ, List, [], Option, Some,
 use Rattle.std.proofs.lemmas.Option.{same_Some}
 use Rattle.ppd_ast.specs.declared.program.Program.{Program}
 use Rattle.ppd_check.specs.Read.{HaveOneProgram, IsRead}
-use Rattle.ppd_codec_runs.specs.Recordings.{known_of as known_of_recording}
 use Rattle.ppd_io.specs.Content.{Loads}
 use Rattle.ppd_top_telling.specs.declared.options.Options.{Options}
 use Rattle.ppd_top.specs.Call.{Call}
@@ -96,7 +95,7 @@ module _ (holds : RunsHaveTheHeadline) (c : Call) (o : IsOutcome c) where
   answered w = record {
     name = w.recalled.name;
     bytes = w.recalled.bytes;
-    known = known_of_recording w.recording;
+    known = w.known;
     commands = w.commands;
     asked = w.recalled.asked;
     loaded = w.recalled.loaded;

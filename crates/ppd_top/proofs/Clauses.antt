@@ -121,7 +121,7 @@ module _ (of_runs : AnswersAreOfRuns) (c : Call) where
   was_unwritten (recording_not_loaded name asks left is rose none) e = absurd (other_than 4 c.status (3 ∷ []) refl e (inl is))
   was_unwritten (debug_done name bytes asks loads left empty d) e = inl (debug_unwritten c name bytes asks loads empty d e)
   was_unwritten (drill_done number asks left same d) e = inl (drill_unwritten c number asks same d e)
-  was_unwritten (query_done name query bytes asks loads left same d) e = inl (query_unwritten c name query bytes asks loads same d e)
+  was_unwritten (query_done name query bytes asks loads left same d) e = inl (query_unwritten c name query bytes asks loads of_runs same d e)
 
   none_or_more : (X Y : Type 0) → MemoryRanOut c ⊎ X → (X → Y) → MemoryRanOut c ⊎ Y
   none_or_more X Y (inl h) f = inl h

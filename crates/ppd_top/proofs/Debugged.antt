@@ -12,12 +12,14 @@ use Rattle.ppd_session.specs.Missing.{IsMissingAt}
 use Rattle.ppd_session.specs.Sessions.{IsWhy}
 use Rattle.ppd_session.specs.Texts.{failure_of}
 use Rattle.ppd_session.specs.declared.reply.SessionError.TheVariants.{Sets}
-use Rattle.ppd_top_query.specs.Queries.{seens_of}
 use Rattle.ppd_race.specs.Races.{races_of_logs}
 use Rattle.ppd_session.proofs.Answered.{run_answered}
 use Rattle.ppd_session.proofs.Missing.{missing_writes_told}
 use Rattle.ppd_io.specs.Content.{Loads}
+use Rattle.ppd_codec_runs.specs.Knowing.{seens_of}
+use Rattle.ppd_codec_runs.specs.Laws.{known_by}
 use Rattle.ppd_codec_runs.specs.Recordings.{IsAccepted, IsRunRecorded, known_of as known_of_recording}
+use Rattle.ppd_codec_runs.proofs.Knowing.{recordings_are_known}
 use Rattle.ppd_codec_runs.proofs.Runs.{no_run_is_refused, runs_are_recalled}
 use Rattle.ppd_codec_runs.proofs.Same.{refused_or_accepted}
 use Rattle.ppd_top_debug.specs.Output.{Standing, Talks, answers, output}
@@ -34,11 +36,10 @@ use Rattle.ppd_top.proofs.Outcomes.{loaded, one_recording_name, write_failed}
 use Rattle.ppd_top.proofs.Statuses.{IsIn, any_in, other_than}
 use Rattle.ppd_top.proofs.Talked.{IsEnd, IsLast, answers_whole, talks_any, talks_broken, talks_cut_off, talks_fine, talks_unwritten, talks_whole}
 
--- of the recording of a run no replay fails
-no_failure : (bytes : List ℕ) (r : Recording) → IsAccepted bytes r → (source : List ℕ) (header : Header) (program : Program) (h : List ℕ) → IsRunRecorded source header program h bytes → (line : List ℕ) → failure_of (known_of_recording r) line ≡ None
-no_failure bytes r accepted source header program h run line =
-    let known = (runs_are_recalled bytes r accepted source header program h run).0 in
-    subst (λ (x : Known). failure_of x line ≡ None) (sym known) (run_answered program (plan_of program header.policy) header.budget h line)
+-- by what is known of a run no replay fails
+no_failure : (x : Known) (program : Program) (header : Header) (h : List ℕ) → x ≡ known_by program header h → (line : List ℕ) → failure_of x line ≡ None
+no_failure x program header h known line =
+    subst (λ (y : Known). failure_of y line ≡ None) (sym known) (run_answered program (plan_of program header.policy) header.budget h line)
 
 -- what `debug` comes to has one of these
 debugs_in : (bytes : List ℕ) (a b : Standing) (status : ℕ) → Debugs bytes a b status → IsIn status (0 ∷ 7 ∷ 8 ∷ 3 ∷ 4 ∷ 5 ∷ 6 ∷ [])
@@ -58,8 +59,16 @@ debug_not_early bytes a b status d (inl e) = other_than 1 status (0 ∷ 7 ∷ 8 
 debug_not_early bytes a b status d (inr e) = other_than 2 status (0 ∷ 7 ∷ 8 ∷ 3 ∷ 4 ∷ 5 ∷ 6 ∷ []) refl e (debugs_in bytes a b status d)
 
 module _ (c : Call) (name bytes : List ℕ) (asks : AsksDebug c.words name) (loads : Loads c.before.held name most_recording bytes) (no_run : c.schedule ≡ []) where
-  from : (r : Recording) → IsAccepted bytes r → IsRecalledFrom c r
-  from r accepted = record { name = name; bytes = bytes; asked = asks; loaded = loads; accepted = accepted; of_runs = runs_are_recalled bytes r accepted }
+  abbrev from : (r : Recording) → IsAccepted bytes r → IsRecalledFrom c r (known_of_recording r)
+  from r accepted = record {
+    name = name;
+    bytes = bytes;
+    asked = asks;
+    loaded = loads;
+    accepted = accepted;
+    knows = recordings_are_known bytes r accepted;
+    of_runs = runs_are_recalled bytes r accepted;
+  }
 
   pub debug_any : Debugs bytes c.before.io c.after.io c.status → IsIn c.status (0 ∷ 7 ∷ 8 ∷ 3 ∷ 4 ∷ 5 ∷ 6 ∷ [])
   debug_any d = debugs_in bytes c.before.io c.after.io c.status d
@@ -75,11 +84,12 @@ module _ (c : Call) (name bytes : List ℕ) (asks : AsksDebug c.words name) (loa
   not_end (inr (inr e)) n is (inr (inl k)) = omega arith
   not_end (inr (inr e)) n is (inr (inr k)) = omega arith
 
-  answered_so : (r : Recording) → IsAccepted bytes r → Talks (known_of_recording r) [] c.before.io c.after.io c.status → IsLast c.status → WasAnswered c
+  abbrev answered_so : (r : Recording) → IsAccepted bytes r → Talks (known_of_recording r) [] c.before.io c.after.io c.status → IsLast c.status → WasAnswered c
   answered_so r accepted t e =
       let w = talks_whole (known_of_recording r) [] c.before.io c.after.io c.status t e in
       record {
         recording = r;
+        known = known_of_recording r;
         commands = w.commands;
         recalled = from r accepted;
         no_run = no_run;
@@ -99,7 +109,7 @@ module _ (c : Call) (name bytes : List ℕ) (asks : AsksDebug c.words name) (loa
   debug_broken (no_recall is written) e = absurd (omega arith)
   debug_broken (recording_refused line why same (inl h)) e = absurd (omega (arith, h.0))
   debug_broken (recording_refused line why same (inr h)) e = absurd (omega (arith, h.0))
-  debug_broken (recalled r accepted t) e = record { recording = r; recalled = from r accepted; no_run = no_run; broken = talks_broken (known_of_recording r) [] c.before.io c.after.io c.status t e }
+  debug_broken (recalled r accepted t) e = record { recording = r; known = known_of_recording r; recalled = from r accepted; no_run = no_run; broken = talks_broken (known_of_recording r) [] c.before.io c.after.io c.status t e }
 
   pub debug_unwritten : Debugs bytes c.before.io c.after.io c.status → c.status ≡ 4 → WriteFailed c
   debug_unwritten (no_recall is written) e = absurd (omega arith)
@@ -114,7 +124,8 @@ module _ (c : Call) (name bytes : List ℕ) (asks : AsksDebug c.words name) (loa
         commands = u.commands;
         told = u.told;
         out = answers (known_of_recording r) u.commands;
-        writes = for_recording name bytes asks loads no_run (answers (known_of_recording r) u.commands) (answered r accepted);
+        writes = for_recording name bytes asks loads no_run (answers (known_of_recording r) u.commands)
+            (answered r (known_of_recording r) accepted (recordings_are_known bytes r accepted) (runs_are_recalled bytes r accepted));
         written = u.written;
       }
 
@@ -124,21 +135,18 @@ module _ (c : Call) (name bytes : List ℕ) (asks : AsksDebug c.words name) (loa
   debug_out kept (recording_refused line why same (inr h)) e = absurd (omega (arith, h.0))
   debug_out kept (recalled r accepted t) e =
       let cut = talks_cut_off (known_of_recording r) [] c.before.io c.after.io c.status t e in
-      inr (record { recording = r; commands = cut.commands; recalled = from r accepted; no_run = no_run; told = cut.told; written = cut.written })
+      inr (record { recording = r; known = known_of_recording r; commands = cut.commands; recalled = from r accepted; no_run = no_run; told = cut.told; written = cut.written })
 
   -- the recording of a run has no replay that fails
   of_no_run : (w : WasAnswered c) → c.status ≡ 6 → (source : List ℕ) (header : Header) (program : Program) (h : List ℕ) → IsRunRecorded source header program h w.recalled.bytes → ⊥
   of_no_run w six source header program h run =
-      end_not_6 _ (answers_whole (known_of_recording w.recording) (no_failure w.recalled.bytes w.recording w.recalled.accepted source header program h run) 0 (lines_of w.commands)) (sym w.status_is ∙ six)
+      end_not_6 _ (answers_whole w.known (no_failure w.known program header h (w.recalled.of_runs source header program h run).0) 0 (lines_of w.commands)) (sym w.status_is ∙ six)
 
   -- a write that a line asks for is missing
-  is_missing : (w : WasAnswered c) (line : List ℕ) (at : At)
-      → IsWhy (failure_of (known_of_recording w.recording) line) (Sets at)
-      → IsMissingAt w.recording.logs (seens_of w.recording) at
-  is_missing w line at f =
-      let r = w.recording in
-      (missing_writes_told r.program r.plan r.header.budget r.logs (races_of_logs r.program r.logs)
-      w.recalled.accepted.indexed).lines line at f
+  is_missing : (r : Recording) → IsAccepted bytes r → (line : List ℕ) (at : At)
+      → IsWhy (failure_of (known_of_recording r) line) (Sets at) → IsMissingAt r.logs (seens_of r) at
+  is_missing r accepted line at f =
+      (missing_writes_told r.program r.plan r.header.budget r.logs (races_of_logs r.program r.logs) accepted.indexed).lines line at f
 
   pub debug_refused : Debugs bytes c.before.io c.after.io c.status → c.status ≡ 6 → WasNotRecalled c ⊎ ReplayRefused c
   debug_refused (no_recall is written) e = absurd (omega arith)
@@ -157,11 +165,10 @@ module _ (c : Call) (name bytes : List ℕ) (asks : AsksDebug c.words name) (loa
   })
   debug_refused (recording_refused line why same (inr h)) e = absurd (omega (arith, h.0))
   debug_refused (recalled r accepted t) e =
-      let w : WasAnswered c = answered_so r accepted t (inr e) in
       inr (record {
-        answered = w;
-        missing = λ line at f. is_missing w line at f;
-        of_no_run = of_no_run w e;
+        answered = answered_so r accepted t (inr e);
+        missing = is_missing r accepted;
+        of_no_run = of_no_run (answered_so r accepted t (inr e)) e;
       })
 
   pub debug_complete : Debugs bytes c.before.io c.after.io c.status → IsPromisedAnswers c → (c.status ≡ 0) ⊎ (c.status ≡ 5)
@@ -178,4 +185,4 @@ module _ (c : Call) (name bytes : List ℕ) (asks : AsksDebug c.words name) (loa
       let P : List ℕ → Type 0 = λ n. Loads c.before.held n most_recording bytes in
       let is = loaded c.before.held p.at most_recording p.name p.all bytes p.told p.there (subst P names loads) in
       let Q : List ℕ → Type 0 = λ s. IsRunRecorded p.source p.header p.program p.schedule s in
-      talks_fine (known_of_recording r) (no_failure bytes r accepted p.source p.header p.program p.schedule (subst Q (sym is) p.of_run)) [] c.before.io c.after.io c.status f.commands f.rest t f.told f.told_still f.fine f.no_read_fault p.no_write_fault
+      talks_fine (known_of_recording r) (no_failure (known_of_recording r) p.program p.header p.schedule (runs_are_recalled bytes r accepted p.source p.header p.program p.schedule (subst Q (sym is) p.of_run)).0) [] c.before.io c.after.io c.status f.commands f.rest t f.told f.told_still f.fine f.no_read_fault p.no_write_fault

@@ -13,6 +13,7 @@ use Rattle.ppd_rerun_model.specs.declared.verdict.Verdict.TheVariants.{Yes, No}
 use Rattle.ppd_top_query.specs.Queries.{Gives, IsAnswer, Query}
 use Rattle.ppd_top_query.specs.Queries.IsWritten.{refuses, answers, fails}
 use Rattle.ppd_top_query.specs.Queries.Query.{Clean, Rerun, Slice, Whole}
+use Rattle.ppd_top_query.specs.Determined.{GivesBy}
 use Rattle.ppd_top_query.specs.OfRuns.{AnswersAreOfRuns}
 use Rattle.ppd_top_query.specs.Replies.{IsAskable, IsError}
 use Rattle.ppd_session.specs.declared.reply.SessionError.{SessionError}
@@ -20,9 +21,10 @@ use Rattle.ppd_session.specs.declared.reply.SessionError.TheVariants.{Diverged, 
 use Rattle.ppd_text_refusals.specs.Recordings.{refused_replay}
 use Rattle.ppd_top_debug.specs.Asking.{IsFailed}
 use Rattle.ppd_top_query.proofs.Ends.{queries_end, runs_are_told}
-use Rattle.ppd_top_query.proofs.Missing.{failures_missing}
-use Rattle.ppd_codec_runs.specs.Recordings.{IsAccepted, IsRecalled, IsRunRecorded}
+use Rattle.ppd_top_query.proofs.Determined.{answers_are_determined, failed_are_missing}
+use Rattle.ppd_codec_runs.specs.Recordings.{IsAccepted, IsRecalled, IsRunRecorded, known_of}
 use Rattle.ppd_codec_runs.specs.declared.recalling.Recalled.{Recalled}
+use Rattle.ppd_codec_runs.proofs.Knowing.{recordings_are_known}
 use Rattle.ppd_codec_runs.proofs.Runs.{no_run_is_refused, runs_are_recalled}
 use Rattle.ppd_codec_runs.proofs.Same.{refused_or_accepted}
 use Rattle.ppd_top_words.specs.Reads.{texts_in}
@@ -94,18 +96,20 @@ module _ (c : Call) (name : List ℕ) (query : Query) (bytes : List ℕ) (asks :
   query_any (queried r accepted n text g (inl h)) = elim (queries_end r query c.schedule n text g) [ inl z ↦ inl (h.0 ∙ z) | inr s ↦ inr (inr (inr (inl (h.0 ∙ s)))) ]
   query_any (queried r accepted n text g (inr h)) = inr (inl h.0)
 
-  was_queried : AnswersAreOfRuns → (r : Recording) → IsAccepted bytes r → (n : ℕ) (text : List ℕ) → Gives r query c.schedule n text → c.status ≡ n → Wrote c text → WasQueried c
+  abbrev was_queried : AnswersAreOfRuns → (r : Recording) → IsAccepted bytes r → (n : ℕ) (text : List ℕ) → Gives r query c.schedule n text → c.status ≡ n → Wrote c text → WasQueried c
   was_queried of_runs r accepted n text g is w = record {
     name = name;
     query = query;
     bytes = bytes;
     recording = r;
+    known = known_of r;
     text = text;
     asked = asks;
     loaded = loads;
     accepted = accepted;
+    knows = recordings_are_known bytes r accepted;
     of_runs = runs_are_recalled bytes r accepted;
-    gives = subst (λ k. Gives r query c.schedule k text) (sym is) g;
+    gives = subst (λ k. GivesBy r (known_of r) query c.schedule k text) (sym is) (answers_are_determined bytes r query c.schedule n text accepted g);
     answers_runs = λ zero. of_runs bytes r query c.schedule text accepted (subst (λ k. Gives r query c.schedule k text) (sym is ∙ zero) g);
     written = w;
   }
@@ -117,15 +121,21 @@ module _ (c : Call) (name : List ℕ) (query : Query) (bytes : List ℕ) (asks :
   query_whole of_runs (queried r accepted n text g (inl h)) e = was_queried of_runs r accepted n text g h.0 h.1
   query_whole of_runs (queried r accepted n text g (inr h)) e = absurd (omega (arith, h.0))
 
-  pub query_unwritten : LeftInput c → Queries bytes query c.schedule c.before.io.written c.after.io.written c.before.io.writes c.after.io.writes c.status → c.status ≡ 4 → WriteFailed c
-  query_unwritten same (no_query is empty none) e = absurd (omega arith)
-  query_unwritten same (query_refused line why empty f) e =
+  told_of : AnswersAreOfRuns → (r : Recording) → IsAccepted bytes r → (n : ℕ) (text : List ℕ) → Gives r query c.schedule n text → Tells bytes query c.schedule (output n text)
+  told_of of_runs r accepted n text g =
+      given r (known_of r) c.schedule n text accepted (recordings_are_known bytes r accepted) (runs_are_recalled bytes r accepted)
+      (answers_are_determined bytes r query c.schedule n text accepted g)
+      (λ zero. of_runs bytes r query c.schedule text accepted (subst (λ k. Gives r query c.schedule k text) zero g))
+
+  pub query_unwritten : AnswersAreOfRuns → LeftInput c → Queries bytes query c.schedule c.before.io.written c.after.io.written c.before.io.writes c.after.io.writes c.status → c.status ≡ 4 → WriteFailed c
+  query_unwritten of_runs same (no_query is empty none) e = absurd (omega arith)
+  query_unwritten of_runs same (query_refused line why empty f) e =
       let t = same_input c.before.io.left c.after.io.left same.left in
       let w : Tells bytes query c.schedule (output 6 line) = subst (λ h. Tells bytes query h (output 6 line)) (sym empty) (not_recalled line why) in
       write_failed c t.0 6 line t.1 (for_query name query bytes asks loads (output 6 line) w) (λ k. omega arith) f e
-  query_unwritten same (queried r accepted n text g f) e =
+  query_unwritten of_runs same (queried r accepted n text g f) e =
       let t = same_input c.before.io.left c.after.io.left same.left in
-      write_failed c t.0 n text t.1 (for_query name query bytes asks loads (output n text) (given r c.schedule n text accepted g))
+      write_failed c t.0 n text t.1 (for_query name query bytes asks loads (output n text) (told_of of_runs r accepted n text g))
       (λ k. given_not r n text g 4 k (λ z. omega arith) (λ z. omega arith)) f e
 
   pub query_out : c.after.held ≡ c.before.held → Queries bytes query c.schedule c.before.io.written c.after.io.written c.before.io.writes c.after.io.writes c.status → c.status ≡ 5 → MemoryRanOut c
@@ -136,9 +146,10 @@ module _ (c : Call) (name : List ℕ) (query : Query) (bytes : List ℕ) (asks :
   query_out kept (queried r accepted n text g (inr h)) e = absurd (omega (arith, h.0))
 
   -- of the recording of a run no replay fails
-  of_no_run : (w : WasQueried c) → c.status ≡ 6 → (source : List ℕ) (header : Header) (program : Program) (h : List ℕ) → IsRunRecorded source header program h w.bytes → ⊥
-  of_no_run w six source header program h run =
-      let zero : c.status ≡ 0 = runs_are_told w.bytes w.recording w.query c.schedule c.status w.text w.accepted source header program h run w.gives in
+  of_no_run : (r : Recording) → IsAccepted bytes r → (n : ℕ) (text : List ℕ) → Gives r query c.schedule n text → n ≡ 6
+      → (source : List ℕ) (header : Header) (program : Program) (h : List ℕ) → IsRunRecorded source header program h bytes → ⊥
+  of_no_run r accepted n text g six source header program h run =
+      let zero : n ≡ 0 = runs_are_told bytes r query c.schedule n text accepted source header program h run g in
       omega (arith, six, zero)
 
   pub query_not_told : AnswersAreOfRuns → LeftInput c → Queries bytes query c.schedule c.before.io.written c.after.io.written c.before.io.writes c.after.io.writes c.status → c.status ≡ 6 → WasNotRecalled c ⊎ QueryRefused c
@@ -158,8 +169,11 @@ module _ (c : Call) (name : List ℕ) (query : Query) (bytes : List ℕ) (asks :
   })
   query_not_told of_runs same (query_refused line why empty (inr h)) e = absurd (omega (arith, h.0))
   query_not_told of_runs same (queried r accepted n text g (inl h)) e =
-      let w : WasQueried c = was_queried of_runs r accepted n text g h.0 h.1 in
-      inr (record { queried = w; missing = λ at f. failures_missing w.bytes w.recording w.query at w.accepted f; of_no_run = of_no_run w e })
+      inr (record {
+        queried = was_queried of_runs r accepted n text g h.0 h.1;
+        missing = λ at f. failed_are_missing bytes r query at accepted f;
+        of_no_run = of_no_run r accepted n text g (sym h.0 ∙ e);
+      })
   query_not_told of_runs same (queried r accepted n text g (inr h)) e = absurd (omega (arith, h.0))
 
   -- the bytes that are promised are those that were loaded

@@ -1,6 +1,6 @@
 -- A run that can be told: its logs have an index and a graph, and what is told of it is of its schedule.
 use Rattle.std.specs.Prelude.{IfOk, IfErr, Result}
-use Rattle.std.proofs.Common.{◌≡◌, ℕ, Ok, Err, List, [], ap, sym, ◌∙◌}
+use Rattle.std.proofs.Common.{◌≡◌, ℕ, Ok, Err, List, ap, sym, ◌∙◌}
 use Rattle.ppd_ast.specs.Valid.{IsValid}
 use Rattle.ppd_ast.specs.declared.plan.Plan.{Plan}
 use Rattle.ppd_ast.specs.declared.program.Program.{Program}

@@ -15,16 +15,19 @@ use Rattle.ppd_codec.specs.declared.recording.Recording.{Recording}
 use Rattle.ppd_entry.specs.declared.entry.At.{At}
 use Rattle.ppd_rerun_model.specs.Verdicts.{IsVerdict}
 use Rattle.ppd_rerun_model.specs.declared.verdict.Verdict.TheVariants.{Yes}
+use Rattle.ppd_session.specs.Known.{Known}
 use Rattle.ppd_session.specs.Missing.{IsMissingAt}
 use Rattle.ppd_session.specs.Sessions.{IsWhy}
 use Rattle.ppd_session.specs.Texts.{failure_of}
 use Rattle.ppd_session.specs.declared.reply.SessionError.TheVariants.{Sets}
+use Rattle.ppd_top_query.specs.Determined.{GivesBy, IsFailedBy}
 use Rattle.ppd_top_query.specs.Missing.{IsMissingFor}
 use Rattle.ppd_top_query.specs.OfRuns.{IsOfRuns}
-use Rattle.ppd_top_query.specs.Queries.{Gives, IsFailure, Query, seens_of}
+use Rattle.ppd_top_query.specs.Queries.{Query}
 use Rattle.ppd_top_query.specs.Queries.Query.{Rerun}
+use Rattle.ppd_codec_runs.specs.Knowing.{IsKnownOf, seens_of}
 use Rattle.ppd_codec_runs.specs.Laws.{IsKnownOfRuns}
-use Rattle.ppd_codec_runs.specs.Recordings.{IsAccepted, IsRefusedBy, IsRunRecorded, known_of as known_of_recording}
+use Rattle.ppd_codec_runs.specs.Recordings.{IsAccepted, IsRefusedBy, IsRunRecorded}
 use Rattle.ppd_top_telling.specs.declared.options.Options.{Options}
 use Rattle.ppd_top.specs.Call.{Call, HasFailedLoad, HasFailedRead, HasFailedStore, HasFailedWrite, LeftInput, Wrote, WroteFront, WroteNothing, WrotePart}
 use Rattle.ppd_top_debug.specs.Output.{AreCommands, AreFine, IsBroken, IsReadNoFurther, Output, answers}
@@ -88,27 +91,30 @@ pub record WasDrilled (c : Call) : Type 0 where
   pub written : Wrote c (drill_out program c.schedule).text
   pub agreeing : IsOfAgreeing program drill_options c.schedule drill_commands (drill_out program c.schedule)
 
--- a loaded recording that was accepted, and what is known of it: of the run, where it is that of a whole one
-pub record IsRecalledFrom (c : Call) (recording : Recording) : Type 0 where
+-- a loaded recording that was accepted, and what is known of it: what each accepted recording tells, and of the run all
+-- that is known of that, where it is the recording of a whole one
+pub record IsRecalledFrom (c : Call) (recording : Recording) (known : Known) : Type 0 where
   pub name : List ℕ
   pub bytes : List ℕ
   pub asked : AsksDebug c.words name
   pub loaded : Loads c.before.held name most_recording bytes
   pub accepted : IsAccepted bytes recording
-  pub of_runs : IsKnownOfRuns bytes (known_of_recording recording)
+  pub knows : IsKnownOf recording known
+  pub of_runs : IsKnownOfRuns bytes known
 
 -- statuses 0, 7 and 8 of `debug`, and 6 where a replay failed: the loaded recording was accepted, nothing ran, and all
 -- that belongs to it and to the commands was written, with its status: of the recording of a run, all that is written
 -- of the run but the summary
 pub record WasAnswered (c : Call) : Type 0 where
   pub recording : Recording
+  pub known : Known
   pub commands : List ℕ
-  pub recalled : IsRecalledFrom c recording
+  pub recalled : IsRecalledFrom c recording known
   pub no_run : c.schedule ≡ []
   pub told : AreCommands c.before.io.left c.after.io.left commands
-  pub unread : IsReadNoFurther (known_of_recording recording) commands c.after.io.left c.after.io.last
-  pub status_is : c.status ≡ (answers (known_of_recording recording) commands).status
-  pub written : Wrote c (answers (known_of_recording recording) commands).text
+  pub unread : IsReadNoFurther known commands c.after.io.left c.after.io.last
+  pub status_is : c.status ≡ (answers known commands).status
+  pub written : Wrote c (answers known commands).text
 
 -- statuses 0 and 6 of a query: the loaded recording was accepted, and what belongs to the query was written, with its
 -- status; the schedule is that which belongs to it. What is known of the recording is what is known of the run, where it
@@ -118,12 +124,14 @@ pub record WasQueried (c : Call) : Type 0 where
   pub query : Query
   pub bytes : List ℕ
   pub recording : Recording
+  pub known : Known
   pub text : List ℕ
   pub asked : AsksQuery c.words name query
   pub loaded : Loads c.before.held name most_recording bytes
   pub accepted : IsAccepted bytes recording
-  pub of_runs : IsKnownOfRuns bytes (known_of_recording recording)
-  pub gives : Gives recording query c.schedule c.status text
+  pub knows : IsKnownOf recording known
+  pub of_runs : IsKnownOfRuns bytes known
+  pub gives : GivesBy recording known query c.schedule c.status text
   pub answers_runs : c.status ≡ 0 → IsOfRuns bytes query c.schedule text
   pub written : Wrote c text
 
@@ -147,7 +155,7 @@ pub record WasNotRecalled (c : Call) : Type 0 where
 -- and the line that says so were written; the recording is that of no whole run
 pub record ReplayRefused (c : Call) : Type 0 where
   pub answered : WasAnswered c
-  pub missing : (line : List ℕ) (at : At) → IsWhy (failure_of (known_of_recording answered.recording) line) (Sets at)
+  pub missing : (line : List ℕ) (at : At) → IsWhy (failure_of answered.known line) (Sets at)
       → IsMissingAt answered.recording.logs (seens_of answered.recording) at
   pub of_no_run : (source : List ℕ) (header : Header) (program : Program) (h : List ℕ)
       → IsRunRecorded source header program h answered.recalled.bytes → ⊥
@@ -156,7 +164,7 @@ pub record ReplayRefused (c : Call) : Type 0 where
 -- was written; the recording is that of no whole run
 pub record QueryRefused (c : Call) : Type 0 where
   pub queried : WasQueried c
-  pub missing : (at : At) → IsFailure queried.recording queried.query (Sets at)
+  pub missing : (at : At) → IsFailedBy queried.recording queried.known queried.query (Sets at)
       → IsMissingFor queried.recording queried.query at
   pub of_no_run : (source : List ℕ) (header : Header) (program : Program) (h : List ℕ)
       → IsRunRecorded source header program h queried.bytes → ⊥
@@ -211,9 +219,10 @@ pub record InputFailed (c : Call) : Type 0 where
 -- or in `debug`, where the answers to the whole lines among the bytes taken were written
 pub record LinesFailed (c : Call) : Type 0 where
   pub recording : Recording
-  pub recalled : IsRecalledFrom c recording
+  pub known : Known
+  pub recalled : IsRecalledFrom c recording known
   pub no_run : c.schedule ≡ []
-  pub broken : IsBroken (known_of_recording recording) [] c.before.io c.after.io
+  pub broken : IsBroken known [] c.before.io c.after.io
 
 -- status 4: a write failed, and a proper prefix of what the command writes went out
 pub record WriteFailed (c : Call) : Type 0 where
@@ -268,11 +277,12 @@ pub record DrillCutOff (c : Call) : Type 0 where
 -- or in `debug` want of memory, and a prefix of what the command writes went out
 pub record AnswersCutOff (c : Call) : Type 0 where
   pub recording : Recording
+  pub known : Known
   pub commands : List ℕ
-  pub recalled : IsRecalledFrom c recording
+  pub recalled : IsRecalledFrom c recording known
   pub no_run : c.schedule ≡ []
   pub told : AreCommands c.before.io.left c.after.io.left commands
-  pub written : WroteFront c (answers (known_of_recording recording) commands).text
+  pub written : WroteFront c (answers known commands).text
 
 -- an input whose bytes are told, with at most 65,536 lines of at most 4,096 bytes through the first `quit`, or else to
 -- the end, and with no read that failed

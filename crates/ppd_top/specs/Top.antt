@@ -21,8 +21,13 @@ use Rattle.ppd_text_refusals.specs.Sources.{refused}
 use Rattle.ppd_top.specs.Words.{Asks, AsksDebug, AsksDrill, AsksQuery, Command, IsNotAsked}
 use Rattle.ppd_top.specs.Words.Command.{Flow, Run, Show}
 use Rattle.ppd_codec.specs.declared.recording.Recording.{Recording}
-use Rattle.ppd_top_query.specs.Queries.{Gives, Query}
-use Rattle.ppd_codec_runs.specs.Recordings.{IsAccepted, IsRefusedBy, known_of as known_of_recording}
+use Rattle.ppd_session.specs.Known.{Known}
+use Rattle.ppd_top_query.specs.Determined.{GivesBy}
+use Rattle.ppd_top_query.specs.OfRuns.{IsOfRuns}
+use Rattle.ppd_top_query.specs.Queries.{Query}
+use Rattle.ppd_codec_runs.specs.Knowing.{IsKnownOf}
+use Rattle.ppd_codec_runs.specs.Laws.{IsKnownOfRuns}
+use Rattle.ppd_codec_runs.specs.Recordings.{IsAccepted, IsRefusedBy}
 use Rattle.ppd_top_runs.specs.Commands.{plan_of, IsWholeRun, summary_of_run, known_of}
 
 -- ---- the run of a program
@@ -77,13 +82,15 @@ pub data Answers (bytes : List ℕ) (options : Options) (commands : List ℕ) : 
 -- what `debug` writes in all for a recording, with which status
 pub data Recalls (bytes : List ℕ) (commands : List ℕ) : Output → Type 0 where
   refused_recording : (line : List ℕ) → IsRefusedBy bytes line → Recalls bytes commands (output 6 line)
-  answered : (r : Recording) → IsAccepted bytes r → Recalls bytes commands (answers (known_of_recording r) commands)
+  answered : (r : Recording) (known : Known) → IsAccepted bytes r → IsKnownOf r known → IsKnownOfRuns bytes known
+      → Recalls bytes commands (answers known commands)
 
 -- what is written in all for what is asked of a recording, with which status, and which schedule was taken then
 pub data Tells (bytes : List ℕ) (query : Query) : (schedule : List ℕ) → Output → Type 0 where
   not_recalled : (line : List ℕ) → IsRefusedBy bytes line → Tells bytes query [] (output 6 line)
-  given : (r : Recording) (schedule : List ℕ) (status : ℕ) (text : List ℕ) → IsAccepted bytes r
-      → Gives r query schedule status text → Tells bytes query schedule (output status text)
+  given : (r : Recording) (known : Known) (schedule : List ℕ) (status : ℕ) (text : List ℕ) → IsAccepted bytes r
+      → IsKnownOf r known → IsKnownOfRuns bytes known → GivesBy r known query schedule status text
+      → (status ≡ 0 → IsOfRuns bytes query schedule text) → Tells bytes query schedule (output status text)
 
 -- what a call writes in all, by its words, what the shelf held and the schedule, where the input has these commands
 pub data Writes (c : Call) (commands : List ℕ) : Output → Type 0 where

@@ -1,9 +1,9 @@
 -- What is answered of an item of the recording of a run, with races or without, is that of the run.
 use Rattle.std.specs.Prelude.{codes, nat_lt, slice_get, if◌then◌else◌}
-use Rattle.std.proofs.Common.{◌≡◌, ℕ, zero, suc, ◌<◌, Bool, true, false, List, [], ◌∷◌, Option, Some, None, Result, Ok, Err, length, map, get_or, refl, ap, sym, ◌∙◌, subst, arith}
+use Rattle.std.proofs.Common.{◌≡◌, ℕ, zero, suc, ◌<◌, Bool, true, false, List, [], ◌∷◌, Option, Some, None, Result, Err, length, map, get_or, refl, ap, sym, ◌∙◌, subst, arith}
 use Rattle.std.proofs.lemmas.Bool.{lt-ltb, ltb-true}
 use Rattle.std.proofs.lemmas.List.{length-map}
-use Rattle.law_clean.specs.Answers.{answer_of, unwritten}
+use Rattle.law_clean.specs.Answers.{answer_of}
 use Rattle.law_clean.specs.Laws.{AnswersAreOfRuns as CleansAreOfRuns}
 use Rattle.law_clean.specs.Search.{clean_by}
 use Rattle.ppd_ast.specs.Valid.{IsValid}
@@ -17,8 +17,6 @@ use Rattle.ppd_clean.specs.declared.clean_error.CleanError.{CleanError}
 use Rattle.ppd_clean.specs.declared.clean_error.CleanError.TheVariants as clean_error
 use Rattle.ppd_codec.specs.declared.recording.Header.{Header}
 use Rattle.ppd_codec.specs.declared.recording.Recording.{Recording}
-use Rattle.ppd_codec_runs.proofs.Same.{IsOfThree}
-use Rattle.ppd_codec_runs.specs.Laws.{known_by}
 use Rattle.ppd_codec_runs.specs.Recordings.{known_of}
 use Rattle.ppd_entry.specs.declared.entry.Logs.{Logs}
 use Rattle.ppd_model.specs.Intervals.{Span, Split, splits}
@@ -27,14 +25,14 @@ use Rattle.ppd_model.specs.Races.{races}
 use Rattle.ppd_model.specs.Schedule.{IsWhole}
 use Rattle.ppd_model.specs.Story.{story}
 use Rattle.ppd_model.specs.declared.graph.Race.{Race}
-use Rattle.ppd_session.specs.Known.{Known, Interval, known_of_run, of_split}
+use Rattle.ppd_session.specs.Known.{Known, known_of_run, of_split}
 use Rattle.ppd_session.specs.Questions.{process_named}
 use Rattle.ppd_session.specs.Texts.{intervals_at}
 use Rattle.ppd_session.specs.declared.reply.SessionError.{SessionError}
 use Rattle.ppd_session.specs.declared.reply.SessionError.TheVariants.{Diverged, Sets, Memory}
 use Rattle.ppd_top_query.specs.OfRuns.{IsCleanOfRun}
-use Rattle.ppd_top_query.specs.Queries.{Gives, IsCleanAnswer, IsCleanFailure, ItemAsked, block_refusal, clean_of, clean_refusal, clean_text, process_refusal}
-use Rattle.ppd_top_query.specs.Queries.IsWritten.{refuses, answers, fails}
+use Rattle.ppd_top_query.specs.Queries.{Gives, IsCleanFailure, ItemAsked, block_refusal, clean_of, clean_refusal, clean_text, process_refusal}
+use Rattle.ppd_top_query.specs.Queries.IsWritten.{refuses, answers}
 use Rattle.ppd_top_query.specs.Queries.Query.{Clean}
 use Rattle.ppd_top_query.specs.Replies.{IsFoundClean}
 use Rattle.ppd_top_query.proofs.CleanTold.{Found}

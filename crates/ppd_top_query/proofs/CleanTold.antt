@@ -1,7 +1,7 @@
 -- What is answered of an item of a recording with or without races.
-use Rattle.std.specs.Prelude.{IfErr, IfOk, Vec, codes, false, is_some, nat_lt, if◌then◌else◌}
-use Rattle.std.proofs.Common.{◌≡◌, ℕ, List, [], Bool, true, Option, Some, None, Result, Ok, Err, length, refl, ap, sym, ◌∙◌, subst}
-use Rattle.law_clean.specs.Answers.{CleanOr, unwritten}
+use Rattle.std.specs.Prelude.{IfErr, IfOk, Vec, codes, false, nat_lt, if◌then◌else◌}
+use Rattle.std.proofs.Common.{◌≡◌, ℕ, List, [], Bool, true, Some, None, Result, Ok, Err, length, refl, ap, sym, ◌∙◌, subst}
+use Rattle.law_clean.specs.Answers.{CleanOr}
 use Rattle.law_clean.specs.Search.{clean_by, cut_by, first_raced}
 use Rattle.ppd_ast.specs.declared.plan.Plan.{Plan}
 use Rattle.ppd_ast.specs.declared.program.Program.{Program}
@@ -18,10 +18,9 @@ use Rattle.ppd_flow_past.specs.declared.past.Past.{Past}
 use Rattle.ppd_graph.specs.Refusals.{AreOrdered}
 use Rattle.ppd_model.specs.HappenedBefore.{Before}
 use Rattle.ppd_model.specs.RecordedSets.{record_in}
-use Rattle.ppd_model.specs.declared.graph.NodeId.{NodeId}
 use Rattle.ppd_model.specs.declared.graph.Race.{Race}
 use Rattle.ppd_race.specs.Races.{races_of_logs}
-use Rattle.ppd_session.specs.Known.{Known, known_with}
+use Rattle.ppd_session.specs.Known.{known_with}
 use Rattle.ppd_session.specs.Questions.{process_named}
 use Rattle.ppd_session.specs.Sessions.{known_by}
 use Rattle.ppd_session.specs.Texts.{intervals_at, no_process}

@@ -1,6 +1,6 @@
 -- With which status a query ends, and what is answered of a run.
-use Rattle.std.specs.Prelude.{Some, None, slice_get}
-use Rattle.std.proofs.Common.{◌≡◌, ℕ, List, [], Option, Err, refl, ap, sym, ◌∙◌, subst, inl, inr, ◌⊎◌}
+use Rattle.std.specs.Prelude.{Some, None}
+use Rattle.std.proofs.Common.{◌≡◌, ℕ, List, Option, refl, ap, subst, inl, inr}
 use Rattle.ppd_ast.specs.declared.plan.Plan.{Plan}
 use Rattle.ppd_ast.specs.declared.program.Program.{Program}
 use Rattle.ppd_blocks.specs.Blocks.{plan_of}
@@ -10,11 +10,11 @@ use Rattle.ppd_entry.specs.declared.entry.At.{At}
 use Rattle.ppd_flow_past.specs.declared.flow_error.FlowError.{FlowError}
 use Rattle.ppd_flow_past.specs.declared.flow_error.FlowError.TheVariants as flow_error
 use Rattle.ppd_top_query.specs.Laws.{QueriesEnd, RunsAreTold}
-use Rattle.ppd_top_query.specs.Queries.{Gives, IsFailure, IsSliceFailure, Query, refusal}
+use Rattle.ppd_top_query.specs.Queries.{IsFailure, IsSliceFailure, Query, refusal}
 use Rattle.ppd_top_query.specs.Queries.IsWritten.{refuses, answers, fails}
 use Rattle.ppd_top_query.specs.Queries.Query.{Slice, Whole, Rerun, Clean}
-use Rattle.ppd_session.specs.Known.{Flow, Known, known_of_run}
-use Rattle.ppd_session.specs.Texts.{failure_at, failure_in, flow_at, told_at, unfound_flow}
+use Rattle.ppd_session.specs.Known.{Known, known_of_run}
+use Rattle.ppd_session.specs.Texts.{failure_in, flow_at, told_at, unfound_flow}
 use Rattle.ppd_session.specs.declared.reply.SessionError.{SessionError}
 use Rattle.ppd_session.specs.declared.reply.SessionError.TheVariants.{Diverged, Sets, Memory}
 use Rattle.ppd_session.proofs.Answered.{of_name, of_table}

@@ -1,6 +1,6 @@
 -- The slice of a past, by what is known of it.
-use Rattle.std.specs.Prelude.{slice_get, nat_lt, if◌then◌else◌, ⊤}
-use Rattle.std.proofs.Common.{◌≡◌, ℕ, zero, suc, ◌+◌, ◌<◌, ◌≤◌, Bool, true, false, true≢false, List, [], ◌∷◌, Option, Some, None, Result, Ok, Err, length, refl, ap, sym, ◌∙◌, subst, arith, inl, inr, ◌⊎◌}
+use Rattle.std.specs.Prelude.{slice_get, nat_lt, if◌then◌else◌}
+use Rattle.std.proofs.Common.{◌≡◌, ℕ, zero, suc, ◌+◌, ◌<◌, ◌≤◌, Bool, true, false, true≢false, List, [], ◌∷◌, Option, Some, None, Result, Ok, Err, length, refl, ap, sym, ◌∙◌, arith}
 use Rattle.std.proofs.lemmas.Bool.{lt-ltb, le-ltb, ltb-true}
 use Rattle.std.proofs.lemmas.Option.{slice_get_within}
 use Rattle.ppd_entry.specs.declared.entry.At.{At}
@@ -11,18 +11,17 @@ use Rattle.ppd_model.specs.declared.flow.Item.{Item}
 use Rattle.ppd_flow_past.specs.declared.flow_error.FlowError.{FlowError}
 use Rattle.ppd_flow_past.specs.declared.flow_error.FlowError.TheVariants as flow_error
 use Rattle.ppd_flow_past.specs.declared.past.Past.{Past}
-use Rattle.ppd_flow_past.specs.ByReplays.{AreReplayed, cost, failure_or, first_failed_in}
+use Rattle.ppd_flow_past.specs.ByReplays.{cost, failure_or, first_failed_in}
 use Rattle.ppd_flow_past.specs.SeenBy.{failed_in, items_in}
 use Rattle.ppd_flow_model.specs.Found.{edges_replays, found_edges}
 use Rattle.ppd_flow_shared.specs.SharedCells.{seens_in}
 use Rattle.ppd_slice_model.specs.declared.reached.ItemAt.{ItemAt}
 use Rattle.ppd_slice_model.specs.declared.reached.Reached.{Reached}
-use Rattle.ppd_slice_model.specs.Reach.{IsIn, IsReach, at, item_of}
+use Rattle.ppd_slice_model.specs.Reach.{IsReach, item_of}
 use Rattle.ppd_slice_model.proofs.Levels.{reach_as}
 use Rattle.ppd_session.specs.Known.{Flow, Known, Told, flow_by, unless_failed}
-use Rattle.ppd_session.specs.Sessions.{IsItemThere, known_by}
+use Rattle.ppd_session.specs.Sessions.{known_by}
 use Rattle.ppd_session.specs.Texts.{failure_in, flow_at, no_event, told_at}
-use Rattle.ppd_session.specs.declared.reply.SessionError.{SessionError}
 use Rattle.ppd_session.specs.declared.reply.SessionError.TheVariants.{Diverged, Sets}
 use Rattle.ppd_session.proofs.Flows.{flow_there, same as same_logs}
 use Rattle.ppd_session.proofs.Replayed.{are_replayed, same_failure, tells, tells_items}

@@ -12,6 +12,7 @@ use Rattle.ppd_codec.specs.declared.recording.Header.{Header}
 use Rattle.ppd_codec.specs.declared.recording.Recording.{Recording}
 use Rattle.ppd_codec_runs.proofs.Runs.{runs_are_recalled}
 use Rattle.ppd_codec_runs.proofs.Same.{IsOfThree, of_three}
+use Rattle.ppd_codec_runs.specs.Knowing.{seens_of}
 use Rattle.ppd_codec_runs.specs.Laws.{known_by}
 use Rattle.ppd_codec_runs.specs.Recordings.{IsAccepted, IsRunRecorded, known_of}
 use Rattle.ppd_entry.specs.declared.entry.At.{At}
@@ -23,8 +24,6 @@ use Rattle.ppd_model.specs.Agreement.{Agree}
 use Rattle.ppd_model.specs.FullTrace.{full_trace, trace_of}
 use Rattle.ppd_model.specs.Logs.{closed_logs}
 use Rattle.ppd_model.specs.Races.{races}
-use Rattle.ppd_model.specs.Record.{sync_record}
-use Rattle.ppd_model.specs.RecordedSets.{record_in}
 use Rattle.ppd_model.specs.declared.graph.Race.{Race}
 use Rattle.ppd_model.specs.declared.trace.Trace.{Trace}
 use Rattle.ppd_model.specs.declared.tracing.Story.{Story}
@@ -35,17 +34,16 @@ use Rattle.ppd_rerun_model.specs.declared.verdict.Verdict.TheVariants as verdict
 use Rattle.ppd_session.proofs.Honest.{all_there, never}
 use Rattle.ppd_session.specs.Known.{Known, seens}
 use Rattle.ppd_text_verdict.specs.Texts.{verdict_text}
-use Rattle.ppd_top_query.specs.OfRuns.{AnswersAreOfRuns, IsOfRun}
+use Rattle.ppd_top_query.specs.OfRuns.{AnswersAreOfRuns}
 use Rattle.ppd_model.specs.Items.{ItemsAreWhole}
 use Rattle.ppd_session.specs.Known.{known_of_run}
-use Rattle.ppd_slice_model.specs.Laws.{ReachesAreSlices, SlicesAreOne}
 use Rattle.law_clean.proofs.Whole.{answers_of_runs as cleans_of_runs}
 use Rattle.ppd_session.specs.declared.reply.SessionError.{SessionError}
 use Rattle.ppd_top_query.proofs.CleanOfRuns.{clean_told, never_fails}
-use Rattle.ppd_top_query.specs.Queries.{Gives, IsCleanFailure, IsRerunAnswer, IsSliceAnswer, ItemAsked, Query, clean_refusal, first_failure, races_refusal, schedule_of, seens_of, slice_refusal}
+use Rattle.ppd_top_query.specs.Queries.{Gives, IsCleanFailure, IsRerunAnswer, IsSliceAnswer, ItemAsked, clean_refusal, first_failure, races_refusal, schedule_of, slice_refusal}
 use Rattle.ppd_top_query.specs.SlicesOfRuns.{IsSliceOfRun}
 use Rattle.ppd_top_query.proofs.SlicesOfRuns.{slices_of_runs}
-use Rattle.ppd_top_query.specs.Queries.IsWritten.{refuses, answers, fails}
+use Rattle.ppd_top_query.specs.Queries.IsWritten.{refuses, answers}
 use Rattle.ppd_top_query.specs.Queries.Query.{Slice, Whole, Rerun, Clean}
 use Rattle.ppd_whole_replays.specs.Intervals.{intervals_from}
 use Rattle.ppd_whole.specs.WholeText.{whole_text}
@@ -146,13 +144,13 @@ races_none : {x : Race} {xs : List Race} {A : Type 0} → x ∷ xs ≡ [] → A
 races_none e = absurd (cc)
 
 -- the slice of a run
-module _ (whole : ItemsAreWhole) (reaches : ReachesAreSlices) (one : SlicesAreOne) (r : Recording) (a : ItemAsked) (program : Program) (plan : Plan) (budget : ℕ) (h : List ℕ) (valid : IsValid program) (known : known_of r ≡ known_of_run program plan budget h) where
+module _ (whole : ItemsAreWhole) (r : Recording) (a : ItemAsked) (program : Program) (plan : Plan) (budget : ℕ) (h : List ℕ) (valid : IsValid program) (known : known_of r ≡ known_of_run program plan budget h) where
   slice_is : (schedule text : List ℕ) → Gives r (Slice a) schedule 0 text → slice_refusal (known_of_run program plan budget h) a ≡ None → IsSliceOfRun program plan budget h a text
   slice_is schedule text (refuses line said) m = absurd (clash (ap (λ (x : Known). slice_refusal x a) known ∙ m) said)
     where
       clash : {o : Option (List ℕ)} {t : List ℕ} → o ≡ None → o ≡ Some t → ⊥
       clash a b = cc (a, b)
-  slice_is schedule text (answers s t none is) m = slices_of_runs whole reaches one program plan budget h a schedule text valid m (subst (λ (x : Known). IsSliceAnswer x a schedule text) known is)
+  slice_is schedule text (answers s t none is) m = slices_of_runs whole program plan budget h a schedule text valid m (subst (λ (x : Known). IsSliceAnswer x a schedule text) known is)
 
 -- the parts of a recording of a run
 three_parts : (bytes : List ℕ) (r : Recording) → IsAccepted bytes r → (source : List ℕ) (header : Header) (program : Program) (h : List ℕ) → IsRunRecorded source header program h bytes
@@ -167,11 +165,11 @@ pub clean_never_fails : (bytes : List ℕ) (r : Recording) → IsAccepted bytes 
 clean_never_fails bytes r accepted source header program h run a error none f =
     never_fails r header program h (three_parts bytes r accepted source header program h run) (runs_are_recalled bytes r accepted source header program h run).0 (read_valid source program run.accepted) run.whole cleans_of_runs a error none f
 
-pub answers_of_runs : ItemsAreWhole → ReachesAreSlices → SlicesAreOne → AnswersAreOfRuns
-answers_of_runs whole reaches one bytes r (Slice a) schedule text accepted g = λ source header program h h' run free agree.
-    slice_is whole reaches one r a program (plan_of program header.policy) header.budget h' (read_valid source program run.accepted)
+pub answers_of_runs : ItemsAreWhole → AnswersAreOfRuns
+answers_of_runs whole bytes r (Slice a) schedule text accepted g = λ source header program h h' run free agree.
+    slice_is whole r a program (plan_of program header.policy) header.budget h' (read_valid source program run.accepted)
     ((runs_are_recalled bytes r accepted source header program h run).1 free h' agree) schedule text g
-answers_of_runs whole reaches one bytes r (Whole workers) schedule text accepted (refuses line said) = λ source header program h h' run free agree.
+answers_of_runs whole bytes r (Whole workers) schedule text accepted (refuses line said) = λ source header program h h' run free agree.
     let none : (known_of r).races ≡ [] = races_are bytes r accepted source header program h run ∙ free in
     absurd (by none said)
   where
@@ -180,12 +178,12 @@ answers_of_runs whole reaches one bytes r (Whole workers) schedule text accepted
       where
         clash : {o : Option (List ℕ)} {t : List ℕ} → o ≡ None → o ≡ Some t → ⊥
         clash a b = cc (a, b)
-answers_of_runs whole reaches one bytes r (Whole workers) schedule text accepted (answers s t none is) = λ source header program h h' run free agree.
+answers_of_runs whole bytes r (Whole workers) schedule text accepted (answers s t none is) = λ source header program h h' run free agree.
     is.2 ∙ (trace_is bytes r accepted source header program h run free
     ∙ ap (λ (s : Story). whole_text program (trace_of program (plan_of program header.policy) header.budget s)) (agreeing_stories program (plan_of program header.policy) header.budget h h' agree free))
-answers_of_runs whole reaches one bytes r Rerun schedule text accepted (refuses line said) = absurd (cc)
-answers_of_runs whole reaches one bytes r Rerun schedule text accepted (answers s t none is) = λ source header program h h' run free agree.
+answers_of_runs whole bytes r Rerun schedule text accepted (refuses line said) = absurd (cc)
+answers_of_runs whole bytes r Rerun schedule text accepted (answers s t none is) = λ source header program h h' run free agree.
     let it = rerun_is bytes r accepted source header program h run free schedule text is in
     (agree_both agree it.0, it.1)
-answers_of_runs whole reaches one bytes r (Clean a) schedule text accepted g = λ source header program h run.
+answers_of_runs whole bytes r (Clean a) schedule text accepted g = λ source header program h run.
     clean_told r header program h (three_parts bytes r accepted source header program h run) (runs_are_recalled bytes r accepted source header program h run).0 (read_valid source program run.accepted) run.whole cleans_of_runs a schedule text g

@@ -1,8 +1,7 @@
 -- From the answers of the code to what is written.
 use Rattle.std.specs.Prelude.{IfErr, IfOk, Vec, codes, nat_lt, is_some, if◌then◌else◌, ◌==◌}
 use Rattle.std.specs.List.{flat_map}
-use Rattle.std.proofs.Common.{◌≡◌, ℕ, ◌<◌, Bool, true, false, true≢false, List, [], ◌∷◌, Option, Some, None, Result, Ok, Err, length, refl, ap, sym, ◌∙◌, subst, inl, inr, ◌⊎◌}
-use Rattle.ppd_codec.specs.declared.recording.Recording.{Recording}
+use Rattle.std.proofs.Common.{◌≡◌, ℕ, ◌<◌, Bool, true, false, true≢false, List, [], ◌∷◌, Option, Some, None, Result, Ok, Err, length, refl, ap, sym, ◌∙◌, subst, inl, inr}
 use Rattle.ppd_index.specs.Indexes.{IsIndexOf, rows_at}
 use Rattle.ppd_model.specs.declared.graph.Race.{Race}
 use Rattle.ppd_flow_past.specs.declared.flow_error.FlowError.{FlowError}

@@ -223,6 +223,54 @@ module _ (whole : ItemsAreWhole) (program : Program) (plan : Plan) (budget : ℕ
       by None f m = absurd (cc)
       by (Some y) f m = in_row y f (slice_get y.spans k) refl m
 
+  -- ---- what is asked, where nothing is refused
+
+  there_in : (y : Split) (q k j : ℕ) → slice_get xs q ≡ Some y → (o : Option Span) → slice_get y.spans k ≡ o → k < length y.spans
+      → event_refusal (told_in_span y o) j ≡ None → (items : List Item) × (told_in_span y o ≡ Some (Ok items)) × (j < length items)
+  there_in y q k j e None f lt m = absurd (let there = got y.spans k lt in none_or_some f there.1)
+  there_in y q k j e (Some i) f lt m = (items_of y i, refl, short (nat_lt j (length (items_of y i))) refl m)
+    where
+      short : (b : Bool) → nat_lt j (length (items_of y i)) ≡ b → (if b then None else Some no_event) ≡ None → j < length (items_of y i)
+      short true g m = ltb-true j (length (items_of y i)) g
+      short false g m = absurd (cc)
+
+  within : (q k j : ℕ) → k < length (get_or (map of_split xs) q []) → event_refusal (slice_get (get_or (map told_of_split xs) q []) k) j ≡ None
+      → (items : List Item) × (slice_get (get_or (map told_of_split xs) q []) k ≡ Some (Ok items)) × (j < length items)
+  within q k j lt m = by (slice_get xs q) refl
+    where
+      by : (o : Option Split) → slice_get xs q ≡ o → (items : List Item) × (slice_get (get_or (map told_of_split xs) q []) k ≡ Some (Ok items)) × (j < length items)
+      by None e = absurd (let none : length (get_or (map of_split xs) q []) ≡ 0 = count_row xs q ∙ ap count_in e in omega (arith, lt, none))
+      by (Some y) e =
+          let is : slice_get (get_or (map told_of_split xs) q []) k ≡ told_in_span y (slice_get y.spans k) = told_row xs q k ∙ ap (λ o. told_in o k) e in
+          let count : length (get_or (map of_split xs) q []) ≡ length y.spans = count_row xs q ∙ ap count_in e in
+          let there = there_in y q k j e (slice_get y.spans k) refl (omega (arith, lt, count)) (sym (ap (λ o. event_refusal o j) is) ∙ m) in
+          (there.0, is ∙ there.1, there.2)
+
+  -- by the refusals one after another
+  asked_there : (rs : List Race) (q k j : ℕ)
+      → races_refusal rs (process_refusal (Some q) (λ p. block_refusal known p k (event_refusal (slice_get (get_or (rows rs) p []) k) j))) ≡ None
+      → (items : List Item) × (slice_get (get_or (rows rs) q []) k ≡ Some (Ok items)) × (j < length items)
+  asked_there (r ∷ rs) q k j m = absurd (cc)
+  asked_there [] q k j m = by (nat_lt k (length (intervals_at known q))) refl m
+    where
+      by : (b : Bool) → nat_lt k (length (intervals_at known q)) ≡ b → (if b then event_refusal (slice_get (get_or (rows []) q []) k) j else Some (codes "? block\n")) ≡ None
+          → (items : List Item) × (slice_get (get_or (rows []) q []) k ≡ Some (Ok items)) × (j < length items)
+      by true e f = within q k j (ltb-true k (length (intervals_at known q)) e) f
+      by false e f = absurd (cc)
+
+  answer_is : (a : ItemAsked) (schedule text : List ℕ) → slice_refusal known a ≡ None → IsSliceAnswer known a schedule text → IsSliceOfRun program plan budget h a text
+  answer_is a schedule text m (no_run, (q, named, t)) =
+      let there : IsItemThere known q a.interval a.item =
+      asked_there (races_of program (story program plan budget h)) q a.interval a.item
+      (sym (ap (λ o. races_refusal known.races (process_refusal o (λ p. block_refusal known p a.interval (event_refusal (told_at known p a.interval) a.item)))) named) ∙ m) in
+      let free : races_of program (story program plan budget h) ≡ [] = no_race (races_of program (story program plan budget h)) q a.interval (Ok there.0) there.1 in
+      let of_edges : IsReach of_run (at q a.interval a.item) t.slice =
+      reach_as (origins_of known) of_run (at q a.interval a.item) t.slice t.is_slice
+      (λ r m. ap (λ rs. origins_in rs (item_of r)) free ∙ origins_are (item_of r)) in
+      (q, named, (t.slice, of_edges, t.is))
+
+  -- ---- the lines of the slice that is computed
+
   module _ (reaches : ReachesAreSlices) (one : SlicesAreOne) where
     text_is : (q k j : ℕ) (text : List ℕ) → IsItemThere known q k j → IsSliceText known q k j text → text ≡ lines_of_reach program plan budget h q k j
     text_is q k j text there t =
@@ -237,50 +285,8 @@ module _ (whole : ItemsAreWhole) (program : Program) (plan : Plan) (budget : ℕ
         one (origins_of known) (at q k j) t.slice (reach program plan budget (story program plan budget h) q k j) t.is_slice told in
         t.is ∙ ap (λ (ss : List Reached). flat_map (reached_line program) ss) same
 
-    -- ---- what is asked, where nothing is refused
-
-    there_in : (y : Split) (q k j : ℕ) → slice_get xs q ≡ Some y → (o : Option Span) → slice_get y.spans k ≡ o → k < length y.spans
-        → event_refusal (told_in_span y o) j ≡ None → (items : List Item) × (told_in_span y o ≡ Some (Ok items)) × (j < length items)
-    there_in y q k j e None f lt m = absurd (let there = got y.spans k lt in none_or_some f there.1)
-    there_in y q k j e (Some i) f lt m = (items_of y i, refl, short (nat_lt j (length (items_of y i))) refl m)
-      where
-        short : (b : Bool) → nat_lt j (length (items_of y i)) ≡ b → (if b then None else Some no_event) ≡ None → j < length (items_of y i)
-        short true g m = ltb-true j (length (items_of y i)) g
-        short false g m = absurd (cc)
-
-    within : (q k j : ℕ) → k < length (get_or (map of_split xs) q []) → event_refusal (slice_get (get_or (map told_of_split xs) q []) k) j ≡ None
-        → (items : List Item) × (slice_get (get_or (map told_of_split xs) q []) k ≡ Some (Ok items)) × (j < length items)
-    within q k j lt m = by (slice_get xs q) refl
-      where
-        by : (o : Option Split) → slice_get xs q ≡ o → (items : List Item) × (slice_get (get_or (map told_of_split xs) q []) k ≡ Some (Ok items)) × (j < length items)
-        by None e = absurd (let none : length (get_or (map of_split xs) q []) ≡ 0 = count_row xs q ∙ ap count_in e in omega (arith, lt, none))
-        by (Some y) e =
-            let is : slice_get (get_or (map told_of_split xs) q []) k ≡ told_in_span y (slice_get y.spans k) = told_row xs q k ∙ ap (λ o. told_in o k) e in
-            let count : length (get_or (map of_split xs) q []) ≡ length y.spans = count_row xs q ∙ ap count_in e in
-            let there = there_in y q k j e (slice_get y.spans k) refl (omega (arith, lt, count)) (sym (ap (λ o. event_refusal o j) is) ∙ m) in
-            (there.0, is ∙ there.1, there.2)
-
-    -- by the refusals one after another
-    asked_there : (rs : List Race) (q k j : ℕ)
-        → races_refusal rs (process_refusal (Some q) (λ p. block_refusal known p k (event_refusal (slice_get (get_or (rows rs) p []) k) j))) ≡ None
-        → (items : List Item) × (slice_get (get_or (rows rs) q []) k ≡ Some (Ok items)) × (j < length items)
-    asked_there (r ∷ rs) q k j m = absurd (cc)
-    asked_there [] q k j m = by (nat_lt k (length (intervals_at known q))) refl m
-      where
-        by : (b : Bool) → nat_lt k (length (intervals_at known q)) ≡ b → (if b then event_refusal (slice_get (get_or (rows []) q []) k) j else Some (codes "? block\n")) ≡ None
-            → (items : List Item) × (slice_get (get_or (rows []) q []) k ≡ Some (Ok items)) × (j < length items)
-        by true e f = within q k j (ltb-true k (length (intervals_at known q)) e) f
-        by false e f = absurd (cc)
-
-    answer_is : (a : ItemAsked) (schedule text : List ℕ) → slice_refusal known a ≡ None → IsSliceAnswer known a schedule text → IsSliceOfRun program plan budget h a text
-    answer_is a schedule text m (no_run, (q, named, t)) =
-        let there : IsItemThere known q a.interval a.item =
-        asked_there (races_of program (story program plan budget h)) q a.interval a.item
-        (sym (ap (λ o. races_refusal known.races (process_refusal o (λ p. block_refusal known p a.interval (event_refusal (told_at known p a.interval) a.item)))) named) ∙ m) in
-        (q, named, text_is q a.interval a.item text there t)
-
 pub slice_texts_of_runs : ItemsAreWhole → ReachesAreSlices → SlicesAreOne → SliceTextsAreOfRuns
 slice_texts_of_runs whole reaches one program plan budget h q k j text v there t = text_is whole program plan budget h v reaches one q k j text there t
 
-pub slices_of_runs : ItemsAreWhole → ReachesAreSlices → SlicesAreOne → SlicesAreOfRuns
-slices_of_runs whole reaches one program plan budget h a schedule text v m t = answer_is whole program plan budget h v reaches one a schedule text m t
+pub slices_of_runs : ItemsAreWhole → SlicesAreOfRuns
+slices_of_runs whole program plan budget h a schedule text v m t = answer_is whole program plan budget h v a schedule text m t

@@ -1,13 +1,14 @@
 -- What `Sets` says of a query: a write that the entry records is missing.
 use Rattle.std.specs.Prelude.{◌≡◌, ℕ, List, Some}
 use Rattle.ppd_codec.specs.declared.recording.Recording.{Recording}
+use Rattle.ppd_codec_runs.specs.Knowing.{seens_of}
 use Rattle.ppd_codec_runs.specs.Recordings.{IsAccepted}
 use Rattle.ppd_entry.specs.declared.entry.At.{At}
 use Rattle.ppd_session.specs.Known.{seens}
 use Rattle.ppd_session.specs.Missing.{IsMissingAt}
 use Rattle.ppd_session.specs.Questions.{process_named}
 use Rattle.ppd_session.specs.declared.reply.SessionError.TheVariants.{Sets}
-use Rattle.ppd_top_query.specs.Queries.{IsFailure, Query, cut_of, seens_of}
+use Rattle.ppd_top_query.specs.Queries.{IsFailure, Query, cut_of}
 use Rattle.ppd_top_query.specs.Queries.Query.{Slice, Whole, Rerun, Clean}
 
 -- a write that the entry records is missing by what the query replays: the logs of the recording; for an item in a run

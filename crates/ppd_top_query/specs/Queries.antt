@@ -1,14 +1,11 @@
 -- What is asked of a recording without an input, and what is answered.
-use Rattle.std.specs.Prelude.{◌≡◌, ℕ, ◌++◌, nat_lt, false, List, [], ◌∷◌, length, Option, Some, None, Result, Ok, Err, codes, decimal, if◌then◌else◌}
+use Rattle.std.specs.Prelude.{◌≡◌, ℕ, ◌++◌, nat_lt, false, List, [], ◌∷◌, length, Option, Some, None, Ok, Err, codes, decimal, if◌then◌else◌}
 use Rattle.std.specs.List.{flat_map}
 use Rattle.ppd_ast.specs.declared.program.Program.{Program}
 use Rattle.ppd_codec.specs.declared.recording.Recording.{Recording}
-use Rattle.ppd_model.specs.declared.flow.FlowEdge.{FlowEdge}
 use Rattle.ppd_model.specs.declared.graph.Race.{Race}
 use Rattle.ppd_entry.specs.declared.entry.At.{At}
-use Rattle.ppd_flow_model.specs.Seen.{Seen}
 use Rattle.ppd_flow_past.specs.ByReplays.{first_failed}
-use Rattle.ppd_flow_past.specs.declared.flow_error.FlowError.{FlowError}
 use Rattle.ppd_flow_past.specs.declared.flow_error.FlowError.TheVariants as flow_error
 use Rattle.ppd_top_query.specs.declared.query.AskedItem.{AskedItem as GivenItem}
 use Rattle.ppd_top_query.specs.declared.query.Query.{Query as GivenQuery}
@@ -28,15 +25,17 @@ use Rattle.ppd_flow_past.specs.SeenBy.{failed_at}
 use Rattle.ppd_model.specs.RecordedSets.{record_in}
 use Rattle.ppd_model.specs.declared.graph.EdgeId.{EdgeId}
 use Rattle.ppd_text_items.specs.Edges.{why_text}
+use Rattle.ppd_race.specs.Races.{races_of_logs}
 use Rattle.ppd_rerun_model.specs.Verdicts.{IsVerdict}
 use Rattle.ppd_rerun_model.specs.declared.verdict.Verdict.{Verdict}
 use Rattle.ppd_rerun_model.specs.declared.verdict.Verdict.TheVariants as verdict
-use Rattle.ppd_session.specs.Known.{Flow, Known, Told, seens}
+use Rattle.ppd_session.specs.Known.{Flow, Known, Told}
 use Rattle.ppd_session.specs.Questions.{process_named}
 use Rattle.ppd_session.specs.Texts.{flow_at, intervals_at, no_event, no_process, raced, told_at}
 use Rattle.ppd_session.specs.declared.reply.SessionError.{SessionError}
 use Rattle.ppd_session.specs.declared.reply.SessionError.TheVariants.{Diverged, Sets, Memory}
 use Rattle.ppd_slice.specs.Slices.{places_found}
+use Rattle.ppd_codec_runs.specs.Knowing.{seens_of}
 use Rattle.ppd_codec_runs.specs.Recordings.{known_of}
 use Rattle.ppd_text_refusals.specs.Recordings.{refused_replay}
 use Rattle.ppd_text_items.specs.Names.{process_name}
@@ -138,10 +137,6 @@ IsSliceFailure x Memory = ⊥
 
 -- ---- the whole trace
 
--- what the replays of each process of a recording give
-abbrev pub seens_of : Recording → List Seen
-seens_of r = seens r.program r.plan r.header.budget r.logs
-
 -- the failure of the first interval, by process and number, whose replay fails, if one does
 abbrev pub first_failure : Recording → Option At
 first_failure r = first_failed r.program r.plan r.header.budget r.logs (intervals_from 0 (seens_of r))
@@ -187,17 +182,18 @@ clean_text p plan j (unwritten m) = None
 
 -- what is found of item j of interval k of process q by the logs of a recording, cut off where its races are
 abbrev pub clean_of : Recording → (q k j : ℕ) → CleanOr
-clean_of r q k j = clean_by r.program r.plan r.header.budget r.logs (known_of r).races q k j
+clean_of r q k j = clean_by r.program r.plan r.header.budget r.logs (races_of_logs r.program r.logs) q k j
 
 -- the least edge of process q, from the one in which the interval begins, whose past has a race
 abbrev pub first_raced_of : Recording → (q k j : ℕ) → Option ℕ
 first_raced_of r q k j =
-    first_raced r.program r.plan r.header.budget r.logs (record_in r.logs) (known_of r).races q k j
+    first_raced r.program r.plan r.header.budget r.logs (record_in r.logs) (races_of_logs r.program r.logs) q k j
 
 -- the logs that are cut off there
 abbrev pub cut_of : Recording → (q k j : ℕ) → Logs
 cut_of r q k j =
-    cut_by r.program r.plan r.header.budget r.logs (record_in r.logs) (known_of r).races q k j (first_raced_of r q k j)
+    cut_by r.program r.plan r.header.budget r.logs (record_in r.logs) (races_of_logs r.program r.logs) q k j
+    (first_raced_of r q k j)
 
 -- the interval does not begin there or later, and the replay of some interval of process p from these logs fails at
 -- entry n

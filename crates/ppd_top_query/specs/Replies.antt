@@ -16,7 +16,7 @@ use Rattle.law_clean.specs.Answers.{unwritten}
 use Rattle.ppd_clean.specs.Answers.{IsFound}
 use Rattle.ppd_clean.specs.declared.clean_error.CleanError.{CleanError}
 use Rattle.ppd_clean.specs.declared.clean.Clean.{Clean as GivenClean}
-use Rattle.ppd_top_query.specs.Queries.{Diverges, Gives, clean_of, clean_text, IsSliceAnswer, IsSliceFailure, IsSliceText, IsWholeAnswer, IsWholeFailure, IsWritten, ItemAsked, Query, Refusal, event_refusal, slice_refusal}
+use Rattle.ppd_top_query.specs.Queries.{Diverges, Gives, clean_of, clean_text, IsSliceAnswer, IsSliceFailure, IsSliceText, IsWholeAnswer, IsWholeFailure, IsWritten, ItemAsked, Query, event_refusal, slice_refusal}
 
 -- a recording that was accepted, with the index and the graph of its logs, so that nothing in it happens before itself
 pub record IsAskable (r : Recalled) : Type 0 where

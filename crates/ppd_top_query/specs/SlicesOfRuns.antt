@@ -8,7 +8,9 @@ use Rattle.ppd_model.specs.Story.{story}
 use Rattle.ppd_session.specs.Known.{known_of_run}
 use Rattle.ppd_session.specs.Questions.{process_named}
 use Rattle.ppd_session.specs.Sessions.{IsItemThere}
-use Rattle.ppd_slice_model.specs.OfRuns.{reach}
+use Rattle.ppd_slice_model.specs.declared.reached.Reached.{Reached}
+use Rattle.ppd_slice_model.specs.OfRuns.{origins, reach}
+use Rattle.ppd_slice_model.specs.Reach.{IsReach, at}
 use Rattle.ppd_top_query.specs.Queries.{IsSliceAnswer, IsSliceText, ItemAsked, reached_line, slice_refusal}
 
 -- a line for each item that the edges of the run reach from item j of interval k of process q
@@ -23,11 +25,14 @@ SliceTextsAreOfRuns =
     → IsItemThere (known_of_run program plan budget h) q k j
     → IsSliceText (known_of_run program plan budget h) q k j text → text ≡ lines_of_reach program plan budget h q k j
 
--- the text has these lines for the item that is asked for, of the process of that name
+-- the text has a line for each item that the run's flowback edges lead to from the item that is asked for, of the
+-- process of that name, and no other
 abbrev pub IsSliceOfRun : Program → Plan → (budget : ℕ) → (h : List ℕ) → ItemAsked → List ℕ → Type 0
 IsSliceOfRun program plan budget h a text =
     (q : ℕ) × (process_named program a.process ≡ Some q)
-    × (text ≡ lines_of_reach program plan budget h q a.interval a.item)
+    × ((slice : List Reached)
+    × IsReach (origins program plan budget (story program plan budget h)) (at q a.interval a.item) slice
+    × (text ≡ flat_map (reached_line program) slice))
 
 -- so has the answer by what is known of a run, where nothing is refused
 abbrev pub SlicesAreOfRuns : Type 0

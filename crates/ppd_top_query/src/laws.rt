@@ -1,3 +1,4 @@
+ghost use Rattle.ppd_top_query.specs.Determined.{AnswersAreDetermined, FailedAreMissing};
 ghost use Rattle.ppd_top_query.specs.Laws.{QueriesEnd, RunsAreTold};
 ghost use Rattle.ppd_top_query.specs.Missing.{FailuresAreMissing};
 ghost use Rattle.ppd_top_query.specs.OfRuns.{AnswersAreOfRuns};
@@ -32,8 +33,6 @@ pub fn answers_are_of_runs()
     ensures { AnswersAreOfRuns }
 {
     items_are_whole();
-    reaches_are_slices();
-    slices_are_one();
 }
 
 /// Law: where a query of an accepted recording fails with `Sets` at an entry, a write that the entry records is missing:
@@ -41,4 +40,13 @@ pub fn answers_are_of_runs()
 /// edge writes the cell.
 pub fn missing_writes_are_told()
     ensures { FailuresAreMissing }
+{}
+
+/// Law: what is answered of an accepted recording is, but for edges, determined by what is known of it: the items of a
+/// slice are those that the known edges reach, the whole trace is told where no replay fails, and clean flowback tells
+/// the item, or the edge whose past a race touches. Where that fails with `Sets` at an entry, a write that the entry
+/// records is missing.
+pub fn answers_are_determined()
+    ensures answers { AnswersAreDetermined }
+    ensures missing { FailedAreMissing }
 {}

@@ -1,4 +1,4 @@
-use Rattle.std.proofs.Common.{[], sym, ◌∙◌}
+use Rattle.std.proofs.Common.{[], sym}
 use Rattle.ppd_top_query.specs.Queries.{asked_of}
 use Rattle.ppd_session.specs.Sessions.{known_by}
 use Rattle.ppd_session.specs.Texts.{raced}

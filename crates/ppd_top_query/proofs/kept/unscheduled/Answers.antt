@@ -1,4 +1,4 @@
-use Rattle.std.proofs.Common.{◌≡◌, ℕ, List, sym, subst}
+use Rattle.std.proofs.Common.{ℕ, List, sym, subst}
 use Rattle.ppd_top_query.specs.Queries.{Gives}
 use Rattle.ppd_top_query.specs.Replies.{IsTextReply}
 use Rattle.ppd_top_query.proofs.kept.unscheduled.Goals as goal

@@ -2,4 +2,4 @@ use Rattle.ppd_top_query.proofs.OfRuns.{answers_of_runs}
 use Rattle.ppd_top_query.proofs.laws.answers_are_of_runs.Goals as goal
 
 pub returns : goal.returns
-returns c = answers_of_runs c.items_are_whole.ensures c.reaches_are_slices.ensures c.slices_are_one.ensures
+returns c = answers_of_runs c.items_are_whole.ensures

@@ -1,0 +1,151 @@
+-- What an accepted recording determines of its answers.
+use Rattle.std.specs.Prelude.{nat_le, slice_get, if◌then◌else◌}
+use Rattle.std.proofs.Common.{◌≡◌, ◌⊎◌, ℕ, Bool, true, false, List, Option, Some, None, Result, Ok, Err, refl, ap, sym, subst, ◌∙◌, inl, inr}
+use Rattle.law_clean.specs.Answers.{CleanOr, no_item, unclean, unwritten}
+use Rattle.law_clean.specs.Pasts.{left_edge}
+use Rattle.law_clean.specs.Search.{by_first, by_item, from_first, reached, unclean_at, with_edges}
+use Rattle.law_flow_missing.proofs.MissingWrites.{missing_writes_are_told}
+use Rattle.law_flow_missing.specs.Missing.{AreIndexed, IsMissingWrite, write_at}
+use Rattle.ppd_clean.specs.Answers.{is_begun_unclean}
+use Rattle.ppd_codec.specs.declared.recording.Recording.{Recording}
+use Rattle.ppd_codec_runs.specs.Recordings.{IsAccepted, known_of}
+use Rattle.ppd_entry.specs.declared.entry.At.{At}
+use Rattle.ppd_entry.specs.Entries.{entries_at}
+use Rattle.ppd_flow_model.specs.Ends.{first_edge}
+use Rattle.ppd_flow_model.specs.Found.{edges_if, found_edges, item_edges}
+use Rattle.ppd_flow_model.specs.Seen.{items_at}
+use Rattle.ppd_flow_model.specs.Shared.{Missing, seen_at}
+use Rattle.ppd_model.specs.HappenedBefore.{edge}
+use Rattle.ppd_model.specs.RecordedSets.{record_in}
+use Rattle.ppd_model.specs.declared.flow.FlowEdge.{FlowEdge}
+use Rattle.ppd_model.specs.declared.flow.Item.{Item}
+use Rattle.ppd_race.specs.Races.{races_of_logs}
+use Rattle.ppd_session.specs.declared.reply.SessionError.{SessionError}
+use Rattle.ppd_session.specs.declared.reply.SessionError.TheVariants.{Diverged, Sets, Memory}
+use Rattle.ppd_top_query.proofs.Firsts.{all_tell, first_told}
+use Rattle.ppd_top_query.proofs.Missing.{failures_missing}
+use Rattle.ppd_top_query.proofs.OfRuns.{no_races}
+use Rattle.ppd_top_query.specs.Determined.{AnswersAreDetermined, GivesBy, IsCleanBy, IsCleanItem, IsAnsweredBy, IsFailedBy, IsWithEdges, FailedAreMissing, cut_seens, is_item_raced, raced_edge}
+use Rattle.ppd_top_query.specs.Missing.{IsMissingFor}
+use Rattle.ppd_top_query.specs.Queries.{Gives, IsAnswer, IsFailure, Query, clean_of, first_raced_of, refusal}
+use Rattle.ppd_top_query.specs.Queries.IsWritten.{refuses, answers, fails}
+use Rattle.ppd_top_query.specs.Queries.Query.{Slice, Whole, Rerun, Clean}
+
+module _ (r : Recording) (q k j : ℕ) where
+  abbrev begun : ℕ
+  begun = first_edge (entries_at r.logs q) k
+
+  abbrev item_told : Option Item
+  item_told = slice_get (items_at (seen_at (cut_seens r q k j) q) k) j
+
+  -- ---- what is found is determined but for the edges
+
+  module _ (indexed : AreIndexed r.program r.plan r.logs) where
+    abbrev found_of : Option Item → Option (Result (List FlowEdge) Missing)
+    found_of o = edges_if r.program r.plan r.logs (cut_seens r q k j) q k j o
+
+    abbrev with_found : Item → Option (Result (List FlowEdge) Missing) → CleanOr
+    with_found t o = with_edges r.program r.plan r.header.budget r.logs (record_in r.logs) (races_of_logs r.program r.logs) q k j t o
+
+    some_edges : (t : Item) → item_told ≡ Some t → (e : Result (List FlowEdge) Missing) → found_of (Some t) ≡ Some e → IsWithEdges r q k j t (with_found t (Some e))
+    some_edges t at (Ok es) f = refl
+    some_edges t at (Err m) f = (missing_writes_are_told r.program r.plan r.logs (cut_seens r q k j) indexed).edges q k j m (ap found_of at ∙ f)
+
+    item_found : (o : Option Item) → item_told ≡ o
+        → IsCleanItem r q k j o (by_item r.program r.plan r.header.budget r.logs (record_in r.logs) (races_of_logs r.program r.logs) q k j (first_raced_of r q k j) (cut_seens r q k j) o)
+    item_found None at = refl
+    item_found (Some t) at = by (is_item_raced r q k j t) refl
+      where
+        edges : IsWithEdges r q k j t (with_found t (found_edges r.program r.plan r.logs (cut_seens r q k j) q k j))
+        edges = subst (λ o. IsWithEdges r q k j t (with_found t (found_of o))) (sym at) (some_edges t at (item_edges r.program r.plan r.logs (cut_seens r q k j) q k j t) refl)
+
+        by : (b : Bool) → is_item_raced r q k j t ≡ b
+            → ((is_item_raced r q k j t ≡ true) × ((if b then raced_edge r q k j else with_found t (found_edges r.program r.plan r.logs (cut_seens r q k j) q k j)) ≡ raced_edge r q k j))
+            ⊎ ((is_item_raced r q k j t ≡ false) × IsWithEdges r q k j t (if b then raced_edge r q k j else with_found t (found_edges r.program r.plan r.logs (cut_seens r q k j) q k j)))
+        by true f = inl (f, refl)
+        by false f = inr (f, edges)
+
+    abbrev from : Option ℕ → CleanOr
+    from o = from_first r.program r.plan r.header.budget r.logs (record_in r.logs) (races_of_logs r.program r.logs) q k j o
+
+    abbrev first : Option ℕ → CleanOr
+    first o = by_first r.program r.plan r.header.budget r.logs (record_in r.logs) (races_of_logs r.program r.logs) q k j o
+
+    replayed : (o : Option ℕ) → first_raced_of r q k j ≡ o → IsCleanItem r q k j item_told (first o)
+    replayed o e = subst (λ z. IsCleanItem r q k j item_told (first z)) e (item_found item_told refl)
+
+    determined : (o : Option ℕ) → first_raced_of r q k j ≡ o → IsCleanBy r q k j (from o)
+    determined None e = inr (ap (is_begun_unclean begun) e, replayed None e)
+    determined (Some u) e = by (nat_le u begun) refl
+      where
+        by : (b : Bool) → nat_le u begun ≡ b → IsCleanBy r q k j (if b then unclean (edge q u) else first (Some u))
+        by true f = inl (ap (is_begun_unclean begun) e ∙ f, sym (ap (λ o. unclean_at r.program r.plan r.header.budget r.logs (record_in r.logs) (races_of_logs r.program r.logs) q k j o) e))
+        by false f = inr (ap (is_begun_unclean begun) e ∙ f, replayed (Some u) e)
+
+    clean_is : IsCleanBy r q k j (clean_of r q k j)
+    clean_is = determined (first_raced_of r q k j) refl
+
+  -- ---- a write that is missing
+
+  module _ (m : Missing) where
+    no_edge : (o : Option ℕ) → unwritten m ≡ unclean_at r.program r.plan r.header.budget r.logs (record_in r.logs) (races_of_logs r.program r.logs) q k j o → ⊥
+    no_edge None e = cc e
+    no_edge (Some u) e = cc e
+
+    not_reached : (o : Option ℕ) → unwritten m ≡ reached r.program r.plan r.header.budget r.logs (record_in r.logs) (races_of_logs r.program r.logs) q k j o → ⊥
+    not_reached None e = cc e
+    not_reached (Some u) e = by (nat_le u (left_edge (entries_at r.logs q) k)) e
+      where
+        by : (b : Bool) → unwritten m ≡ (if b then unclean (edge q u) else no_item) → ⊥
+        by true f = cc f
+        by false f = cc f
+
+    of_item : (o : Option Item) → IsCleanItem r q k j o (unwritten m) → IsMissingWrite r.logs (cut_seens r q k j) m
+    of_item None e = absurd (not_reached (first_raced_of r q k j) e)
+    of_item (Some t) (inl h) = absurd (no_edge (first_raced_of r q k j) h.1)
+    of_item (Some t) (inr h) = h.1
+
+    missed : IsCleanBy r q k j (unwritten m) → IsMissingWrite r.logs (cut_seens r q k j) m
+    missed (inl h) = absurd (no_edge (first_raced_of r q k j) h.1)
+    missed (inr h) = of_item item_told h.1
+
+-- ---- answers
+
+module _ (bytes : List ℕ) (r : Recording) (accepted : IsAccepted bytes r) where
+  told : (query : Query) (schedule text : List ℕ) → refusal (known_of r) query ≡ None → IsAnswer r query schedule text → IsAnsweredBy r (known_of r) query schedule text
+  told (Slice a) schedule text none h = h
+  told (Whole workers) schedule text none h = (h.0, all_tell r (races_of_logs r.program r.logs) (no_races (races_of_logs r.program r.logs) none) h.1)
+  told Rerun schedule text none h = h
+  told (Clean a) schedule text none h =
+      let q = h.1.0 in (h.0, (q, h.1.1, (clean_of r q a.interval a.item, clean_is r q a.interval a.item accepted.indexed, h.1.2)))
+
+  untold : (query : Query) (error : SessionError) → refusal (known_of r) query ≡ None → IsFailure r query error → IsFailedBy r (known_of r) query error
+  untold (Slice a) error none f = f
+  untold (Whole workers) (Diverged failure) none f = first_told r (races_of_logs r.program r.logs) (no_races (races_of_logs r.program r.logs) none) failure f
+  untold (Whole workers) (Sets failure) none f = f
+  untold (Whole workers) Memory none f = f
+  untold Rerun error none f = f
+  untold (Clean a) (Diverged failure) none f = f
+  untold (Clean a) (Sets failure) none f = (
+    f.0,
+    f.1,
+    (f.2.0, subst (IsCleanBy r f.0 a.interval a.item) f.2.1 (clean_is r f.0 a.interval a.item accepted.indexed)),
+  )
+  untold (Clean a) Memory none f = f
+
+  gives : (query : Query) (schedule : List ℕ) (status : ℕ) (text : List ℕ) → Gives r query schedule status text → GivesBy r (known_of r) query schedule status text
+  gives query schedule status text (refuses line said) = refuses line said
+  gives query schedule status text (answers s t none is) = answers s t none (told query s t none is)
+  gives query schedule status text (fails error none f) = fails error none (untold query error none f)
+
+  missing : (query : Query) (at : At) → IsFailedBy r (known_of r) query (Sets at) → IsMissingFor r query at
+  missing (Slice a) at f = failures_missing bytes r (Slice a) at accepted f
+  missing (Whole workers) at f = f
+  missing Rerun at f = f
+  missing (Clean a) at f = (f.0, f.1, (f.2.0, missed r f.0 a.interval a.item (write_at at.process at.entry f.2.0) f.2.1))
+
+pub answers_are_determined : AnswersAreDetermined
+answers_are_determined bytes r query schedule status text accepted g = gives bytes r accepted query schedule status text g
+
+pub failed_are_missing : FailedAreMissing
+failed_are_missing bytes r query at accepted f = missing bytes r accepted query at f

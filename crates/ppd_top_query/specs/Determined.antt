@@ -1,0 +1,140 @@
+-- What is written of each accepted recording, by what is known of it. Of edges, and so of slices, the whole trace and
+-- clean edges, it is said here that they are told, and not which they are: of the recording of a run they are the run's
+-- (`IsOfRuns`).
+use Rattle.std.specs.Prelude.{◌≡◌, ◌⊎◌, ℕ, ◌<◌, ◌≤◌, Bool, true, false, List, [], slice_get, Option, Some, None, Err}
+use Rattle.law_clean.specs.Answers.{CleanOr, clean, no_item, unclean, unwritten}
+use Rattle.law_clean.specs.Search.{is_unclean, reached, unclean_at}
+use Rattle.law_flow_missing.specs.Missing.{IsMissingWrite, write_at}
+use Rattle.ppd_clean.specs.Answers.{is_begun_unclean}
+use Rattle.ppd_codec.specs.declared.recording.Recording.{Recording}
+use Rattle.ppd_codec_runs.specs.Recordings.{IsAccepted, known_of}
+use Rattle.ppd_entry.specs.declared.entry.At.{At}
+use Rattle.ppd_entry.specs.Entries.{entries_at}
+use Rattle.ppd_flow_model.specs.Ends.{first_edge}
+use Rattle.ppd_flow_model.specs.Seen.{Seen, items_at}
+use Rattle.ppd_flow_model.specs.Shared.{seen_at}
+use Rattle.ppd_model.specs.RecordedSets.{record_in}
+use Rattle.ppd_model.specs.declared.flow.Item.{Item}
+use Rattle.ppd_race.specs.Races.{races_of_logs}
+use Rattle.ppd_session.specs.Known.{Known, seens}
+use Rattle.ppd_session.specs.Questions.{process_named}
+use Rattle.ppd_session.specs.Texts.{told_at}
+use Rattle.ppd_session.specs.declared.reply.SessionError.{SessionError}
+use Rattle.ppd_session.specs.declared.reply.SessionError.TheVariants.{Diverged, Sets, Memory}
+use Rattle.ppd_top_query.specs.Missing.{IsMissingFor}
+use Rattle.ppd_top_query.specs.Queries.{Diverges, Gives, IsRerunAnswer, IsSliceAnswer, IsSliceFailure, IsWritten, ItemAsked, Query, clean_text, cut_of, first_raced_of, refusal}
+use Rattle.ppd_top_query.specs.Queries.Query.{Slice, Whole, Rerun, Clean}
+
+-- ---- an item in a run with races: item j of interval k of process q
+
+module _ (r : Recording) (q k j : ℕ) where
+  -- what the replays of the cut logs give
+  abbrev pub cut_seens : List Seen
+  cut_seens = seens r.program r.plan r.header.budget (cut_of r q k j)
+
+  -- the interval begins in an edge whose past has a race
+  abbrev pub begins_raced : Bool
+  begins_raced = is_begun_unclean (first_edge (entries_at r.logs q) k) (first_raced_of r q k j)
+
+  -- the past of this item has one
+  abbrev pub is_item_raced : Item → Bool
+  is_item_raced t =
+      is_unclean r.program r.plan r.header.budget r.logs (record_in r.logs) (races_of_logs r.program r.logs) q k j
+      cut_seens (first_raced_of r q k j) t
+
+  -- the edge whose past has one
+  abbrev pub raced_edge : CleanOr
+  raced_edge =
+      unclean_at r.program r.plan r.header.budget r.logs (record_in r.logs) (races_of_logs r.program r.logs) q k j
+      (first_raced_of r q k j)
+
+  -- that edge if the interval reaches it, or no item
+  abbrev pub reached_edge : CleanOr
+  reached_edge =
+      reached r.program r.plan r.header.budget r.logs (record_in r.logs) (races_of_logs r.program r.logs) q k j
+      (first_raced_of r q k j)
+
+  -- this item with some edges, or a write that is missing
+  abbrev pub IsWithEdges : Item → CleanOr → Type 0
+  IsWithEdges t (clean s es) = s ≡ t
+  IsWithEdges t (unclean e) = ⊥
+  IsWithEdges t no_item = ⊥
+  IsWithEdges t (unwritten m) = IsMissingWrite r.logs cut_seens m
+
+  -- this is found where the replays give the item, or none
+  abbrev pub IsCleanItem : Option Item → CleanOr → Type 0
+  IsCleanItem None found = found ≡ reached_edge
+  IsCleanItem (Some t) found =
+      ((is_item_raced t ≡ true) × (found ≡ raced_edge)) ⊎ ((is_item_raced t ≡ false) × IsWithEdges t found)
+
+  -- this is found
+  abbrev pub IsCleanBy : CleanOr → Type 0
+  IsCleanBy found =
+      ((begins_raced ≡ true) × (found ≡ raced_edge))
+      ⊎ ((begins_raced ≡ false) × IsCleanItem (slice_get (items_at (seen_at cut_seens q) k) j) found)
+
+-- the text of it
+abbrev pub IsCleanAnsweredBy : Recording → ItemAsked → (schedule text : List ℕ) → Type 0
+IsCleanAnsweredBy r a schedule text = (schedule ≡ []) × ((q : ℕ) × (process_named r.program a.process ≡ Some q)
+    × ((found : CleanOr) × IsCleanBy r q a.interval a.item found
+    × (clean_text r.program r.plan a.item found ≡ Some text)))
+
+-- the replay of some interval fails at that entry, from the cut logs; or a write that the entry records is missing
+abbrev pub IsCleanFailedBy : Recording → ItemAsked → SessionError → Type 0
+IsCleanFailedBy r a (Diverged failure) = (q : ℕ) × (process_named r.program a.process ≡ Some q)
+    × Diverges r q a.interval a.item failure.process failure.entry
+IsCleanFailedBy r a (Sets failure) = (q : ℕ) × (process_named r.program a.process ≡ Some q)
+    × ((c : ℕ) × IsCleanBy r q a.interval a.item (unwritten (write_at failure.process failure.entry c)))
+IsCleanFailedBy r a Memory = ⊥
+
+-- ---- the whole trace
+
+-- no interval is told to fail
+abbrev pub NoneFails : Known → Type 0
+NoneFails x = (q k n : ℕ) → told_at x q k ≡ Some (Err n) → ⊥
+
+-- the first interval that is told to fail, by process and number, is told to fail there
+pub record IsFirstFailure (x : Known) (failure : At) : Type 0 where
+  pub interval : ℕ
+  pub fails : told_at x failure.process interval ≡ Some (Err failure.entry)
+  pub first : (q k n : ℕ) → told_at x q k ≡ Some (Err n)
+      → (failure.process < q) ⊎ ((failure.process ≡ q) × (interval ≤ k))
+
+abbrev pub IsWholeFailedBy : Known → SessionError → Type 0
+IsWholeFailedBy x (Diverged failure) = IsFirstFailure x failure
+IsWholeFailedBy x (Sets failure) = ⊥
+IsWholeFailedBy x Memory = ⊥
+
+-- ---- answers
+
+-- where nothing is refused: this schedule was taken, and this is the text of the answer; of the whole trace any text,
+-- where no interval is told to fail
+abbrev pub IsAnsweredBy : Recording → Known → Query → (schedule text : List ℕ) → Type 0
+IsAnsweredBy r x (Slice a) schedule text = IsSliceAnswer x a schedule text
+IsAnsweredBy r x (Whole workers) schedule text = (schedule ≡ []) × NoneFails x
+IsAnsweredBy r x Rerun schedule text = IsRerunAnswer r schedule text
+IsAnsweredBy r x (Clean a) schedule text = IsCleanAnsweredBy r a schedule text
+
+-- or a replay that the answer needs fails
+abbrev pub IsFailedBy : Recording → Known → Query → SessionError → Type 0
+IsFailedBy r x (Slice a) error = IsSliceFailure x error
+IsFailedBy r x (Whole workers) error = IsWholeFailedBy x error
+IsFailedBy r x Rerun error = ⊥
+IsFailedBy r x (Clean a) error = IsCleanFailedBy r a error
+
+-- what is written in all of a recording of which this is known, with which status, and the schedule that was taken
+abbrev pub GivesBy : Recording → Known → Query → (schedule : List ℕ) → (status : ℕ) → (text : List ℕ) → Type 0
+GivesBy r x query schedule status text =
+    IsWritten (refusal x query) (IsAnsweredBy r x query) (IsFailedBy r x query) r.program schedule status text
+
+-- so it is of an accepted recording
+abbrev pub AnswersAreDetermined : Type 0
+AnswersAreDetermined =
+    (bytes : List ℕ) (r : Recording) (query : Query) (schedule : List ℕ) (status : ℕ) (text : List ℕ)
+    → IsAccepted bytes r → Gives r query schedule status text → GivesBy r (known_of r) query schedule status text
+
+-- where that fails with `Sets` at an entry, a write that the entry records is missing
+abbrev pub FailedAreMissing : Type 0
+FailedAreMissing =
+    (bytes : List ℕ) (r : Recording) (query : Query) (at : At)
+    → IsAccepted bytes r → IsFailedBy r (known_of r) query (Sets at) → IsMissingFor r query at
