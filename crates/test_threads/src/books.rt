@@ -74,15 +74,27 @@ fn look_and_commit<J: Job>(
 {
     let world = World::new(alloc, program, plan, 1_000)?;
     let mut kept: Kept<'_, J> = Kept::new(alloc, world);
-    let Some(mut view) = kept.view(0)? else {
+    let Some(view) = kept.view(0)? else {
         return Ok((Vec::new(alloc), Commit::Stale, Bytes::new(alloc)));
     };
+    let (turns, commit) = commit_after(alloc, &mut kept, view, goes, workers)?;
+    Ok((turns, commit, kept.schedule))
+}
+
+/// What these workers' turns do after a view, which goes on before them if `goes` is set, and its commit.
+fn commit_after<'a, J: Job>(
+    alloc: Global,
+    kept: &mut Kept<'a, J>,
+    mut view: View<'a, J>,
+    goes: bool,
+    workers: &[u8],
+) -> Result<(Vec<Turn>, Commit), Memory> {
     if goes {
         go_on(&mut view)?;
     }
-    let turns = take_turns(alloc, &mut kept, workers)?;
+    let turns = take_turns(alloc, kept, workers)?;
     let commit = kept.commit(view)?;
-    Ok((turns, commit, kept.schedule))
+    Ok((turns, commit))
 }
 
 fn go_on<J: Job>(view: &mut View<'_, J>) -> Result<(), Memory> {
