@@ -9,7 +9,7 @@ use Rattle.ppd_lex.proofs.FormedTokens.{formed}
 use Rattle.ppd_parse.specs.Grammar.{Shape}
 use Rattle.ppd_parse.specs.Limits.{IsTree}
 use Rattle.ppd_parse.specs.declared.node.Node.{Node}
-use Rattle.ppd_parse.specs.Size.{size_of}
+use Rattle.ppd_parse.proofs.Vocabulary.{size_of}
 use Rattle.ppd_parse.specs.Tree.{tree_of, IsTable}
 use Rattle.ppd_parse.proofs.FromLanguage.{program_parsed}
 use Rattle.ppd_parse.proofs.Sizes.{program_size}

@@ -8,7 +8,8 @@ use Rattle.ppd_lex.specs.declared.token.Token.{Token}
 use Rattle.ppd_parse.specs.declared.node.Node.{Node}
 use Rattle.ppd_parse.specs.declared.symbol.Rule.{Rule}
 use Rattle.ppd_parse.specs.Grammar.{Shape}
-use Rattle.ppd_parse.specs.Size.{weigh, size_of}
+use Rattle.ppd_parse.specs.Size.{weigh}
+use Rattle.ppd_parse.proofs.Vocabulary.{size_of}
 use Rattle.ppd_parse.specs.Table.{no_shape, shape_or}
 use Rattle.ppd_parse.specs.Tree.{trees_from, tree_of, children_of, IsTable}
 use Rattle.ppd_parse.proofs.Grown.{times_cons}

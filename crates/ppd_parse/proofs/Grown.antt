@@ -14,7 +14,8 @@ use Rattle.ppd_parse.specs.declared.symbol.Rule.TheVariants as R
 use Rattle.ppd_parse.specs.declared.node.Growth.{Growth}
 use Rattle.ppd_parse.specs.Below.{AreBelow}
 use Rattle.ppd_parse.specs.Grown.{children_in, AreRising, AreOnce, IsLeafy, AreLeafy, AreCounted, IsGrown}
-use Rattle.ppd_parse.specs.Size.{weigh, weigh_all, weigh_node, size_of, one_for_leaf}
+use Rattle.ppd_parse.specs.Size.{weigh, weigh_all, weigh_node}
+use Rattle.ppd_parse.proofs.Vocabulary.{size_of, one_for_leaf}
 use Rattle.ppd_parse.specs.Table.{shape_or, at_ids, shape_of, table, shapes_of}
 use Rattle.ppd_parse.proofs.Sizes.{weigh_append, weigh_made}
 use Rattle.ppd_parse.proofs.Table.{shapes_more}

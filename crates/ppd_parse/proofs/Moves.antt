@@ -16,7 +16,8 @@ use Rattle.ppd_parse.specs.declared.symbol.Want.TheVariants.{Get, Close}
 use Rattle.ppd_parse.specs.declared.growth.Step.TheVariants as M
 use Rattle.ppd_parse.specs.Grammar.{Shape, leaf, close, Marked, kind_of, is_operator, Production, parts, wants_in, base_in, ReadsAll, exact, operator, wrap, next}
 use Rattle.ppd_parse.specs.Choice.{Choice, choose, chosen, refused, expansion, parts_if, pushed}
-use Rattle.ppd_parse.specs.Machine.{State, SameAt, IsDead, Shifts, Advanced, IsTerminal}
+use Rattle.ppd_parse.specs.Machine.{State, SameAt, IsDead, Shifts, Advanced}
+use Rattle.ppd_parse.proofs.Vocabulary.{IsTerminal}
 use Rattle.ppd_parse.specs.Stack.{IsGood, HasEndsAlone}
 use Rattle.ppd_parse.proofs.Choices.{expansion_chosen}
 use Rattle.ppd_parse.proofs.Ranked.{few, ranked, read_exact, read_operator}

@@ -9,8 +9,9 @@ use Rattle.ppd_parse.specs.declared.symbol.Symbol.TheVariants as S
 use Rattle.ppd_parse.specs.declared.symbol.At.{At}
 use Rattle.ppd_parse.specs.declared.symbol.Want.{Want}
 use Rattle.ppd_parse.specs.declared.symbol.Want.TheVariants.{Get, Close}
-use Rattle.ppd_parse.specs.Grammar.{Shape, leaf, node, forest, close, Marked, Production, parts, operand_parts, operand, wants_in, base_in, Reads, ReadsAll, exact, operator, wrap, by, nothing, next, IsParsed}
-use Rattle.ppd_parse.specs.Size.{weigh, weigh_in, weigh_all, size_of, one_for_leaf}
+use Rattle.ppd_parse.specs.Grammar.{Shape, leaf, node, forest, close, Marked, Production, parts, operand_parts, operand, wants_in, base_in, Reads, ReadsAll, exact, operator, wrap, by, nothing, next}
+use Rattle.ppd_parse.specs.Size.{weigh, weigh_in, weigh_all}
+use Rattle.ppd_parse.proofs.Vocabulary.{IsParsed, size_of, one_for_leaf}
 
 -- ---- trees side by side, and as the children of a node
 

@@ -22,8 +22,9 @@ use Rattle.ppd_parse.specs.declared.symbol.Want.TheVariants.{Get, Close}
 use Rattle.ppd_parse.specs.Choice.{expansion, pushed}
 use Rattle.ppd_parse.specs.Grammar.{Shape, leaf, close, Marked, ReadsAll, base_in, is_operator, kind_of, outside}
 use Rattle.ppd_parse.specs.Laws.{HaveAnAnswer}
-use Rattle.ppd_parse.specs.Limits.{count_with, EndsAs, IsReadTo, IsRefused, IsTree, Stepped, token_at}
-use Rattle.ppd_parse.specs.Machine.{State, Advanced, IsTerminal, SameAt, Taken}
+use Rattle.ppd_parse.specs.Limits.{count_with, EndsAs, IsRefused, IsTree, Stepped, token_at}
+use Rattle.ppd_parse.specs.Machine.{State, Advanced, SameAt, Taken}
+use Rattle.ppd_parse.proofs.Vocabulary.{IsReadTo, IsTerminal}
 use Rattle.ppd_parse.specs.Rank.{rank}
 use Rattle.ppd_parse.specs.Stack.{IsGood, HasEndsAlone}
 use Rattle.ppd_parse.proofs.Ends.{Ends, ends_as, ends_close, ends_same}

@@ -4,7 +4,8 @@ use Rattle.std.proofs.lemmas.List.{append-nil, take-append-drop}
 use Rattle.ppd_parse.specs.declared.symbol.Rule.{Rule}
 use Rattle.ppd_parse.specs.declared.symbol.Rule.TheVariants as R
 use Rattle.ppd_parse.specs.declared.symbol.Want.{Want}
-use Rattle.ppd_parse.specs.Grammar.{Shape, leaf, node, forest, close, Marked, Reads, ReadsAll, exact, operator, wrap, by, nothing, next, source, IsParsed, tokens_of}
+use Rattle.ppd_parse.specs.Grammar.{Shape, leaf, node, forest, close, Marked, Reads, ReadsAll, exact, operator, wrap, by, nothing, next, source, tokens_of}
+use Rattle.ppd_parse.proofs.Vocabulary.{IsParsed}
 use Rattle.ppd_parse.specs.Language.{IsProgram}
 use Rattle.ppd_parse.proofs.FromLanguage.{program_parsed}
 use Rattle.ppd_parse.specs.Leaves.{leaves, leaves_in, leaves_of}

@@ -10,7 +10,7 @@ use Rattle.ppd_parse.specs.declared.symbol.Want.{Want}
 use Rattle.ppd_parse.specs.declared.symbol.Want.TheVariants.{Get, Close}
 use Rattle.ppd_parse.specs.Grammar.{Shape, leaf, close, Marked, kind_at, is_operator, Production, parts, MayStand, wants_in, base_in, ReadsAll, exact, operator, wrap, by, nothing, next}
 use Rattle.ppd_parse.specs.Choice.{choose, chosen, refused}
-use Rattle.ppd_parse.specs.Machine.{IsTerminal}
+use Rattle.ppd_parse.proofs.Vocabulary.{IsTerminal}
 use Rattle.ppd_parse.proofs.First.{looked, stands}
 
 pub split : (vs ws : List Want) {s u : List Shape} {ts rest : List Marked} → ReadsAll (vs ++ ws) s ts u rest → (t : List Shape) × (mid : List Marked) × ReadsAll vs s ts t mid × ReadsAll ws t mid u rest

@@ -13,10 +13,11 @@ use Rattle.ppd_parse.specs.declared.symbol.Want.{Want}
 use Rattle.ppd_parse.specs.declared.symbol.Want.TheVariants.{Get}
 use Rattle.ppd_parse.specs.declared.error.SyntaxError.{SyntaxError}
 use Rattle.ppd_parse.specs.declared.error.SyntaxError.TheVariants as E
-use Rattle.ppd_parse.specs.Grammar.{Shape, Marked, kind_of, IsParsed, tokens_of, outside}
-use Rattle.ppd_parse.specs.Machine.{State, Completed, Shifts, Follows}
+use Rattle.ppd_parse.specs.Grammar.{Shape, Marked, kind_of, tokens_of, outside}
+use Rattle.ppd_parse.specs.Machine.{State, Completed, Shifts}
 use Rattle.ppd_parse.specs.Stack.{IsGood, HasEndsAlone}
-use Rattle.ppd_parse.specs.Limits.{count_with, count_after, KeepLimits, no_token, token_at, IsTree, IsPast, BreaksDepth, BreaksWidth, IsRefused, Stepped, IsReadTo, EndsAs}
+use Rattle.ppd_parse.specs.Limits.{count_with, count_after, KeepLimits, no_token, token_at, IsTree, IsPast, BreaksDepth, BreaksWidth, IsRefused, Stepped, EndsAs}
+use Rattle.ppd_parse.proofs.Vocabulary.{IsParsed, Follows, IsReadTo}
 use Rattle.ppd_parse.proofs.Sample.{completion}
 use Rattle.ppd_parse.proofs.ToLanguage.{parsed_program}
 use Rattle.ppd_parse.proofs.FromLanguage.{program_parsed}

@@ -394,7 +394,3 @@ mutual
     nothing : {s : List Shape} {ts : List Marked} → ReadsAll [] s ts s ts
     next : {w : Want} {ws : List Want} {s t u : List Shape} {ts mid rest : List Marked} → Reads w s ts t mid
         → ReadsAll ws t mid u rest → ReadsAll (w ∷ ws) s ts u rest
-
--- the parser reads the marked tokens as this tree
-abbrev pub IsParsed : List Marked → List Shape → Type 0
-IsParsed ts f = ReadsAll (Get S.Source outside 0 ∷ []) [] ts f []

@@ -11,7 +11,7 @@ use Rattle.ppd_parse.specs.declared.error.SyntaxError.TheVariants as E
 use Rattle.ppd_parse.specs.declared.symbol.At.{At}
 use Rattle.ppd_parse.specs.Grammar.{Shape, Marked, kind_at, kind_of, tokens_of}
 use Rattle.ppd_parse.specs.Language.{IsProgram}
-use Rattle.ppd_parse.specs.Machine.{State, Completed, Shifts, IsDead, Follows}
+use Rattle.ppd_parse.specs.Machine.{State, Completed, Shifts, IsDead}
 use Rattle.ppd_parse.specs.Stack.{is_binary, IsGood, HasEndsAlone}
 
 -- in an expression: a unary or binary operator
@@ -108,16 +108,6 @@ Stepped n t (Err (E.Wide place)) a b =
     × ((at : At) × Shifts (record { token = t; at = at }) a b × IsGood b.wants × (at.depth ≤ MOST_OPEN)
     × (MOST_SOURCE_OPERATORS < count_with n (record { token = t; at = at })))
 Stepped n t (Err E.Memory) a b = Unit {0}
-
--- i tokens are read: the state that they lead to, and their marks, which keep the limits
-pub record IsReadTo (ts : List Token) (i n : ℕ) (a : State) : Type 0 where
-  pub marked : List Marked
-  pub follows : Follows (take i ts) marked a
-  pub limits : KeepLimits 0 marked
-  pub count : n ≡ count_after 0 marked
-  pub few : n ≤ MOST_SOURCE_OPERATORS
-  pub good : IsGood a.wants
-  pub over : i ≡ length ts → HasEndsAlone a.wants
 
 -- where the tokens end, these trees and no others come out
 pub record EndsAs (a : State) (f : List Shape) : Type 0 where

@@ -1,10 +1,8 @@
 -- What the parser's stack still wants, and what one token does to it.
-use Rattle.std.specs.Prelude.{◌≡◌, List, [], ◌∷◌, ◌++◌, length, reverse, Option, Some, None, ◌<◌, ◌≤◌, ◌+◌}
+use Rattle.std.specs.Prelude.{◌≡◌, List, [], ◌∷◌, length, reverse, Option, Some, None, ◌<◌, ◌≤◌, ◌+◌}
 use Rattle.ppd_lex.specs.declared.token.Token.{Token}
 use Rattle.ppd_lex.specs.declared.token.Kind.{Kind}
 use Rattle.ppd_lex.specs.declared.token.Kind.TheVariants as K
-use Rattle.ppd_parse.specs.declared.symbol.Symbol.{Symbol}
-use Rattle.ppd_parse.specs.declared.symbol.Symbol.TheVariants as S
 use Rattle.ppd_parse.specs.declared.symbol.At.{At}
 use Rattle.ppd_parse.specs.declared.symbol.Want.{Want}
 use Rattle.ppd_parse.specs.declared.growth.Grove.{Grove}
@@ -13,7 +11,7 @@ use Rattle.ppd_parse.specs.declared.growth.Step.TheVariants as M
 use Rattle.ppd_parse.specs.Rank.{rank}
 use Rattle.ppd_parse.specs.Stack.{IsGood, HasEndsAlone}
 use Rattle.ppd_parse.specs.Table.{shapes_of}
-use Rattle.ppd_parse.specs.Grammar.{Shape, Marked, kind_at, kind_of, ReadsAll, IsParsed, tokens_of}
+use Rattle.ppd_parse.specs.Grammar.{Shape, Marked, kind_at, kind_of, ReadsAll}
 
 -- what is still wanted, and the trees so far
 pub record State : Type 0 where
@@ -41,13 +39,6 @@ pub record Shifts (z : Marked) (a b : State) : Type 0 where
       → (x ≡ z) × Completed b ts f
   pub from : (ts : List Marked) (f : List Shape) → Completed b ts f → Completed a (z ∷ ts) f
 
--- the tokens so marked lead to the state: what completes it completes a program, and the tokens have no other marks
-pub record Follows (ts : List Token) (zs : List Marked) (a : State) : Type 0 where
-  pub tokens : tokens_of zs ≡ ts
-  pub to : (qs : List Marked) (f : List Shape) (more : List Token) → IsParsed qs f → tokens_of qs ≡ ts ++ more
-      → (rest : List Marked) × (qs ≡ zs ++ rest) × Completed a rest f
-  pub from : (rest : List Marked) (f : List Shape) → Completed a rest f → IsParsed (zs ++ rest) f
-
 abbrev pub wanting : Want → State → State
 wanting w a = record { wants = w ∷ a.wants; shapes = a.shapes }
 
@@ -70,9 +61,3 @@ abbrev pub Taken : Token → Option At → State → State → Type 0
 Taken token (Some at) a b =
     Shifts (record { token = token; at = at }) a b × IsGood b.wants × (kind_of token.kind ≡ K.End → HasEndsAlone b.wants)
 Taken token None a b = IsDead (kind_of token.kind) a
-
--- symbols that are one token
-abbrev pub IsTerminal : Symbol → Type 0
-IsTerminal (S.Exact k) = Unit {0}
-IsTerminal (S.Operator l) = Unit {0}
-IsTerminal _ = ⊥

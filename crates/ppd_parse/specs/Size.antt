@@ -2,7 +2,6 @@
 use Rattle.std.specs.Prelude.{◌+◌, ℕ, List, [], ◌∷◌, Option, Some, None}
 use Rattle.ppd_lex.specs.declared.token.Token.{Token}
 use Rattle.ppd_parse.specs.declared.symbol.Rule.{Rule}
-use Rattle.ppd_parse.specs.declared.symbol.Rule.TheVariants as R
 use Rattle.ppd_parse.specs.Grammar.{Shape, Shapes, leaf, node, no_shapes, shape_then}
 
 -- m for each token of a tree, and w r for each node of rule r
@@ -19,16 +18,7 @@ abbrev pub weigh_all : ℕ → (Rule → ℕ) → List Shape → ℕ
 weigh_all m w [] = 0
 weigh_all m w (t ∷ ts) = weigh m w t + weigh_all m w ts
 
--- how many nodes the trees have
-abbrev pub size_of : List Shape → ℕ
-size_of f = weigh_all 1 (λ r. 1) f
-
 -- the same for a node
 abbrev pub weigh_node : ℕ → (Rule → ℕ) → Option Token → Rule → ℕ
 weigh_node m w (Some x) r = m
 weigh_node m w None r = w r
-
--- 1 for the rule of a token
-abbrev pub one_for_leaf : Rule → ℕ
-one_for_leaf R.Leaf = 1
-one_for_leaf _ = 0

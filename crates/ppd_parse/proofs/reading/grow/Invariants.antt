@@ -1,5 +1,5 @@
 use Rattle.std.proofs.Common.{◌≤◌, ◌+◌, ◌*◌, length, reverse}
-use Rattle.ppd_parse.specs.Limits.{IsReadTo}
+use Rattle.ppd_parse.proofs.Vocabulary.{IsReadTo}
 use Rattle.ppd_parse.specs.Machine.{state_of}
 use Rattle.ppd_parse.specs.Rank.{rank}
 use Rattle.ppd_parse.proofs.reading.grow.Given as goal
