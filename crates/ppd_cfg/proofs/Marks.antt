@@ -1,5 +1,5 @@
 -- Laws of a work list.
-use Rattle.std.proofs.Common.{◌≡◌, ℕ, zero, suc, ◌+◌, ◌<◌, ◌≤◌, List, [], ◌∷◌, ◌++◌, Bool, true, false, ◌↔◌, refl, sym, subst, ap, arith, inl, inr, ◌⊎◌, ◌∙◌, length, get_or, true≢false, set, take, replicate}
+use Rattle.std.proofs.Common.{◌≡◌, ℕ, zero, suc, ◌+◌, ◌*◌, ◌<◌, ◌≤◌, List, [], ◌∷◌, ◌++◌, Bool, true, false, ◌↔◌, refl, sym, subst, ap, arith, inl, inr, ◌⊎◌, ◌∙◌, length, get_or, true≢false, set, take, replicate}
 use Rattle.std.specs.Prelude.{IsTrue, if◌then◌else◌}
 use Rattle.std.proofs.lemmas.Bool.{cases_Bool}
 use Rattle.std.proofs.lemmas.List.{take_more}
@@ -7,7 +7,18 @@ use Rattle.ppd_ast.specs.Members.{has, AreBelow}
 use Rattle.ppd_ast.proofs.Members.{has_first, has_later, has_cons}
 use Rattle.ppd_cfg.specs.Lists.{row}
 use Rattle.ppd_cfg.specs.Reach.{Reached, start, next}
-use Rattle.ppd_cfg.specs.WorkList.{WorkList, work, with_mark, with_marks, is_marked, unmarked, work_left, AreRowsBelow}
+use Rattle.ppd_cfg.specs.WorkList.{WorkList, work, with_mark, with_marks, is_marked, AreRowsBelow}
+
+-- ---- how much work is left
+
+-- how many numbers have no mark
+abbrev pub unmarked : List Bool → ℕ
+unmarked [] = 0
+unmarked (b ∷ bs) = (if b then 0 else 1) + unmarked bs
+
+-- the work that is left
+abbrev pub work_left : WorkList → ℕ
+work_left w = 2 * unmarked w.marks + length w.todo
 
 -- ---- marks
 

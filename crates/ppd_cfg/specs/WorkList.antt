@@ -1,5 +1,5 @@
 -- Marks, and what is marked and still to be gone on from.
-use Rattle.std.specs.Prelude.{ℕ, ◌+◌, ◌*◌, ◌<◌, Bool, true, false, List, [], ◌∷◌, length, get_or, set, IsTrue, if◌then◌else◌}
+use Rattle.std.specs.Prelude.{ℕ, ◌<◌, Bool, true, false, List, [], ◌∷◌, length, get_or, set, IsTrue, if◌then◌else◌}
 use Rattle.ppd_ast.specs.Members.{has}
 use Rattle.ppd_cfg.specs.Lists.{row}
 
@@ -20,14 +20,6 @@ with_mark x w = if is_marked w.marks x then w else work (set w.marks x true) (x 
 abbrev pub with_marks : List ℕ → WorkList → WorkList
 with_marks [] w = w
 with_marks (x ∷ xs) w = with_marks xs (with_mark x w)
-
-abbrev pub unmarked : List Bool → ℕ
-unmarked [] = 0
-unmarked (b ∷ bs) = (if b then 0 else 1) + unmarked bs
-
--- the work that is left
-abbrev pub work_left : WorkList → ℕ
-work_left w = 2 * unmarked w.marks + length w.todo
 
 -- each row's numbers are those of rows
 abbrev pub AreRowsBelow : List (List ℕ) → Type 0

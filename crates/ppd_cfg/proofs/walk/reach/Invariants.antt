@@ -1,5 +1,4 @@
-use Rattle.ppd_cfg.specs.WorkList.{work_left}
-use Rattle.ppd_cfg.proofs.Marks.{Holds}
+use Rattle.ppd_cfg.proofs.Marks.{Holds, work_left}
 use Rattle.ppd_cfg.proofs.walk.reach.Given as goal
 
 abbrev pub invariant-loop-x : goal.invariant-loop-x
