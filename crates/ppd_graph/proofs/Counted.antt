@@ -17,7 +17,7 @@ use Rattle.ppd_graph.specs.declared.placed.Placed.{Placed}
 use Rattle.ppd_graph.specs.Partners.{pairs_of, partner_of}
 use Rattle.ppd_graph.specs.Refusals.{count_on, place, placed_from, placed_lists}
 use Rattle.ppd_graph.specs.Spending.{entries_in, graph_cost, list_cost, pairing_cost, pass_cost, times_cost}
-use Rattle.ppd_graph.specs.Times.{untimed}
+use Rattle.ppd_graph.proofs.Vocabulary.{untimed}
 
 pub range_more : (a n : ℕ) → range_with_len a (suc n) ≡ range_with_len a n ++ (a + n) ∷ []
 range_more a zero = let e : a ≡ a + zero = omega arith in ap (λ x. x ∷ []) e

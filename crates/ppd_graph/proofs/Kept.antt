@@ -14,7 +14,8 @@ use Rattle.ppd_model.specs.Numbers.{sync}
 use Rattle.ppd_model.specs.Synchronizations.{Sync}
 use Rattle.ppd_graph.specs.declared.by_number.ByNumber.{ByNumber}
 use Rattle.ppd_graph.specs.declared.placed.Placed.{Placed}
-use Rattle.ppd_graph.specs.ByNumber.{KeepsAll, KeepsMore, KeepsNone, is_kept, is_twice, node_among, node_kept, twice_by}
+use Rattle.ppd_graph.specs.ByNumber.{KeepsAll, KeepsMore, KeepsNone, is_kept, is_twice, node_among, node_kept}
+use Rattle.ppd_graph.proofs.Vocabulary.{twice_by}
 use Rattle.ppd_graph.specs.Refusals.{is_from_start, sync_placed, twice_after}
 use Rattle.ppd_model.specs.SameSyncs.{same_sync}
 use Rattle.ppd_model.proofs.SameSyncs.{same_is, same_self}

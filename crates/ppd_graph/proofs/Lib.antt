@@ -1,3 +1,4 @@
+pub mod Vocabulary
 pub mod Timed
 pub mod ClosedSets
 pub mod Rows

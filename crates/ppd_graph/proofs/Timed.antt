@@ -10,7 +10,8 @@ use Rattle.ppd_model.specs.HappenedBefore.{Before, direct, is_direct, is_next, n
 use Rattle.ppd_model.specs.World.{change}
 use Rattle.ppd_model.proofs.Changes.{length-change}
 use Rattle.ppd_graph.specs.declared.paired.Paired.{Paired}
-use Rattle.ppd_graph.specs.Times.{ArePartners, AreTimed, IsDone, IsReady, IsTimed, UpTo, untimed, next_count, next_of, next_time, node_of, own_times, pair_at, time_at, time_before, time_of, time_paired, with_time}
+use Rattle.ppd_graph.specs.Times.{ArePartners, AreTimed, IsDone, IsReady, IsTimed, UpTo, next_count, next_of, next_time, node_of, own_times, pair_at, time_at, time_before, time_of, time_paired, with_time}
+use Rattle.ppd_graph.proofs.Vocabulary.{untimed}
 use Rattle.ppd_graph.proofs.Rows.{left_less, length_replicated, no_items, none_at}
 
 -- ---- lists

@@ -4,7 +4,6 @@ use Rattle.std.specs.HashMap.{HashMap, get}
 use Rattle.ppd_ast.specs.declared.program.Program.{Program}
 use Rattle.ppd_ast.specs.declared.status.SyncKind.{SyncKind}
 use Rattle.ppd_ast.specs.declared.status.SyncKind.TheVariants.{P, V, Send, Recv, Done}
-use Rattle.ppd_entry.specs.declared.entry.At.{At}
 use Rattle.ppd_model.specs.declared.graph.NodeId.{NodeId}
 use Rattle.ppd_model.specs.Numbers.{sync}
 use Rattle.ppd_model.specs.Synchronizations.{Sync}
@@ -64,13 +63,6 @@ is_kept t s = is_some (node_kept t s.kind s.object s.number)
 -- the number of this one stood before, or is one from the start
 abbrev pub is_twice : Program → ByNumber → Placed → Bool
 is_twice program t x = is_kept t (sync_placed x) || is_from_start program (sync_placed x)
-
--- the place of the first of these whose number stood before, by this test, or is one from the start
-abbrev pub twice_by : Program → (Sync → Bool) → List Placed → Option At
-twice_by program stood [] = None
-twice_by program stood (x ∷ xs) =
-    if stood (sync_placed x) || is_from_start program (sync_placed x) then Some x.at
-    else twice_by program (λ s. same_sync (sync_placed x) s || stood s) xs
 
 -- the first of these whose number stood before
 abbrev pub IsTwice : Program → List Placed → BadSync → Type 0

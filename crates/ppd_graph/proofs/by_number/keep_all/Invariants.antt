@@ -1,5 +1,6 @@
 use Rattle.std.proofs.Common.{◌≡◌, [], drop, ◌+◌}
-use Rattle.ppd_graph.specs.ByNumber.{is_kept, twice_by}
+use Rattle.ppd_graph.specs.ByNumber.{is_kept}
+use Rattle.ppd_graph.proofs.Vocabulary.{twice_by}
 use Rattle.ppd_graph.specs.Refusals.{twice_after}
 use Rattle.ppd_graph.proofs.Kept.{KeepsFor}
 use Rattle.ppd_graph.proofs.by_number.keep_all.Given as goal
