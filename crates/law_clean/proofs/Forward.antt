@@ -16,7 +16,8 @@ use Rattle.ppd_model.specs.World.{World}
 use Rattle.ppd_model.proofs.Forward.{edges_forward}
 use Rattle.ppd_model.proofs.Prefixes.{objects_stay}
 use Rattle.ppd_model.proofs.SharedReads.{steps_access}
-use Rattle.law_clean.specs.Ordered.{IsUnracedIn, UnracedGoForward}
+use Rattle.law_clean.specs.Ordered.{IsUnracedIn}
+use Rattle.law_clean.proofs.Vocabulary.{UnracedGoForward}
 use Rattle.law_clean.proofs.Ordered.{unraced_ordered}
 
 pub unraced_forward : UnracedGoForward

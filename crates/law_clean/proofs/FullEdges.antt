@@ -40,7 +40,8 @@ use Rattle.law_flow_shared.proofs.Edges.StepEvents.Processes.{Facts, facts}
 use Rattle.law_flow_shared.proofs.Edges.StepEvents.ReadSteps.{ReadsAt, reads_at}
 use Rattle.law_flow_shared.proofs.Edges.StepEvents.Timeline.{did, did_more}
 use Rattle.law_flow_shared.proofs.Edges.StepEvents.Writers.{edge_is_count, ev_count}
-use Rattle.law_clean.specs.Ordered.{IsCleanAt, IsUnraced}
+use Rattle.law_clean.specs.Ordered.{IsCleanAt}
+use Rattle.law_clean.proofs.Vocabulary.{IsUnraced}
 use Rattle.law_clean.specs.Pasts.{is_clean, lies}
 use Rattle.law_clean.proofs.Found.{clean_found}
 use Rattle.law_clean.proofs.PastClear.{clear_before, clear_own}

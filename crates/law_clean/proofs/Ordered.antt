@@ -1,8 +1,8 @@
 -- Conflicting accesses are ordered where no race has the edge of one of them.
-use Rattle.std.proofs.Common.{◌≡◌, ℕ, zero, suc, ◌+◌, ◌-◌, ◌<◌, ◌≤◌, List, [], ◌∷◌, Bool, true, false, not, refl, ap, sym, subst, ◌∙◌, arith, length, map, inl, inr, ◌⊎◌, ◌&&◌, ◌||◌, true≢false, eq-eqb, get_or}
+use Rattle.std.proofs.Common.{◌≡◌, ℕ, zero, suc, ◌<◌, ◌≤◌, List, [], ◌∷◌, Bool, true, false, not, refl, ap, sym, subst, ◌∙◌, arith, length, inl, inr, ◌⊎◌, ◌&&◌, ◌||◌, true≢false, eq-eqb, get_or}
 use Rattle.std.proofs.lemmas.Bool.{and_from, cases_lt, or_cases, or_left, or_right}
 use Rattle.std.proofs.lemmas.Option.{none-some}
-use Rattle.std.specs.List.{flat_map, list_any, range_with_len}
+use Rattle.std.specs.List.{flat_map, list_any}
 use Rattle.std.specs.Prelude.{IsTrue, nat_eq, slice_get, Some}
 use Rattle.ppd_ast.specs.declared.program.Program.{Program}
 use Rattle.ppd_model.specs.declared.graph.EdgeId.{EdgeId}
@@ -12,16 +12,15 @@ use Rattle.ppd_model.specs.declared.graph.RaceKind.TheVariants.{ReadWrite, Write
 use Rattle.ppd_model.specs.declared.tracing.Story.{Story}
 use Rattle.ppd_model.specs.declared.tracing.Taken.{Taken}
 use Rattle.ppd_model.specs.Story.{own_steps}
-use Rattle.ppd_model.specs.Synchronizations.{syncs_of}
 use Rattle.ppd_model.specs.Record.{SharedAccess, accesses, accesses_from, record_of}
 use Rattle.ppd_model.specs.HappenedBefore.{EdgeBefore, edge, is_edge_before}
-use Rattle.ppd_model.specs.Races.{are_ordered, candidates, edges_of, first_writes, has_access, is_race, kinds, processes_after, race, races_of, second_writes, writes_or_not}
+use Rattle.ppd_model.specs.Races.{Edges, candidates, edges_of_story, first_writes, has_access, is_race, kinds, race, races_of, second_writes, writes_or_not}
 use Rattle.ppd_model.specs.Laws.{DoConflict}
-use Rattle.ppd_model.proofs.RaceFree.{any_at, edge_below}
-use Rattle.ppd_model.proofs.Tested.{In, here, there, from_zero, in_left, in_map, in_range, in_right, tests_edges}
+use Rattle.ppd_model.proofs.RaceFree.{any_at, candidate_in, edge_below}
+use Rattle.ppd_model.proofs.Tested.{In, here, there, in_left, in_right, tests_edges}
 use Rattle.law_flow_shared.proofs.Edges.Sources.Members.{filter_in}
 use Rattle.law_clean.specs.Pasts.{is_of_race}
-use Rattle.law_clean.specs.Ordered.{IsUnraced, UnracedMeansOrder}
+use Rattle.law_clean.proofs.Vocabulary.{IsUnraced, UnracedMeansOrder}
 
 -- ---- lists
 
@@ -45,18 +44,6 @@ process_below s p m a h = elim (cases_lt p (length s.steps)) [
     past [] q le = refl
     past (xs ∷ rest) zero le = absurd (omega (arith, le))
     past (xs ∷ rest) (suc q) le = past rest q (omega (arith, le))
-
-candidate_in : (s : Story) (p i q j c : ℕ) (k : RaceKind) → p < q → q < length s.steps → i ≤ length (syncs_of (own_steps s p)) → j ≤ length (syncs_of (own_steps s q)) → c < length s.cells → In k kinds
-    → In (race p i q j c k) (candidates s)
-candidate_in s p i q j c k pq hq hi hj hc hk =
-    let r : Race = race p i q j c k in
-    let far : (p + 1) + (q - (p + 1)) ≡ q = omega (arith, pq) in
-    in_flat_map _ p r (range_with_len 0 (length s.steps)) (from_zero p (length s.steps) (omega (arith, pq, hq)))
-    (in_flat_map _ i r (edges_of s p) (from_zero i (length (syncs_of (own_steps s p)) + 1) (omega (arith, hi)))
-    (in_flat_map _ q r (processes_after s p) (subst (λ x. In x (processes_after s p)) far (in_range (p + 1) (length s.steps - (p + 1)) (q - (p + 1)) (omega (arith, pq, hq))))
-    (in_flat_map _ j r (edges_of s q) (from_zero j (length (syncs_of (own_steps s q)) + 1) (omega (arith, hj)))
-    (in_flat_map (λ cell. map (race p i q j cell) kinds) c r (range_with_len 0 (length s.cells)) (from_zero c (length s.cells) hc)
-    (in_map (race p i q j c) k kinds hk)))))
 
 -- the kind of two accesses of which one writes
 kind_by : Bool → Bool → RaceKind
@@ -106,6 +93,9 @@ second_of_race p i q j c k =
     or_right (nat_eq p q && nat_eq i j) (nat_eq q q && nat_eq j j) (and_from (nat_eq q q) (nat_eq j j) (eq-eqb q q refl) (eq-eqb j j refl))
 
 module _ (program : Program) (s : Story) where
+  abbrev edges : Edges
+  edges = edges_of_story program s
+
   Ordered : EdgeId → EdgeId → Type 0
   Ordered x y = EdgeBefore program (record_of s) x y ⊎ EdgeBefore program (record_of s) y x
 
@@ -115,10 +105,10 @@ module _ (program : Program) (s : Story) where
   swapped x y (inr b) = inl b
 
   -- a candidate that is a race is listed, so that its edges are raced
-  listed : (r : Race) (e : EdgeId) → In r (candidates s) → is_of_race e r ≡ true → IsUnraced program s e → is_race program s r ≡ true → ⊥
-  listed r e i of clear is = true≢false (sym (any_in (is_of_race e) r (races_of program s) (filter_in (is_race program s) r (candidates s) i is) of) ∙ clear)
+  listed : (r : Race) (e : EdgeId) → In r (candidates edges) → is_of_race e r ≡ true → IsUnraced program s e → is_race edges r ≡ true → ⊥
+  listed r e i of clear is = true≢false (sym (any_in (is_of_race e) r (races_of program s) (filter_in (is_race edges) r (candidates edges) i is) of) ∙ clear)
 
-  not_listed : (p i q j c : ℕ) (k : RaceKind) → In (race p i q j c k) (candidates s) → IsUnraced program s (edge p i) ⊎ IsUnraced program s (edge q j) → is_race program s (race p i q j c k) ≡ true → ⊥
+  not_listed : (p i q j c : ℕ) (k : RaceKind) → In (race p i q j c k) (candidates edges) → IsUnraced program s (edge p i) ⊎ IsUnraced program s (edge q j) → is_race edges (race p i q j c k) ≡ true → ⊥
   not_listed p i q j c k i' (inl clear) is = listed (race p i q j c k) (edge p i) i' (first_of_race p i q j c k) clear is
   not_listed p i q j c k i' (inr clear) is = listed (race p i q j c k) (edge q j) i' (second_of_race p i q j c k) clear is
 
@@ -127,11 +117,12 @@ module _ (program : Program) (s : Story) where
   unfolding Ordered
   rising p q a b d clear lt =
       let k : RaceKind = kind_by a.writes b.writes in
-      let there' : In (race p a.edge q b.edge a.cell k) (candidates s) =
-      candidate_in s p a.edge q b.edge a.cell k lt (process_below s q d.second.0 b d.second.1)
+      let there' : In (race p a.edge q b.edge a.cell k) (candidates edges) =
+      candidate_in edges p a.edge q b.edge a.cell k lt (process_below s q d.second.0 b d.second.1)
       (omega (arith, edge_below (own_steps s p) 0 d.first.0 a d.first.1)) (omega (arith, edge_below (own_steps s q) 0 d.second.0 b d.second.1)) d.there (kind_in a.writes b.writes) in
-      let o : are_ordered program s (edge p a.edge) (edge q b.edge) ≡ true = ordered_or
-      (has_access s p a.edge a.cell (first_writes k)) (has_access s q b.edge a.cell (second_writes k)) (are_ordered program s (edge p a.edge) (edge q b.edge))
+      let o : (is_edge_before program (record_of s) (edge p a.edge) (edge q b.edge) || is_edge_before program (record_of s) (edge q b.edge) (edge p a.edge)) ≡ true = ordered_or
+      (has_access s p a.edge a.cell (first_writes k)) (has_access s q b.edge a.cell (second_writes k))
+      (is_edge_before program (record_of s) (edge p a.edge) (edge q b.edge) || is_edge_before program (record_of s) (edge q b.edge) (edge p a.edge))
       (has_it s p d.first.0 a.cell a (first_writes k) d.first.1 refl (sym (first_is a.writes b.writes)))
       (has_it s q d.second.0 a.cell b (second_writes k) d.second.1 (sym d.cell) (sym (second_is a.writes b.writes d.writes)))
       (not_listed p a.edge q b.edge a.cell k there' clear) in

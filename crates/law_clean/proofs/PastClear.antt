@@ -8,15 +8,16 @@ use Rattle.ppd_model.specs.declared.graph.EdgeId.{EdgeId}
 use Rattle.ppd_model.specs.declared.tracing.Story.{Story}
 use Rattle.ppd_model.specs.declared.tracing.Taken.{Taken}
 use Rattle.ppd_model.specs.HappenedBefore.{Before, EdgeBefore, across, earlier, edge, is_edge_before, node, own_syncs, sync_at}
-use Rattle.ppd_model.specs.Races.{edges_of, races_of}
+use Rattle.ppd_model.specs.Races.{races_of}
 use Rattle.ppd_model.specs.Record.{record_of}
+use Rattle.ppd_model.specs.RecordedSets.{last_edge}
 use Rattle.ppd_model.specs.Story.{own_steps}
 use Rattle.ppd_model.specs.Synchronizations.{Sync, syncs_of}
 use Rattle.ppd_model.proofs.Accesses.{record_at}
 use Rattle.ppd_model.proofs.LastEdges.{before_from}
 use Rattle.ppd_model.proofs.Tested.{In, from_zero, in_map, tests_before, tests_edges}
 use Rattle.law_flow_shared.proofs.Edges.Sources.Members.{filter_in}
-use Rattle.law_clean.specs.Ordered.{IsUnraced}
+use Rattle.law_clean.proofs.Vocabulary.{IsUnraced}
 use Rattle.law_clean.specs.Pasts.{Lies, all_edges, is_clean, is_item_past, is_past, is_raced, is_same_edge, item_past, leads_to_end}
 use Rattle.law_clean.proofs.Ordered.{any_in, in_flat_map}
 
@@ -34,8 +35,8 @@ module _ (program : Program) (s : Story) where
   -- an edge of a process that is there
   pub edge_there : (q i : ℕ) → q < length s.steps → i ≤ length (syncs_of (own_steps s q)) → In (edge q i) (all_edges s)
   edge_there q i lt le =
-      in_flat_map (λ p. map (edge p) (edges_of s p)) q (edge q i) (range_with_len 0 (length s.steps)) (from_zero q (length s.steps) lt)
-      (in_map (edge q) i (edges_of s q) (from_zero i (length (syncs_of (own_steps s q)) + 1) (omega (arith, le))))
+      in_flat_map (λ p. map (edge p) (range_with_len 0 (last_edge s p + 1))) q (edge q i) (range_with_len 0 (length s.steps)) (from_zero q (length s.steps) lt)
+      (in_map (edge q) i (range_with_len 0 (last_edge s q + 1)) (from_zero i (last_edge s q + 1) (omega (arith, le))))
 
   -- an edge that a synchronization ends
   pub ended_there : (q i : ℕ) → IsTrue (is_some (sync_at (record_of s) (node q i))) → In (edge q i) (all_edges s)

@@ -17,7 +17,6 @@ use Rattle.ppd_model.proofs.Accesses.{record_at}
 use Rattle.ppd_model.proofs.LastEdges.{before_from}
 use Rattle.ppd_model.proofs.Tested.{In, tests_before, tests_edges}
 use Rattle.law_flow_shared.proofs.Edges.Sources.Members.{filter_in, in_filter}
-use Rattle.law_clean.specs.Ordered.{IsUnraced}
 use Rattle.law_clean.specs.Pasts.{Lies, all_edges, are_raced, is_clean, is_item_past, is_of_race, is_past, is_raced, is_same_edge, item_past, leads_to_end, past_of}
 use Rattle.law_clean.specs.Search.{has_race, is_in_past, is_raced_to, leads_from_race}
 use Rattle.law_clean.proofs.Ordered.{any_in}

@@ -11,9 +11,9 @@ use Rattle.ppd_model.specs.HappenedBefore.{edge, is_before, is_edge_before, node
 use Rattle.ppd_model.specs.Extents.{Extent, extents}
 use Rattle.ppd_model.specs.Intervals.{Part, own, nested, Split}
 use Rattle.ppd_model.specs.NearIntervals.{edge_of_event}
-use Rattle.ppd_model.specs.Races.{edges_of, races_of}
+use Rattle.ppd_model.specs.Races.{races_of}
 use Rattle.ppd_model.specs.Record.{record_of}
-use Rattle.ppd_model.specs.RecordedSets.{sync_in}
+use Rattle.ppd_model.specs.RecordedSets.{last_edge, sync_in}
 use Rattle.ppd_flow_model.specs.Ends.{syncs_before}
 
 -- ---- races that have an edge
@@ -30,7 +30,7 @@ is_raced rs e = list_any (is_of_race e) rs
 
 -- all internal edges of a story, by process and number
 abbrev pub all_edges : Story → List EdgeId
-all_edges s = flat_map (λ p. map (edge p) (edges_of s p)) (range_with_len 0 (length s.steps))
+all_edges s = flat_map (λ p. map (edge p) (range_with_len 0 (last_edge s p + 1))) (range_with_len 0 (length s.steps))
 
 abbrev pub is_same_edge : EdgeId → EdgeId → Bool
 is_same_edge a b = nat_eq a.process b.process && nat_eq a.edge b.edge

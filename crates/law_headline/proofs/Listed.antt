@@ -1,5 +1,5 @@
 -- The races of a schedule are exactly the conflicts that its record leaves unordered.
-use Rattle.std.proofs.Common.{◌≡◌, ℕ, zero, suc, ◌+◌, ◌-◌, ◌<◌, ◌≤◌, Bool, true, false, Some, List, [], ◌∷◌, arith, get_or, inl, inr, length, map, nat_eq, not, refl, ap, slice_get, sym, subst, ◌&&◌, true≢false, eq-eqb, eqb-true}
+use Rattle.std.proofs.Common.{◌≡◌, ℕ, zero, suc, ◌+◌, ◌-◌, ◌<◌, ◌≤◌, Bool, true, false, Some, List, [], ◌∷◌, arith, get_or, inl, inr, length, map, nat_eq, not, refl, ap, slice_get, sym, subst, ◌&&◌, ◌||◌, true≢false, eq-eqb, eqb-true}
 use Rattle.std.proofs.lemmas.Bool.{and_from, cases_lt, or_cases, or_left, or_right}
 use Rattle.std.proofs.lemmas.Option.{none-some}
 use Rattle.std.specs.List.{range_with_len}
@@ -11,7 +11,7 @@ use Rattle.ppd_model.specs.declared.graph.Race.{Race}
 use Rattle.ppd_model.specs.declared.graph.RaceKind.{RaceKind}
 use Rattle.ppd_model.specs.declared.graph.RaceKind.TheVariants.{ReadWrite, WriteRead, WriteWrite}
 use Rattle.ppd_model.specs.HappenedBefore.{edge, is_edge_before}
-use Rattle.ppd_model.specs.Races.{are_ordered, candidates, edges_of, first_writes, has_access, is_race, kinds, processes_after, race, races, races_of, second_writes, writes_or_not}
+use Rattle.ppd_model.specs.Races.{Edges, are_apart, candidates, edges_of_story, first_writes, has_access, is_race, kinds, own_edges, race, races, races_of, second_writes, writes_or_not}
 use Rattle.ppd_model.specs.Record.{SharedAccess, accesses, accesses_from, record_of}
 use Rattle.ppd_model.specs.declared.tracing.Story.{Story}
 use Rattle.ppd_model.specs.declared.tracing.Taken.{Taken}
@@ -94,7 +94,7 @@ module _ (s : Story) (p i c : ℕ) (w : Bool) where
       past (xs ∷ rest) zero le = absurd (omega (arith, le))
       past (xs ∷ rest) (suc q) le = past rest q (omega (arith, le))
 
-  edge_there : HasAccess s p i c w → i ≤ length (syncs_of (own_steps s p))
+  edge_there : HasAccess s p i c w → i < length (syncs_of (own_steps s p)) + 1
   edge_there h =
       let below = edge_below (own_steps s p) 0 (access_at h).0 (record { edge = i; cell = c; writes = w }) (access_at h).1 in
       omega (arith, below)
@@ -102,14 +102,17 @@ module _ (s : Story) (p i c : ℕ) (w : Bool) where
 -- ---- order
 
 module _ (tests_edges : IsTestOfEdges) (program : Program) (s : Story) (a b : EdgeId) where
-  unordered_of : not (are_ordered program s a b) ≡ true → AreUnordered program (record_of s) a b
+  abbrev are_ordered : Bool
+  are_ordered = is_edge_before program (record_of s) a b || is_edge_before program (record_of s) b a
+
+  unordered_of : are_apart (edges_of_story program s) a b ≡ true → AreUnordered program (record_of s) a b
   unordered_of e = record {
-    not_before = λ f. not_true (are_ordered program s a b) e (or_left (is_edge_before program (record_of s) a b) (is_edge_before program (record_of s) b a) ((tests_edges program (record_of s) a b).1 f));
-    not_after = λ f. not_true (are_ordered program s a b) e (or_right (is_edge_before program (record_of s) a b) (is_edge_before program (record_of s) b a) ((tests_edges program (record_of s) b a).1 f));
+    not_before = λ f. not_true are_ordered e (or_left (is_edge_before program (record_of s) a b) (is_edge_before program (record_of s) b a) ((tests_edges program (record_of s) a b).1 f));
+    not_after = λ f. not_true are_ordered e (or_right (is_edge_before program (record_of s) a b) (is_edge_before program (record_of s) b a) ((tests_edges program (record_of s) b a).1 f));
   }
 
-  unordered_is : AreUnordered program (record_of s) a b → not (are_ordered program s a b) ≡ true
-  unordered_is u = not_false (are_ordered program s a b) (λ e. elim (or_cases (is_edge_before program (record_of s) a b) (is_edge_before program (record_of s) b a) e) [
+  unordered_is : AreUnordered program (record_of s) a b → are_apart (edges_of_story program s) a b ≡ true
+  unordered_is u = not_false are_ordered (λ e. elim (or_cases (is_edge_before program (record_of s) a b) (is_edge_before program (record_of s) b a) e) [
     | inl f ↦ u.not_before ((tests_edges program (record_of s) a b).0 f)
     | inr f ↦ u.not_after ((tests_edges program (record_of s) b a).0 f)
   ])
@@ -127,32 +130,38 @@ same_rise r p i q j c k e low =
     let second : r.q ≡ q = ap (λ (z : Race). z.q) e in
     omega (arith, low, first, second)
 
-module _ (s : Story) where
-  candidate_in : (p i q j c : ℕ) (k : RaceKind) → p < q → q < length s.steps → i ≤ length (syncs_of (own_steps s p)) → j ≤ length (syncs_of (own_steps s q)) → c < length s.cells
-      → Member (race p i q j c k) (candidates s)
+module _ (e : Edges) where
+  abbrev after : ℕ → List ℕ
+  after p = range_with_len (p + 1) (e.processes - (p + 1))
+
+  candidate_in : (p i q j c : ℕ) (k : RaceKind) → p < q → q < e.processes → i < e.count p → j < e.count q → c < e.cells
+      → Member (race p i q j c k) (candidates e)
   candidate_in p i q j c k pq hq hi hj hc =
       let r : Race = race p i q j c k in
-      in_flat _ p r (range_with_len 0 (length s.steps)) (in_range 0 (length s.steps) p (omega arith) (omega (arith, pq, hq)))
-      (in_flat _ i r (edges_of s p) (in_range 0 (length (syncs_of (own_steps s p)) + 1) i (omega arith) (omega (arith, hi)))
-      (in_flat _ q r (processes_after s p) (in_range (p + 1) (length s.steps - (p + 1)) q (omega (arith, pq)) (omega (arith, pq, hq)))
-      (in_flat _ j r (edges_of s q) (in_range 0 (length (syncs_of (own_steps s q)) + 1) j (omega arith) (omega (arith, hj)))
-      (in_flat (λ cell. map (race p i q j cell) kinds) c r (range_with_len 0 (length s.cells)) (in_range 0 (length s.cells) c (omega arith) (omega (arith, hc)))
+      in_flat _ p r (range_with_len 0 e.processes) (in_range 0 e.processes p (omega arith) (omega (arith, pq, hq)))
+      (in_flat _ i r (own_edges e p) (in_range 0 (e.count p) i (omega arith) (omega (arith, hi)))
+      (in_flat _ q r (after p) (in_range (p + 1) (e.processes - (p + 1)) q (omega (arith, pq)) (omega (arith, pq, hq)))
+      (in_flat _ j r (own_edges e q) (in_range 0 (e.count q) j (omega arith) (omega (arith, hj)))
+      (in_flat (λ cell. map (race p i q j cell) kinds) c r (range_with_len 0 e.cells) (in_range 0 e.cells c (omega arith) (omega (arith, hc)))
       (in_map (race p i q j c) k kinds (each_kind k))))))
 
   -- the first process has the smaller number
-  candidate_rises : (r : Race) → Member r (candidates s) → r.p < r.q
+  candidate_rises : (r : Race) → Member r (candidates e) → r.p < r.q
   candidate_rises r m =
-      let a = of_flat _ r (range_with_len 0 (length s.steps)) m in
-      let b = of_flat _ r (edges_of s a.0) a.2 in
-      let d = of_flat _ r (processes_after s a.0) b.2 in
-      let e = of_flat _ r (edges_of s d.0) d.2 in
-      let f = of_flat (λ cell. map (race a.0 b.0 d.0 e.0 cell) kinds) r (range_with_len 0 (length s.cells)) e.2 in
-      let g = of_map (race a.0 b.0 d.0 e.0 f.0) r kinds f.2 in
-      same_rise r a.0 b.0 d.0 e.0 f.0 g.0 g.2 (of_range (a.0 + 1) (length s.steps - (a.0 + 1)) d.0 d.1).0
+      let a = of_flat _ r (range_with_len 0 e.processes) m in
+      let b = of_flat _ r (own_edges e a.0) a.2 in
+      let c = of_flat _ r (after a.0) b.2 in
+      let d = of_flat _ r (own_edges e c.0) c.2 in
+      let f = of_flat (λ cell. map (race a.0 b.0 c.0 d.0 cell) kinds) r (range_with_len 0 e.cells) d.2 in
+      let g = of_map (race a.0 b.0 c.0 d.0 f.0) r kinds f.2 in
+      same_rise r a.0 b.0 c.0 d.0 f.0 g.0 g.2 (of_range (a.0 + 1) (e.processes - (a.0 + 1)) c.0 c.1).0
 
 -- ---- the races
 
 module _ (tests_edges : IsTestOfEdges) (program : Program) (s : Story) (r : Race) where
+  abbrev edges : Edges
+  edges = edges_of_story program s
+
   abbrev first_has : Bool
   first_has = has_access s r.p r.i r.cell (first_writes r.kind)
 
@@ -160,14 +169,14 @@ module _ (tests_edges : IsTestOfEdges) (program : Program) (s : Story) (r : Race
   second_has = has_access s r.q r.j r.cell (second_writes r.kind)
 
   abbrev apart : Bool
-  apart = not (are_ordered program s (edge r.p r.i) (edge r.q r.j))
+  apart = are_apart edges (edge r.p r.i) (edge r.q r.j)
 
   of_listed : Member r (races_of program s) → IsUnorderedConflict program s r
   of_listed m =
-      let f = of_filter (is_race program s) r (candidates s) m in
+      let f = of_filter (is_race edges) r (candidates edges) m in
       let accesses = left_true (first_has && second_has) apart f.1 in
       record {
-        two_processes = candidate_rises s r f.0;
+        two_processes = candidate_rises edges r f.0;
         first = access_of s r.p r.i r.cell (first_writes r.kind) (left_true first_has second_has accesses);
         second = access_of s r.q r.j r.cell (second_writes r.kind) (right_true first_has second_has accesses);
         unordered = unordered_of tests_edges program s (edge r.p r.i) (edge r.q r.j) (right_true (first_has && second_has) apart f.1);
@@ -175,8 +184,8 @@ module _ (tests_edges : IsTestOfEdges) (program : Program) (s : Story) (r : Race
 
   in_listed : r.cell < length s.cells → IsUnorderedConflict program s r → Member r (races_of program s)
   in_listed there c =
-      in_filter (is_race program s) r (candidates s)
-      (candidate_in s r.p r.i r.q r.j r.cell r.kind c.two_processes (process_there s r.q r.j r.cell (second_writes r.kind) c.second)
+      in_filter (is_race edges) r (candidates edges)
+      (candidate_in edges r.p r.i r.q r.j r.cell r.kind c.two_processes (process_there s r.q r.j r.cell (second_writes r.kind) c.second)
       (edge_there s r.p r.i r.cell (first_writes r.kind) c.first) (edge_there s r.q r.j r.cell (second_writes r.kind) c.second) there)
       (and_from (first_has && second_has) apart
       (and_from first_has second_has (access_is s r.p r.i r.cell (first_writes r.kind) c.first) (access_is s r.q r.j r.cell (second_writes r.kind) c.second))
@@ -184,14 +193,16 @@ module _ (tests_edges : IsTestOfEdges) (program : Program) (s : Story) (r : Race
 
 pub races_listed : IsTestOfEdges → AccessesAreOfCells → ObjectsStay → (program : Program) (plan : Plan) (budget : ℕ) (h : List ℕ) → IsValid program
     → ListsExactly program (story program plan budget h) (races program plan budget h)
-races_listed tests_edges accesses_there objects_stay program plan budget h valid = record {
-  all_and_only = λ r. (
-    λ c. of_listed tests_edges program (story program plan budget h) r (of_contains (races program plan budget h) r c),
-    λ u.
-        let a = access_at (story program plan budget h) r.p r.i r.cell (first_writes r.kind) u.first in
-        let there = accesses_there program plan budget h r.p a.0 (record { edge = r.i; cell = r.cell; writes = first_writes r.kind }) valid a.1 in
-        let cells = (objects_stay program plan budget h).cells in
-        in_contains (races program plan budget h) r (in_listed tests_edges program (story program plan budget h) r (omega (arith, there, cells)) u),
-  );
-  each_once = one_place (races program plan budget h) (filter_once (is_race program (story program plan budget h)) (candidates (story program plan budget h)) (candidates_once (story program plan budget h)));
-}
+races_listed tests_edges accesses_there objects_stay program plan budget h valid =
+    let edges : Edges = edges_of_story program (story program plan budget h) in
+    record {
+      all_and_only = λ r. (
+        λ c. of_listed tests_edges program (story program plan budget h) r (of_contains (races program plan budget h) r c),
+        λ u.
+            let a = access_at (story program plan budget h) r.p r.i r.cell (first_writes r.kind) u.first in
+            let there = accesses_there program plan budget h r.p a.0 (record { edge = r.i; cell = r.cell; writes = first_writes r.kind }) valid a.1 in
+            let cells = (objects_stay program plan budget h).cells in
+            in_contains (races program plan budget h) r (in_listed tests_edges program (story program plan budget h) r (omega (arith, there, cells)) u),
+      );
+      each_once = one_place (races program plan budget h) (filter_once (is_race edges) (candidates edges) (candidates_once edges));
+    }

@@ -1,11 +1,10 @@
 -- Lists with each of their members once, by recursion, and the candidates of races among them.
-use Rattle.std.proofs.Common.{◌≡◌, ℕ, zero, suc, ◌+◌, ◌-◌, Bool, true, false, cond, Some, List, [], ◌∷◌, ◌++◌, arith, filter, flat_map, inl, inr, length, map, refl, ap, slice_get, sym, ◌∙◌}
+use Rattle.std.proofs.Common.{◌≡◌, ℕ, zero, suc, ◌+◌, ◌-◌, Bool, true, false, cond, Some, List, [], ◌∷◌, ◌++◌, arith, filter, flat_map, inl, inr, map, refl, ap, slice_get, sym, ◌∙◌}
 use Rattle.std.specs.List.{range_with_len}
 use Rattle.std.specs.Prelude.{⊤}
 use Rattle.ppd_model.specs.declared.graph.Race.{Race}
 use Rattle.ppd_model.specs.declared.graph.RaceKind.{RaceKind}
-use Rattle.ppd_model.specs.declared.tracing.Story.{Story}
-use Rattle.ppd_model.specs.Races.{candidates, edges_of, kinds, processes_after, race}
+use Rattle.ppd_model.specs.Races.{Edges, candidates, kinds, own_edges, race}
 use Rattle.law_headline.proofs.Members.{Member, either, of_filter, of_flat, of_map, of_range}
 
 abbrev pub Once : {A : Type 0} → List A → Type 0
@@ -75,9 +74,12 @@ kinds_once = (
   (λ m. elim m [ inl e ↦ absurd (cc) | inr n ↦ n ], (λ m. m, tt)),
 )
 
-module _ (s : Story) where
+module _ (e : Edges) where
   abbrev cells : List ℕ
-  cells = range_with_len 0 (length s.cells)
+  cells = range_with_len 0 e.cells
+
+  abbrev after : ℕ → List ℕ
+  after p = range_with_len (p + 1) (e.processes - (p + 1))
 
   abbrev of_cell : (p i q j c : ℕ) → List Race
   of_cell p i q j c = map (race p i q j c) kinds
@@ -86,13 +88,13 @@ module _ (s : Story) where
   of_second_edge p i q j = flat_map (of_cell p i q j) cells
 
   abbrev of_second : (p i q : ℕ) → List Race
-  of_second p i q = flat_map (of_second_edge p i q) (edges_of s q)
+  of_second p i q = flat_map (of_second_edge p i q) (own_edges e q)
 
   abbrev of_first_edge : (p i : ℕ) → List Race
-  of_first_edge p i = flat_map (of_second p i) (processes_after s p)
+  of_first_edge p i = flat_map (of_second p i) (after p)
 
   abbrev of_first : (p : ℕ) → List Race
-  of_first p = flat_map (of_first_edge p) (edges_of s p)
+  of_first p = flat_map (of_first_edge p) (own_edges e p)
 
   in_cell : (p i q j c : ℕ) (r : Race) → Member r (of_cell p i q j c) → (k : RaceKind) × (r ≡ race p i q j c k)
   in_cell p i q j c r m = let w = of_map (race p i q j c) r kinds m in (w.0, w.2)
@@ -104,38 +106,38 @@ module _ (s : Story) where
 
   in_second : (p i q : ℕ) (r : Race) → Member r (of_second p i q) → (j : ℕ) × (c : ℕ) × (k : RaceKind) × (r ≡ race p i q j c k)
   in_second p i q r m =
-      let w = of_flat (of_second_edge p i q) r (edges_of s q) m in
+      let w = of_flat (of_second_edge p i q) r (own_edges e q) m in
       let v = in_second_edge p i q w.0 r w.2 in (w.0, v.0, v.1, v.2)
 
   in_first_edge : (p i : ℕ) (r : Race) → Member r (of_first_edge p i) → (q : ℕ) × (j : ℕ) × (c : ℕ) × (k : RaceKind) × (r ≡ race p i q j c k)
   in_first_edge p i r m =
-      let w = of_flat (of_second p i) r (processes_after s p) m in
+      let w = of_flat (of_second p i) r (after p) m in
       let v = in_second p i w.0 r w.2 in (w.0, v.0, v.1, v.2, v.3)
 
   in_first : (p : ℕ) (r : Race) → Member r (of_first p) → (i : ℕ) × (q : ℕ) × (j : ℕ) × (c : ℕ) × (k : RaceKind) × (r ≡ race p i q j c k)
   in_first p r m =
-      let w = of_flat (of_first_edge p) r (edges_of s p) m in
+      let w = of_flat (of_first_edge p) r (own_edges e p) m in
       let v = in_first_edge p w.0 r w.2 in (w.0, v.0, v.1, v.2, v.3, v.4)
 
   cell_once : (p i q j c : ℕ) → Once (of_cell p i q j c)
   cell_once p i q j c = map_once (race p i q j c) kinds (λ x y e. ap (λ (r : Race). r.kind) e) kinds_once
 
   second_edge_once : (p i q j : ℕ) → Once (of_second_edge p i q j)
-  second_edge_once p i q j = flat_once (of_cell p i q j) cells (range_once 0 (length s.cells)) (cell_once p i q j)
+  second_edge_once p i q j = flat_once (of_cell p i q j) cells (range_once 0 e.cells) (cell_once p i q j)
       (λ x y r m n. ap (λ (z : Race). z.cell) (sym (in_cell p i q j x r m).1 ∙ (in_cell p i q j y r n).1))
 
   second_once : (p i q : ℕ) → Once (of_second p i q)
-  second_once p i q = flat_once (of_second_edge p i q) (edges_of s q) (range_once 0 _) (second_edge_once p i q)
+  second_once p i q = flat_once (of_second_edge p i q) (own_edges e q) (range_once 0 _) (second_edge_once p i q)
       (λ x y r m n. ap (λ (z : Race). z.j) (sym (in_second_edge p i q x r m).2 ∙ (in_second_edge p i q y r n).2))
 
   first_edge_once : (p i : ℕ) → Once (of_first_edge p i)
-  first_edge_once p i = flat_once (of_second p i) (processes_after s p) (range_once (p + 1) (length s.steps - (p + 1))) (second_once p i)
+  first_edge_once p i = flat_once (of_second p i) (after p) (range_once (p + 1) (e.processes - (p + 1))) (second_once p i)
       (λ x y r m n. ap (λ (z : Race). z.q) (sym (in_second p i x r m).3 ∙ (in_second p i y r n).3))
 
   first_once : (p : ℕ) → Once (of_first p)
-  first_once p = flat_once (of_first_edge p) (edges_of s p) (range_once 0 _) (first_edge_once p)
+  first_once p = flat_once (of_first_edge p) (own_edges e p) (range_once 0 _) (first_edge_once p)
       (λ x y r m n. ap (λ (z : Race). z.i) (sym (in_first_edge p x r m).4 ∙ (in_first_edge p y r n).4))
 
-  pub candidates_once : Once (candidates s)
-  candidates_once = flat_once of_first (range_with_len 0 (length s.steps)) (range_once 0 (length s.steps)) first_once
+  pub candidates_once : Once (candidates e)
+  candidates_once = flat_once of_first (range_with_len 0 e.processes) (range_once 0 e.processes) first_once
       (λ x y r m n. ap (λ (z : Race). z.p) (sym (in_first x r m).5 ∙ (in_first y r n).5))

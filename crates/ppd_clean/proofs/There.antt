@@ -9,9 +9,9 @@ use Rattle.law_flow_shared.proofs.Edges.Sources.Members.{in_cases, in_either, in
 use Rattle.ppd_model.specs.declared.graph.EdgeId.{EdgeId}
 use Rattle.ppd_model.specs.declared.graph.Race.{Race}
 use Rattle.ppd_model.specs.HappenedBefore.{edge}
-use Rattle.ppd_model.specs.Races.{kinds, race}
+use Rattle.ppd_model.specs.Races.{Edges, candidates, candidates_at, is_race, kinds, own_edges, race, races_among}
 use Rattle.ppd_model.proofs.Tested.{In}
-use Rattle.ppd_race.specs.Races.{Edges, IsThere, candidates_at, candidates_in, is_race_in, own_edges, races_among}
+use Rattle.ppd_race.specs.Races.{IsThere}
 
 out_of : {A B : Type 0} (f : A → List B) (b : B) (xs : List A) → In b (flat_map f xs) → (a : A) × In a xs × In b (f a)
 out_of f b [] m = absurd (no_member m)
@@ -35,7 +35,7 @@ ranged a (suc n) i m = elim (in_cases i a (range_with_len (a + 1) n) m) [
 ]
 
 module _ (e : Edges) where
-  candidate_there : (r : Race) → In r (candidates_in e) → IsThere e (edge r.p r.i) × IsThere e (edge r.q r.j)
+  candidate_there : (r : Race) → In r (candidates e) → IsThere e (edge r.p r.i) × IsThere e (edge r.q r.j)
   candidate_there r m =
       let a = out_of (λ p. flat_map (λ i. flat_map (λ q. flat_map (λ j. candidates_at e p i q j) (own_edges e q)) (range_with_len (p + 1) (e.processes - (p + 1)))) (own_edges e p)) r (range_with_len 0 e.processes) m in
       let b = out_of (λ i. flat_map (λ q. flat_map (λ j. candidates_at e a.0 i q j) (own_edges e q)) (range_with_len (a.0 + 1) (e.processes - (a.0 + 1)))) r (own_edges e a.0) a.2 in
@@ -56,7 +56,7 @@ module _ (e : Edges) where
   raced_there a h =
       let f = any_found (is_of_race a) (races_among e) h in
       let r : Race = f.0 in
-      let t = candidate_there r (in_filter (is_race_in e) r (candidates_in e) f.1).0 in
+      let t = candidate_there r (in_filter (is_race e) r (candidates e) f.1).0 in
       elim (either (nat_eq r.p a.process && nat_eq r.i a.edge) (nat_eq r.q a.process && nat_eq r.j a.edge) f.2) [
         | inl first ↦
             let b = both (nat_eq r.p a.process) (nat_eq r.i a.edge) first in

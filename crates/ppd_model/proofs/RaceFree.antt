@@ -15,7 +15,7 @@ use Rattle.ppd_model.specs.Story.{Story, Taken, own_steps}
 use Rattle.ppd_model.specs.Synchronizations.{Sync, sync_of, syncs_of}
 use Rattle.ppd_model.specs.Record.{SharedAccess, access_at, accesses, accesses_from, edge_after, record_of}
 use Rattle.ppd_model.specs.HappenedBefore.{EdgeBefore, edge, is_edge_before}
-use Rattle.ppd_model.specs.Races.{are_ordered, candidates, edges_of, first_writes, has_access, is_race, kinds, processes_after, race, races_of, second_writes, writes_or_not}
+use Rattle.ppd_model.specs.Races.{Edges, candidates, edges_of_story, first_writes, has_access, is_race, kinds, own_edges, race, races_of, second_writes, writes_or_not}
 use Rattle.ppd_model.specs.Laws.{DoConflict, NoRaceMeansOrder}
 use Rattle.ppd_model.proofs.Tested.{In, here, there, from_zero, in_left, in_map, in_range, in_right, tests_edges}
 
@@ -81,16 +81,17 @@ process_below s p m a h = elim (cases_lt p (length s.steps)) [
 
 -- ---- candidates
 
-candidate_in : (s : Story) (p i q j c : ℕ) (k : RaceKind) → p < q → q < length s.steps → i ≤ length (syncs_of (own_steps s p)) → j ≤ length (syncs_of (own_steps s q)) → c < length s.cells → In k kinds
-    → In (race p i q j c k) (candidates s)
-candidate_in s p i q j c k pq hq hi hj hc hk =
+pub candidate_in : (e : Edges) (p i q j c : ℕ) (k : RaceKind) → p < q → q < e.processes → i < e.count p → j < e.count q → c < e.cells → In k kinds
+    → In (race p i q j c k) (candidates e)
+candidate_in e p i q j c k pq hq hi hj hc hk =
     let r : Race = race p i q j c k in
+    let after : List ℕ = range_with_len (p + 1) (e.processes - (p + 1)) in
     let far : (p + 1) + (q - (p + 1)) ≡ q = omega (arith, pq) in
-    in_flat_map _ p r (range_with_len 0 (length s.steps)) (from_zero p (length s.steps) (omega (arith, pq, hq)))
-    (in_flat_map _ i r (edges_of s p) (from_zero i (length (syncs_of (own_steps s p)) + 1) (omega (arith, hi)))
-    (in_flat_map _ q r (processes_after s p) (subst (λ x. In x (processes_after s p)) far (in_range (p + 1) (length s.steps - (p + 1)) (q - (p + 1)) (omega (arith, pq, hq))))
-    (in_flat_map _ j r (edges_of s q) (from_zero j (length (syncs_of (own_steps s q)) + 1) (omega (arith, hj)))
-    (in_flat_map (λ cell. map (race p i q j cell) kinds) c r (range_with_len 0 (length s.cells)) (from_zero c (length s.cells) hc)
+    in_flat_map _ p r (range_with_len 0 e.processes) (from_zero p e.processes (omega (arith, pq, hq)))
+    (in_flat_map _ i r (own_edges e p) (from_zero i (e.count p) hi)
+    (in_flat_map _ q r after (subst (λ x. In x after) far (in_range (p + 1) (e.processes - (p + 1)) (q - (p + 1)) (omega (arith, pq, hq))))
+    (in_flat_map _ j r (own_edges e q) (from_zero j (e.count q) hj)
+    (in_flat_map (λ cell. map (race p i q j cell) kinds) c r (range_with_len 0 e.cells) (from_zero c e.cells hc)
     (in_map (race p i q j c) k kinds hk)))))
 
 -- the kind of two accesses of which one writes
@@ -136,6 +137,9 @@ clean a b false e h k = absurd (true≢false (sym (and_from (a && b) true (and_f
 -- ---- no race
 
 module _ (program : Program) (s : Story) (none : races_of program s ≡ []) where
+  abbrev edges : Edges
+  edges = edges_of_story program s
+
   Ordered : EdgeId → EdgeId → Type 0
   Ordered x y = EdgeBefore program (record_of s) x y ⊎ EdgeBefore program (record_of s) y x
 
@@ -149,11 +153,12 @@ module _ (program : Program) (s : Story) (none : races_of program s ≡ []) wher
   unfolding Ordered
   rising p q a b d lt =
       let k : RaceKind = kind_by a.writes b.writes in
-      let found : is_race program s (race p a.edge q b.edge a.cell k) ≡ false = none_passes (is_race program s) (race p a.edge q b.edge a.cell k) (candidates s) none
-      (candidate_in s p a.edge q b.edge a.cell k lt (process_below s q d.second.0 b d.second.1)
+      let found : is_race edges (race p a.edge q b.edge a.cell k) ≡ false = none_passes (is_race edges) (race p a.edge q b.edge a.cell k) (candidates edges) none
+      (candidate_in edges p a.edge q b.edge a.cell k lt (process_below s q d.second.0 b d.second.1)
       (omega (arith, edge_below (own_steps s p) 0 d.first.0 a d.first.1)) (omega (arith, edge_below (own_steps s q) 0 d.second.0 b d.second.1)) d.there (kind_in a.writes b.writes)) in
-      let o : are_ordered program s (edge p a.edge) (edge q b.edge) ≡ true = clean
-      (has_access s p a.edge a.cell (first_writes k)) (has_access s q b.edge a.cell (second_writes k)) (are_ordered program s (edge p a.edge) (edge q b.edge)) found
+      let o : (is_edge_before program (record_of s) (edge p a.edge) (edge q b.edge) || is_edge_before program (record_of s) (edge q b.edge) (edge p a.edge)) ≡ true = clean
+      (has_access s p a.edge a.cell (first_writes k)) (has_access s q b.edge a.cell (second_writes k))
+      (is_edge_before program (record_of s) (edge p a.edge) (edge q b.edge) || is_edge_before program (record_of s) (edge q b.edge) (edge p a.edge)) found
       (has_it s p d.first.0 a.cell a (first_writes k) d.first.1 refl (sym (first_is a.writes b.writes)))
       (has_it s q d.second.0 a.cell b (second_writes k) d.second.1 (sym d.cell) (sym (second_is a.writes b.writes d.writes))) in
       elim (or_cases (is_edge_before program (record_of s) (edge p a.edge) (edge q b.edge)) (is_edge_before program (record_of s) (edge q b.edge) (edge p a.edge)) o) [

@@ -1,4 +1,5 @@
--- The races of a schedule, all and only, in order.
+-- The races among edges, all and only, in order: of two processes, neither before the other, over a cell that one of
+-- them writes. Those of a story, and of a schedule, are the races among its edges.
 use Rattle.std.specs.Prelude.{ℕ, ◌+◌, ◌-◌, nat_eq, Bool, true, false, ◌&&◌, ◌||◌, not, List, [], ◌∷◌, map, filter, length}
 use Rattle.std.specs.List.{list_any, flat_map, range_with_len}
 use Rattle.ppd_ast.specs.declared.program.Program.{Program}
@@ -24,6 +25,59 @@ second_writes ReadWrite = true
 second_writes WriteRead = false
 second_writes WriteWrite = true
 
+-- the kinds of races in their order
+abbrev pub kinds : List RaceKind
+kinds = ReadWrite ∷ WriteRead ∷ WriteWrite ∷ []
+
+-- a race from its parts
+abbrev pub race : ℕ → ℕ → ℕ → ℕ → ℕ → RaceKind → Race
+race p i q j cell kind = record { p = p; i = i; q = q; j = j; cell = cell; kind = kind }
+
+-- ---- among edges
+
+-- edges of processes: how many each process has, how many cells there are, whether an edge writes a cell or
+-- reads it, and which edge is before which
+pub record Edges : Type 0 where
+  pub processes : ℕ
+  pub cells : ℕ
+  pub count : ℕ → ℕ
+  pub accesses : EdgeId → ℕ → Bool → Bool
+  pub before : EdgeId → EdgeId → Bool
+
+-- neither is before the other
+abbrev pub are_apart : Edges → EdgeId → EdgeId → Bool
+are_apart e a b = not (e.before a b || e.before b a)
+
+-- both processes have their accesses in these edges, and neither edge is before the other
+abbrev pub is_race : Edges → Race → Bool
+is_race e r =
+    e.accesses (edge r.p r.i) r.cell (first_writes r.kind)
+    && e.accesses (edge r.q r.j) r.cell (second_writes r.kind)
+    && are_apart e (edge r.p r.i) (edge r.q r.j)
+
+-- the edges of process p
+abbrev pub own_edges : Edges → ℕ → List ℕ
+own_edges e p = range_with_len 0 (e.count p)
+
+-- what could be a race of two edges
+abbrev pub candidates_at : Edges → ℕ → ℕ → ℕ → ℕ → List Race
+candidates_at e p i q j = flat_map (λ cell. map (race p i q j cell) kinds) (range_with_len 0 e.cells)
+
+-- everything that could be a race, rising by the first process, its edge, the second process, its
+-- edge, the cell and the kind
+abbrev pub candidates : Edges → List Race
+candidates e =
+    flat_map (λ p. flat_map
+    (λ i. flat_map (λ q. flat_map (λ j. candidates_at e p i q j) (own_edges e q))
+    (range_with_len (p + 1) (e.processes - (p + 1)))) (own_edges e p))
+    (range_with_len 0 e.processes)
+
+-- the races
+abbrev pub races_among : Edges → List Race
+races_among e = filter (is_race e) (candidates e)
+
+-- ---- of a story
+
 -- the access is a write, or is a read
 abbrev pub writes_or_not : SharedAccess → Bool → Bool
 writes_or_not a true = a.writes
@@ -34,45 +88,19 @@ abbrev pub has_access : Story → ℕ → ℕ → ℕ → Bool → Bool
 has_access s p i cell writes =
     list_any (λ a. nat_eq a.edge i && nat_eq a.cell cell && writes_or_not a writes) (accesses s p)
 
--- one of the two edges is before the other
-abbrev pub are_ordered : Program → Story → EdgeId → EdgeId → Bool
-are_ordered program s a b = is_edge_before program (record_of s) a b || is_edge_before program (record_of s) b a
-
--- both processes have their accesses in these edges, and neither edge is before the other
-abbrev pub is_race : Program → Story → Race → Bool
-is_race program s r =
-    has_access s r.p r.i r.cell (first_writes r.kind)
-    && has_access s r.q r.j r.cell (second_writes r.kind)
-    && not (are_ordered program s (edge r.p r.i) (edge r.q r.j))
-
--- the internal edges of process p: one more than its synchronizations
-abbrev pub edges_of : Story → ℕ → List ℕ
-edges_of s p = range_with_len 0 (length (syncs_of (own_steps s p)) + 1)
-
--- the processes after p
-abbrev pub processes_after : Story → ℕ → List ℕ
-processes_after s p = range_with_len (p + 1) (length s.steps - (p + 1))
-
--- the kinds of races in their order
-abbrev pub kinds : List RaceKind
-kinds = ReadWrite ∷ WriteRead ∷ WriteWrite ∷ []
-
--- a race from its parts
-abbrev pub race : ℕ → ℕ → ℕ → ℕ → ℕ → RaceKind → Race
-race p i q j cell kind = record { p = p; i = i; q = q; j = j; cell = cell; kind = kind }
-
--- everything that could be a race, rising by the first process, its edge, the second process, its
--- edge, the cell and the kind
-abbrev pub candidates : Story → List Race
-candidates s =
-    flat_map (λ p. flat_map (λ i. flat_map (λ q. flat_map (λ j. flat_map (λ cell.
-    map (race p i q j cell) kinds)
-    (range_with_len 0 (length s.cells))) (edges_of s q)) (processes_after s p)) (edges_of s p))
-    (range_with_len 0 (length s.steps))
+-- its edges: each process has one more than it has synchronizations
+abbrev pub edges_of_story : Program → Story → Edges
+edges_of_story program s = record {
+  processes = length s.steps;
+  cells = length s.cells;
+  count = λ p. length (syncs_of (own_steps s p)) + 1;
+  accesses = λ a cell writes. has_access s a.process a.edge cell writes;
+  before = is_edge_before program (record_of s);
+}
 
 -- the races of a story
 abbrev pub races_of : Program → Story → List Race
-races_of program s = filter (is_race program s) (candidates s)
+races_of program s = races_among (edges_of_story program s)
 
 -- the races of a schedule
 abbrev pub races : Program → Plan → ℕ → List ℕ → List Race

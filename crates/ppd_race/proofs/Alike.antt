@@ -10,7 +10,7 @@ use Rattle.ppd_model.specs.declared.graph.Race.{Race}
 use Rattle.ppd_model.specs.declared.graph.RaceKind.{RaceKind}
 use Rattle.ppd_model.specs.declared.graph.RaceKind.TheVariants.{ReadWrite, WriteRead, WriteWrite}
 use Rattle.ppd_model.specs.HappenedBefore.{edge, is_edge_before}
-use Rattle.ppd_model.specs.Races.{first_writes, kinds, race, second_writes}
+use Rattle.ppd_model.specs.Races.{Edges, are_apart, first_writes, is_race, kinds, own_edges, race, races_among, second_writes}
 use Rattle.ppd_model.proofs.Tested.{tests_edges}
 use Rattle.ppd_graph.specs.Graphs.{is_before_by, sets_at}
 use Rattle.ppd_model.specs.RecordedSets.{record_in}
@@ -18,7 +18,8 @@ use Rattle.ppd_model.proofs.Earlier.{each_append}
 use Rattle.ppd_model.specs.World.{Each}
 use Rattle.ppd_graph.specs.LogRecord.{sets_from}
 use Rattle.ppd_graph.proofs.Leads.{length_mapped}
-use Rattle.ppd_race.specs.Races.{AlikeRace, AreAlike, Edges, GraphRacesAreOfLogs, IsThere, are_apart, cells_by, edges_from, edges_of_graph, edges_of_logs, is_race_in, own_edges, pairs_among, races_among, races_of_pair}
+use Rattle.ppd_race.specs.Races.{GraphRacesAreOfLogs, IsThere, cells_by, edges_of_graph, edges_of_logs}
+use Rattle.ppd_race.proofs.Vocabulary.{AlikeRace, AreAlike, edges_from, pairs_among, races_of_pair}
 use Rattle.ppd_race.proofs.ByPairs.{filter_flat, flat_same, races_by_pairs}
 use Rattle.ppd_race.proofs.Cells.{three}
 
@@ -78,34 +79,34 @@ module _ (e f : Edges) (alike : AreAlike e f) where
 
   -- ---- one pair
 
-  race_alike : (a b : EdgeId) (c : ℕ) (k : RaceKind) → IsThere e a → IsThere e b → is_race_in e (race a.process a.edge b.process b.edge c k) ≡ is_race_in f (race a.process a.edge b.process b.edge c k)
+  race_alike : (a b : EdgeId) (c : ℕ) (k : RaceKind) → IsThere e a → IsThere e b → is_race e (race a.process a.edge b.process b.edge c k) ≡ is_race f (race a.process a.edge b.process b.edge c k)
   race_alike a b c k x y =
       ap₂ (λ s t. s && t) (ap₂ (λ s t. s && t) (alike.accesses a c (first_writes k) x) (alike.accesses b c (second_writes k) y))
       (ap₂ (λ s t. not (s || t)) (alike.before a b x y) (alike.before b a y x))
 
-  cell_alike : (a b : EdgeId) (c : ℕ) → IsThere e a → IsThere e b → filter (is_race_in e) (map (race a.process a.edge b.process b.edge c) kinds) ≡ filter (is_race_in f) (map (race a.process a.edge b.process b.edge c) kinds)
+  cell_alike : (a b : EdgeId) (c : ℕ) → IsThere e a → IsThere e b → filter (is_race e) (map (race a.process a.edge b.process b.edge c) kinds) ≡ filter (is_race f) (map (race a.process a.edge b.process b.edge c) kinds)
   cell_alike a b c x y =
       let r : RaceKind → Race = λ k. race a.process a.edge b.process b.edge c k in
-      three (is_race_in e (r ReadWrite)) (is_race_in e (r WriteRead)) (is_race_in e (r WriteWrite)) (r ReadWrite) (r WriteRead) (r WriteWrite)
+      three (is_race e (r ReadWrite)) (is_race e (r WriteRead)) (is_race e (r WriteWrite)) (r ReadWrite) (r WriteRead) (r WriteWrite)
       ∙ ap₂ (λ s t. s ++ t) (ap (λ k. if k then r ReadWrite ∷ [] else []) (race_alike a b c ReadWrite x y))
       (ap₂ (λ s t. s ++ t) (ap (λ k. if k then r WriteRead ∷ [] else []) (race_alike a b c WriteRead x y)) (ap (λ k. if k then r WriteWrite ∷ [] else []) (race_alike a b c WriteWrite x y)))
-      ∙ sym (three (is_race_in f (r ReadWrite)) (is_race_in f (r WriteRead)) (is_race_in f (r WriteWrite)) (r ReadWrite) (r WriteRead) (r WriteWrite))
+      ∙ sym (three (is_race f (r ReadWrite)) (is_race f (r WriteRead)) (is_race f (r WriteWrite)) (r ReadWrite) (r WriteRead) (r WriteWrite))
 
-  cell_none : (a b : EdgeId) → IsThere e a → (c : ℕ) → f.cells ≤ c → filter (is_race_in e) (map (race a.process a.edge b.process b.edge c) kinds) ≡ []
+  cell_none : (a b : EdgeId) → IsThere e a → (c : ℕ) → f.cells ≤ c → filter (is_race e) (map (race a.process a.edge b.process b.edge c) kinds) ≡ []
   cell_none a b x c le =
       let r : RaceKind → Race = λ k. race a.process a.edge b.process b.edge c k in
-      let none : (k : RaceKind) → is_race_in e (r k) ≡ false = λ k.
+      let none : (k : RaceKind) → is_race e (r k) ≡ false = λ k.
       and_left (e.accesses a c (first_writes k) && e.accesses b c (second_writes k)) (are_apart e a b) (and_left (e.accesses a c (first_writes k)) (e.accesses b c (second_writes k)) (alike.none a c (first_writes k) le x)) in
-      three (is_race_in e (r ReadWrite)) (is_race_in e (r WriteRead)) (is_race_in e (r WriteWrite)) (r ReadWrite) (r WriteRead) (r WriteWrite)
+      three (is_race e (r ReadWrite)) (is_race e (r WriteRead)) (is_race e (r WriteWrite)) (r ReadWrite) (r WriteRead) (r WriteWrite)
       ∙ ap₂ (λ s t. s ++ t) (ap (λ k. if k then r ReadWrite ∷ [] else []) (none ReadWrite))
       (ap₂ (λ s t. s ++ t) (ap (λ k. if k then r WriteRead ∷ [] else []) (none WriteRead)) (ap (λ k. if k then r WriteWrite ∷ [] else []) (none WriteWrite)))
 
   pair_alike : (a b : EdgeId) → IsThere e a → IsThere e b → races_of_pair e a b ≡ races_of_pair f a b
   pair_alike a b x y = ap (λ r. if nat_eq a.process b.process then [] else r)
-      (filter_flat (is_race_in e) (λ c. map (race a.process a.edge b.process b.edge c) kinds) (range_with_len 0 e.cells)
-      ∙ fewer_cells (λ c. filter (is_race_in e) (map (race a.process a.edge b.process b.edge c) kinds)) f.cells e.cells alike.cells (cell_none a b x)
-      ∙ flat_same (λ c. filter (is_race_in e) (map (race a.process a.edge b.process b.edge c) kinds)) (λ c. filter (is_race_in f) (map (race a.process a.edge b.process b.edge c) kinds)) (range_with_len 0 f.cells) (λ c. cell_alike a b c x y)
-      ∙ sym (filter_flat (is_race_in f) (λ c. map (race a.process a.edge b.process b.edge c) kinds) (range_with_len 0 f.cells)))
+      (filter_flat (is_race e) (λ c. map (race a.process a.edge b.process b.edge c) kinds) (range_with_len 0 e.cells)
+      ∙ fewer_cells (λ c. filter (is_race e) (map (race a.process a.edge b.process b.edge c) kinds)) f.cells e.cells alike.cells (cell_none a b x)
+      ∙ flat_same (λ c. filter (is_race e) (map (race a.process a.edge b.process b.edge c) kinds)) (λ c. filter (is_race f) (map (race a.process a.edge b.process b.edge c) kinds)) (range_with_len 0 f.cells) (λ c. cell_alike a b c x y)
+      ∙ sym (filter_flat (is_race f) (λ c. map (race a.process a.edge b.process b.edge c) kinds) (range_with_len 0 f.cells)))
 
   alike_races : races_among e ≡ races_among f
   alike_races =

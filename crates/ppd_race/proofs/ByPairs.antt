@@ -4,15 +4,13 @@ use Rattle.std.specs.Prelude.{nat_eq}
 use Rattle.std.specs.List.{flat_map, range_with_len}
 use Rattle.std.proofs.lemmas.Bool.{and_right, cond-false, cond-true}
 use Rattle.std.proofs.lemmas.List.{append_assoc}
-use Rattle.ppd_ast.specs.declared.program.Program.{Program}
 use Rattle.ppd_model.specs.declared.graph.EdgeId.{EdgeId}
 use Rattle.ppd_model.specs.declared.graph.Race.{Race}
 use Rattle.ppd_model.specs.declared.graph.RaceKind.{RaceKind}
 use Rattle.ppd_model.specs.declared.graph.RaceKind.TheVariants.{ReadWrite, WriteRead, WriteWrite}
 use Rattle.ppd_model.specs.HappenedBefore.{edge}
-use Rattle.ppd_model.specs.Races.{first_writes, kinds, race, races_of, second_writes}
-use Rattle.ppd_model.specs.declared.tracing.Story.{Story}
-use Rattle.ppd_race.specs.Races.{Edges, are_apart, candidates_at, edges_from, edges_of_story, is_race_in, own_edges, pairs_among, races_among, races_of_pair}
+use Rattle.ppd_model.specs.Races.{Edges, are_apart, candidates_at, first_writes, is_race, kinds, own_edges, race, races_among, second_writes}
+use Rattle.ppd_race.proofs.Vocabulary.{edges_from, pairs_among, races_of_pair}
 
 -- ---- lists
 
@@ -52,10 +50,10 @@ module _ (e : Edges) where
   f a b = races_of_pair e a b
 
   one_process : (p i j : ℕ) → races_of_pair e (edge p i) (edge p j) ≡ []
-  one_process p i j = cond-true (nat_eq p p) [] (filter (is_race_in e) (candidates_at e p i p j)) (eq-eqb p p refl)
+  one_process p i j = cond-true (nat_eq p p) [] (filter (is_race e) (candidates_at e p i p j)) (eq-eqb p p refl)
 
-  two_processes : (p i q j : ℕ) → (p ≡ q → ⊥) → races_of_pair e (edge p i) (edge q j) ≡ filter (is_race_in e) (candidates_at e p i q j)
-  two_processes p i q j d = cond-false (nat_eq p q) [] (filter (is_race_in e) (candidates_at e p i q j)) (ne_eqb p q d)
+  two_processes : (p i q j : ℕ) → (p ≡ q → ⊥) → races_of_pair e (edge p i) (edge q j) ≡ filter (is_race e) (candidates_at e p i q j)
+  two_processes p i q j d = cond-false (nat_eq p q) [] (filter (is_race e) (candidates_at e p i q j)) (ne_eqb p q d)
 
   own_none : (p i : ℕ) (js : List ℕ) → flat_map (races_of_pair e (edge p i)) (map (edge p) js) ≡ []
   own_none p i js = flat_of_map (races_of_pair e (edge p i)) (edge p) js ∙ flat_none (λ j. races_of_pair e (edge p i) (edge p j)) js (one_process p i)
@@ -70,30 +68,30 @@ module _ (e : Edges) where
       ∙ sym (append_assoc (flat_map (races_of_pair e (edge p i)) later) (flat_map (λ k. flat_map (races_of_pair e (edge p k)) later) is) (pairs_among (races_of_pair e) later))
 
   -- the races of edge i of process p with the edges of the processes from q on
-  with_later : (p i q n : ℕ) → p < q → flat_map (λ r. flat_map (λ j. filter (is_race_in e) (candidates_at e p i r j)) (own_edges e r)) (range_with_len q n) ≡ flat_map (races_of_pair e (edge p i)) (edges_from e q n)
+  with_later : (p i q n : ℕ) → p < q → flat_map (λ r. flat_map (λ j. filter (is_race e) (candidates_at e p i r j)) (own_edges e r)) (range_with_len q n) ≡ flat_map (races_of_pair e (edge p i)) (edges_from e q n)
   with_later p i q zero lt = refl
   with_later p i q (suc n) lt =
       ap₂ (λ a b. a ++ b)
-      (flat_same (λ j. filter (is_race_in e) (candidates_at e p i q j)) (λ j. races_of_pair e (edge p i) (edge q j)) (own_edges e q) (λ j. sym (two_processes p i q j (λ e. absurd (omega (arith, lt, e)))))
+      (flat_same (λ j. filter (is_race e) (candidates_at e p i q j)) (λ j. races_of_pair e (edge p i) (edge q j)) (own_edges e q) (λ j. sym (two_processes p i q j (λ e. absurd (omega (arith, lt, e)))))
       ∙ sym (flat_of_map (races_of_pair e (edge p i)) (edge q) (own_edges e q)))
       (with_later p i (q + 1) n (omega (arith, lt)))
       ∙ sym (flat_append (races_of_pair e (edge p i)) (map (edge q) (own_edges e q)) (edges_from e (q + 1) n))
 
   by_process : (p n : ℕ) → p + n ≡ e.processes →
-      flat_map (λ q. flat_map (λ i. flat_map (λ r. flat_map (λ j. filter (is_race_in e) (candidates_at e q i r j)) (own_edges e r)) (range_with_len (q + 1) (e.processes - (q + 1)))) (own_edges e q)) (range_with_len p n)
+      flat_map (λ q. flat_map (λ i. flat_map (λ r. flat_map (λ j. filter (is_race e) (candidates_at e q i r j)) (own_edges e r)) (range_with_len (q + 1) (e.processes - (q + 1)))) (own_edges e q)) (range_with_len p n)
       ≡ pairs_among (races_of_pair e) (edges_from e p n)
   by_process p zero h = refl
   by_process p (suc n) h =
       let left : e.processes - (p + 1) ≡ n = omega (arith, h) in
       ap₂ (λ a b. a ++ b)
-      (flat_same (λ i. flat_map (λ r. flat_map (λ j. filter (is_race_in e) (candidates_at e p i r j)) (own_edges e r)) (range_with_len (p + 1) (e.processes - (p + 1)))) (λ i. flat_map (races_of_pair e (edge p i)) (edges_from e (p + 1) n)) (own_edges e p)
-      (λ i. ap (λ k. flat_map (λ r. flat_map (λ j. filter (is_race_in e) (candidates_at e p i r j)) (own_edges e r)) (range_with_len (p + 1) k)) left ∙ with_later p i (p + 1) n (omega arith)))
+      (flat_same (λ i. flat_map (λ r. flat_map (λ j. filter (is_race e) (candidates_at e p i r j)) (own_edges e r)) (range_with_len (p + 1) (e.processes - (p + 1)))) (λ i. flat_map (races_of_pair e (edge p i)) (edges_from e (p + 1) n)) (own_edges e p)
+      (λ i. ap (λ k. flat_map (λ r. flat_map (λ j. filter (is_race e) (candidates_at e p i r j)) (own_edges e r)) (range_with_len (p + 1) k)) left ∙ with_later p i (p + 1) n (omega arith)))
       (by_process (p + 1) n (omega (arith, h)))
       ∙ sym (pairs_process p (own_edges e p) (edges_from e (p + 1) n))
 
-  pub filtered : races_among e ≡ flat_map (λ q. flat_map (λ i. flat_map (λ r. flat_map (λ j. filter (is_race_in e) (candidates_at e q i r j)) (own_edges e r)) (range_with_len (q + 1) (e.processes - (q + 1)))) (own_edges e q)) (range_with_len 0 e.processes)
+  pub filtered : races_among e ≡ flat_map (λ q. flat_map (λ i. flat_map (λ r. flat_map (λ j. filter (is_race e) (candidates_at e q i r j)) (own_edges e r)) (range_with_len (q + 1) (e.processes - (q + 1)))) (own_edges e q)) (range_with_len 0 e.processes)
   filtered =
-      let test = is_race_in e in
+      let test = is_race e in
       filter_flat test (λ p. flat_map (λ i. flat_map (λ q. flat_map (λ j. candidates_at e p i q j) (own_edges e q)) (range_with_len (p + 1) (e.processes - (p + 1)))) (own_edges e p)) (range_with_len 0 e.processes)
       ∙ flat_same _ _ (range_with_len 0 e.processes) (λ p.
       filter_flat test (λ i. flat_map (λ q. flat_map (λ j. candidates_at e p i q j) (own_edges e q)) (range_with_len (p + 1) (e.processes - (p + 1)))) (own_edges e p)
@@ -108,20 +106,15 @@ module _ (e : Edges) where
 -- ---- one pair
 
 module _ (e : Edges) (p i q j : ℕ) where
-  none_of_kinds : (cell : ℕ) → are_apart e (edge p i) (edge q j) ≡ false → filter (is_race_in e) (map (race p i q j cell) kinds) ≡ []
+  none_of_kinds : (cell : ℕ) → are_apart e (edge p i) (edge q j) ≡ false → filter (is_race e) (map (race p i q j cell) kinds) ≡ []
   none_of_kinds cell h =
-      let no : (k : RaceKind) → is_race_in e (race p i q j cell k) ≡ false = λ k. and_right (e.accesses (edge p i) cell (first_writes k) && e.accesses (edge q j) cell (second_writes k)) (are_apart e (edge p i) (edge q j)) h in
-      ap (λ b. cond b (race p i q j cell ReadWrite ∷ filter (is_race_in e) (map (race p i q j cell) (WriteRead ∷ WriteWrite ∷ []))) (filter (is_race_in e) (map (race p i q j cell) (WriteRead ∷ WriteWrite ∷ [])))) (no ReadWrite)
-      ∙ ap (λ b. cond b (race p i q j cell WriteRead ∷ filter (is_race_in e) (map (race p i q j cell) (WriteWrite ∷ []))) (filter (is_race_in e) (map (race p i q j cell) (WriteWrite ∷ [])))) (no WriteRead)
+      let no : (k : RaceKind) → is_race e (race p i q j cell k) ≡ false = λ k. and_right (e.accesses (edge p i) cell (first_writes k) && e.accesses (edge q j) cell (second_writes k)) (are_apart e (edge p i) (edge q j)) h in
+      ap (λ b. cond b (race p i q j cell ReadWrite ∷ filter (is_race e) (map (race p i q j cell) (WriteRead ∷ WriteWrite ∷ []))) (filter (is_race e) (map (race p i q j cell) (WriteRead ∷ WriteWrite ∷ [])))) (no ReadWrite)
+      ∙ ap (λ b. cond b (race p i q j cell WriteRead ∷ filter (is_race e) (map (race p i q j cell) (WriteWrite ∷ []))) (filter (is_race e) (map (race p i q j cell) (WriteWrite ∷ [])))) (no WriteRead)
       ∙ ap (λ b. cond b (race p i q j cell WriteWrite ∷ []) []) (no WriteWrite)
 
   -- ordered edges have no race
-  pub none_if_ordered : are_apart e (edge p i) (edge q j) ≡ false → filter (is_race_in e) (candidates_at e p i q j) ≡ []
+  pub none_if_ordered : are_apart e (edge p i) (edge q j) ≡ false → filter (is_race e) (candidates_at e p i q j) ≡ []
   none_if_ordered h =
-      filter_flat (is_race_in e) (λ cell. map (race p i q j cell) kinds) (range_with_len 0 e.cells)
-      ∙ flat_none (λ cell. filter (is_race_in e) (map (race p i q j cell) kinds)) (range_with_len 0 e.cells) (λ cell. none_of_kinds cell h)
-
--- ---- the definition over a story is this one
-
-pub story_races : (program : Program) (s : Story) → races_of program s ≡ races_among (edges_of_story program s)
-story_races program s = refl
+      filter_flat (is_race e) (λ cell. map (race p i q j cell) kinds) (range_with_len 0 e.cells)
+      ∙ flat_none (λ cell. filter (is_race e) (map (race p i q j cell) kinds)) (range_with_len 0 e.cells) (λ cell. none_of_kinds cell h)

@@ -11,13 +11,13 @@ use Rattle.ppd_model.specs.declared.graph.Race.{Race}
 use Rattle.ppd_model.specs.declared.graph.RaceKind.{RaceKind}
 use Rattle.ppd_model.specs.declared.graph.RaceKind.TheVariants.{ReadWrite, WriteRead, WriteWrite}
 use Rattle.ppd_model.specs.HappenedBefore.{edge}
-use Rattle.ppd_model.specs.Races.{first_writes, kinds, race, second_writes}
+use Rattle.ppd_model.specs.Races.{are_apart, candidates_at, first_writes, is_race, kinds, race, second_writes}
 use Rattle.ppd_graph.specs.declared.sync_graph.SyncGraph.{SyncGraph}
 use Rattle.ppd_graph.specs.Graphs.{is_before_by, reads_in, sets_at, writes_in}
 use Rattle.ppd_race_found.specs.declared.busy.Busy.{Busy}
 use Rattle.ppd_race.specs.Busy.{IsBusyOf, is_busy, is_none, race_if, races_all, races_at, races_between}
 use Rattle.ppd_race_found.specs.Search.{race_of}
-use Rattle.ppd_race.specs.Races.{are_apart, candidates_at, edges_of_graph, is_race_in, most_cells}
+use Rattle.ppd_race.specs.Races.{edges_of_graph, most_cells}
 use Rattle.ppd_race.proofs.ByPairs.{filter_flat, flat_none, none_if_ordered}
 
 flat_range_same : {A : Type 0} (f g : ℕ → List A) (a n m : ℕ) → a + n ≡ m → ((c : ℕ) → c < m → f c ≡ g c) → flat_map f (range_with_len a n) ≡ flat_map g (range_with_len a n)
@@ -84,13 +84,13 @@ below_most xs h = h
 
 module _ (g : SyncGraph) where
   cell_races : (a b : Busy) (c : ℕ) → c < most_cells → IsBusyOf a.edge (sets_at g.edges a.edge) a → IsBusyOf b.edge (sets_at g.edges b.edge) b → are_apart (edges_of_graph g) a.edge b.edge ≡ true
-      → filter (is_race_in (edges_of_graph g)) (map (race a.edge.process a.edge.edge b.edge.process b.edge.edge c) kinds) ≡ races_at a b c
+      → filter (is_race (edges_of_graph g)) (map (race a.edge.process a.edge.edge b.edge.process b.edge.edge c) kinds) ≡ races_at a b c
   cell_races a b c lt x y apart =
       let of : (v w : Bool) → (k : Bool) → k ≡ (v && w && are_apart (edges_of_graph g) a.edge b.edge) → k ≡ (v && w) = λ v w k e. e ∙ with_true (v && w) (are_apart (edges_of_graph g) a.edge b.edge) apart in
-      let rw_is : is_race_in (edges_of_graph g) (race a.edge.process a.edge.edge b.edge.process b.edge.edge c ReadWrite) ≡ (has a.reads c && has b.writes c) = of (has (reads_in g a.edge) c) (has (writes_in g b.edge) c) _ refl ∙ ap₂ (λ v w. v && w) (sym (x.reads c (under c lt))) (sym (y.writes c (under c lt))) in
-      let wr_is : is_race_in (edges_of_graph g) (race a.edge.process a.edge.edge b.edge.process b.edge.edge c WriteRead) ≡ (has a.writes c && has b.reads c) = of (has (writes_in g a.edge) c) (has (reads_in g b.edge) c) _ refl ∙ ap₂ (λ v w. v && w) (sym (x.writes c (under c lt))) (sym (y.reads c (under c lt))) in
-      let ww_is : is_race_in (edges_of_graph g) (race a.edge.process a.edge.edge b.edge.process b.edge.edge c WriteWrite) ≡ (has a.writes c && has b.writes c) = of (has (writes_in g a.edge) c) (has (writes_in g b.edge) c) _ refl ∙ ap₂ (λ v w. v && w) (sym (x.writes c (under c lt))) (sym (y.writes c (under c lt))) in
-      three (is_race_in (edges_of_graph g) (race a.edge.process a.edge.edge b.edge.process b.edge.edge c ReadWrite)) (is_race_in (edges_of_graph g) (race a.edge.process a.edge.edge b.edge.process b.edge.edge c WriteRead)) (is_race_in (edges_of_graph g) (race a.edge.process a.edge.edge b.edge.process b.edge.edge c WriteWrite))
+      let rw_is : is_race (edges_of_graph g) (race a.edge.process a.edge.edge b.edge.process b.edge.edge c ReadWrite) ≡ (has a.reads c && has b.writes c) = of (has (reads_in g a.edge) c) (has (writes_in g b.edge) c) _ refl ∙ ap₂ (λ v w. v && w) (sym (x.reads c (under c lt))) (sym (y.writes c (under c lt))) in
+      let wr_is : is_race (edges_of_graph g) (race a.edge.process a.edge.edge b.edge.process b.edge.edge c WriteRead) ≡ (has a.writes c && has b.reads c) = of (has (writes_in g a.edge) c) (has (reads_in g b.edge) c) _ refl ∙ ap₂ (λ v w. v && w) (sym (x.writes c (under c lt))) (sym (y.reads c (under c lt))) in
+      let ww_is : is_race (edges_of_graph g) (race a.edge.process a.edge.edge b.edge.process b.edge.edge c WriteWrite) ≡ (has a.writes c && has b.writes c) = of (has (writes_in g a.edge) c) (has (writes_in g b.edge) c) _ refl ∙ ap₂ (λ v w. v && w) (sym (x.writes c (under c lt))) (sym (y.writes c (under c lt))) in
+      three (is_race (edges_of_graph g) (race a.edge.process a.edge.edge b.edge.process b.edge.edge c ReadWrite)) (is_race (edges_of_graph g) (race a.edge.process a.edge.edge b.edge.process b.edge.edge c WriteRead)) (is_race (edges_of_graph g) (race a.edge.process a.edge.edge b.edge.process b.edge.edge c WriteWrite))
       (race a.edge.process a.edge.edge b.edge.process b.edge.edge c ReadWrite) (race a.edge.process a.edge.edge b.edge.process b.edge.edge c WriteRead) (race a.edge.process a.edge.edge b.edge.process b.edge.edge c WriteWrite)
       ∙ ap₂ (λ r s. r ++ s) (ap (λ k. if k then race a.edge.process a.edge.edge b.edge.process b.edge.edge c ReadWrite ∷ [] else []) rw_is)
       (ap₂ (λ r s. r ++ s) (ap (λ k. if k then race a.edge.process a.edge.edge b.edge.process b.edge.edge c WriteRead ∷ [] else []) wr_is) (ap (λ k. if k then race a.edge.process a.edge.edge b.edge.process b.edge.edge c WriteWrite ∷ [] else []) ww_is))
@@ -109,18 +109,18 @@ module _ (g : SyncGraph) where
       none false t r e = refl
 
   pub pair_races : (a b : Busy) → IsBusyOf a.edge (sets_at g.edges a.edge) a → IsBusyOf b.edge (sets_at g.edges b.edge) b
-      → races_between g a b ≡ filter (is_race_in (edges_of_graph g)) (candidates_at (edges_of_graph g) a.edge.process a.edge.edge b.edge.process b.edge.edge)
+      → races_between g a b ≡ filter (is_race (edges_of_graph g)) (candidates_at (edges_of_graph g) a.edge.process a.edge.edge b.edge.process b.edge.edge)
   pair_races a b x y = by (is_before_by g a.edge b.edge) (is_before_by g b.edge a.edge) refl refl
     where
       by : (u v : Bool) → is_before_by g a.edge b.edge ≡ u → is_before_by g b.edge a.edge ≡ v
-          → (if not u && not v then races_all a b else []) ≡ filter (is_race_in (edges_of_graph g)) (candidates_at (edges_of_graph g) a.edge.process a.edge.edge b.edge.process b.edge.edge)
+          → (if not u && not v then races_all a b else []) ≡ filter (is_race (edges_of_graph g)) (candidates_at (edges_of_graph g) a.edge.process a.edge.edge b.edge.process b.edge.edge)
       by true v e f = sym (none_if_ordered (edges_of_graph g) a.edge.process a.edge.edge b.edge.process b.edge.edge (ap (λ t. not (t || is_before_by g b.edge a.edge)) e))
       by false true e f = sym (none_if_ordered (edges_of_graph g) a.edge.process a.edge.edge b.edge.process b.edge.edge (ap₂ (λ t w. not (t || w)) e f))
       by false false e f =
           let apart : are_apart (edges_of_graph g) a.edge b.edge ≡ true = ap₂ (λ t w. not (t || w)) e f in
           sym (rising_cells (races_at a b) 0 most_cells most_cells b.cells (omega arith) y.rises (below_most b.cells y.below) (λ c le none. no_race a b c (sym (y.all c) ∙ none)))
-          ∙ sym (filter_flat (is_race_in (edges_of_graph g)) (λ cell. map (race a.edge.process a.edge.edge b.edge.process b.edge.edge cell) kinds) (range_with_len 0 most_cells)
-          ∙ flat_range_same (λ cell. filter (is_race_in (edges_of_graph g)) (map (race a.edge.process a.edge.edge b.edge.process b.edge.edge cell) kinds)) (races_at a b) 0 most_cells most_cells (omega arith) (λ c lt. cell_races a b c lt x y apart))
+          ∙ sym (filter_flat (is_race (edges_of_graph g)) (λ cell. map (race a.edge.process a.edge.edge b.edge.process b.edge.edge cell) kinds) (range_with_len 0 most_cells)
+          ∙ flat_range_same (λ cell. filter (is_race (edges_of_graph g)) (map (race a.edge.process a.edge.edge b.edge.process b.edge.edge cell) kinds)) (races_at a b) 0 most_cells most_cells (omega arith) (λ c lt. cell_races a b c lt x y apart))
 
   -- ---- what accesses nothing races with nothing
 
@@ -141,29 +141,29 @@ module _ (g : SyncGraph) where
   idle e c false h = none_has (reads_in g e) c (idle_parts e h).0
 
   -- of two edges one of which accesses nothing there is no race over a cell
-  first_idle : (p i q j c : ℕ) (k : RaceKind) → is_busy (sets_at g.edges (edge p i)) ≡ false → is_race_in (edges_of_graph g) (race p i q j c k) ≡ false
+  first_idle : (p i q j c : ℕ) (k : RaceKind) → is_busy (sets_at g.edges (edge p i)) ≡ false → is_race (edges_of_graph g) (race p i q j c k) ≡ false
   first_idle p i q j c k h =
       and_left ((edges_of_graph g).accesses (edge p i) c (first_writes k) && (edges_of_graph g).accesses (edge q j) c (second_writes k)) (are_apart (edges_of_graph g) (edge p i) (edge q j))
       (and_left ((edges_of_graph g).accesses (edge p i) c (first_writes k)) ((edges_of_graph g).accesses (edge q j) c (second_writes k)) (idle (edge p i) c (first_writes k) h))
 
-  second_idle : (p i q j c : ℕ) (k : RaceKind) → is_busy (sets_at g.edges (edge q j)) ≡ false → is_race_in (edges_of_graph g) (race p i q j c k) ≡ false
+  second_idle : (p i q j c : ℕ) (k : RaceKind) → is_busy (sets_at g.edges (edge q j)) ≡ false → is_race (edges_of_graph g) (race p i q j c k) ≡ false
   second_idle p i q j c k h =
       and_left ((edges_of_graph g).accesses (edge p i) c (first_writes k) && (edges_of_graph g).accesses (edge q j) c (second_writes k)) (are_apart (edges_of_graph g) (edge p i) (edge q j))
       (and_right ((edges_of_graph g).accesses (edge p i) c (first_writes k)) ((edges_of_graph g).accesses (edge q j) c (second_writes k)) (idle (edge q j) c (second_writes k) h))
 
-  none_passes : (p i q j c : ℕ) → ((k : RaceKind) → is_race_in (edges_of_graph g) (race p i q j c k) ≡ false) → filter (is_race_in (edges_of_graph g)) (map (race p i q j c) kinds) ≡ []
+  none_passes : (p i q j c : ℕ) → ((k : RaceKind) → is_race (edges_of_graph g) (race p i q j c k) ≡ false) → filter (is_race (edges_of_graph g)) (map (race p i q j c) kinds) ≡ []
   none_passes p i q j c never =
-      three (is_race_in (edges_of_graph g) (race p i q j c ReadWrite)) (is_race_in (edges_of_graph g) (race p i q j c WriteRead)) (is_race_in (edges_of_graph g) (race p i q j c WriteWrite)) (race p i q j c ReadWrite) (race p i q j c WriteRead) (race p i q j c WriteWrite)
+      three (is_race (edges_of_graph g) (race p i q j c ReadWrite)) (is_race (edges_of_graph g) (race p i q j c WriteRead)) (is_race (edges_of_graph g) (race p i q j c WriteWrite)) (race p i q j c ReadWrite) (race p i q j c WriteRead) (race p i q j c WriteWrite)
       ∙ ap₂ (λ r s. r ++ s) (ap (λ k. if k then race p i q j c ReadWrite ∷ [] else []) (never ReadWrite))
       (ap₂ (λ r s. r ++ s) (ap (λ k. if k then race p i q j c WriteRead ∷ [] else []) (never WriteRead)) (ap (λ k. if k then race p i q j c WriteWrite ∷ [] else []) (never WriteWrite)))
 
-  all_pass_none : (p i q j : ℕ) → ((c : ℕ) (k : RaceKind) → is_race_in (edges_of_graph g) (race p i q j c k) ≡ false) → filter (is_race_in (edges_of_graph g)) (candidates_at (edges_of_graph g) p i q j) ≡ []
+  all_pass_none : (p i q j : ℕ) → ((c : ℕ) (k : RaceKind) → is_race (edges_of_graph g) (race p i q j c k) ≡ false) → filter (is_race (edges_of_graph g)) (candidates_at (edges_of_graph g) p i q j) ≡ []
   all_pass_none p i q j never =
-      filter_flat (is_race_in (edges_of_graph g)) (λ cell. map (race p i q j cell) kinds) (range_with_len 0 most_cells)
-      ∙ flat_none (λ cell. filter (is_race_in (edges_of_graph g)) (map (race p i q j cell) kinds)) (range_with_len 0 most_cells) (λ c. none_passes p i q j c (never c))
+      filter_flat (is_race (edges_of_graph g)) (λ cell. map (race p i q j cell) kinds) (range_with_len 0 most_cells)
+      ∙ flat_none (λ cell. filter (is_race (edges_of_graph g)) (map (race p i q j cell) kinds)) (range_with_len 0 most_cells) (λ c. none_passes p i q j c (never c))
 
-  pub first_none : (p i q j : ℕ) → is_busy (sets_at g.edges (edge p i)) ≡ false → filter (is_race_in (edges_of_graph g)) (candidates_at (edges_of_graph g) p i q j) ≡ []
+  pub first_none : (p i q j : ℕ) → is_busy (sets_at g.edges (edge p i)) ≡ false → filter (is_race (edges_of_graph g)) (candidates_at (edges_of_graph g) p i q j) ≡ []
   first_none p i q j h = all_pass_none p i q j (λ c k. first_idle p i q j c k h)
 
-  pub second_none : (p i q j : ℕ) → is_busy (sets_at g.edges (edge q j)) ≡ false → filter (is_race_in (edges_of_graph g)) (candidates_at (edges_of_graph g) p i q j) ≡ []
+  pub second_none : (p i q j : ℕ) → is_busy (sets_at g.edges (edge q j)) ≡ false → filter (is_race (edges_of_graph g)) (candidates_at (edges_of_graph g) p i q j) ≡ []
   second_none p i q j h = all_pass_none p i q j (λ c k. second_idle p i q j c k h)

@@ -1,3 +1,4 @@
+pub mod Vocabulary
 pub mod ByPairs
 pub mod Cells
 pub mod Alike

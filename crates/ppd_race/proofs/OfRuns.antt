@@ -10,7 +10,7 @@ use Rattle.ppd_ast.specs.Members.{has}
 use Rattle.ppd_model.specs.declared.graph.EdgeId.{EdgeId}
 use Rattle.ppd_model.specs.HappenedBefore.{is_edge_before}
 use Rattle.ppd_model.specs.Logs.{closed_logs}
-use Rattle.ppd_model.specs.Races.{has_access, races, writes_or_not}
+use Rattle.ppd_model.specs.Races.{edges_of_story, has_access, races, writes_or_not}
 use Rattle.ppd_model.specs.Record.{SharedAccess, accesses, record_of}
 use Rattle.ppd_model.specs.RecordedSets.{cells_in, last_edge, record_in, sync_in}
 use Rattle.ppd_model.specs.Story.{story}
@@ -23,9 +23,8 @@ use Rattle.ppd_graph.specs.LogRecord.{no_sets, edge_sets_in}
 use Rattle.ppd_graph.proofs.ClosedSets.{row_sets, run_sets}
 use Rattle.ppd_graph.proofs.Timed.{at_end, at_front, length_more}
 use Rattle.ppd_graph.proofs.Leads.{length_mapped}
-use Rattle.ppd_race.specs.Races.{AreCellsThere, IsThere, RunRacesAreOfLogs, cells_by, edges_of_logs, edges_of_story, races_of_logs}
+use Rattle.ppd_race.specs.Races.{AreCellsThere, IsThere, RunRacesAreOfLogs, cells_by, edges_of_logs, races_of_logs}
 use Rattle.ppd_race.proofs.Alike.{alike_race}
-use Rattle.ppd_race.proofs.ByPairs.{story_races}
 
 count_range : {A : Type 0} (f : ℕ → A) (a n : ℕ) → length (map f (range_with_len a n)) ≡ n
 count_range f a zero = refl
@@ -99,7 +98,6 @@ module _ (program : Program) (plan : Plan) (budget : ℕ) (h : List ℕ) (valid 
         cells = (let e = size in omega (arith, e));
         none = λ a c w le x. access a c w x ∙ beyond a.process a.edge c w (let e = size in omega (arith, e, le));
       })
-      ∙ sym (story_races program (story program plan budget h))
 
 pub of_runs : RunRacesAreOfLogs
 of_runs program plan budget h valid = (run_races program plan budget h valid, cells_there program plan budget h valid)

@@ -3,13 +3,14 @@ use Rattle.std.proofs.Common.{◌≡◌, ℕ, zero, suc, ◌+◌, ◌-◌, ◌<�
 use Rattle.std.specs.List.{flat_map, range_with_len}
 use Rattle.ppd_model.specs.declared.graph.Race.{Race}
 use Rattle.ppd_model.specs.HappenedBefore.{edge}
+use Rattle.ppd_model.specs.Races.{candidates_at, is_race, own_edges, races_among}
 use Rattle.ppd_graph.specs.declared.sets.EdgeSets.{EdgeSets}
 use Rattle.ppd_graph.specs.declared.sync_graph.SyncGraph.{SyncGraph}
 use Rattle.ppd_graph.specs.Graphs.{sets_at}
 use Rattle.ppd_race_found.specs.declared.busy.Busy.{Busy}
 use Rattle.ppd_race.specs.Busy.{AreBusyRows, EachBusyIn, IsBusyIn, IsBusyOf, IsBusyRow, is_busy_in, races_between, races_by_rows, races_from, races_with_later}
 use Rattle.ppd_race_found.specs.Search.{IsRising}
-use Rattle.ppd_race.specs.Races.{AreRacesOf, candidates_at, edges_of_graph, is_race_in, own_edges, races_among}
+use Rattle.ppd_race.specs.Races.{AreRacesOf, edges_of_graph}
 use Rattle.ppd_race.proofs.Alike.{graph_races}
 use Rattle.ppd_race.proofs.Cells.{first_none, pair_races, second_none}
 use Rattle.ppd_race.proofs.ByPairs.{filtered, flat_none, flat_of_map}
@@ -41,7 +42,7 @@ flat_range_same f g a (suc n) m e h = ap₂ (λ r s. r ++ s) (h a (omega arith) 
 module _ (g : SyncGraph) (rows : List (List Busy)) (are : AreBusyRows g.edges rows) where
   -- the races of edges (p, i) and (q, j)
   races_at_pair : ℕ → ℕ → ℕ → ℕ → List Race
-  races_at_pair p i q j = filter (is_race_in (edges_of_graph g)) (candidates_at (edges_of_graph g) p i q j)
+  races_at_pair p i q j = filter (is_race (edges_of_graph g)) (candidates_at (edges_of_graph g) p i q j)
 
   named : (q : ℕ) (b : Busy) → IsBusyIn q (get_or g.edges q []) b → IsBusyOf b.edge (sets_at g.edges b.edge) b
   named q b x = subst (λ k. IsBusyOf b.edge (sets_at g.edges (edge k b.edge.edge)) b) (sym x.process) x.busy
@@ -50,7 +51,7 @@ module _ (g : SyncGraph) (rows : List (List Busy)) (are : AreBusyRows g.edges ro
   unfolding races_at_pair
   pair p q a b x y =
       pair_races g a b (named p a x) (named q b y)
-      ∙ ap₂ (λ r s. filter (is_race_in (edges_of_graph g)) (candidates_at (edges_of_graph g) r a.edge.edge s b.edge.edge)) x.process y.process
+      ∙ ap₂ (λ r s. filter (is_race (edges_of_graph g)) (candidates_at (edges_of_graph g) r a.edge.edge s b.edge.edge)) x.process y.process
 
   later : ℕ → ℕ → List Race
   later p i = flat_map (λ q. flat_map (races_at_pair p i q) (own_edges (edges_of_graph g) q)) (range_with_len (p + 1) (length g.edges - (p + 1)))

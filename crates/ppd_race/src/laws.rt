@@ -1,9 +1,4 @@
-ghost use Rattle.ppd_race.specs.Races.{GraphRacesAreOfLogs, RunRacesAreOfLogs, StoryRacesAreAmong};
-
-/// Law: the races of a story are those among its edges.
-pub fn story_races_are_among()
-    ensures { StoryRacesAreAmong }
-{}
+ghost use Rattle.ppd_race.specs.Races.{GraphRacesAreOfLogs, RunRacesAreOfLogs};
 
 /// Law: the races among a graph's edges are those of the record and the sets of its logs.
 pub fn graph_races_are_of_logs()

@@ -8,6 +8,6 @@ mod rows;
 mod search;
 mod union;
 
-pub use laws::{graph_races_are_of_logs, run_races_are_of_logs, story_races_are_among};
+pub use laws::{graph_races_are_of_logs, run_races_are_of_logs};
 pub use ppd_model::{Race, RaceKind};
 pub use search::{races, races_in};
