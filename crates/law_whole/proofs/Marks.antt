@@ -14,7 +14,8 @@ use Rattle.law_flow_shared.proofs.Vocabulary.Events.{AreQuiet, IsLastWriter, IsQ
 use Rattle.law_flow_shared.proofs.Edges.LogPlaces.EdgePlaces.{count_one}
 use Rattle.law_flow_shared.proofs.Edges.Spans.Facts.{count_to}
 use Rattle.law_whole.specs.Following.{edge_past}
-use Rattle.law_whole.specs.Laws.{bare, edge_after}
+use Rattle.law_whole.specs.Laws.{bare}
+use Rattle.law_whole.proofs.Vocabulary.{edge_after}
 use Rattle.law_whole.specs.Writers.{Mark, Marking, mark_event, mark_in, marked, marks_of, own_write, unmarked, writes}
 
 -- ---- lists

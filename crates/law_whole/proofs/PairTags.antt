@@ -51,7 +51,8 @@ use Rattle.law_flow_shared.proofs.Edges.Spans.Steps.{headed, new_event, AreNumbe
 use Rattle.law_flow_shared.proofs.Edges.StepEvents.Timeline.{did, numbered_told, own_is}
 use Rattle.law_flow_shared.proofs.Edges.StepEvents.Writers.{HasEvent, ev_at, ev_count}
 use Rattle.law_flow_shared.proofs.Edges.PairPlaces.Leading.{LeadsFrom, leading_all, sync_step, sync_there}
-use Rattle.law_whole.specs.Laws.{PairsAreLinked, all_events, bare, edge_after}
+use Rattle.law_whole.specs.Laws.{bare}
+use Rattle.law_whole.proofs.Vocabulary.{PairsAreLinked, all_events, edge_after}
 use Rattle.law_whole.specs.Linked.{pair_of, pair_tag, sync_event, syncs_from}
 use Rattle.law_whole.proofs.Marks.{edge_is}
 

@@ -46,7 +46,8 @@ use Rattle.law_flow_shared.proofs.Edges.StepEvents.Timeline.{IsTakenAt, NoWrites
 use Rattle.law_flow_shared.proofs.Edges.Back.Walked.{same_count}
 use Rattle.law_flow_shared.proofs.Edges.StepEvents.Writers.{AreNone, HasEvent, HasSync, IsWrite, as_write, edge_is_count, ev_at, ev_count, ev_within, first_sync, last_writer, none_at, none_front, none_syncs, syncs_both, syncs_none, write_is}
 use Rattle.law_flow_shared.proofs.Edges.Sources.Writing.{writing_only}
-use Rattle.law_whole.specs.Laws.{IsSharedRead, SharedTagsAreLinked, all_events, bare, edge_after}
+use Rattle.law_whole.specs.Laws.{bare}
+use Rattle.law_whole.proofs.Vocabulary.{SharedTagsAreLinked, all_events, edge_after}
 use Rattle.law_whole.specs.Writers.{mark_in, marks_of, own_write, shared_writer, writer_from, written_in}
 use Rattle.law_whole.proofs.Marks.{edge_is, ended_found, own_found, own_none, state}
 

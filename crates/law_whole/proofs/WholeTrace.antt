@@ -32,7 +32,8 @@ use Rattle.law_flow_shared.proofs.Edges.StepEvents.Processes.{Facts, facts}
 use Rattle.law_flow_shared.proofs.Edges.StepEvents.Timeline.{did}
 use Rattle.law_whole.specs.Following.{AreFollowed, Followed, IsTracedAt, begun, edge_past, follow}
 use Rattle.law_whole.specs.Joined.{events_in}
-use Rattle.law_whole.specs.Laws.{IsSharedRead, JoinedTraceIsFull, all_events, bare, edge_after}
+use Rattle.law_whole.specs.Laws.{JoinedTraceIsFull, bare}
+use Rattle.law_whole.proofs.Vocabulary.{IsSharedRead, all_events, edge_after}
 use Rattle.law_whole.specs.Linked.{Linking, linked, linked_trace, link_from, links_from, pair_of, read_writer, spot_writer, unlinked}
 use Rattle.law_whole.specs.Writers.{marks_of, shared_writer}
 use Rattle.law_whole.proofs.Followed.{events_followed}
