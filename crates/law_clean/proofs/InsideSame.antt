@@ -2,6 +2,7 @@
 use Rattle.std.proofs.Common.{◌≡◌, ℕ, ◌<◌, ℤ, true, List, [], ◌∷◌, ◌++◌, length, Option, Some, None, Ok, refl, ap, ap₂, sym, subst, ◌∙◌}
 use Rattle.std.proofs.lemmas.Option.{none-some}
 use Rattle.std.specs.Prelude.{slice_get}
+use Rattle.std.specs.List.{AllByRecursion as Each}
 use Rattle.ppd_ast.specs.declared.plan.BlockKind.{BlockKind}
 use Rattle.ppd_ast.specs.declared.plan.BlockKind.TheVariants as block
 use Rattle.ppd_ast.specs.declared.plan.Plan.{Plan}
@@ -23,7 +24,7 @@ use Rattle.ppd_model.specs.Intervals.{nested, Span, Split, is_closed, item_of_sp
 use Rattle.ppd_model.specs.Items.{HasWholeItems}
 use Rattle.ppd_model.specs.Schedule.{run}
 use Rattle.ppd_model.specs.Story.{own_steps, story}
-use Rattle.ppd_model.specs.World.{Each, World}
+use Rattle.ppd_model.specs.World.{World}
 use Rattle.ppd_model.proofs.Items.{items_whole}
 use Rattle.law_flow_own.proofs.Places.LeafTells.{split_is}
 use Rattle.ppd_flow_model.specs.Found.{edges_if, found_edges}

@@ -2,6 +2,7 @@
 use Rattle.std.proofs.Common.{◌≡◌, ℕ, zero, suc, ◌+◌, ◌≤◌, ℤ, Bool, true, false, cond, List, [], ◌∷◌, ◌++◌, length, map, drop, get_or, slice_set, Option, Some, None, Ok, Err, refl, ap, sym, ◌∙◌, subst, arith, length-append}
 use Rattle.std.specs.Prelude.{⊤, fold, replicate, slice_get, option_map, ◌-◌, nat_eq}
 use Rattle.std.proofs.lemmas.List.{append-nil, append_assoc}
+use Rattle.std.specs.List.{AllByRecursion as Each}
 use Rattle.ppd_ast.specs.declared.plan.Plan.{Plan}
 use Rattle.ppd_ast.specs.declared.program.Kind.{Kind}
 use Rattle.ppd_ast.specs.declared.program.Kind.TheVariants.{If, While}
@@ -26,7 +27,6 @@ use Rattle.ppd_model.specs.declared.trace.TracedEvent.{TracedEvent}
 use Rattle.ppd_model.specs.Earlier.{AreEarlier, EachNamesEarlier, IsEarlier, IsEarlierAt, NamesEarlier, TracesNameEarlierEvents, TracesTellRuns, own_events}
 use Rattle.ppd_model.specs.FullTrace.{Activation, Tag, Test, Tracing, all_tagged, answers_past, begun_tracing, called, event_of, into_at, latest, me_in, of_outer, of_run, or_else, parent_at, parent_in, tag_at, tagged, tagged_after, tagged_at, tagged_by, tagged_into, tags_of, tests_after, top_tags, trace_by, trace_step, traced_by, with_event, with_test}
 use Rattle.ppd_model.specs.Story.{Story, Taken}
-use Rattle.ppd_model.specs.World.{Each}
 
 -- ---- the run
 

@@ -1,5 +1,5 @@
 -- The shared state with all processes, who may take a step in it, and the step.
-use Rattle.std.specs.Prelude.{ℕ, zero, suc, ◌+◌, nat_eq, nat_lt, ℤ, pos, Bool, true, false, List, [], ◌∷◌, ◌++◌, length, get_or, slice_set, slice_get, Option, Some, None, ⊤}
+use Rattle.std.specs.Prelude.{ℕ, zero, suc, ◌+◌, nat_eq, nat_lt, ℤ, pos, Bool, true, false, List, [], ◌∷◌, ◌++◌, length, get_or, slice_set, slice_get, Option, Some, None}
 use Rattle.ppd_ast.specs.declared.program.Program.{Program}
 use Rattle.ppd_ast.specs.declared.plan.Plan.{Plan}
 use Rattle.ppd_sem.specs.declared.proc.Need.{Need}
@@ -89,11 +89,6 @@ abbrev pub change : {A : Type 0} → (A → A) → ℕ → List A → List A
 change f i [] = []
 change f zero (x ∷ xs) = f x ∷ xs
 change f (suc i) (x ∷ xs) = x ∷ change f i xs
-
--- it holds of each element
-abbrev pub Each : {A : Type 0} → (A → Type 0) → List A → Type 0
-Each H [] = ⊤
-Each H (x ∷ xs) = H x × Each H xs
 
 -- a step of this need writes cell c
 abbrev pub writes_cell : ℕ → Need → Bool

@@ -1,7 +1,7 @@
 -- Edges that are alike have the same races; so have a graph and its logs.
 use Rattle.std.proofs.Common.{◌≡◌, ℕ, zero, suc, ◌+◌, ◌-◌, ◌<◌, ◌≤◌, List, [], ◌∷◌, ◌++◌, false, not, refl, ap, ap₂, sym, subst, ◌∙◌, arith, length, map, filter, get_or, ◌&&◌, ◌||◌}
 use Rattle.std.specs.Prelude.{nat_eq, if◌then◌else◌, ⊤}
-use Rattle.std.specs.List.{flat_map, range_with_len}
+use Rattle.std.specs.List.{AllByRecursion as Each, flat_map, range_with_len}
 use Rattle.std.proofs.lemmas.Bool.{and_left}
 use Rattle.ppd_ast.specs.Members.{has}
 use Rattle.ppd_ast.proofs.Those.{both}
@@ -15,7 +15,6 @@ use Rattle.ppd_model.proofs.Tested.{tests_edges}
 use Rattle.ppd_graph.specs.Graphs.{is_before_by, sets_at}
 use Rattle.ppd_model.specs.RecordedSets.{record_in}
 use Rattle.ppd_model.proofs.Earlier.{each_append}
-use Rattle.ppd_model.specs.World.{Each}
 use Rattle.ppd_graph.specs.LogRecord.{sets_from}
 use Rattle.ppd_graph.proofs.Leads.{length_mapped}
 use Rattle.ppd_race.specs.Races.{GraphRacesAreOfLogs, IsThere, cells_by, edges_of_graph, edges_of_logs}

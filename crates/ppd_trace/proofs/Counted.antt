@@ -3,6 +3,7 @@ use Rattle.std.proofs.Common.{◌≡◌, ℕ, zero, suc, ◌+◌, ◌-◌, ◌*�
 use Rattle.std.specs.Prelude.{fold, replicate}
 use Rattle.std.proofs.lemmas.List.Sums.{count_by-le-length, sum_by-append}
 use Rattle.std.proofs.lemmas.Nat.{mul-le}
+use Rattle.std.specs.List.{AllByRecursion as Each}
 use Rattle.ppd_ast.specs.Valid.{IsValid}
 use Rattle.ppd_ast.specs.declared.plan.Plan.{Plan}
 use Rattle.ppd_ast.specs.declared.program.Program.{Program}
@@ -13,7 +14,7 @@ use Rattle.ppd_model.specs.declared.tracing.Taken.{Taken}
 use Rattle.ppd_model.specs.Bounds.{steps_left}
 use Rattle.ppd_model.specs.Schedule.{run, started_procs, started_world}
 use Rattle.ppd_model.specs.Story.{Moment, Telling, begun, count_events, moment_of, steps_of, tell, told}
-use Rattle.ppd_model.specs.World.{World, change, Each}
+use Rattle.ppd_model.specs.World.{World, change}
 use Rattle.ppd_model.proofs.Bounded.{ArePaid, in_all, started_all, started_count, started_paid}
 use Rattle.ppd_model.proofs.Changes.{length-change}
 use Rattle.ppd_model.proofs.Earlier.{each_more}

@@ -1,7 +1,7 @@
 -- What holds in each world that a schedule comes to.
 use Rattle.std.proofs.Common.{◌≡◌, ℕ, ℤ, zero, suc, ◌+◌, ◌-◌, ◌*◌, ◌<◌, ◌≤◌, true, List, [], ◌∷◌, ◌++◌, length, map, Option, Some, refl, ap, sym, ◌∙◌, subst, arith, length-append}
 use Rattle.std.specs.Prelude.{fold, slice_get}
-use Rattle.std.specs.List.{range_with_len}
+use Rattle.std.specs.List.{AllByRecursion as Each, range_with_len}
 use Rattle.std.proofs.lemmas.Bool.Decides.{nat_tests}
 use Rattle.std.proofs.lemmas.Nat.{mul-le}
 use Rattle.ppd_ast.specs.Valid.{IsValid}
@@ -29,7 +29,7 @@ use Rattle.ppd_model.specs.Laws.{logged_moment}
 use Rattle.ppd_model.specs.Logs.{begun_log, entries_of, log_step, loggings, logs_from, rest_after}
 use Rattle.ppd_model.specs.Schedule.{run, run_from, started_procs, started_world}
 use Rattle.ppd_model.specs.Story.{Moment, Telling, begun, moment_of, tell, told}
-use Rattle.ppd_model.specs.World.{World, answer, can, can_complete, can_receive, can_take, change, effect, need, need_at, step, Each}
+use Rattle.ppd_model.specs.World.{World, answer, can, can_complete, can_receive, can_take, change, effect, need, need_at, step}
 use Rattle.ppd_model.proofs.Bounded.{ArePaid, Goes, all_falls, goes, not_stopped, started_all}
 use Rattle.ppd_model.proofs.States.{logs-change}
 use Rattle.ppd_model.proofs.Stories.{stories_are_of_runs}

@@ -1,7 +1,7 @@
 -- The parts of a step make the step of the world.
 use Rattle.std.proofs.Common.{◌≡◌, ℕ, zero, suc, ℤ, List, [], ◌∷◌, map, length, take, ◌+◌, ◌-◌, ◌<◌, ◌≤◌, ◌++◌, true, false, Option, None, Result, Ok, Err, OnErr, refl, ap, sym, ◌∙◌, subst, arith, inl, inr, length-append}
 use Rattle.std.specs.Prelude.{slice_get}
-use Rattle.std.specs.List.{All}
+use Rattle.std.specs.List.{AllByRecursion as Each, All}
 use Rattle.std.proofs.Math.Seq.{take-append_seam}
 use Rattle.std.proofs.lemmas.Bool.{cases_lt, false≢true}
 use Rattle.ppd_ast.specs.declared.plan.Plan.{Plan}
@@ -18,7 +18,7 @@ use Rattle.ppd_model.specs.Laws.{logged_moment}
 use Rattle.ppd_model.specs.Logs.{log_step}
 use Rattle.ppd_model.specs.Schedule.{IsOver}
 use Rattle.ppd_model.specs.Story.{Moment, number_of, unit_started, values_at_start}
-use Rattle.ppd_model.specs.World.{World, answer, can, change, effect, enabled, need, need_at, step, with_value, Each}
+use Rattle.ppd_model.specs.World.{World, answer, can, change, effect, enabled, need, need_at, step, with_value}
 use Rattle.ppd_model.proofs.Earlier.{each_more}
 use Rattle.ppd_model.proofs.Lists.{map_change}
 use Rattle.ppd_world.specs.Parts.{finished, need_of_logging, sent, sent_after, unsent, unsent_after, world_of, IsReceivable, without_last}

@@ -1,6 +1,6 @@
 -- The search at the place at which a process stands finds what the search over its running intervals finds.
 use Rattle.std.proofs.Common.{◌≡◌, ℕ, ◌+◌, ◌-◌, false, List, [], ◌∷◌, ◌++◌, Option, Some, None, refl, ap, sym, subst, ◌∙◌, arith, length, append-nil, eq-eqb}
-use Rattle.std.specs.List.{flat_map, position_from}
+use Rattle.std.specs.List.{AllByRecursion as Each, flat_map, position_from}
 use Rattle.std.specs.Prelude.{⊤, option_map, slice_get, take, unwrap_or}
 use Rattle.std.proofs.lemmas.Iterator.Adapters.{position_from-zero}
 use Rattle.std.proofs.lemmas.List.{take_at}
@@ -18,7 +18,6 @@ use Rattle.ppd_model.specs.Intervals.{Part, own, nested, Span, Split, is_closed,
 use Rattle.ppd_model.specs.declared.flow.Item.{Item}
 use Rattle.ppd_model.specs.declared.flow.Item.TheVariants as item
 use Rattle.ppd_model.specs.declared.flow.Origin.TheVariants as origin
-use Rattle.ppd_model.specs.World.{Each}
 use Rattle.ppd_model.proofs.Lists.{get_mapped}
 use Rattle.ppd_flow_model.specs.declared.leaf_call.LeafCall.{LeafCall}
 use Rattle.ppd_flow_model.specs.Control.{Tests, begun_tests, call_or_entry, control_above, control_among, control_in, control_origin, control_outside, last_test, leaf_call_at, test_of_run, test_round}

@@ -1,6 +1,6 @@
 -- The search over what is seen of a process, at the place at which it stands: it goes as over its running intervals.
 use Rattle.std.proofs.Common.{◌≡◌, ℕ, suc, ◌+◌, ◌<◌, true, false, List, [], ◌∷◌, ◌++◌, Option, Some, None, refl, ap, sym, ◌∙◌, arith, length, append-nil, append_assoc, ne_eqb, if◌then◌else◌}
-use Rattle.std.specs.List.{flat_map, position_from}
+use Rattle.std.specs.List.{AllByRecursion as Each, flat_map, position_from}
 use Rattle.std.specs.Prelude.{⊤, fold, slice_get}
 use Rattle.ppd_ast.specs.declared.plan.Plan.{Plan}
 use Rattle.ppd_ast.specs.declared.program.Program.{Program}
@@ -8,7 +8,6 @@ use Rattle.ppd_model.specs.Intervals.{Part, own, nested, Span, Split, is_closed,
 use Rattle.ppd_model.specs.declared.flow.Item.{Item}
 use Rattle.ppd_model.specs.declared.flow.Item.TheVariants as item
 use Rattle.ppd_model.specs.declared.trace.TracedEvent.{TracedEvent}
-use Rattle.ppd_model.specs.World.{Each}
 use Rattle.ppd_flow_model.specs.declared.leaf_call.LeafCall.{LeafCall}
 use Rattle.ppd_flow_model.specs.Control.{Tests, test_event, test_item}
 use Rattle.ppd_flow_model.specs.Locals.{leaf_after, leaf_at}

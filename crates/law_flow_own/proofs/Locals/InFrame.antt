@@ -1,7 +1,7 @@
 -- The local cells that a statement reads are cells of its frame.
 use Rattle.std.proofs.Common.{◌≡◌, ℕ, zero, suc, ◌+◌, ◌<◌, ℤ, pos, negsuc, Bool, true, false, nat_lt, List, [], ◌∷◌, ◌++◌, Some, None, Ok, Err, refl, ap, sym, subst, ◌∙◌, arith, if◌then◌else◌}
 use Rattle.std.specs.Prelude.{slice_get, ⊤}
-use Rattle.std.specs.List.{All}
+use Rattle.std.specs.List.{AllByRecursion as Each, All}
 use Rattle.std.proofs.lemmas.Bool.{ltb-true}
 use Rattle.std.proofs.lemmas.Option.{none-some}
 use Rattle.ppd_ast.specs.declared.program.Expr.{Expr}
@@ -22,7 +22,6 @@ use Rattle.ppd_sem.specs.declared.event.Spot.{Spot}
 use Rattle.ppd_sem.specs.declared.event.Spot.TheVariants.{Local, Shared}
 use Rattle.ppd_sem.proofs.Kept.{There, there_at}
 use Rattle.ppd_model.proofs.Changes.{some}
-use Rattle.ppd_model.specs.World.{Each}
 
 -- a cell of this frame with n cells, or a shared one
 abbrev pub InFrame : ℕ → ℕ → Spot → Type 0

@@ -1,7 +1,7 @@
 -- Under a policy without block loops no block is a loop.
 use Rattle.std.proofs.Common.{◌≡◌, ℕ, zero, suc, ◌+◌, Bool, true, false, not, ◌&&◌, List, [], ◌∷◌, ◌++◌, Option, Some, None, refl, sym, ap, ◌∙◌, subst, if◌then◌else◌}
 use Rattle.std.specs.Prelude.{nat_le, nat_lt, option_map, slice_get}
-use Rattle.std.specs.List.{flat_map}
+use Rattle.std.specs.List.{AllByRecursion as Each, flat_map}
 use Rattle.std.proofs.lemmas.Option.{none-some, slice_get-map}
 use Rattle.ppd_ast.specs.Numbered.{blocks_by, blocks_of, body_kind, each_from, in_while, inside_count, is_block_body, is_block_loop, is_while, loops_at, loops_of, numbers_of}
 use Rattle.ppd_ast.specs.declared.limits.TheConstants.{MOST_NESTING}
@@ -14,7 +14,6 @@ use Rattle.ppd_ast.specs.declared.program.Stmt.{Stmt}
 use Rattle.ppd_blocks.specs.Blocks.{block_of as block_from, plan_of}
 use Rattle.ppd_model.specs.NearIntervals.{is_loop}
 use Rattle.ppd_model.proofs.Changes.{some}
-use Rattle.ppd_model.specs.World.{Each}
 use Rattle.ppd_sem.specs.Blocks.{block_kind, kind_in}
 use Rattle.law_flow_own.specs.Locals.LocalReads.{PoliciesWithoutLoops}
 

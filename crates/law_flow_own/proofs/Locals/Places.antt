@@ -1,6 +1,6 @@
 -- What is seen of a level's items, and where its interval stands in the one outside.
 use Rattle.std.proofs.Common.{◌≡◌, ℕ, ◌+◌, ◌-◌, false, List, [], ◌∷◌, ◌++◌, Some, refl, ap, subst, ◌∙◌, arith, length, append_assoc, eq-eqb}
-use Rattle.std.specs.List.{flat_map, position_from}
+use Rattle.std.specs.List.{AllByRecursion as Each, flat_map, position_from}
 use Rattle.std.specs.Prelude.{slice_get, take, unwrap_or}
 use Rattle.std.proofs.lemmas.Iterator.Adapters.{position_from-zero}
 use Rattle.std.proofs.lemmas.List.Concat.{flat_map-append}
@@ -11,7 +11,6 @@ use Rattle.ppd_model.specs.Intervals.{Part, own, nested, Span, Split, is_closed,
 use Rattle.ppd_model.specs.declared.flow.Item.{Item}
 use Rattle.ppd_model.specs.declared.flow.Item.TheVariants as item
 use Rattle.ppd_model.specs.declared.flow.Origin.TheVariants as origin
-use Rattle.ppd_model.specs.World.{Each}
 use Rattle.ppd_model.proofs.Lists.{get_mapped}
 use Rattle.ppd_flow_model.specs.Seen.{call_of, first_or, is_item_of, items_at, kind_at, outer_of, outer_place, place_of, seen_of}
 use Rattle.law_flow_own.specs.Places.Levels.{AreBelow, AreLevels, IsLater, Level, numbers}

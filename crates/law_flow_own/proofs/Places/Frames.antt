@@ -1,6 +1,6 @@
 -- The frame of the next step is that of its place.
 use Rattle.std.proofs.Common.{◌≡◌, ℕ, suc, ◌+◌, ◌<◌, Bool, true, false, not, ◌||◌, List, [], ◌∷◌, ◌++◌, Option, Some, None, refl, ap, sym, subst, ◌∙◌, arith, if◌then◌else◌, true≢false}
-use Rattle.std.specs.List.{list_any, prefix_len}
+use Rattle.std.specs.List.{AllByRecursion as Each, list_any, prefix_len}
 use Rattle.std.specs.Prelude.{is_some, take}
 use Rattle.std.proofs.lemmas.Option.{none-some}
 use Rattle.ppd_ast.specs.Numbered.{is_while}
@@ -31,7 +31,6 @@ use Rattle.ppd_sem.specs.declared.proc.Proc.{Proc}
 use Rattle.ppd_sem.specs.declared.proc.Todo.{Todo}
 use Rattle.ppd_sem.specs.Passed.{next_stmt_of}
 use Rattle.ppd_model.specs.Intervals.{Split}
-use Rattle.ppd_model.specs.World.{Each}
 use Rattle.ppd_flow_model.specs.declared.leaf_call.LeafCall.{LeafCall}
 use Rattle.ppd_flow_model.specs.Locals.{frame_in}
 use Rattle.law_flow_own.specs.Places.Closing.{closing, if_there, of_loop, of_return}

@@ -1,6 +1,6 @@
 -- A process and its replay that are beside each other have a head, and name the frame of their event alike.
 use Rattle.std.proofs.Common.{◌≡◌, ℕ, List, [], ◌∷◌, ◌++◌, Bool, true, false, cond, refl, ap, ap₂, sym, subst, ◌∙◌, append-nil}
-use Rattle.std.specs.List.{list_any}
+use Rattle.std.specs.List.{AllByRecursion as Each, list_any}
 use Rattle.std.specs.Prelude.{not as negated, ◌||◌, if◌then◌else◌}
 use Rattle.std.proofs.lemmas.Bool.{or_left, or_right}
 use Rattle.ppd_ast.specs.declared.plan.Plan.{Plan}
@@ -13,7 +13,6 @@ use Rattle.ppd_sem.specs.Described.{ends_body, frame_of, has_interval, is_block}
 use Rattle.ppd_sem.specs.Process.{top_body}
 use Rattle.law_replay.proofs.Vocabulary.Relation.{HasEnd, IsBeside, IsLast, IsOwnTodo, Stacked, at_base, called}
 use Rattle.law_replay.proofs.Beside.Events.{called_frame, top_of_list, taken}
-use Rattle.ppd_model.specs.World.{Each}
 
 module _ (program : Program) (plan : Plan) (used inside : ℕ → Type 0) (calls : Type 0) (closer : Todo) (home : ℕ)
     (depth : ℕ) (outside : List Todo) where

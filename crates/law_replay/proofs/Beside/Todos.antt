@@ -1,13 +1,13 @@
 -- What is to do in a body: its last statement, and the end that is still to come.
 use Rattle.std.proofs.Common.{◌≡◌, ℕ, List, [], ◌∷◌, ◌++◌, false, sym, ◌∙◌, inl, inr, true≢false}
 use Rattle.std.proofs.lemmas.Bool.{cond-false}
+use Rattle.std.specs.List.{AllByRecursion as Each}
 use Rattle.ppd_ast.specs.declared.program.Program.{Program}
 use Rattle.ppd_ast.specs.Lookups.{kind_of}
 use Rattle.ppd_sem.specs.declared.proc.Todo.{Todo}
 use Rattle.ppd_sem.specs.Described.{ends_body}
 use Rattle.ppd_sem.specs.Process.{todos}
 use Rattle.law_replay.proofs.Vocabulary.Relation.{HasEnd, IsLast, IsLong, past_body}
-use Rattle.ppd_model.specs.World.{Each}
 
 pub all_todos : (inside : ℕ → Type 0) (stmts : List ℕ) (ts : List Todo) → Each inside stmts
     → Each (λ t. inside t.stmt) ts → Each (λ t. inside t.stmt) (todos stmts ++ ts)

@@ -1,7 +1,7 @@
 -- What holds of each loop's kind and of each body's holds of the kind of each block.
 use Rattle.std.proofs.Common.{◌≡◌, ℕ, suc, ◌+◌, List, [], ◌∷◌, ◌++◌, Bool, true, false, Option, Some, None, refl, sym, ap, ◌∙◌, subst, arith}
 use Rattle.std.specs.Prelude.{option_map, slice_get, if◌then◌else◌}
-use Rattle.std.specs.List.{flat_map}
+use Rattle.std.specs.List.{AllByRecursion as Each, flat_map}
 use Rattle.std.proofs.lemmas.Option.{slice_get-map}
 use Rattle.ppd_ast.specs.declared.plan.Block.{Block}
 use Rattle.ppd_ast.specs.declared.plan.BlockKind.{BlockKind}
@@ -17,7 +17,6 @@ use Rattle.law_steps.proofs.OpenBlocks.Planned.{block_there}
 use Rattle.ppd_model.proofs.Changes.{some}
 use Rattle.ppd_model.proofs.Parents.{none_some}
 use Rattle.ppd_model.proofs.Earlier.{each_append}
-use Rattle.ppd_model.specs.World.{Each}
 use Rattle.ppd_model.proofs.Lists.{every_at}
 
 each_flat : {X : Type 0} (P : X → Type 0) (f : ℕ → List X) → ((n : ℕ) → Each P (f n)) → (ns : List ℕ)

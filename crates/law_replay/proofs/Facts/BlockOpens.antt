@@ -2,6 +2,7 @@
 use Rattle.std.proofs.Common.{◌≡◌, ℕ, ◌<◌, ◌≤◌, Bool, true, false, List, [], ◌∷◌, Some, None, refl, ap, sym, subst, ◌∙◌, arith, true≢false}
 use Rattle.std.specs.Prelude.{is_some, nat_le, slice_get}
 use Rattle.std.proofs.lemmas.Bool.{leb-true}
+use Rattle.std.specs.List.{AllByRecursion as Each}
 use Rattle.ppd_ast.specs.declared.plan.BlockKind.TheVariants as block
 use Rattle.ppd_ast.specs.declared.plan.Plan.{Plan}
 use Rattle.ppd_ast.specs.declared.program.Body.{Body}
@@ -20,7 +21,6 @@ use Rattle.law_replay.specs.Beside.Relation.{IsCallOf}
 use Rattle.law_replay.proofs.Vocabulary.Relation.{IsReturn}
 use Rattle.law_replay.specs.Beside.Opens.{IsCountable, ends_block, opens}
 use Rattle.law_replay.proofs.Facts.Placed.{EndsOnce, IsAt, IsCallee, all_at, body_ends_once, callee, inside_goes_on, listed}
-use Rattle.ppd_model.specs.World.{Each}
 
 goes_open : (plan : Plan) (body : ℕ) (k : Kind) → ends_body k ≡ false → ends_block plan body k ≡ 0
 goes_open plan body (kind.Return e) h = absurd (true≢false h)

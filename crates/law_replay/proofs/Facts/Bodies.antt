@@ -2,6 +2,7 @@
 use Rattle.std.proofs.Common.{◌≡◌, ℕ, ◌≤◌, true, false, List, [], ◌∷◌, Some, None, refl, ap, sym, subst, ◌∙◌, arith, true≢false}
 use Rattle.std.specs.Prelude.{⊤, is_some, slice_get}
 use Rattle.std.proofs.lemmas.Bool.{or_left, or_right, le-leb}
+use Rattle.std.specs.List.{AllByRecursion as Each}
 use Rattle.ppd_ast.specs.declared.plan.BlockKind.TheVariants as block
 use Rattle.ppd_ast.specs.declared.plan.Plan.{Plan}
 use Rattle.ppd_ast.specs.declared.program.Body.{Body}
@@ -25,7 +26,6 @@ use Rattle.law_replay.proofs.Beside.Kept.{IsOwned}
 use Rattle.law_replay.proofs.Beside.Staying.{IsClosed}
 use Rattle.law_replay.proofs.Facts.Named.{kind_over, kind_writing}
 use Rattle.law_replay.proofs.Facts.Placed.{IsAt, EndsOnce, body_ends_once, all_at, listed}
-use Rattle.ppd_model.specs.World.{Each}
 
 -- statement i is there, in body f
 pub record IsOf (program : Program) (f i : ℕ) : Type 0 where

@@ -1,6 +1,7 @@
 -- Of every state of a run: only a block's loop is entered, and there are no answers while a loop is yet to be entered.
 use Rattle.std.proofs.Common.{◌≡◌, ℕ, ℤ, Bool, true, false, List, [], ◌∷◌, ◌++◌, Some, None, refl, ap, sym, subst, ◌∙◌, true≢false}
 use Rattle.std.specs.Prelude.{⊤, is_some, if◌then◌else◌}
+use Rattle.std.specs.List.{AllByRecursion as Each}
 use Rattle.ppd_ast.specs.declared.plan.BlockKind.TheVariants as block
 use Rattle.ppd_ast.specs.declared.plan.Plan.{Plan}
 use Rattle.ppd_ast.specs.declared.program.Kind.{Kind}
@@ -16,7 +17,6 @@ use Rattle.ppd_sem.specs.Process.{act, act_by_deed, entry_of, loop_of, started, 
 use Rattle.ppd_sem.specs.Tables.{block_of}
 use Rattle.law_replay.specs.Beside.Opens.{IsWhile}
 use Rattle.law_replay.proofs.Facts.Keeping.{keeps}
-use Rattle.ppd_model.specs.World.{Each}
 
 -- a statement that is entered is a loop that is a block
 pub record IsEntered (program : Program) (plan : Plan) (t : Todo) : Type 0 where

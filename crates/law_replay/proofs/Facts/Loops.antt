@@ -1,7 +1,7 @@
 -- The static facts of a block that is a loop.
 use Rattle.std.proofs.Common.{◌≡◌, ℕ, ◌<◌, List, [], ◌∷◌, ◌++◌, true, false, Some, refl, sym, ap, ◌∙◌, subst, inl, inr, arith, true≢false}
 use Rattle.std.specs.Prelude.{IsTrue, is_some, slice_get}
-use Rattle.std.specs.List.{flat_map, range_with_len}
+use Rattle.std.specs.List.{AllByRecursion as Each, flat_map, range_with_len}
 use Rattle.std.proofs.lemmas.Bool.{cond-true}
 use Rattle.ppd_ast.specs.declared.plan.BlockKind.TheVariants as block
 use Rattle.ppd_ast.specs.declared.plan.Policy.{Policy}
@@ -39,7 +39,6 @@ use Rattle.law_replay.proofs.Facts.Named.{kind_over, kind_writing}
 use Rattle.law_replay.proofs.Facts.Placed.{IsAt, inside_goes_on, listed}
 use Rattle.law_steps.proofs.OpenBlocks.Planned.{block_there}
 use Rattle.law_replay.proofs.Facts.Within.{child_within, listed_within, stands_through, within_cases, within_listed}
-use Rattle.ppd_model.specs.World.{Each}
 
 -- statement s is the loop q or stands in it
 abbrev pub IsWithin : Program → ℕ → ℕ → Type 0

@@ -2,6 +2,7 @@
 use Rattle.std.proofs.Common.{◌≡◌, ℕ, suc, ◌-◌, ◌<◌, Bool, true, false, List, [], ◌∷◌, ◌++◌, length, Option, Some, None, refl, ap, sym, subst, ◌∙◌, arith, inl, inr, true≢false}
 use Rattle.std.specs.Prelude.{IsTrue, IsSomeAnd, is_some, slice_get}
 use Rattle.std.proofs.lemmas.Bool.{cond-true, cond-false}
+use Rattle.std.specs.List.{AllByRecursion as Each}
 use Rattle.ppd_ast.specs.declared.program.Body.{Body}
 use Rattle.ppd_ast.specs.declared.program.Kind.{Kind}
 use Rattle.ppd_ast.specs.declared.program.Kind.TheVariants as kind
@@ -25,7 +26,6 @@ use Rattle.law_replay.specs.Beside.Relation.{IsCallOf, IsListOf}
 use Rattle.law_replay.proofs.Vocabulary.Relation.{HasEnd, HasEnds, past_body}
 use Rattle.ppd_model.proofs.Changes.{some}
 use Rattle.ppd_model.proofs.Parents.{none_some}
-use Rattle.ppd_model.specs.World.{Each}
 
 -- statement i is there, with this parent and in this body
 pub record IsAt (program : Program) (outer : Option ℕ) (number i : ℕ) : Type 0 where

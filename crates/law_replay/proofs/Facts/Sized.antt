@@ -3,6 +3,7 @@ use Rattle.std.proofs.Common.{◌≡◌, ℕ, ◌+◌, ◌-◌, ◌<◌, ◌≤�
 use Rattle.std.specs.Prelude.{⊤, IsSome, IsSomeAnd, IsTrue, replicate, slice_get}
 use Rattle.std.proofs.lemmas.List.{length-set, length-append, length-replicate}
 use Rattle.std.proofs.lemmas.Option.{slice_get_within}
+use Rattle.std.specs.List.{AllByRecursion as Each}
 use Rattle.ppd_ast.specs.declared.plan.Plan.{Plan}
 use Rattle.ppd_ast.specs.declared.program.Body.{Body}
 use Rattle.ppd_ast.specs.declared.program.Kind.{Kind}
@@ -22,7 +23,6 @@ use Rattle.ppd_sem.specs.Runs.{LeadsOn, size_if, size_of, stmt_size}
 use Rattle.ppd_sem.proofs.Kept.{leads_at, length-clear}
 use Rattle.ppd_sem.proofs.Validity.{valid-runnable}
 use Rattle.ppd_model.proofs.Homes.{AskedOf, head_of}
-use Rattle.ppd_model.specs.World.{Each}
 use Rattle.law_replay.specs.Beside.Relation.{IsCallOf}
 use Rattle.law_replay.proofs.Vocabulary.Relation.{Suits, Yields}
 use Rattle.law_replay.proofs.Beside.Deeds.{suits}

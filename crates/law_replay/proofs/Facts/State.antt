@@ -1,6 +1,7 @@
 -- What holds of every state of a run of a valid program.
 use Rattle.std.proofs.Common.{◌≡◌, ℕ, ◌+◌, ◌<◌, List, [], ◌∷◌, Some, refl, ap, sym, subst, ◌∙◌, arith, length}
 use Rattle.std.specs.Prelude.{slice_get}
+use Rattle.std.specs.List.{AllByRecursion as Each}
 use Rattle.ppd_ast.specs.declared.plan.Plan.{Plan}
 use Rattle.ppd_ast.specs.declared.plan.Policy.{Policy}
 use Rattle.ppd_ast.specs.declared.program.Program.{Program}
@@ -27,7 +28,6 @@ use Rattle.ppd_sem.proofs.Running.{head_over}
 use Rattle.ppd_sem.proofs.Starts.{started_runs}
 use Rattle.ppd_sem.proofs.Validity.{valid-runnable}
 use Rattle.ppd_model.proofs.Homes.{AreHome, IsHome as IsHomeAll, act-home, started-home}
-use Rattle.ppd_model.specs.World.{Each}
 use Rattle.law_replay.proofs.Vocabulary.Relation.{IsEnd}
 use Rattle.law_replay.specs.Beside.Opens.{IsHome}
 use Rattle.law_replay.proofs.Facts.Called.{AreCalled, act_called, head_home, started_called}

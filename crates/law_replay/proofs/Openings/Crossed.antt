@@ -1,6 +1,7 @@
 -- The statements of each nested block, by its number: of a loop what stands in it, of a function its body.
 use Rattle.std.proofs.Common.{◌≡◌, ℕ, ◌<◌, ◌≤◌, List, [], ◌∷◌, true, Some, refl, ap, sym, subst, ◌∙◌, arith, inl, inr, ◌⊎◌}
 use Rattle.std.specs.Prelude.{is_some, slice_get}
+use Rattle.std.specs.List.{AllByRecursion as Each}
 use Rattle.ppd_ast.specs.declared.plan.BlockKind.{BlockKind}
 use Rattle.ppd_ast.specs.declared.plan.BlockKind.TheVariants as block
 use Rattle.ppd_ast.specs.declared.plan.Plan.{Plan}
@@ -26,7 +27,6 @@ use Rattle.law_replay.proofs.Facts.BodyBlocks.{body_there, function_below}
 use Rattle.law_replay.proofs.Facts.Loops.{IsWithin, loop_goes_on, loop_writing}
 use Rattle.law_replay.proofs.Facts.BlockOpens.{function_returns, return_opens}
 use Rattle.law_replay.proofs.Facts.State.{no_end_in_function}
-use Rattle.ppd_model.specs.World.{Each}
 
 -- a statement of the loop that is block b
 pub record IsOfLoop (program : Program) (plan : Plan) (b s : ℕ) : Type 0 where

@@ -1,5 +1,6 @@
 -- A process inside a nested block: what the block leaves alone in the frame in which it began.
 use Rattle.std.specs.Prelude.{◌≡◌, ℕ, ◌+◌, ◌++◌, ◌<◌, Bool, true, false, List, [], ◌∷◌, length, Some, ⊤, ◌⊎◌}
+use Rattle.std.specs.List.{AllByRecursion as Each}
 use Rattle.ppd_ast.specs.declared.program.Kind.{Kind}
 use Rattle.ppd_ast.specs.declared.program.Kind.TheVariants.{Set, Zero, Call, Recv}
 use Rattle.ppd_ast.specs.declared.program.Target.TheVariants as target
@@ -13,7 +14,6 @@ use Rattle.ppd_sem.specs.Deed.{Deed, set_local, clear, back, receive, turn, fini
 use Rattle.ppd_sem.specs.Process.{into_of}
 use Rattle.law_replay.specs.Beside.Relation.{IsListOf}
 use Rattle.law_replay.proofs.Vocabulary.Relation.{HasEnd, IsLong, IsOwnTodo, past_body}
-use Rattle.ppd_model.specs.World.{Each}
 
 -- the local cells that a statement of this kind writes are some of these
 abbrev pub IsWriting : (ℕ → Type 0) → Kind → Type 0

@@ -1,5 +1,6 @@
 -- A process that replays an interval beside the one that ran it.
 use Rattle.std.specs.Prelude.{Option, Some, None, ◌≡◌, ℕ, ◌+◌, ◌≤◌, true, false, List, [], ◌∷◌, ◌++◌, length, if◌then◌else◌, ◌⊎◌, ⊤, slice_get, Ok, Err}
+use Rattle.std.specs.List.{AllByRecursion as Each}
 use Rattle.ppd_ast.specs.declared.program.Kind.{Kind}
 use Rattle.ppd_ast.specs.declared.program.Kind.TheVariants.{Return, End}
 use Rattle.ppd_ast.specs.declared.program.Program.{Program}
@@ -12,7 +13,6 @@ use Rattle.ppd_sem.specs.Deed.{Deed, branch, turn, invoke, back, finish}
 use Rattle.ppd_sem.specs.Process.{todos}
 use Rattle.ppd_sem.specs.Described.{ends_body}
 use Rattle.law_replay.proofs.Vocabulary.Over.{SameIn, IsKindOver}
-use Rattle.ppd_model.specs.World.{Each}
 use Rattle.law_replay.specs.Beside.Relation.{IsListOf, IsCallOf}
 
 -- a statement that ends a body is still to do
