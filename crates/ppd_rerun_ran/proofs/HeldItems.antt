@@ -17,7 +17,7 @@ use Rattle.ppd_model.specs.declared.trace.EventId.{EventId}
 use Rattle.ppd_model.specs.declared.trace.TracedEvent.{TracedEvent}
 use Rattle.ppd_model.specs.declared.tracing.Tracing.{Tracing}
 use Rattle.ppd_model.specs.FullTrace.{Tag, event_of, me_in, top_tags, trace_by}
-use Rattle.ppd_model.specs.Intervals.{Span, Split, own, nested, begin_if, begun_split, change_first, control_by, end_if, innermost, is_closed, item_of, items_at, items_in, left_by, new_span, split_of, split_step, splits_from, with_marks, with_own, with_part, with_step}
+use Rattle.ppd_model.specs.Intervals.{Span, Split, own, nested, begin_if, begun_split, change_first, control_by, end_if, innermost, is_closed, item_of, items, items_at, items_in, left_by, new_span, split_of, split_step, splits_from, with_marks, with_own, with_part, with_step}
 use Rattle.ppd_model.specs.Intervals as s
 use Rattle.ppd_model.specs.Marks.{Mark, closed, opened}
 use Rattle.ppd_model.specs.declared.tracing.Story.{Story}
@@ -28,7 +28,7 @@ use Rattle.ppd_model.proofs.Items.{own_keeps, step_keeps}
 use Rattle.ppd_rerun_ran.specs.declared.held.Kept.{Kept}
 use Rattle.ppd_rerun_ran.specs.declared.held.Part.{Part}
 use Rattle.ppd_rerun_ran.specs.declared.held.Part.TheVariants.{Own, Nested}
-use Rattle.ppd_rerun_ran.specs.Holding.{Course, HeldItemsAreItems, Holding, change_inner, course, entered_by, held_item, held_items, held_on, hold_entered, hold_event, hold_left, item_of_event, item_of_kept, items_of_kept, left_with, new_kept, with_one}
+use Rattle.ppd_rerun_ran.specs.Holding.{Course, Holding, change_inner, course, entered_by, held_item, held_items, held_on, hold_entered, hold_event, hold_left, item_of_event, item_of_kept, items_of_kept, left_with, new_kept, with_one}
 
 -- ---- what is held
 
@@ -215,7 +215,9 @@ split_at program plan budget story q (suc p) (xs ∷ rest) steps e =
     let here : (q + 1) + p ≡ q + suc p = omega arith in
     split_at program plan budget story (q + 1) p rest steps e ∙ ap (λ (r : ℕ). Some (split_of program plan budget story r steps)) here
 
-pub held_items_are : HeldItemsAreItems
+-- what is held of a process that is there in a story gives the items of each of its intervals
+pub held_items_are : (program : Program) (plan : Plan) (budget : ℕ) (story : Story) (p k : ℕ) (steps : List Taken) → slice_get story.steps p ≡ Some steps
+    → held_items (course program plan budget p steps).held k ≡ items program plan budget story p k
 held_items_are program plan budget story p k steps e =
     let x : Split = split_of program plan budget story p steps in
     let zero_more : 0 + p ≡ p = omega arith in

@@ -14,7 +14,6 @@ use Rattle.ppd_sem.specs.Tables.{block_of, or_zero}
 use Rattle.ppd_model.specs.declared.flow.Item.{Item}
 use Rattle.ppd_model.specs.declared.flow.Item.TheVariants as item
 use Rattle.ppd_model.specs.FullTrace.{event_of}
-use Rattle.ppd_model.specs.Intervals.{items as items_in_story}
 use Rattle.ppd_model.specs.Marks.{Mark, closed}
 use Rattle.ppd_model.specs.declared.tracing.Story.{Story}
 use Rattle.ppd_model.specs.declared.tracing.Taken.{Taken}
@@ -168,12 +167,3 @@ items_if k (Some h) = held_items h k
 -- the items of interval k of process p
 abbrev pub items_at : List Holding → ℕ → ℕ → Option (List Item)
 items_at held p k = items_if k (slice_get held p)
-
--- ---- the law
-
--- what is held of a process that is there in a story gives the items of each of its intervals
-abbrev pub HeldItemsAreItems : Type 0
-HeldItemsAreItems =
-    (program : Program) (plan : Plan) (budget : ℕ) (story : Story) (p k : ℕ) (steps : List Taken)
-    → slice_get story.steps p ≡ Some steps
-    → held_items (course program plan budget p steps).held k ≡ items_in_story program plan budget story p k
