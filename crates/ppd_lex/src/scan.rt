@@ -9,7 +9,7 @@ use ppd_ast::{Bytes, is_digit};
 use std::alloc::{AllocError, Global};
 
 /// What is wrong at a byte.
-#[derive(Clone, Copy, PartialEq, Eq)]
+#[derive(Clone, Copy)]
 pub enum Fault {
     BadByte,
     BadNumber,

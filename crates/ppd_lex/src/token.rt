@@ -85,19 +85,19 @@ pub struct Token {
 #[derive(Clone, Copy, Debug, Error)]
 pub enum LexError {
     /// A byte that starts no token.
-    #[error("{}:{}: this byte starts no token", .0.line, .0.column)]
+    #[error("this byte starts no token")]
     BadByte(Place),
     /// A digit followed at once by letters, digits or `_` that do not make a number.
-    #[error("{}:{}: these characters are no number", .0.line, .0.column)]
+    #[error("these characters are no number")]
     BadNumber(Place),
     /// `/*` without an end.
-    #[error("{}:{}: this comment does not end", .0.line, .0.column)]
+    #[error("this comment does not end")]
     OpenComment(Place),
     /// More than 262,144 bytes; before every other fault, at 1:1.
-    #[error("{}:{}: the source is too long", .0.line, .0.column)]
+    #[error("the source is too long")]
     TooLong(Place),
     /// A name of more than 64 bytes.
-    #[error("{}:{}: this name is too long", .0.line, .0.column)]
+    #[error("this name is too long")]
     LongName(Place),
     /// Want of memory.
     #[error("want of memory")]
