@@ -9,13 +9,13 @@ use thiserror::Error;
 #[derive(Clone, Copy, Debug, Drop, Error)]
 pub enum SyntaxError {
     /// No program begins with the tokens through this one.
-    #[error("{}:{}: no program goes on with this token", .0.line, .0.column)]
+    #[error("no program goes on with this token")]
     Unexpected(Place),
     /// The token makes 65 constructs open.
-    #[error("{}:{}: too many constructs are open here", .0.line, .0.column)]
+    #[error("too many constructs are open here")]
     Deep(Place),
     /// The token is the 257th operator of one expression that is no part of another.
-    #[error("{}:{}: this expression has too many operators", .0.line, .0.column)]
+    #[error("this expression has too many operators")]
     Wide(Place),
     /// Want of memory.
     #[error("want of memory")]

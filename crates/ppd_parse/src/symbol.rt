@@ -93,7 +93,7 @@ pub enum Symbol {
 }
 
 /// Where a token stands: how many constructs are open, 65 for 65 or more, and whether it is in an expression.
-#[derive(Clone, Copy, Debug, PartialEq, Drop)]
+#[derive(Clone, Copy, Drop)]
 pub struct At {
     pub depth: u8,
     pub inside: bool,
