@@ -58,6 +58,348 @@ fn chain(level: Level) -> &'static [Part]
     }
 }
 
+// The parts of a source's items.
+fn items(kind: Kind) -> Option<&'static [Part]>
+    ensures { MatchOption result (expansion Symbol.Items kind ≡ None) (λ parts.
+        expansion Symbol.Items kind ≡ Some parts.now) }
+{
+    match kind {
+        Kind::End => Some(&[Here(Exact(Kind::End))]),
+        Kind::SharedWord => Some(&[Here(Symbol::Shared), Here(Symbol::Items)]),
+        Kind::SemWord => Some(&[Here(Symbol::Sems), Here(Symbol::Items)]),
+        Kind::ChanWord => Some(&[Here(Symbol::Chans), Here(Symbol::Items)]),
+        Kind::IntWord | Kind::VoidWord => Some(&[Here(Symbol::Function), Here(Symbol::Items)]),
+        Kind::ProcessWord => Some(&[Here(Symbol::Process), Here(Symbol::Items)]),
+        _ => None,
+    }
+}
+
+// The parts of a function.
+fn function(kind: Kind) -> Option<&'static [Part]>
+    ensures { MatchOption result (expansion Symbol.Function kind ≡ None) (λ parts.
+        expansion Symbol.Function kind ≡ Some parts.now) }
+{
+    match kind {
+        Kind::IntWord => Some(&[
+            Here(Exact(Kind::IntWord)),
+            Here(Exact(Kind::Name)),
+            Deeper(Exact(Kind::LeftParen)),
+            Deeper(Symbol::ParamsEnd),
+            Here(Symbol::Block),
+            Wrap(Rule::Function),
+        ]),
+        Kind::VoidWord => Some(&[
+            Here(Exact(Kind::VoidWord)),
+            Here(Exact(Kind::Name)),
+            Deeper(Exact(Kind::LeftParen)),
+            Deeper(Symbol::ParamsEnd),
+            Here(Symbol::Block),
+            Wrap(Rule::Function),
+        ]),
+        _ => None,
+    }
+}
+
+// The parts of the statements up to a closing brace.
+fn stmts(kind: Kind) -> Option<&'static [Part]>
+    ensures { MatchOption result (expansion Symbol.Stmts kind ≡ None) (λ parts.
+        expansion Symbol.Stmts kind ≡ Some parts.now) }
+{
+    match kind {
+        Kind::RightBrace => Some(&[Here(Exact(Kind::RightBrace))]),
+        Kind::IntWord => Some(&[Here(Symbol::Local), Here(Symbol::Stmts)]),
+        Kind::LeftBrace
+        | Kind::Semicolon
+        | Kind::Name
+        | Kind::IfWord
+        | Kind::WhileWord
+        | Kind::ForWord
+        | Kind::ReturnWord
+        | Kind::TakeWord
+        | Kind::GiveWord
+        | Kind::SendWord
+        | Kind::PrintWord
+        | Kind::AssertWord => Some(&[Here(Symbol::Stmt), Here(Symbol::Stmts)]),
+        _ => None,
+    }
+}
+
+// The parts of a value that is stored.
+fn value(kind: Kind) -> Option<&'static [Part]>
+    ensures { MatchOption result (expansion Symbol.Value kind ≡ None) (λ parts.
+        expansion Symbol.Value kind ≡ Some parts.now) }
+{
+    match kind {
+        Kind::RecvWord => Some(&[
+            Here(Exact(Kind::RecvWord)),
+            Deeper(Exact(Kind::LeftParen)),
+            Deeper(Exact(Kind::Name)),
+            Deeper(Exact(Kind::RightParen)),
+            Wrap(Rule::Value),
+        ]),
+        Kind::MinusMark | Kind::NotMark | Kind::LeftParen | Kind::Number | Kind::Name => Some(&[
+            Here(Symbol::CallOrExpr),
+            Wrap(Rule::Value),
+        ]),
+        _ => None,
+    }
+}
+
+// The parts of a call or an expression.
+fn call_or_expr(kind: Kind) -> Option<&'static [Part]>
+    ensures { MatchOption result (expansion Symbol.CallOrExpr kind ≡ None) (λ parts.
+        expansion Symbol.CallOrExpr kind ≡ Some parts.now) }
+{
+    match kind {
+        Kind::Name => Some(&[Inside(Exact(Kind::Name)), Here(Symbol::NamedRest)]),
+        Kind::MinusMark | Kind::NotMark | Kind::LeftParen | Kind::Number => Some(&[
+            Inside(Symbol::OtherUnary),
+            Inside(Symbol::ExprRest),
+        ]),
+        _ => None,
+    }
+}
+
+// The parts of a change after its place.
+fn change_end(kind: Kind) -> Option<&'static [Part]>
+    ensures { MatchOption result (expansion Symbol.ChangeEnd kind ≡ None) (λ parts.
+        expansion Symbol.ChangeEnd kind ≡ Some parts.now) }
+{
+    match kind {
+        Kind::AssignMark => Some(&[Here(Exact(Kind::AssignMark)), Here(Symbol::Expr)]),
+        Kind::AddMark => Some(&[Here(Exact(Kind::AddMark)), Here(Symbol::Expr)]),
+        Kind::SubtractMark => Some(&[Here(Exact(Kind::SubtractMark)), Here(Symbol::Expr)]),
+        Kind::IncreaseMark => Some(&[Here(Exact(Kind::IncreaseMark))]),
+        Kind::DecreaseMark => Some(&[Here(Exact(Kind::DecreaseMark))]),
+        _ => None,
+    }
+}
+
+// The parts of an operand that is no place.
+fn other_unary(kind: Kind) -> Option<&'static [Part]>
+    ensures { MatchOption result (expansion Symbol.OtherUnary kind ≡ None) (λ parts.
+        expansion Symbol.OtherUnary kind ≡ Some parts.now) }
+{
+    match kind {
+        Kind::MinusMark => Some(&[
+            Deeper(Exact(Kind::MinusMark)),
+            Deeper(Symbol::Unary),
+            Wrap(Rule::Unary),
+        ]),
+        Kind::NotMark => Some(&[
+            Deeper(Exact(Kind::NotMark)),
+            Deeper(Symbol::Unary),
+            Wrap(Rule::Unary),
+        ]),
+        Kind::LeftParen => Some(&[
+            Deeper(Exact(Kind::LeftParen)),
+            Deeper(Symbol::Expr),
+            Deeper(Exact(Kind::RightParen)),
+            Wrap(Rule::Unary),
+        ]),
+        Kind::Number => Some(&[Here(Exact(Kind::Number)), Wrap(Rule::Unary)]),
+        _ => None,
+    }
+}
+
+// The parts of a statement.
+fn stmt(kind: Kind) -> Option<&'static [Part]>
+    ensures { MatchOption result (expansion Symbol.Stmt kind ≡ None) (λ parts.
+        expansion Symbol.Stmt kind ≡ Some parts.now) }
+{
+    match kind {
+        Kind::LeftBrace => Some(&[Here(Symbol::Block), Wrap(Rule::Stmt)]),
+        Kind::Semicolon => Some(&[Here(Exact(Kind::Semicolon)), Wrap(Rule::Stmt)]),
+        Kind::Name => Some(&[Here(Exact(Kind::Name)), Here(Symbol::StmtRest)]),
+        Kind::IfWord => Some(&[
+            Here(Exact(Kind::IfWord)),
+            Deeper(Exact(Kind::LeftParen)),
+            Deeper(Symbol::Expr),
+            Deeper(Exact(Kind::RightParen)),
+            Deeper(Symbol::Stmt),
+            Here(Symbol::ElsePart),
+            Wrap(Rule::Stmt),
+        ]),
+        Kind::WhileWord => Some(&[
+            Here(Exact(Kind::WhileWord)),
+            Deeper(Exact(Kind::LeftParen)),
+            Deeper(Symbol::Expr),
+            Deeper(Exact(Kind::RightParen)),
+            Deeper(Symbol::Stmt),
+            Wrap(Rule::Stmt),
+        ]),
+        Kind::ForWord => Some(&[
+            Here(Exact(Kind::ForWord)),
+            Deeper(Exact(Kind::LeftParen)),
+            Deeper(Symbol::ForStart),
+            Deeper(Symbol::ForTest),
+            Deeper(Symbol::ForStep),
+            Deeper(Symbol::Stmt),
+            Wrap(Rule::Stmt),
+        ]),
+        Kind::ReturnWord => Some(&[
+            Here(Exact(Kind::ReturnWord)),
+            Here(Symbol::ReturnEnd),
+            Wrap(Rule::Stmt),
+        ]),
+        Kind::TakeWord => Some(&[
+            Here(Exact(Kind::TakeWord)),
+            Deeper(Exact(Kind::LeftParen)),
+            Deeper(Exact(Kind::Name)),
+            Deeper(Exact(Kind::RightParen)),
+            Here(Exact(Kind::Semicolon)),
+            Wrap(Rule::Stmt),
+        ]),
+        Kind::GiveWord => Some(&[
+            Here(Exact(Kind::GiveWord)),
+            Deeper(Exact(Kind::LeftParen)),
+            Deeper(Exact(Kind::Name)),
+            Deeper(Exact(Kind::RightParen)),
+            Here(Exact(Kind::Semicolon)),
+            Wrap(Rule::Stmt),
+        ]),
+        Kind::SendWord => Some(&[
+            Here(Exact(Kind::SendWord)),
+            Deeper(Exact(Kind::LeftParen)),
+            Deeper(Exact(Kind::Name)),
+            Deeper(Exact(Kind::Comma)),
+            Deeper(Symbol::Expr),
+            Deeper(Exact(Kind::RightParen)),
+            Here(Exact(Kind::Semicolon)),
+            Wrap(Rule::Stmt),
+        ]),
+        Kind::PrintWord => Some(&[
+            Here(Exact(Kind::PrintWord)),
+            Deeper(Exact(Kind::LeftParen)),
+            Deeper(Symbol::Expr),
+            Deeper(Exact(Kind::RightParen)),
+            Here(Exact(Kind::Semicolon)),
+            Wrap(Rule::Stmt),
+        ]),
+        Kind::AssertWord => Some(&[
+            Here(Exact(Kind::AssertWord)),
+            Deeper(Exact(Kind::LeftParen)),
+            Deeper(Symbol::Expr),
+            Deeper(Exact(Kind::RightParen)),
+            Here(Exact(Kind::Semicolon)),
+            Wrap(Rule::Stmt),
+        ]),
+        _ => None,
+    }
+}
+
+// The parts of a statement after its first name.
+fn stmt_rest(kind: Kind) -> Option<&'static [Part]>
+    ensures { MatchOption result (expansion Symbol.StmtRest kind ≡ None) (λ parts.
+        expansion Symbol.StmtRest kind ≡ Some parts.now) }
+{
+    match kind {
+        Kind::LeftParen => Some(&[
+            Deeper(Exact(Kind::LeftParen)),
+            Deeper(Symbol::Args),
+            Wrap(Rule::Call),
+            Here(Exact(Kind::Semicolon)),
+            Wrap(Rule::Stmt),
+        ]),
+        Kind::LeftBracket => Some(&[
+            Deeper(Exact(Kind::LeftBracket)),
+            Deeper(Symbol::Expr),
+            Deeper(Exact(Kind::RightBracket)),
+            Wrap(Rule::Place),
+            Here(Symbol::PlaceRest),
+        ]),
+        Kind::AssignMark
+        | Kind::AddMark
+        | Kind::SubtractMark
+        | Kind::IncreaseMark
+        | Kind::DecreaseMark => Some(&[Wrap(Rule::Place), Here(Symbol::PlaceRest)]),
+        _ => None,
+    }
+}
+
+// The parts of a statement after its place.
+fn place_rest(kind: Kind) -> Option<&'static [Part]>
+    ensures { MatchOption result (expansion Symbol.PlaceRest kind ≡ None) (λ parts.
+        expansion Symbol.PlaceRest kind ≡ Some parts.now) }
+{
+    match kind {
+        Kind::AssignMark => Some(&[Here(Exact(Kind::AssignMark)), Here(Symbol::Assigned)]),
+        Kind::AddMark => Some(&[
+            Here(Exact(Kind::AddMark)),
+            Here(Symbol::Expr),
+            Wrap(Rule::Change),
+            Here(Exact(Kind::Semicolon)),
+            Wrap(Rule::Stmt),
+        ]),
+        Kind::SubtractMark => Some(&[
+            Here(Exact(Kind::SubtractMark)),
+            Here(Symbol::Expr),
+            Wrap(Rule::Change),
+            Here(Exact(Kind::Semicolon)),
+            Wrap(Rule::Stmt),
+        ]),
+        Kind::IncreaseMark => Some(&[
+            Here(Exact(Kind::IncreaseMark)),
+            Wrap(Rule::Change),
+            Here(Exact(Kind::Semicolon)),
+            Wrap(Rule::Stmt),
+        ]),
+        Kind::DecreaseMark => Some(&[
+            Here(Exact(Kind::DecreaseMark)),
+            Wrap(Rule::Change),
+            Here(Exact(Kind::Semicolon)),
+            Wrap(Rule::Stmt),
+        ]),
+        _ => None,
+    }
+}
+
+// The parts of a statement after its place and `=`.
+fn assigned(kind: Kind) -> Option<&'static [Part]>
+    ensures { MatchOption result (expansion Symbol.Assigned kind ≡ None) (λ parts.
+        expansion Symbol.Assigned kind ≡ Some parts.now) }
+{
+    match kind {
+        Kind::RecvWord => Some(&[
+            Here(Exact(Kind::RecvWord)),
+            Deeper(Exact(Kind::LeftParen)),
+            Deeper(Exact(Kind::Name)),
+            Deeper(Exact(Kind::RightParen)),
+            Wrap(Rule::Value),
+            Here(Exact(Kind::Semicolon)),
+            WrapBack(Rule::Stmt),
+        ]),
+        Kind::Name => Some(&[Inside(Exact(Kind::Name)), Here(Symbol::AssignedRest)]),
+        Kind::MinusMark | Kind::NotMark | Kind::LeftParen | Kind::Number => Some(&[
+            Inside(Symbol::OtherUnary),
+            Inside(Symbol::ExprRest),
+            WrapBack(Rule::Change),
+            Here(Exact(Kind::Semicolon)),
+            WrapBack(Rule::Stmt),
+        ]),
+        _ => None,
+    }
+}
+
+// The parts of the start of a `for`.
+fn for_start(kind: Kind) -> Option<&'static [Part]>
+    ensures { MatchOption result (expansion Symbol.ForStart kind ≡ None) (λ parts.
+        expansion Symbol.ForStart kind ≡ Some parts.now) }
+{
+    match kind {
+        Kind::Semicolon => Some(&[Here(Exact(Kind::Semicolon))]),
+        Kind::IntWord => Some(&[
+            Here(Exact(Kind::IntWord)),
+            Here(Exact(Kind::Name)),
+            Here(Exact(Kind::AssignMark)),
+            Here(Symbol::Expr),
+            Here(Exact(Kind::Semicolon)),
+        ]),
+        Kind::Name => Some(&[Here(Symbol::Change), Here(Exact(Kind::Semicolon))]),
+        _ => None,
+    }
+}
+
 /// The parts that stand for a symbol where a token of this kind is next, or none where no program goes on so.
 pub fn production(symbol: Symbol, kind: Kind) -> Option<&'static [Part]>
     ensures { MatchOption result (expansion symbol kind ≡ None) (λ parts. expansion symbol kind ≡ Some parts.now) }
@@ -65,15 +407,7 @@ pub fn production(symbol: Symbol, kind: Kind) -> Option<&'static [Part]>
     match symbol {
         Symbol::Exact(_) | Symbol::Operator(_) => None,
         Symbol::Source => Some(&[Here(Symbol::Items), Wrap(Rule::Source)]),
-        Symbol::Items => match kind {
-            Kind::End => Some(&[Here(Exact(Kind::End))]),
-            Kind::SharedWord => Some(&[Here(Symbol::Shared), Here(Symbol::Items)]),
-            Kind::SemWord => Some(&[Here(Symbol::Sems), Here(Symbol::Items)]),
-            Kind::ChanWord => Some(&[Here(Symbol::Chans), Here(Symbol::Items)]),
-            Kind::IntWord | Kind::VoidWord => Some(&[Here(Symbol::Function), Here(Symbol::Items)]),
-            Kind::ProcessWord => Some(&[Here(Symbol::Process), Here(Symbol::Items)]),
-            _ => None,
-        },
+        Symbol::Items => items(kind),
         Symbol::Shared => match kind {
             Kind::SharedWord => Some(&[
                 Here(Exact(Kind::SharedWord)),
@@ -160,25 +494,7 @@ pub fn production(symbol: Symbol, kind: Kind) -> Option<&'static [Part]>
             ]),
             _ => None,
         },
-        Symbol::Function => match kind {
-            Kind::IntWord => Some(&[
-                Here(Exact(Kind::IntWord)),
-                Here(Exact(Kind::Name)),
-                Deeper(Exact(Kind::LeftParen)),
-                Deeper(Symbol::ParamsEnd),
-                Here(Symbol::Block),
-                Wrap(Rule::Function),
-            ]),
-            Kind::VoidWord => Some(&[
-                Here(Exact(Kind::VoidWord)),
-                Here(Exact(Kind::Name)),
-                Deeper(Exact(Kind::LeftParen)),
-                Deeper(Symbol::ParamsEnd),
-                Here(Symbol::Block),
-                Wrap(Rule::Function),
-            ]),
-            _ => None,
-        },
+        Symbol::Function => function(kind),
         Symbol::ParamsEnd => match kind {
             Kind::RightParen => Some(&[Here(Exact(Kind::RightParen))]),
             Kind::IntWord | Kind::VoidWord => Some(&[
@@ -223,23 +539,7 @@ pub fn production(symbol: Symbol, kind: Kind) -> Option<&'static [Part]>
             ]),
             _ => None,
         },
-        Symbol::Stmts => match kind {
-            Kind::RightBrace => Some(&[Here(Exact(Kind::RightBrace))]),
-            Kind::IntWord => Some(&[Here(Symbol::Local), Here(Symbol::Stmts)]),
-            Kind::LeftBrace
-            | Kind::Semicolon
-            | Kind::Name
-            | Kind::IfWord
-            | Kind::WhileWord
-            | Kind::ForWord
-            | Kind::ReturnWord
-            | Kind::TakeWord
-            | Kind::GiveWord
-            | Kind::SendWord
-            | Kind::PrintWord
-            | Kind::AssertWord => Some(&[Here(Symbol::Stmt), Here(Symbol::Stmts)]),
-            _ => None,
-        },
+        Symbol::Stmts => stmts(kind),
         Symbol::Local => match kind {
             Kind::IntWord => Some(&[
                 Here(Exact(Kind::IntWord)),
@@ -272,28 +572,8 @@ pub fn production(symbol: Symbol, kind: Kind) -> Option<&'static [Part]>
             ]),
             _ => Some(&[]),
         },
-        Symbol::Value => match kind {
-            Kind::RecvWord => Some(&[
-                Here(Exact(Kind::RecvWord)),
-                Deeper(Exact(Kind::LeftParen)),
-                Deeper(Exact(Kind::Name)),
-                Deeper(Exact(Kind::RightParen)),
-                Wrap(Rule::Value),
-            ]),
-            Kind::MinusMark | Kind::NotMark | Kind::LeftParen | Kind::Number | Kind::Name => Some(&[
-                Here(Symbol::CallOrExpr),
-                Wrap(Rule::Value),
-            ]),
-            _ => None,
-        },
-        Symbol::CallOrExpr => match kind {
-            Kind::Name => Some(&[Inside(Exact(Kind::Name)), Here(Symbol::NamedRest)]),
-            Kind::MinusMark | Kind::NotMark | Kind::LeftParen | Kind::Number => Some(&[
-                Inside(Symbol::OtherUnary),
-                Inside(Symbol::ExprRest),
-            ]),
-            _ => None,
-        },
+        Symbol::Value => value(kind),
+        Symbol::CallOrExpr => call_or_expr(kind),
         Symbol::NamedRest => match kind {
             Kind::LeftParen => Some(&[
                 Deeper(Exact(Kind::LeftParen)),
@@ -348,14 +628,7 @@ pub fn production(symbol: Symbol, kind: Kind) -> Option<&'static [Part]>
             ]),
             _ => None,
         },
-        Symbol::ChangeEnd => match kind {
-            Kind::AssignMark => Some(&[Here(Exact(Kind::AssignMark)), Here(Symbol::Expr)]),
-            Kind::AddMark => Some(&[Here(Exact(Kind::AddMark)), Here(Symbol::Expr)]),
-            Kind::SubtractMark => Some(&[Here(Exact(Kind::SubtractMark)), Here(Symbol::Expr)]),
-            Kind::IncreaseMark => Some(&[Here(Exact(Kind::IncreaseMark))]),
-            Kind::DecreaseMark => Some(&[Here(Exact(Kind::DecreaseMark))]),
-            _ => None,
-        },
+        Symbol::ChangeEnd => change_end(kind),
         Symbol::Expr => match kind {
             Kind::MinusMark | Kind::NotMark | Kind::LeftParen | Kind::Number | Kind::Name => Some(&[
                 Inside(Symbol::Unary),
@@ -378,177 +651,11 @@ pub fn production(symbol: Symbol, kind: Kind) -> Option<&'static [Part]>
             )]),
             _ => None,
         },
-        Symbol::OtherUnary => match kind {
-            Kind::MinusMark => Some(&[
-                Deeper(Exact(Kind::MinusMark)),
-                Deeper(Symbol::Unary),
-                Wrap(Rule::Unary),
-            ]),
-            Kind::NotMark => Some(&[
-                Deeper(Exact(Kind::NotMark)),
-                Deeper(Symbol::Unary),
-                Wrap(Rule::Unary),
-            ]),
-            Kind::LeftParen => Some(&[
-                Deeper(Exact(Kind::LeftParen)),
-                Deeper(Symbol::Expr),
-                Deeper(Exact(Kind::RightParen)),
-                Wrap(Rule::Unary),
-            ]),
-            Kind::Number => Some(&[Here(Exact(Kind::Number)), Wrap(Rule::Unary)]),
-            _ => None,
-        },
-        Symbol::Stmt => match kind {
-            Kind::LeftBrace => Some(&[Here(Symbol::Block), Wrap(Rule::Stmt)]),
-            Kind::Semicolon => Some(&[Here(Exact(Kind::Semicolon)), Wrap(Rule::Stmt)]),
-            Kind::Name => Some(&[Here(Exact(Kind::Name)), Here(Symbol::StmtRest)]),
-            Kind::IfWord => Some(&[
-                Here(Exact(Kind::IfWord)),
-                Deeper(Exact(Kind::LeftParen)),
-                Deeper(Symbol::Expr),
-                Deeper(Exact(Kind::RightParen)),
-                Deeper(Symbol::Stmt),
-                Here(Symbol::ElsePart),
-                Wrap(Rule::Stmt),
-            ]),
-            Kind::WhileWord => Some(&[
-                Here(Exact(Kind::WhileWord)),
-                Deeper(Exact(Kind::LeftParen)),
-                Deeper(Symbol::Expr),
-                Deeper(Exact(Kind::RightParen)),
-                Deeper(Symbol::Stmt),
-                Wrap(Rule::Stmt),
-            ]),
-            Kind::ForWord => Some(&[
-                Here(Exact(Kind::ForWord)),
-                Deeper(Exact(Kind::LeftParen)),
-                Deeper(Symbol::ForStart),
-                Deeper(Symbol::ForTest),
-                Deeper(Symbol::ForStep),
-                Deeper(Symbol::Stmt),
-                Wrap(Rule::Stmt),
-            ]),
-            Kind::ReturnWord => Some(&[
-                Here(Exact(Kind::ReturnWord)),
-                Here(Symbol::ReturnEnd),
-                Wrap(Rule::Stmt),
-            ]),
-            Kind::TakeWord => Some(&[
-                Here(Exact(Kind::TakeWord)),
-                Deeper(Exact(Kind::LeftParen)),
-                Deeper(Exact(Kind::Name)),
-                Deeper(Exact(Kind::RightParen)),
-                Here(Exact(Kind::Semicolon)),
-                Wrap(Rule::Stmt),
-            ]),
-            Kind::GiveWord => Some(&[
-                Here(Exact(Kind::GiveWord)),
-                Deeper(Exact(Kind::LeftParen)),
-                Deeper(Exact(Kind::Name)),
-                Deeper(Exact(Kind::RightParen)),
-                Here(Exact(Kind::Semicolon)),
-                Wrap(Rule::Stmt),
-            ]),
-            Kind::SendWord => Some(&[
-                Here(Exact(Kind::SendWord)),
-                Deeper(Exact(Kind::LeftParen)),
-                Deeper(Exact(Kind::Name)),
-                Deeper(Exact(Kind::Comma)),
-                Deeper(Symbol::Expr),
-                Deeper(Exact(Kind::RightParen)),
-                Here(Exact(Kind::Semicolon)),
-                Wrap(Rule::Stmt),
-            ]),
-            Kind::PrintWord => Some(&[
-                Here(Exact(Kind::PrintWord)),
-                Deeper(Exact(Kind::LeftParen)),
-                Deeper(Symbol::Expr),
-                Deeper(Exact(Kind::RightParen)),
-                Here(Exact(Kind::Semicolon)),
-                Wrap(Rule::Stmt),
-            ]),
-            Kind::AssertWord => Some(&[
-                Here(Exact(Kind::AssertWord)),
-                Deeper(Exact(Kind::LeftParen)),
-                Deeper(Symbol::Expr),
-                Deeper(Exact(Kind::RightParen)),
-                Here(Exact(Kind::Semicolon)),
-                Wrap(Rule::Stmt),
-            ]),
-            _ => None,
-        },
-        Symbol::StmtRest => match kind {
-            Kind::LeftParen => Some(&[
-                Deeper(Exact(Kind::LeftParen)),
-                Deeper(Symbol::Args),
-                Wrap(Rule::Call),
-                Here(Exact(Kind::Semicolon)),
-                Wrap(Rule::Stmt),
-            ]),
-            Kind::LeftBracket => Some(&[
-                Deeper(Exact(Kind::LeftBracket)),
-                Deeper(Symbol::Expr),
-                Deeper(Exact(Kind::RightBracket)),
-                Wrap(Rule::Place),
-                Here(Symbol::PlaceRest),
-            ]),
-            Kind::AssignMark
-            | Kind::AddMark
-            | Kind::SubtractMark
-            | Kind::IncreaseMark
-            | Kind::DecreaseMark => Some(&[Wrap(Rule::Place), Here(Symbol::PlaceRest)]),
-            _ => None,
-        },
-        Symbol::PlaceRest => match kind {
-            Kind::AssignMark => Some(&[Here(Exact(Kind::AssignMark)), Here(Symbol::Assigned)]),
-            Kind::AddMark => Some(&[
-                Here(Exact(Kind::AddMark)),
-                Here(Symbol::Expr),
-                Wrap(Rule::Change),
-                Here(Exact(Kind::Semicolon)),
-                Wrap(Rule::Stmt),
-            ]),
-            Kind::SubtractMark => Some(&[
-                Here(Exact(Kind::SubtractMark)),
-                Here(Symbol::Expr),
-                Wrap(Rule::Change),
-                Here(Exact(Kind::Semicolon)),
-                Wrap(Rule::Stmt),
-            ]),
-            Kind::IncreaseMark => Some(&[
-                Here(Exact(Kind::IncreaseMark)),
-                Wrap(Rule::Change),
-                Here(Exact(Kind::Semicolon)),
-                Wrap(Rule::Stmt),
-            ]),
-            Kind::DecreaseMark => Some(&[
-                Here(Exact(Kind::DecreaseMark)),
-                Wrap(Rule::Change),
-                Here(Exact(Kind::Semicolon)),
-                Wrap(Rule::Stmt),
-            ]),
-            _ => None,
-        },
-        Symbol::Assigned => match kind {
-            Kind::RecvWord => Some(&[
-                Here(Exact(Kind::RecvWord)),
-                Deeper(Exact(Kind::LeftParen)),
-                Deeper(Exact(Kind::Name)),
-                Deeper(Exact(Kind::RightParen)),
-                Wrap(Rule::Value),
-                Here(Exact(Kind::Semicolon)),
-                WrapBack(Rule::Stmt),
-            ]),
-            Kind::Name => Some(&[Inside(Exact(Kind::Name)), Here(Symbol::AssignedRest)]),
-            Kind::MinusMark | Kind::NotMark | Kind::LeftParen | Kind::Number => Some(&[
-                Inside(Symbol::OtherUnary),
-                Inside(Symbol::ExprRest),
-                WrapBack(Rule::Change),
-                Here(Exact(Kind::Semicolon)),
-                WrapBack(Rule::Stmt),
-            ]),
-            _ => None,
-        },
+        Symbol::OtherUnary => other_unary(kind),
+        Symbol::Stmt => stmt(kind),
+        Symbol::StmtRest => stmt_rest(kind),
+        Symbol::PlaceRest => place_rest(kind),
+        Symbol::Assigned => assigned(kind),
         Symbol::AssignedRest => match kind {
             Kind::LeftParen => Some(&[
                 Deeper(Exact(Kind::LeftParen)),
@@ -572,18 +679,7 @@ pub fn production(symbol: Symbol, kind: Kind) -> Option<&'static [Part]>
             Kind::ElseWord => Some(&[Here(Exact(Kind::ElseWord)), Deeper(Symbol::Stmt)]),
             _ => Some(&[]),
         },
-        Symbol::ForStart => match kind {
-            Kind::Semicolon => Some(&[Here(Exact(Kind::Semicolon))]),
-            Kind::IntWord => Some(&[
-                Here(Exact(Kind::IntWord)),
-                Here(Exact(Kind::Name)),
-                Here(Exact(Kind::AssignMark)),
-                Here(Symbol::Expr),
-                Here(Exact(Kind::Semicolon)),
-            ]),
-            Kind::Name => Some(&[Here(Symbol::Change), Here(Exact(Kind::Semicolon))]),
-            _ => None,
-        },
+        Symbol::ForStart => for_start(kind),
         Symbol::ForTest => match kind {
             Kind::Semicolon => Some(&[Here(Exact(Kind::Semicolon))]),
             Kind::MinusMark | Kind::NotMark | Kind::LeftParen | Kind::Number | Kind::Name => Some(&[
