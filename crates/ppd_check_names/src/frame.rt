@@ -1,8 +1,8 @@
 // What a body has declared so far.
-ghost use Rattle.std.specs.Prelude.{◌≡◌, OnOk, IfOk, ◌≤◌, ◌+◌};
+ghost use Rattle.std.specs.Prelude.{◌≡◌, ◌++◌, [], ◌∷◌, OnOk, IfOk, ◌≤◌, ◌+◌};
 ghost use Rattle.ppd_check_names.specs.Faults.{first, first_of_both};
 ghost use Rattle.ppd_check_names.specs.Names.{innermost};
-ghost use Rattle.ppd_check_names.specs.Frames.{after_cells, declared, hidden_name, twice_faults, with_hidden};
+ghost use Rattle.ppd_check_names.specs.Frames.{after_cells, declared, hidden_name, twice_faults, variable_of, with_hidden};
 ghost use Rattle.ppd_check_names.specs.Nodes.{label_name};
 
 use crate::fault::{Cause, Fault, note};
@@ -68,6 +68,27 @@ fn hidden_name<L: Ledger>(alloc: Global, number: u16, steps: &mut Steps<L>) -> R
     Ok(Seq::from_vec(items))
 }
 
+// One more variable, in the order of their cells.
+pub fn push_variable<L: Ledger>(
+    alloc: Global,
+    variables: &mut Seq<Variable>,
+    label: Label<'_>,
+    length: Option<u16>,
+    steps: &mut Steps<L>,
+) -> Result<(), Memory>
+    ensures pushed { OnOk result
+        (variables.new ≡ variables.old ++ variable_of (label_name label.entry) length ∷ []) }
+    ensures cost { steps.new ≤ steps.old + 2 }
+{
+    steps.tick();
+    let name = bytes_of(alloc, label.text, steps)?;
+    variables.push(Variable {
+        name,
+        length,
+        place: label.place,
+    })
+}
+
 /// One more variable, which its name means from here on; a second one in its scope is noted. `Memory` is want of
 /// memory: the frame may be in part as after it.
 pub fn declare<L: Ledger>(
@@ -88,12 +109,7 @@ pub fn declare<L: Ledger>(
     if frame.scopes.declare(label.text, meaning, steps)? {
         note(found, label.place, Cause::Twice);
     }
-    steps.tick();
-    frame.variables.push(Variable {
-        name: bytes_of(alloc, label.text, steps)?,
-        length,
-        place: label.place,
-    })?;
+    push_variable(alloc, &mut frame.variables, label, length, steps)?;
     frame.cells = after_cells(frame.cells, length);
     Ok(())
 }

@@ -3,7 +3,7 @@ ghost use Rattle.std.specs.Prelude.{◌≡◌, ◌++◌, OnOk, IfOk, nat_le, pos
 ghost use Rattle.ppd_ast.specs.declared.limits.TheConstants.{MOST_FUNCTIONS, MOST_PROCESSES, MOST_SEMAPHORES, MOST_CHANNELS};
 ghost use Rattle.ppd_check_names.specs.Faults.{first, first_of_both, if_so};
 ghost use Rattle.ppd_check_names.specs.Names.{innermost, semaphore, channel};
-ghost use Rattle.ppd_check_names.specs.Fitted.{as_byte};
+ghost use Rattle.ppd_check_names.specs.Fitted.{as_byte, as_word};
 ghost use Rattle.ppd_check_names.specs.Nodes.{label_name};
 ghost use Rattle.ppd_check_names.specs.Frames.{twice_faults};
 ghost use Rattle.ppd_check_names.specs.Declaring.{nothing, named, placed, with_shared, with_numbered, with_function, with_process, twice, counted, celled, numbered_over};
@@ -13,7 +13,7 @@ ghost use Rattle.ppd_check_names.specs.Cost.{starts_left, SameHeads};
 
 use crate::fault::{Cause, Fault, Limit, note_if};
 use crate::fitted::{as_byte, as_short, as_word};
-use crate::frame::{Variable, after_cells, bytes_of};
+use crate::frame::{Variable, after_cells, bytes_of, push_variable};
 use crate::meaning::Meaning;
 use crate::nodes::Label;
 use crate::scopes::Scopes;
@@ -141,12 +141,7 @@ fn place_shared<L: Ledger>(
         limit: Limit::Shared,
     };
     name_next(&mut globals.scopes, label, next, found, steps)?;
-    steps.tick();
-    globals.shared.push(Variable {
-        name: bytes_of(alloc, label.text, steps)?,
-        length,
-        place: label.place,
-    })?;
+    push_variable(alloc, &mut globals.shared, label, length, steps)?;
     globals.cells = after;
     Ok(())
 }
@@ -205,6 +200,46 @@ fn next_channel(count: usize) -> Next
     }
 }
 
+// One more semaphore with its start value.
+fn push_semaphore<L: Ledger>(
+    alloc: Global,
+    sems: &mut Seq<Sem>,
+    name: &[u8],
+    number: u64,
+    steps: &mut Steps<L>,
+) -> Result<(), Memory>
+    ensures pushed { OnOk result
+        (sems.new ≡ sems.old ++ record { name = name.now; start = as_word number } ∷ []) }
+    ensures cost { steps.new ≤ steps.old + 2 }
+{
+    steps.tick();
+    let name = bytes_of(alloc, name, steps)?;
+    sems.push(Sem {
+        name,
+        start: as_word(number),
+    })
+}
+
+// One more channel with its capacity.
+fn push_channel<L: Ledger>(
+    alloc: Global,
+    chans: &mut Seq<Chan>,
+    name: &[u8],
+    number: u64,
+    steps: &mut Steps<L>,
+) -> Result<(), Memory>
+    ensures pushed { OnOk result
+        (chans.new ≡ chans.old ++ record { name = name.now; capacity = as_byte number } ∷ []) }
+    ensures cost { steps.new ≤ steps.old + 2 }
+{
+    steps.tick();
+    let name = bytes_of(alloc, name, steps)?;
+    chans.push(Chan {
+        name,
+        capacity: as_byte(number),
+    })
+}
+
 // Adds what is declared with a number. The elements of an array start at 0.
 #[tactic(auto, unfolding(crate::specs::Cost::starts_left))]
 pub fn add_numbered<L: Ledger>(
@@ -224,6 +259,7 @@ pub fn add_numbered<L: Ledger>(
     ensures cost { steps.new + starts_left globals.new ≤ steps.old + starts_left globals.old + 5 }
     ensures heads { SameHeads globals.old globals.new }
 {
+    let alloc = globals.scopes.alloc();
     match sort {
         Sort::Array => {
             let length = as_short(number);
@@ -236,22 +272,12 @@ pub fn add_numbered<L: Ledger>(
         Sort::Semaphore => {
             let next = next_semaphore(globals.sems.len());
             name_next(&mut globals.scopes, label, next, found, steps)?;
-            steps.tick();
-            let name = bytes_of(globals.scopes.alloc(), label.text, steps)?;
-            globals.sems.push(Sem {
-                name,
-                start: as_word(number),
-            })
+            push_semaphore(alloc, &mut globals.sems, label.text, number, steps)
         }
         Sort::Channel => {
             let next = next_channel(globals.chans.len());
             name_next(&mut globals.scopes, label, next, found, steps)?;
-            steps.tick();
-            let name = bytes_of(globals.scopes.alloc(), label.text, steps)?;
-            globals.chans.push(Chan {
-                name,
-                capacity: as_byte(number),
-            })
+            push_channel(alloc, &mut globals.chans, label.text, number, steps)
         }
     }
 }
