@@ -1,5 +1,5 @@
 // Functions and processes: their parameters, statements and cells.
-ghost use Rattle.std.specs.Prelude.{◌≡◌, if◌then◌else◌, ◌<◌, [], ◌∷◌, OnOk, IfOk, IfSome, length, drop, map, nat_lt, ◌≤◌, ◌+◌, ◌*◌};
+ghost use Rattle.std.specs.Prelude.{◌≡◌, if◌then◌else◌, ◌<◌, ◌++◌, [], ◌∷◌, OnOk, IfOk, IfSome, length, drop, map, nat_lt, ◌≤◌, ◌+◌, ◌*◌};
 ghost use Rattle.std.specs.List.{All, flat_map};
 ghost use Rattle.ppd_ast.specs.declared.limits.TheConstants.{MOST_LOCAL_CELLS};
 ghost use Rattle.ppd_check_names.specs.declared.fault.Limit.TheVariants.{Locals};
@@ -323,8 +323,104 @@ pub struct Heads<'a> {
     pub process: bool,
 }
 
-// The function or process at a node: its statements with their expressions, its entry, and the rules that it breaks.
-// The scopes are that of the source alone, and are as before.
+// What the entry of a body says beside what stands in its frame and its row.
+#[derive(Clone, Copy)]
+struct Heading<'a> {
+    name: &'a [u8],
+    process: bool,
+    params: u16,
+    value: bool,
+    first: u32,
+    end: u32,
+}
+
+// One more entry, of the body that has this frame and whose row this is; the row is empty then.
+fn push_body<L: Ledger>(
+    head: Heading<'_>,
+    frame: &Frame,
+    row: &mut Ids,
+    bodies: &mut Seq<Body>,
+    steps: &mut Steps<L>,
+) -> Result<(), Memory>
+    ensures pushed { OnOk result
+        (bodies.new ≡ bodies.old
+        ++ record {
+          name = head.entry.name.now;
+          process = head.entry.process;
+          params = head.entry.params;
+          value = head.entry.value;
+          cells = frame.now.cells;
+          locals = vars 0 frame.now.variables;
+          top = row.old;
+          first = head.entry.first;
+          end = head.entry.end;
+        } ∷ []) }
+    ensures cost { steps.new ≤ steps.old + 3 * length frame.now.variables + 2 }
+{
+    let alloc = frame.scopes.alloc();
+    let locals = vars_of(alloc, frame.variables.as_slice(), steps)?;
+    let name = bytes_of(alloc, head.name, steps)?;
+    let top = replace(row, Ids::new(alloc));
+    steps.tick();
+    bodies.push(Body {
+        name,
+        process: head.process,
+        params: head.params,
+        value: head.value,
+        cells: frame.cells,
+        locals,
+        top,
+        first: head.first,
+        end: head.end,
+    })
+}
+
+// The function or process at a node, in a frame that has nothing yet: its statements with their expressions, its
+// entry, and the rules that it breaks. The scopes round the frame's are that of the source alone, and are as before.
+fn write_body<L: Ledger>(
+    heads: Heads<'_>,
+    id: u32,
+    frame: &mut Frame,
+    out: &mut Output,
+    bodies: &mut Seq<Body>,
+    steps: &mut Steps<L>,
+) -> Result<(), Memory>
+    requires within { id < length heads.source.nodes.now }
+    requires entered { frame.old ≡ entered (drop 1 frame.old.scopes) }
+    requires one { drop 1 frame.old.scopes ≡ innermost (drop 1 frame.old.scopes) ∷ [] }
+    ensures scopes { OnOk result (drop 1 frame.new.scopes ≡ drop 1 frame.old.scopes) }
+    ensures wrote { OnOk result (WroteHeads (innermost (drop 1 frame.old.scopes)) (head_said heads.entry.process
+        (below heads.entry.source id) ∷ []) out.old.table out.new.table bodies.old bodies.new) }
+    ensures cost { steps.new + 1 ≤ steps.old + 112 * nodes_at heads.entry.source.nodes.now id }
+{
+    let source = heads.source;
+    let process = heads.process;
+    let first = count_of(&out.table.stmts)?;
+    let level = Level {
+        source,
+        site: Site {
+            body: as_short(bodies.len() as u64),
+            parent: None,
+        },
+    };
+    declare_params(source, id, process, frame, &mut out.table.found, steps)?;
+    let params = as_short(frame.variables.len() as u64);
+    out.row = Ids::new(frame.scopes.alloc());
+    fill(level, id, process, frame, out, steps)?;
+    note_cells(frame.variables.as_slice(), &mut out.table.found, steps);
+    let end = count_of(&out.table.stmts)?;
+    let head = Heading {
+        name: label_at(source, id, 1).text,
+        process,
+        params,
+        value: gives_at(source, id, process),
+        first,
+        end,
+    };
+    push_body(head, frame, &mut out.row, bodies, steps)
+}
+
+// The same inside scopes, which are given back.
 fn write_head<L: Ledger>(
     heads: Heads<'_>,
     id: u32,
@@ -340,39 +436,8 @@ fn write_head<L: Ledger>(
         (below heads.entry.source id) ∷ []) out.old.table out.new.table bodies.old bodies.new) }
     ensures cost { steps.new ≤ steps.old + 112 * nodes_at heads.entry.source.nodes.now id }
 {
-    let source = heads.source;
-    let process = heads.process;
-    let first = count_of(&out.table.stmts)?;
-    let level = Level {
-        source,
-        site: Site {
-            body: as_short(bodies.len() as u64),
-            parent: None,
-        },
-    };
     let mut frame = enter(scopes, steps)?;
-    declare_params(source, id, process, &mut frame, &mut out.table.found, steps)?;
-    let params = as_short(frame.variables.len() as u64);
-    out.row = Ids::new(frame.scopes.alloc());
-    fill(level, id, process, &mut frame, out, steps)?;
-    note_cells(frame.variables.as_slice(), &mut out.table.found, steps);
-    let name = bytes_of(frame.scopes.alloc(), label_at(source, id, 1).text, steps)?;
-    let value = gives_at(source, id, process);
-    let locals = vars_of(frame.scopes.alloc(), frame.variables.as_slice(), steps)?;
-    let end = count_of(&out.table.stmts)?;
-    let top = replace(&mut out.row, Ids::new(frame.scopes.alloc()));
-    steps.tick();
-    bodies.push(Body {
-        name,
-        process,
-        params,
-        value,
-        cells: frame.cells,
-        locals,
-        top,
-        first,
-        end,
-    })?;
+    write_body(heads, id, &mut frame, out, bodies, steps)?;
     Ok(leave(frame))
 }
 

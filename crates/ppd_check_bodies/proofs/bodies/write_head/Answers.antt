@@ -1,81 +1,25 @@
-use Rattle.std.proofs.Common.{◌∙◌, ap, None, arith, length, ◌≡◌, refl}
-use Rattle.ppd_check_names.specs.Fitted.{as_short}
-use Rattle.ppd_check_names.specs.Faults.{first, first_of_both}
+use Rattle.std.proofs.Common.{◌∙◌, ap, subst, sym, refl, arith, ◌≡◌, [], ◌∷◌, drop}
+use Rattle.ppd_check_names.specs.declared.frame.Frame.{Frame}
 use Rattle.ppd_check_names.specs.Holding.{head_said}
+use Rattle.ppd_check_names.specs.Names.{innermost}
 use Rattle.ppd_check_names.specs.Nodes.{phrases_below}
-use Rattle.ppd_check_bodies.specs.Sources.{vars}
-use Rattle.ppd_check_names.specs.Globals.{past_cells}
-use Rattle.ppd_check_names.specs.Syntax.{Name}
-use Rattle.ppd_ast.specs.declared.limits.TheConstants.{MOST_LOCAL_CELLS}
-use Rattle.ppd_check_names.specs.declared.fault.Limit.TheVariants as L
-use Rattle.ppd_check_names.specs.declared.frame.Variable.{Variable}
-use Rattle.std.proofs.Common.{ℕ, List}
+use Rattle.ppd_check_bodies.specs.Bodies.{entered, WroteHeads}
 use Rattle.ppd_check_names.proofs.Table.Costs.{nodes_step}
-use Rattle.ppd_check_bodies.proofs.Filling.{body_from, filled_row, scopes_after}
-use Rattle.ppd_check_bodies.proofs.HeadCosts.{body_few}
 use Rattle.ppd_check_bodies.proofs.bodies.write_head.Goals as goal
+
+pub write_body-requires-clause-entered : goal.write_body-requires-clause-entered
+write_body-requires-clause-entered g c = subst (λ (f : Frame). f ≡ entered (drop 1 f.scopes)) (sym c.in_ok-frame.ensures.value) refl
+
+pub write_body-requires-clause-one : goal.write_body-requires-clause-one
+write_body-requires-clause-one g c = subst (λ (f : Frame). drop 1 f.scopes ≡ innermost (drop 1 f.scopes) ∷ []) (sym c.in_ok-frame.ensures.value) c.requires.one
 
 pub returns-clause-wrote : goal.returns-clause-wrote
 returns-clause-wrote g c =
-    body_from c.args.scopes (head_said c.args.heads.process (phrases_below c.args.heads.source.nodes.now c.args.id)) (record { body = c.as_short.result; parent = None })
-    c.in_ok-frame.frame c.declare_params.new.frame c.fill.new.frame c.args.out.now.table c.fill.new.out.table c.declare_params.new.found c.note_cells.new.found
-    c.new.result c.replace-top.result c.args.bodies.now c.push.new.self c.as_short-params.result c.in_ok-first.first c.in_ok-end.end c.in_ok-name.name c.gives_at-value.result c.in_ok-locals.locals
-    c.requires.one c.in_ok-frame.ensures.value c.in_ok-declare_params.ensures.declares c.new.ensures (filled_row _ _ _ _ _ _ _ _ _ c.replace-top.ensures.value c.in_ok-fill.ensures.filled)
-    (c.note_cells.ensures.faults ∙ ap (λ (l : List Variable). first_of_both c.fill.new.out.table.found (first (past_cells MOST_LOCAL_CELLS L.Locals 0 l))) c.as_slice.ensures)
-    (ap (λ (n : ℕ). record { body = n; parent = None }) (c.as_short.ensures ∙ ap as_short c.len.ensures))
-    (c.as_short-params.ensures ∙ ap as_short c.len-2.ensures)
-    c.in_ok-first.ensures c.in_ok-end.ensures
-    (c.in_ok-name.ensures.value ∙ ap (λ (x : Name). x.text) c.label_at.ensures)
-    c.gives_at-value.ensures
-    (c.in_ok-locals.ensures.value ∙ ap (vars 0) c.as_slice-2.ensures)
-    c.in_ok-push.ensures.ok
+    subst (λ (f : Frame). WroteHeads (innermost (drop 1 f.scopes)) (head_said c.args.heads.process (phrases_below c.args.heads.source.nodes.now c.args.id) ∷ []) c.args.out.now.table c.write_body.new.out.table c.args.bodies.now c.write_body.new.bodies)
+    c.in_ok-frame.ensures.value c.in_ok-write_body.ensures.wrote
 
 pub returns-clause-scopes : goal.returns-clause-scopes
-returns-clause-scopes g c =
-    scopes_after (head_said c.args.heads.process (phrases_below c.args.heads.source.nodes.now c.args.id)) c.args.scopes c.in_ok-frame.frame c.declare_params.new.frame c.fill.new.frame c.leave.result
-    c.in_ok-frame.ensures.value c.in_ok-declare_params.ensures.declares.frame c.in_ok-fill.ensures.filled.frame c.leave.ensures
+returns-clause-scopes g c = c.leave.ensures ∙ c.in_ok-write_body.ensures.scopes ∙ ap (λ (f : Frame). drop 1 f.scopes) c.in_ok-frame.ensures.value
 
 pub returns-in_err-frame-clause-cost : goal.returns-in_err-frame-clause-cost
 returns-in_err-frame-clause-cost g c = omega (arith, c.enter.ensures.cost, nodes_step c.args.heads.source.nodes.now c.args.id c.args.heads.source.table c.requires.within)
-
-pub returns-in_err-declare_params-clause-cost : goal.returns-in_err-declare_params-clause-cost
-returns-in_err-declare_params-clause-cost g c = omega (arith, c.enter.ensures.cost, c.declare_params.ensures.cost, nodes_step c.args.heads.source.nodes.now c.args.id c.args.heads.source.table c.requires.within)
-
-pub returns-in_err-fill-clause-cost : goal.returns-in_err-fill-clause-cost
-returns-in_err-fill-clause-cost g c =
-    let few = body_few c.args.heads.source.nodes.now c.args.id c.args.heads.process c.args.scopes c.in_ok-frame.frame c.declare_params.new.frame _ c.in_ok-frame.ensures.value c.in_ok-declare_params.ensures.declares.frame refl in
-    omega (arith, c.enter.ensures.cost, c.declare_params.ensures.cost, c.fill.ensures.cost, nodes_step c.args.heads.source.nodes.now c.args.id c.args.heads.source.table c.requires.within, few.0)
-
-pub returns-in_err-name-clause-cost : goal.returns-in_err-name-clause-cost
-returns-in_err-name-clause-cost g c =
-    let few = body_few c.args.heads.source.nodes.now c.args.id c.args.heads.process c.args.scopes c.in_ok-frame.frame c.declare_params.new.frame c.fill.new.frame c.in_ok-frame.ensures.value c.in_ok-declare_params.ensures.declares.frame c.in_ok-fill.ensures.filled.frame in
-    let noted : length c.as_slice.result.now ≡ length c.fill.new.frame.variables = ap (λ (l : List Variable). length l) c.as_slice.ensures in
-    omega (arith, c.enter.ensures.cost, c.declare_params.ensures.cost, c.fill.ensures.cost, c.note_cells.ensures.cost, nodes_step c.args.heads.source.nodes.now c.args.id c.args.heads.source.table c.requires.within, few.0, few.1, noted, c.bytes_of.ensures.cost)
-
-pub returns-in_err-locals-clause-cost : goal.returns-in_err-locals-clause-cost
-returns-in_err-locals-clause-cost g c =
-    let few = body_few c.args.heads.source.nodes.now c.args.id c.args.heads.process c.args.scopes c.in_ok-frame.frame c.declare_params.new.frame c.fill.new.frame c.in_ok-frame.ensures.value c.in_ok-declare_params.ensures.declares.frame c.in_ok-fill.ensures.filled.frame in
-    let noted : length c.as_slice.result.now ≡ length c.fill.new.frame.variables = ap (λ (l : List Variable). length l) c.as_slice.ensures in
-    let kept : length c.as_slice-2.result.now ≡ length c.fill.new.frame.variables = ap (λ (l : List Variable). length l) c.as_slice-2.ensures in
-    omega (arith, c.enter.ensures.cost, c.declare_params.ensures.cost, c.fill.ensures.cost, c.note_cells.ensures.cost, nodes_step c.args.heads.source.nodes.now c.args.id c.args.heads.source.table c.requires.within, few.0, few.1, noted, kept, c.bytes_of.ensures.cost, c.vars_of.ensures.cost)
-
-pub returns-in_err-end-clause-cost : goal.returns-in_err-end-clause-cost
-returns-in_err-end-clause-cost g c =
-    let few = body_few c.args.heads.source.nodes.now c.args.id c.args.heads.process c.args.scopes c.in_ok-frame.frame c.declare_params.new.frame c.fill.new.frame c.in_ok-frame.ensures.value c.in_ok-declare_params.ensures.declares.frame c.in_ok-fill.ensures.filled.frame in
-    let noted : length c.as_slice.result.now ≡ length c.fill.new.frame.variables = ap (λ (l : List Variable). length l) c.as_slice.ensures in
-    let kept : length c.as_slice-2.result.now ≡ length c.fill.new.frame.variables = ap (λ (l : List Variable). length l) c.as_slice-2.ensures in
-    omega (arith, c.enter.ensures.cost, c.declare_params.ensures.cost, c.fill.ensures.cost, c.note_cells.ensures.cost, nodes_step c.args.heads.source.nodes.now c.args.id c.args.heads.source.table c.requires.within, few.0, few.1, noted, kept, c.bytes_of.ensures.cost, c.vars_of.ensures.cost)
-
-pub returns-in_err-push-clause-cost : goal.returns-in_err-push-clause-cost
-returns-in_err-push-clause-cost g c =
-    let few = body_few c.args.heads.source.nodes.now c.args.id c.args.heads.process c.args.scopes c.in_ok-frame.frame c.declare_params.new.frame c.fill.new.frame c.in_ok-frame.ensures.value c.in_ok-declare_params.ensures.declares.frame c.in_ok-fill.ensures.filled.frame in
-    let noted : length c.as_slice.result.now ≡ length c.fill.new.frame.variables = ap (λ (l : List Variable). length l) c.as_slice.ensures in
-    let kept : length c.as_slice-2.result.now ≡ length c.fill.new.frame.variables = ap (λ (l : List Variable). length l) c.as_slice-2.ensures in
-    omega (arith, c.enter.ensures.cost, c.declare_params.ensures.cost, c.fill.ensures.cost, c.note_cells.ensures.cost, nodes_step c.args.heads.source.nodes.now c.args.id c.args.heads.source.table c.requires.within, few.0, few.1, noted, kept, c.bytes_of.ensures.cost, c.vars_of.ensures.cost, c.tick.ensures)
-
-pub returns-clause-cost : goal.returns-clause-cost
-returns-clause-cost g c =
-    let few = body_few c.args.heads.source.nodes.now c.args.id c.args.heads.process c.args.scopes c.in_ok-frame.frame c.declare_params.new.frame c.fill.new.frame c.in_ok-frame.ensures.value c.in_ok-declare_params.ensures.declares.frame c.in_ok-fill.ensures.filled.frame in
-    let noted : length c.as_slice.result.now ≡ length c.fill.new.frame.variables = ap (λ (l : List Variable). length l) c.as_slice.ensures in
-    let kept : length c.as_slice-2.result.now ≡ length c.fill.new.frame.variables = ap (λ (l : List Variable). length l) c.as_slice-2.ensures in
-    omega (arith, c.enter.ensures.cost, c.declare_params.ensures.cost, c.fill.ensures.cost, c.note_cells.ensures.cost, nodes_step c.args.heads.source.nodes.now c.args.id c.args.heads.source.table c.requires.within, few.0, few.1, noted, kept, c.bytes_of.ensures.cost, c.vars_of.ensures.cost, c.tick.ensures)
