@@ -1,5 +1,5 @@
 // The table of a tree, or the first rule that its source breaks.
-ghost use Rattle.std.specs.Prelude.{◌≡◌, ◌<◌, ◌≤◌, ◌*◌, true, false, [], ◌∷◌, ◌++◌, length, Some, IfOk, map, ◌+◌};
+ghost use Rattle.std.specs.Prelude.{◌≡◌, ◌<◌, ◌≤◌, ◌*◌, true, false, [], ◌∷◌, ◌++◌, length, Some, IfOk, OnOk, map, ◌+◌};
 ghost use Rattle.ppd_check.specs.Answer.{IsCheckOf};
 ghost use Rattle.std.specs.List.{All};
 ghost use Rattle.ppd_parse.specs.Grammar.{Shape};
@@ -7,20 +7,22 @@ ghost use Rattle.ppd_parse.specs.Tree.{tree_of, IsTable};
 ghost use Rattle.ppd_check_bodies.specs.Bodies.{WroteHeads};
 ghost use Rattle.ppd_check_names.specs.Holding.{head_at, IsHeadAt};
 ghost use Rattle.ppd_check_names.specs.Names.{innermost};
-ghost use Rattle.ppd_check_bodies.specs.Sources.{Accepted, core, first_fault};
+ghost use Rattle.ppd_check_bodies.specs.Sources.{Accepted, core, first_fault, vars};
+ghost use Rattle.ppd_check_names.specs.Fitted.{as_short};
 ghost use Rattle.ppd_check.specs.Refused.{IsRefused};
 ghost use Rattle.ppd_check_names.specs.Cost.{nodes_at, total};
 
 use crate::error::CheckError;
 use crate::places::note_statements;
-use ppd_ast::{Body, Memory, Program, Seq, Steps};
+use ppd_ast::{Body, Memory, Program, Seq, Steps, Var};
 use ppd_check_bodies::{Heads, vars_of, write_heads};
 use ppd_check_names::{
-    Cause, Fault, Output, Scopes, Source, Writer, as_short, globals_of, note_no_process,
+    Cause, Fault, Globals, Output, Scopes, Source, Writer, as_short, globals_of, note_no_process,
 };
 use ppd_parse::Tree;
 use std::alloc::Global;
 use std::marker::Brand;
+use std::mem::replace;
 use std::sync::ledger::{Blank, Ledger};
 
 // The table, and the first broken rule.
@@ -28,6 +30,14 @@ use std::sync::ledger::{Blank, Ledger};
 struct Checked {
     program: Program,
     found: Option<Fault>,
+}
+
+// The lists of a table while they grow.
+#[derive(Drop)]
+struct Lists {
+    out: Output,
+    bodies: Seq<Body>,
+    shared: Seq<Var>,
 }
 
 // Why a source is refused, by the first rule that it breaks.
@@ -80,6 +90,75 @@ fn write_all<L: Ledger>(
     Ok(bodies)
 }
 
+// The shared variables, and the functions and processes. The scopes are used up.
+fn write_lists<L: Ledger>(
+    alloc: Global,
+    source: Source<'_>,
+    globals: &mut Globals,
+    lists: &mut Lists,
+    steps: &mut Steps<L>,
+) -> Result<(), Memory>
+    requires functions { All (IsHeadAt source.nodes.now false) globals.old.functions }
+    requires processes { All (IsHeadAt source.nodes.now true) globals.old.processes }
+    requires one { globals.old.scopes ≡ innermost globals.old.scopes ∷ [] }
+    ensures shared { OnOk result (lists.new.shared ≡ vars 0 globals.old.shared) }
+    ensures wrote { OnOk result (WroteHeads (innermost globals.old.scopes) (map (head_at source.entry.nodes.now)
+        globals.old.functions ++ map (head_at source.entry.nodes.now) globals.old.processes) lists.old.out.table
+        lists.new.out.table [] lists.new.bodies) }
+    ensures rest { globals.new ≡ record globals.old { scopes = globals.new.scopes } }
+    ensures cost { steps.new
+        ≤ steps.old + 3 * length globals.old.shared + 113 * total (nodes_at source.entry.nodes.now)
+        globals.old.functions + 113 * total (nodes_at source.entry.nodes.now) globals.old.processes }
+{
+    lists.shared = vars_of(alloc, globals.shared.as_slice(), steps)?;
+    let scopes = replace(&mut globals.scopes, Scopes::new(alloc));
+    let bodies = write_all(
+        source,
+        scopes,
+        globals.functions.as_slice(),
+        globals.processes.as_slice(),
+        &mut lists.out,
+        steps,
+    )?;
+    lists.bodies = bodies;
+    Ok(())
+}
+
+// The table of what a source declares and its lists.
+fn checked_of(globals: Globals, lists: Lists) -> Checked
+    ensures { result
+        ≡ record {
+          program = record {
+            exprs = lists.out.table.exprs;
+            stmts = lists.out.table.stmts;
+            bodies = lists.bodies;
+            functions = as_short (length globals.functions);
+            shared = lists.shared;
+            starts = globals.starts;
+            sems = globals.sems;
+            chans = globals.chans;
+          };
+          found = lists.out.table.found;
+        } }
+{
+    let functions = as_short(globals.functions.len() as u64);
+    let out = lists.out;
+    let table = out.table;
+    Checked {
+        program: Program {
+            exprs: table.exprs,
+            stmts: table.stmts,
+            bodies: lists.bodies,
+            functions,
+            shared: lists.shared,
+            starts: globals.starts,
+            sems: globals.sems,
+            chans: globals.chans,
+        },
+        found: table.found,
+    }
+}
+
 // The table of a tree's nodes, and the first rule that it breaks; where it breaks one, the table says nothing.
 fn check_nodes<L: Ledger>(
     alloc: Global,
@@ -92,7 +171,7 @@ fn check_nodes<L: Ledger>(
     ensures cost { steps.new ≤ steps.old + 150 * length source.entry.nodes.now + 2048 }
 {
     let mut found = None;
-    let globals = globals_of(alloc, source, &mut found, steps)?;
+    let mut globals = globals_of(alloc, source, &mut found, steps)?;
     note_no_process(source, &globals, &mut found);
     let table = Writer {
         exprs: Seq::new(alloc),
@@ -100,32 +179,15 @@ fn check_nodes<L: Ledger>(
         found,
     };
     let row = Seq::new(alloc);
-    let mut out = Output { table, row };
-    let count = as_short(globals.functions.len() as u64);
-    let shared = vars_of(alloc, globals.shared.as_slice(), steps)?;
-    let bodies = write_all(
-        source,
-        globals.scopes,
-        globals.functions.as_slice(),
-        globals.processes.as_slice(),
-        &mut out,
-        steps,
-    )?;
-    let mut table = out.table;
+    let mut lists = Lists {
+        out: Output { table, row },
+        bodies: Seq::new(alloc),
+        shared: Seq::new(alloc),
+    };
+    write_lists(alloc, source, &mut globals, &mut lists, steps)?;
+    let table = &mut lists.out.table;
     note_statements(alloc, table.stmts.as_slice(), &mut table.found, steps)?;
-    Ok(Checked {
-        program: Program {
-            exprs: table.exprs,
-            stmts: table.stmts,
-            bodies,
-            functions: count,
-            shared,
-            starts: globals.starts,
-            sems: globals.sems,
-            chans: globals.chans,
-        },
-        found: table.found,
-    })
+    Ok(checked_of(globals, lists))
 }
 
 /// The table of a tree, as `check` answers it, in at most 150 steps for each node of the tree and 2,048 more for the

@@ -12,32 +12,32 @@ use thiserror::Error;
 #[derive(Clone, Copy, Debug, Drop, Error)]
 pub enum CheckError {
     /// The second name: it is declared before in the same scope.
-    #[error("{}:{}: this name is declared twice", .0.line, .0.column)]
+    #[error("this name is declared twice")]
     Twice(Place),
     /// A name that is used and not declared in sight.
-    #[error("{}:{}: this name is not declared", .0.line, .0.column)]
+    #[error("this name is not declared")]
     Unknown(Place),
     /// A name that is used as what it is not.
-    #[error("{}:{}: this name stands for something of another kind", .0.line, .0.column)]
+    #[error("this name stands for something of another kind")]
     WrongKind(Place),
     /// The name of a function that is called with another count of arguments.
-    #[error("{}:{}: this function has another count of parameters", .0.line, .0.column)]
+    #[error("this function has another count of parameters")]
     Arity(Place),
     /// A `return` where none may stand, one with or without a value where the other is asked, or the
     /// closing brace of a function that should end with one.
-    #[error("{}:{}: a return is missing here or may not stand here", .0.line, .0.column)]
+    #[error("a return is missing here or may not stand here")]
     ReturnPlace(Place),
     /// The name of a function without a value whose value is used.
-    #[error("{}:{}: this function has no value", .0.line, .0.column)]
+    #[error("this function has no value")]
     VoidValue(Place),
     /// The source's end: it has no process.
-    #[error("{}:{}: the source has no process", .0.line, .0.column)]
+    #[error("the source has no process")]
     NoProcess(Place),
     /// The first item past a limit.
-    #[error("{}:{}: a limit is passed here", .0.line, .0.column)]
+    #[error("a limit is passed here")]
     TooMany(Place, Limit),
     /// A length, a capacity or an initial value outside its range.
-    #[error("{}:{}: this number is outside its range", .0.line, .0.column)]
+    #[error("this number is outside its range")]
     BadSize(Place),
     /// Want of memory.
     #[error("want of memory")]
