@@ -54,20 +54,27 @@ fn close_log(alloc: Global, logging: &Logging) -> Result<Vec<Entry>, Memory>
     Ok(last)
 }
 
-/// A process's whole log, and how it ended.
+/// The entries of a process, and how it ended.
+fn parts_of(program: &Program, body: usize, logging: Logging) -> (Seq<Entry>, ProcEnd)
+    ensures entries { result.0 ≡ logging.entries }
+    ensures end { result.1 ≡ end_of_proc (slice_get program.now.bodies body) logging.proc }
+{
+    (logging.entries, end_of(program, body, logging.proc))
+}
+
+/// A process's whole log, and how it ended. It is taken apart where nothing can fail any more.
 fn close_one(
     alloc: Global,
     program: &Program,
     body: usize,
-    logging: Logging,
+    mut logging: Logging,
 ) -> Result<(Seq<Entry>, ProcEnd), Memory>
     ensures log { IfOk result (λ r. r.0 ≡ closed_log logging) }
     ensures end { IfOk result (λ r. r.1 ≡ end_of_proc (slice_get program.now.bodies body) logging.proc) }
 {
     let last = close_log(alloc, &logging)?;
-    let mut entries = logging.entries;
-    entries.append(last)?;
-    Ok((entries, end_of(program, body, logging.proc)))
+    logging.entries.append(last)?;
+    Ok(parts_of(program, body, logging))
 }
 
 /// Takes the first one off.
