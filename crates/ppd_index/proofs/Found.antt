@@ -1,8 +1,8 @@
 -- The first refusal by the table is that of the definition.
-use Rattle.std.proofs.Common.{◌≡◌, ℕ, ◌+◌, ◌<◌, ◌≤◌, Bool, false, ◌||◌, List, [], ◌∷◌, ◌++◌, Option, None, refl, ap, ap₂, sym, subst, ◌∙◌, length, get_or, drop, suc, arith}
+use Rattle.std.proofs.Common.{◌≡◌, ℕ, ◌+◌, ◌<◌, ◌≤◌, Bool, false, ◌||◌, List, [], ◌∷◌, ◌++◌, Option, None, refl, ap, ap₂, sym, subst, ◌∙◌, length, get_or, drop, map, suc, arith}
 use Rattle.std.specs.Prelude.{fold}
 use Rattle.std.proofs.Math.Seq.{drop-cons}
-use Rattle.std.proofs.lemmas.List.{drop_all}
+use Rattle.std.proofs.lemmas.List.{append_assoc, drop_all}
 use Rattle.ppd_ast.specs.declared.plan.Plan.{Plan}
 use Rattle.ppd_ast.specs.declared.program.Program.{Program}
 use Rattle.ppd_entry.specs.declared.entry.Entry.{Entry}
@@ -11,9 +11,10 @@ use Rattle.ppd_model.specs.FullTrace.{or_else}
 use Rattle.ppd_model.proofs.Extents.{one_longer}
 use Rattle.ppd_index.specs.declared.refusal.BadLog.{BadLog}
 use Rattle.ppd_index.specs.declared.refusal.BadLog.TheVariants.{Unpaired, NoEnd, AfterEnd, WrongValues, Memory}
+use Rattle.ppd_index.specs.declared.row.Row.{Row}
 use Rattle.ppd_index.specs.declared.standing.Standing.{Standing}
-use Rattle.ppd_index.specs.Refusals.{IsRefused, first_bad, first_from, refusal, standing, unended}
-use Rattle.ppd_index.specs.Tables.{Tabled, begun_table, standing_in, table_step}
+use Rattle.ppd_index.specs.Refusals.{IsRefused, first_bad, first_from, first_in_lists, refusal, standing, unended}
+use Rattle.ppd_index.specs.Tables.{Tabled, begun_table, rows_of, standing_in, table_step}
 use Rattle.ppd_index.proofs.Rows.{depth_same, innermost_same}
 use Rattle.ppd_index.proofs.Tabled.{here, indexed_step, indexing_of, shifted}
 
@@ -86,3 +87,23 @@ pub found_end : (program : Program) (plan : Plan) (p : ℕ) (entries : List Entr
 found_end program plan p entries i t ended at past within so =
     let same : length entries ≡ t.entry = omega (arith, at, past, within) in
     ap (λ n. unended p n ended) same ∙ found_over program plan p entries t ended (drop i entries) (drop_all i entries past) so
+
+-- ---- one list more
+
+pub lists_at : (lists : List (List Entry)) (p : ℕ) (es : List Entry) → p < length lists → es ≡ get_or lists p es → drop p lists ≡ es ∷ drop (p + 1) lists
+lists_at lists p es h is =
+    let on : suc p ≡ p + 1 = omega arith in
+    drop-cons lists p es h ∙ (ap (λ d. d ∷ drop (suc p) lists) (sym is) ∙ ap (λ n. es ∷ drop n lists) on)
+
+pub list_passed : (program : Program) (plan : Plan) (lists : List (List Entry)) (p : ℕ) (es : List Entry) → p < length lists → es ≡ get_or lists p es → first_bad program plan p es ≡ None
+    → first_in_lists program plan p (drop p lists) ≡ first_in_lists program plan 0 lists → first_in_lists program plan (p + 1) (drop (p + 1) lists) ≡ first_in_lists program plan 0 lists
+list_passed program plan lists p es h is none so =
+    ap (λ r. or_else r (first_in_lists program plan (p + 1) (drop (p + 1) lists))) (sym none)
+    ∙ (ap (λ ls. first_in_lists program plan p ls) (sym (lists_at lists p es h is)) ∙ so)
+
+pub tables_next : (plan : Plan) (lists : List (List Entry)) (p : ℕ) (es : List Entry) (tables now : List (List Row)) (rows : List Row) → p < length lists → es ≡ get_or lists p es → now ≡ tables ++ rows ∷ [] → rows ≡ rows_of plan es
+    → tables ++ map (rows_of plan) (drop p lists) ≡ map (rows_of plan) lists → now ++ map (rows_of plan) (drop (p + 1) lists) ≡ map (rows_of plan) lists
+tables_next plan lists p es tables now rows h is e rows_are so =
+    let rest : List (List Row) = map (rows_of plan) (drop (p + 1) lists) in
+    ap (λ r. r ++ rest) (e ∙ ap (λ x. tables ++ x ∷ []) rows_are) ∙ append_assoc tables (rows_of plan es ∷ []) rest
+    ∙ ap (λ ls. tables ++ map (rows_of plan) ls) (sym (lists_at lists p es h is)) ∙ so

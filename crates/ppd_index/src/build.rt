@@ -81,6 +81,13 @@ fn check_end(process: u8, entries: usize, ended: bool) -> Result<(), BadLog>
     Err(BadLog::NoEnd(At { process, entry }))
 }
 
+/// The intervals of a table that is whole.
+fn rows_in(table: Table) -> Vec<Row>
+    ensures { result.items ≡ table.rows.items }
+{
+    table.rows
+}
+
 /// The intervals of a process's entries, or the first refusal.
 fn own_rows<L: Ledger>(
     alloc: Global,
@@ -109,7 +116,7 @@ fn own_rows<L: Ledger>(
         ended = is_over(ended, entry);
     }
     check_end(process, entries.len(), ended)?;
-    Ok(table.rows)
+    Ok(rows_in(table))
 }
 
 /// The same as a list of at most 2^32 - 1 intervals.
