@@ -1,5 +1,5 @@
 -- The steps of a graph, added up.
-use Rattle.std.proofs.Common.{◌≡◌, ℕ, zero, suc, ◌+◌, ◌-◌, ◌*◌, ◌<◌, ◌≤◌, List, [], ◌∷◌, ◌++◌, refl, ap, sym, ◌∙◌, arith, inl, inr, length, drop, filter_map, get_or, map, Option, Some, None}
+use Rattle.std.proofs.Common.{◌≡◌, ℕ, zero, suc, ◌+◌, ◌*◌, ◌<◌, ◌≤◌, List, [], ◌∷◌, ◌++◌, refl, ap, sym, ◌∙◌, arith, inl, inr, length, drop, filter_map, get_or, map, Option, Some, None}
 use Rattle.std.proofs.lemmas.Bool.{cases_eq}
 use Rattle.std.specs.List.{cons_option, range_with_len, sum_by}
 use Rattle.std.proofs.Math.Nat.{add-mul, mul-add}
@@ -142,8 +142,8 @@ pairs_within program logs pairs e = (
 
 -- ---- in all
 
-pub number_spent : (old a b c d n m cost sems chans : ℕ) → a ≤ old + n → b ≤ a + n → c ≤ b + 5 * (MOST_NAMED + n) → d ≤ c + cost → cost ≤ sems + chans + 5 * m → m ≡ n → d ≤ old + 12 * n + 5 * MOST_NAMED + sems + chans
-number_spent old a b c d n m cost sems chans h1 h2 h3 h4 h5 e = omega (arith, h1, h2, h3, h4, h5, e)
+pub complete_spent : (old a b n m cost sems chans : ℕ) → a ≤ old + 5 * (MOST_NAMED + n) → b ≤ a + cost → cost ≤ sems + chans + 5 * m → m ≡ n → b ≤ old + 10 * n + 5 * MOST_NAMED + sems + chans
+complete_spent old a b n m cost sems chans h1 h2 h3 e = omega (arith, h1, h2, h3, e)
 
 pub pair_spent : (old a b c n entries pass sems chans : ℕ) → a ≤ old + pass → b ≤ a + 12 * n + 5 * MOST_NAMED + sems + chans → n ≤ entries → c ≤ b + pass → c ≤ old + (2 * pass + 12 * entries + 5 * MOST_NAMED + sems + chans)
 pair_spent old a b c n entries pass sems chans h1 h2 h3 h4 = omega (arith, h1, h2, h3, h4)

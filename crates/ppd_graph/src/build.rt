@@ -1,11 +1,11 @@
-ghost use Rattle.std.specs.Prelude.{◌≡◌, ◌<◌, ◌≤◌, ◌+◌, ◌*◌, [], length, IsTrue, IfNone, IfOk, OnOk, IfErr, ◌↔◌};
+ghost use Rattle.std.specs.Prelude.{◌≡◌, ◌<◌, ◌≤◌, ◌+◌, ◌*◌, [], None, length, IsTrue, IfNone, IfOk, OnOk, IfErr, ◌↔◌};
 ghost use Rattle.ppd_graph.specs.ByNumber.{KeepsAll};
 ghost use Rattle.ppd_graph.specs.Graphs.{IsGraphOf};
 ghost use Rattle.ppd_model.specs.RecordedSets.{record_in};
 ghost use Rattle.ppd_graph.specs.LogRecord.{AreFew};
 ghost use Rattle.ppd_graph.specs.Partners.{pairs_of};
 ghost use Rattle.ppd_graph.specs.Spending.{graph_cost, pairing_cost};
-ghost use Rattle.ppd_graph.specs.Refusals.{AreNumbered, AreOrdered, IsRefused, IsRefusedFor, has_object as has_object_in, placed as placed_in, without_object};
+ghost use Rattle.ppd_graph.specs.Refusals.{AreNumbered, AreOrdered, IsRefused, IsRefusedFor, has_object as has_object_in, placed as placed_in, twice_after, without_object};
 
 use crate::by_number::{ByNumber, keep_all};
 use crate::greatest::Greatest;
@@ -57,6 +57,38 @@ fn first_without_object<L: Ledger>(
     None
 }
 
+// The last of the three tests: whether a synchronization is missing. The maps are borrowed, so that each way
+// out has little to let go.
+fn check_complete<L: Ledger>(
+    alloc: Global,
+    program: &Program,
+    nodes: &ByNumber,
+    placed: &[Placed],
+    steps: &mut Steps<L>,
+) -> Result<(), BadSync>
+    requires sems { length program.now.sems ≤ MOST_NAMED }
+    requires chans { length program.now.chans ≤ MOST_NAMED }
+    requires objects { without_object program.now placed.now ≡ None }
+    requires once { twice_after program.now [] placed.now ≡ None }
+    requires kept { KeepsAll nodes.now placed.now }
+    ensures cost { OnOk result
+        (steps.new
+        ≤ steps.old + 10 * length placed.now + 5 * MOST_NAMED + length program.now.sems + length program.now.chans) }
+    ensures passed { OnOk result (AreNumbered program.now placed.now) }
+    ensures refused { IfErr result (IsRefusedFor program.now placed.now) }
+{
+    let greatest = Greatest::among(alloc, placed, steps)?;
+    let numbers = Numbers {
+        program,
+        nodes,
+        greatest: &greatest,
+    };
+    if let Some((kind, object, number)) = numbers.missing(steps) {
+        return Err(BadSync::NumberMissing(kind, object, number));
+    }
+    Ok(())
+}
+
 // The synchronizations by their numbers, or the first of the three tests on them that fails.
 fn number_all<L: Ledger>(
     alloc: Global,
@@ -77,16 +109,8 @@ fn number_all<L: Ledger>(
         return Err(BadSync::NoObject(at));
     }
     let nodes = keep_all(alloc, program, placed, steps)?;
-    let greatest = Greatest::among(alloc, placed, steps)?;
-    let numbers = Numbers {
-        program,
-        nodes,
-        greatest,
-    };
-    if let Some((kind, object, number)) = numbers.missing(steps) {
-        return Err(BadSync::NumberMissing(kind, object, number));
-    }
-    Ok(numbers.nodes)
+    check_complete(alloc, program, &nodes, placed, steps)?;
+    Ok(nodes)
 }
 
 // What led to each synchronization of the logs.

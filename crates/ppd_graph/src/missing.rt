@@ -19,8 +19,8 @@ pub(crate) type Missing = (SyncKind, u8, u32);
 #[derive(Drop)]
 pub(crate) struct Numbers<'a> {
     pub(crate) program: &'a Program,
-    pub(crate) nodes: ByNumber,
-    pub(crate) greatest: Greatest,
+    pub(crate) nodes: &'a ByNumber,
+    pub(crate) greatest: &'a Greatest,
 }
 
 /// The objects of synchronizations.
@@ -52,7 +52,7 @@ impl<'a> Numbers<'a> {
     ) -> Option<u32>
         ensures cost { steps.new ≤ steps.old + (last - first) }
         ensures taken { IfNone result (steps.new ≡ steps.old + (last - first)) }
-        ensures value { result ≡ absent_by first last (λ n. is_some (node_kept self.now.nodes kind object n)) }
+        ensures value { result ≡ absent_by first last (λ n. is_some (node_kept self.now.nodes.now kind object n)) }
     {
         for before in first..last {
             steps.tick();
@@ -65,13 +65,13 @@ impl<'a> Numbers<'a> {
     }
 
     fn missing_of_sem<L: Ledger>(&self, sem: u8, steps: &mut Steps<L>) -> Option<Missing>
-        ensures cost { steps.new ≤ steps.old + sem_numbers self.now.program.now self.now.greatest sem }
+        ensures cost { steps.new ≤ steps.old + sem_numbers self.now.program.now self.now.greatest.now sem }
         ensures taken { IfNone result
-            (steps.new ≡ steps.old + sem_numbers self.now.program.now self.now.greatest sem) }
+            (steps.new ≡ steps.old + sem_numbers self.now.program.now self.now.greatest.now sem) }
         ensures value { result
             ≡ missing_of_semaphore sem (start_in_program self.now.program.now sem)
-            (numbered_kept self.now.nodes self.now.greatest SyncKind.P sem)
-            (numbered_kept self.now.nodes self.now.greatest SyncKind.V sem) }
+            (numbered_kept self.now.nodes.now self.now.greatest.now SyncKind.P sem)
+            (numbered_kept self.now.nodes.now self.now.greatest.now SyncKind.V sem) }
     {
         let start = start_of(self.program, sem);
         let taken = self.greatest.of(SyncKind::P, sem);
@@ -96,11 +96,11 @@ impl<'a> Numbers<'a> {
         received: u32,
         steps: &mut Steps<L>,
     ) -> Option<Missing>
-        ensures cost { steps.new ≤ steps.old + greatest_kept self.now.greatest SyncKind.Done chan }
-        ensures taken { IfNone result (steps.new ≡ steps.old + greatest_kept self.now.greatest SyncKind.Done chan) }
+        ensures cost { steps.new ≤ steps.old + greatest_kept self.now.greatest.now SyncKind.Done chan }
+        ensures taken { IfNone result (steps.new ≡ steps.old + greatest_kept self.now.greatest.now SyncKind.Done chan) }
         ensures value { result
             ≡ missing_of_offers chan sent received
-            (numbered_kept self.now.nodes self.now.greatest SyncKind.Done chan) }
+            (numbered_kept self.now.nodes.now self.now.greatest.now SyncKind.Done chan) }
     {
         let completed = self.greatest.of(SyncKind::Done, chan);
         if received < completed {
@@ -124,13 +124,13 @@ impl<'a> Numbers<'a> {
         steps: &mut Steps<L>,
     ) -> Option<Missing>
         ensures cost { steps.new
-            ≤ steps.old + done_numbers (capacity_in_program self.now.program.now chan) self.now.greatest chan }
+            ≤ steps.old + done_numbers (capacity_in_program self.now.program.now chan) self.now.greatest.now chan }
         ensures taken { IfNone result
             (steps.new
-            ≡ steps.old + done_numbers (capacity_in_program self.now.program.now chan) self.now.greatest chan) }
+            ≡ steps.old + done_numbers (capacity_in_program self.now.program.now chan) self.now.greatest.now chan) }
         ensures value { result
             ≡ missing_of_room (capacity_in_program self.now.program.now chan) chan sent received
-            (numbered_kept self.now.nodes self.now.greatest SyncKind.Done chan) }
+            (numbered_kept self.now.nodes.now self.now.greatest.now SyncKind.Done chan) }
     {
         let capacity = u32::from(capacity_of(self.program, chan));
         if capacity == 0 {
@@ -143,14 +143,14 @@ impl<'a> Numbers<'a> {
     }
 
     fn missing_of_chan<L: Ledger>(&self, chan: u8, steps: &mut Steps<L>) -> Option<Missing>
-        ensures cost { steps.new ≤ steps.old + chan_numbers self.now.program.now self.now.greatest chan }
+        ensures cost { steps.new ≤ steps.old + chan_numbers self.now.program.now self.now.greatest.now chan }
         ensures taken { IfNone result
-            (steps.new ≡ steps.old + chan_numbers self.now.program.now self.now.greatest chan) }
+            (steps.new ≡ steps.old + chan_numbers self.now.program.now self.now.greatest.now chan) }
         ensures value { result
             ≡ missing_of_channel chan (capacity_in_program self.now.program.now chan)
-            (numbered_kept self.now.nodes self.now.greatest SyncKind.Send chan)
-            (numbered_kept self.now.nodes self.now.greatest SyncKind.Recv chan)
-            (numbered_kept self.now.nodes self.now.greatest SyncKind.Done chan) }
+            (numbered_kept self.now.nodes.now self.now.greatest.now SyncKind.Send chan)
+            (numbered_kept self.now.nodes.now self.now.greatest.now SyncKind.Recv chan)
+            (numbered_kept self.now.nodes.now self.now.greatest.now SyncKind.Done chan) }
     {
         let sent = self.greatest.of(SyncKind::Send, chan);
         let received = self.greatest.of(SyncKind::Recv, chan);
@@ -173,11 +173,11 @@ impl<'a> Numbers<'a> {
         object: u8,
         steps: &mut Steps<L>,
     ) -> Option<Missing>
-        ensures cost { steps.new ≤ steps.old + object_numbers objects self.now.program.now self.now.greatest object }
+        ensures cost { steps.new ≤ steps.old + object_numbers objects self.now.program.now self.now.greatest.now object }
         ensures taken { IfNone result
-            (steps.new ≡ steps.old + object_numbers objects self.now.program.now self.now.greatest object) }
+            (steps.new ≡ steps.old + object_numbers objects self.now.program.now self.now.greatest.now object) }
         ensures value { result
-            ≡ object_misses objects self.now.program.now (numbered_kept self.now.nodes self.now.greatest) object }
+            ≡ object_misses objects self.now.program.now (numbered_kept self.now.nodes.now self.now.greatest.now) object }
     {
         match objects {
             Objects::Semaphores => self.missing_of_sem(object, steps),
@@ -187,11 +187,11 @@ impl<'a> Numbers<'a> {
 
     fn missing_among<L: Ledger>(&self, objects: Objects, steps: &mut Steps<L>) -> Option<Missing>
         requires { object_count objects self.now.program.now ≤ MOST_NAMED }
-        ensures cost { steps.new ≤ steps.old + objects_cost objects self.now.program.now self.now.greatest }
+        ensures cost { steps.new ≤ steps.old + objects_cost objects self.now.program.now self.now.greatest.now }
         ensures taken { IfNone result
-            (steps.new ≡ steps.old + objects_cost objects self.now.program.now self.now.greatest) }
+            (steps.new ≡ steps.old + objects_cost objects self.now.program.now self.now.greatest.now) }
         ensures value { result
-            ≡ first_missing (object_misses objects self.now.program.now (numbered_kept self.now.nodes self.now.greatest))
+            ≡ first_missing (object_misses objects self.now.program.now (numbered_kept self.now.nodes.now self.now.greatest.now))
             (range_with_len 0 (object_count objects self.now.program.now)) }
     {
         let count = count_of(self.program, objects);
@@ -209,9 +209,9 @@ impl<'a> Numbers<'a> {
     pub(crate) fn missing<L: Ledger>(&self, steps: &mut Steps<L>) -> Option<Missing>
         requires sems { length self.now.program.now.sems ≤ MOST_NAMED }
         requires chans { length self.now.program.now.chans ≤ MOST_NAMED }
-        ensures cost { steps.new ≤ steps.old + missing_cost self.now.program.now self.now.greatest }
-        ensures taken { IfNone result (steps.new ≡ steps.old + missing_cost self.now.program.now self.now.greatest) }
-        ensures value { result ≡ missing_by self.now.program.now (numbered_kept self.now.nodes self.now.greatest) }
+        ensures cost { steps.new ≤ steps.old + missing_cost self.now.program.now self.now.greatest.now }
+        ensures taken { IfNone result (steps.new ≡ steps.old + missing_cost self.now.program.now self.now.greatest.now) }
+        ensures value { result ≡ missing_by self.now.program.now (numbered_kept self.now.nodes.now self.now.greatest.now) }
     {
         if let Some(missing) = self.missing_among(Objects::Semaphores, steps) {
             return Some(missing);

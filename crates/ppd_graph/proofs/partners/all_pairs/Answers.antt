@@ -1,4 +1,4 @@
-use Rattle.std.proofs.Common.{◌∙◌, ◌∷◌, ◌++◌, [], ap, arith, filter_map, map, take}
+use Rattle.std.proofs.Common.{◌+◌, ◌∙◌, ◌∷◌, ◌++◌, [], ap, arith, filter_map, map}
 use Rattle.std.specs.List.{sum_by}
 use Rattle.std.proofs.lemmas.List.{take_all}
 use Rattle.std.proofs.lemmas.List.Sums.{sum_by-take-le, sum_by_more}
@@ -28,3 +28,21 @@ pub returns-clause-taken : goal.returns-clause-taken
 returns-clause-taken g c =
     let all = ap (sum_by list_cost) (take_all c.loop-list.list-index c.args.lists.now (omega (arith, c.loop-list-test.false))) in
     omega (arith, all, c.loop-list.invariant.spent)
+
+pub returns-in_err-pairs-clause-cost : goal.returns-in_err-pairs-clause-cost
+returns-in_err-pairs-clause-cost g c =
+    let lists = c.args.lists.now in
+    let i = c.loop-list.list-index in
+    let more = sum_by_more list_cost lists i c.list-item.result c.loop-list-test.true in
+    let same = ap list_cost (c.as_slice.ensures ∙ c.list-item.is) in
+    let less = sum_by-take-le list_cost lists (i + 1) in
+    omega (arith, more, same, less, c.tick.ensures, c.in_err-pairs.ensures.cost, c.loop-list.invariant.spent)
+
+pub returns-in_err-push-clause-cost : goal.returns-in_err-push-clause-cost
+returns-in_err-push-clause-cost g c =
+    let lists = c.args.lists.now in
+    let i = c.loop-list.list-index in
+    let more = sum_by_more list_cost lists i c.list-item.result c.loop-list-test.true in
+    let same = ap list_cost (c.as_slice.ensures ∙ c.list-item.is) in
+    let less = sum_by-take-le list_cost lists (i + 1) in
+    omega (arith, more, same, less, c.tick.ensures, c.in_ok-pairs.ensures.cost, c.loop-list.invariant.spent)

@@ -5,6 +5,6 @@ use Rattle.ppd_graph.proofs.missing.Numbers.absent.Given as goal
 
 abbrev pub invariant-loop-before : goal.invariant-loop-before
 invariant-loop-before g l = record {
-  holds : absent l.before l.last (λ n. is_some (node_kept l.self.nodes l.kind l.object n)) ≡ absent l.first l.last (λ n. is_some (node_kept l.self.nodes l.kind l.object n));
+  holds : absent l.before l.last (λ n. is_some (node_kept l.self.nodes.now l.kind l.object n)) ≡ absent l.first l.last (λ n. is_some (node_kept l.self.nodes.now l.kind l.object n));
   spent : l.steps + (l.last - l.before) ≡ l.fn.steps + (l.last - l.first);
 }

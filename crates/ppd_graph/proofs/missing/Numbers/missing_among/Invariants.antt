@@ -7,7 +7,7 @@ use Rattle.ppd_graph.proofs.missing.Numbers.missing_among.Given as goal
 
 abbrev pub invariant-loop-object : goal.invariant-loop-object
 invariant-loop-object g l = record {
-  holds : first_missing (object_misses l.objects l.self.program.now (numbered_kept l.self.nodes l.self.greatest)) (range_with_len l.object (object_count l.objects l.self.program.now - l.object))
-      ≡ first_missing (object_misses l.objects l.self.program.now (numbered_kept l.self.nodes l.self.greatest)) (range_with_len 0 (object_count l.objects l.self.program.now));
-  spent : l.steps ≡ l.fn.steps + sum_by (object_cost l.objects l.self.program.now l.self.greatest) (range_with_len 0 l.object);
+  holds : first_missing (object_misses l.objects l.self.program.now (numbered_kept l.self.nodes.now l.self.greatest.now)) (range_with_len l.object (object_count l.objects l.self.program.now - l.object))
+      ≡ first_missing (object_misses l.objects l.self.program.now (numbered_kept l.self.nodes.now l.self.greatest.now)) (range_with_len 0 (object_count l.objects l.self.program.now));
+  spent : l.steps ≡ l.fn.steps + sum_by (object_cost l.objects l.self.program.now l.self.greatest.now) (range_with_len 0 l.object);
 }
