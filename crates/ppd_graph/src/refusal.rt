@@ -7,16 +7,16 @@ use thiserror::Error;
 #[derive(Drop, Debug, Error)]
 pub enum BadSync {
     /// The number of this synchronization stood before, or is one that a semaphore has from the start.
-    #[error("process {}, entry {}: the number of this synchronization stood before", .0.process, .0.entry)]
+    #[error("the number of this synchronization stood before")]
     NumberTwice(At),
     /// The synchronization of this kind, object and number is missing.
-    #[error("synchronization {2} of object {1} is missing")]
+    #[error("a synchronization is missing")]
     NumberMissing(SyncKind, u8, u32),
     /// Synchronizations each of which leads to the next, and the last to the first.
     #[error("synchronizations lead back to the first of them")]
     Cycle(Seq<NodeId>),
     /// This synchronization's object is no semaphore or channel of its kind.
-    #[error("process {}, entry {}: this synchronization has no such object", .0.process, .0.entry)]
+    #[error("this synchronization has no such object")]
     NoObject(At),
     /// Want of memory.
     #[error("want of memory")]

@@ -10,16 +10,16 @@ pub enum BadLog {
     /// process's block or is a function's while 64 intervals of functions run, a postlog names another block
     /// than the innermost running interval's, an entry other than an End with status ended stands where no
     /// interval runs, or that End where one does.
-    #[error("process {}, entry {}: the entry may not stand here", .0.process, .0.entry)]
+    #[error("the entry may not stand here")]
     Unpaired(At),
     /// The list is over without an End; the number is the count of its entries.
-    #[error("process {}, entry {}: the log is over without an End", .0.process, .0.entry)]
+    #[error("the log is over without an End")]
     NoEnd(At),
     /// The entry stands after an End.
-    #[error("process {}, entry {}: the entry stands after an End", .0.process, .0.entry)]
+    #[error("the entry stands after an End")]
     AfterEnd(At),
     /// The plan has no such block or unit, or another count of values for it.
-    #[error("process {}, entry {}: the plan has no such block or unit, or other values", .0.process, .0.entry)]
+    #[error("the plan has no such block or unit, or other values")]
     WrongValues(At),
     /// Want of memory, also for a log whose entries have no 32-bit numbers.
     #[error("want of memory")]
