@@ -4,6 +4,4 @@
 #[cfg(test)]
 mod events;
 #[cfg(test)]
-mod programs;
-#[cfg(test)]
 mod tests;
