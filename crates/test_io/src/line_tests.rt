@@ -1,6 +1,6 @@
-use ppd_io::{LineError, LineReader, MemorySource, Source, SteadySource};
+use crate::io_tests::source_of;
+use ppd_io::{LineError, LineReader, Source, SteadySource};
 use std::alloc::Global;
-use std::test::Fail;
 
 /// The mark of how a call for the next line ends: with a line, at the end, or by an error.
 fn mark_of(answer: Result<bool, LineError>) -> u8 {
@@ -12,49 +12,62 @@ fn mark_of(answer: Result<bool, LineError>) -> u8 {
     }
 }
 
-/// Appends the next line after a bar, or the mark of how the lines ended: whether there may be more.
-fn tell_next<I: Source>(
+/// What is left of what is told once the next line is read: a line is told after a bar, and the mark of how the lines
+/// end is the last byte. None where another line comes, or another end.
+fn left<'a, I: Source>(
     reader: &mut LineReader,
     source: &mut I,
-    told: &mut Vec<u8>,
-) -> Result<bool, Fail> {
+    told: &'a [u8],
+) -> Option<&'a [u8]> {
     let mark = mark_of(reader.next(source));
-    told.push(mark)?;
-    if mark != b'|' {
-        return Ok(false);
+    let (first, rest) = told.split_first()?;
+    if *first != mark {
+        None
+    } else if mark == b'|' {
+        rest.strip_prefix(reader.line())
+    } else if rest.is_empty() {
+        Some(rest)
+    } else {
+        None
     }
-    told.extend_from_slice(reader.line())?;
-    Ok(true)
 }
 
-/// Appends the lines of a source up to its end or an error, each after a bar, then how they ended.
-fn tell_all<I: Source>(
-    reader: &mut LineReader,
-    source: &mut I,
-    told: &mut Vec<u8>,
-) -> Result<(), Fail> {
+/// Whether the lines of a source up to its end or an error are told so.
+fn are_lines<I: Source>(reader: &mut LineReader, source: &mut I, told: &[u8]) -> bool {
+    let mut told = told;
     // No test has more lines.
     for _ in 0..100 {
-        if !tell_next(reader, source, told)? {
-            return Ok(());
+        match left(reader, source, told) {
+            Some([]) => return true,
+            Some(rest) => told = rest,
+            None => return false,
         }
     }
-    Ok(())
+    false
 }
 
-/// The same after nothing.
-fn told<I: Source>(alloc: Global, source: &mut I) -> Result<Vec<u8>, Fail> {
-    let mut reader = LineReader::new(alloc)?;
-    let mut told = Vec::new(alloc);
-    tell_all(&mut reader, source, &mut told)?;
-    Ok(told)
+/// Whether a line of so many bytes comes first, if any is said, and the others are told so.
+fn follow<I: Source>(alloc: Global, source: &mut I, first: Option<usize>, told: &[u8]) -> bool {
+    let Ok(mut reader) = LineReader::new(alloc) else {
+        return false;
+    };
+    if let Some(len) = first {
+        if mark_of(reader.next(source)) != b'|' || reader.line().len() != len {
+            return false;
+        }
+    }
+    are_lines(&mut reader, source, told)
 }
 
-/// The same of bytes that come in chunks.
-fn told_in(alloc: Global, bytes: Vec<u8>, chunk: usize) -> Result<Vec<u8>, Fail> {
-    told(alloc, &mut SteadySource::new(bytes, chunk.max(1)))
+/// Whether the lines of bytes that come in chunks, by a source that fails at these calls, are told so.
+fn are_told(alloc: Global, bytes: &[u8], chunk: usize, fails: &[u32], told: &[u8]) -> bool {
+    match source_of(alloc, bytes, chunk, fails) {
+        Some(mut source) => follow(alloc, &mut source, None, told),
+        None => false,
+    }
 }
 
+/// Bytes, and how they are told in any chunks.
 const LINES: [(&str, &str); 6] = [
     ("", "."),
     ("\n", "|."),
@@ -64,57 +77,11 @@ const LINES: [(&str, &str); 6] = [
     ("a\tb\r\n c ", "|a\tb\r| c ."),
 ];
 
-/// Whether bytes that come in chunks are told so.
-fn are_told(alloc: Global, bytes: &str, chunk: usize, lines: &str) -> Result<bool, Fail> {
-    let bytes = Vec::from_slice(alloc, bytes.as_bytes())?;
-    let told = told_in(alloc, bytes, chunk)?;
-    Ok(told.as_slice() == lines.as_bytes())
-}
-
-#[test]
-fn lines_come_in_any_chunks(rt: HostRuntime) -> Result<(), Fail> {
-    for chunk in [1, 3, 4096] {
-        for (bytes, lines) in LINES {
-            assert!(rt; are_told(rt.alloc(), bytes, chunk, lines)?, "{lines}");
-        }
-    }
-    Ok(())
-}
-
-/// So many bytes, and then these.
-fn long_line(alloc: Global, count: usize, rest: &str) -> Result<Vec<u8>, Fail> {
-    let mut bytes = vec![in alloc; b'x'; count]?;
-    bytes.extend_from_slice(rest.as_bytes())?;
-    Ok(bytes)
-}
-
-/// How many bytes come before which others, and with what and how long is told.
-type Long = (usize, &'static str, &'static str, usize);
-
-const LONG: [Long; 4] = [
-    (4096, "", ".", 4098),
-    (4096, "\nab", "|ab.", 4101),
-    (4097, "", ">", 1),
-    (4097, "\n", ">", 1),
-];
-
-fn is_long_told(
-    alloc: Global,
-    chunk: usize,
-    (count, rest, end, length): Long,
-) -> Result<bool, Fail> {
-    let told = told_in(alloc, long_line(alloc, count, rest)?, chunk)?;
-    Ok(told.len() == length && told.ends_with(end.as_bytes()))
-}
-
-#[test]
-fn a_line_has_at_most_4096_bytes(rt: HostRuntime) -> Result<(), Fail> {
-    for chunk in [1, 4096, 5000] {
-        for row in LONG {
-            assert!(rt; is_long_told(rt.alloc(), chunk, row)?, "{chunk}");
-        }
-    }
-    Ok(())
+fn come_in_chunks(alloc: Global, bytes: &str, told: &str) -> bool {
+    let (bytes, told) = (bytes.as_bytes(), told.as_bytes());
+    are_told(alloc, bytes, 1, &[], told)
+        && are_told(alloc, bytes, 3, &[], told)
+        && are_told(alloc, bytes, 4096, &[], told)
 }
 
 /// Bytes, the greatest chunk, the calls that fail, and what is told.
@@ -141,23 +108,51 @@ const FAILING: [Failing; 16] = [
     ("ab\ncd", 4096, &[2, 3, 4], "|ab|cd."),
 ];
 
-/// A source of these bytes that fails at these calls.
-fn failing(alloc: Global, bytes: &str, chunk: usize, fails: &[u32]) -> Result<MemorySource, Fail> {
-    let bytes = Vec::from_slice(alloc, bytes.as_bytes())?;
-    let fails = Vec::from_slice(alloc, fails)?;
-    Ok(MemorySource::new(bytes, chunk.max(1), fails))
+#[test]
+fn lines_come_in_chunks_up_to_a_failure(rt: HostRuntime) {
+    for (bytes, told) in &LINES {
+        assert!(rt; come_in_chunks(rt.alloc(), bytes, told), "{told}");
+    }
+    for (bytes, chunk, fails, told) in &FAILING {
+        assert!(rt;
+            are_told(rt.alloc(), bytes.as_bytes(), *chunk, fails, told.as_bytes()),
+            "{told}"
+        );
+    }
 }
 
-fn is_told_failing(alloc: Global, (bytes, chunk, fails, lines): Failing) -> Result<bool, Fail> {
-    let mut source = failing(alloc, bytes, chunk, fails)?;
-    let told = told(alloc, &mut source)?;
-    Ok(told.as_slice() == lines.as_bytes())
+/// So many bytes, and then these.
+fn long_bytes(alloc: Global, count: usize, rest: &str) -> Option<Vec<u8>> {
+    let mut bytes = vec![in alloc; b'x'; count].ok()?;
+    bytes.extend_from_slice(rest.as_bytes()).ok()?;
+    Some(bytes)
+}
+
+/// How many bytes come before which others, the length of the first line, if there is one, and what is told after it.
+type Long = (usize, &'static str, Option<usize>, &'static str);
+
+const LONG: [Long; 4] = [
+    (4096, "", Some(4096), "."),
+    (4096, "\nab", Some(4096), "|ab."),
+    (4097, "", None, ">"),
+    (4097, "\n", None, ">"),
+];
+
+fn is_long_told(alloc: Global, chunk: usize, (count, rest, first, told): &Long) -> bool {
+    match long_bytes(alloc, *count, rest) {
+        Some(bytes) => {
+            let mut source = SteadySource::new(bytes, chunk.max(1));
+            follow(alloc, &mut source, *first, told.as_bytes())
+        }
+        None => false,
+    }
 }
 
 #[test]
-fn a_read_that_fails_ends_the_lines(rt: HostRuntime) -> Result<(), Fail> {
-    for row in FAILING {
-        assert!(rt; is_told_failing(rt.alloc(), row)?, "{}", row.3);
+fn a_line_has_at_most_4096_bytes(rt: HostRuntime) {
+    for row in &LONG {
+        assert!(rt; is_long_told(rt.alloc(), 1, row));
+        assert!(rt; is_long_told(rt.alloc(), 4096, row));
+        assert!(rt; is_long_told(rt.alloc(), 5000, row));
     }
-    Ok(())
 }
