@@ -1,9 +1,7 @@
-//! Bytes and lines in and out, and the words of a command: tests.
+//! Bytes and lines in and out: tests.
 #![tactic(auto)]
 
 #[cfg(test)]
 mod io_tests;
 #[cfg(test)]
 mod line_tests;
-#[cfg(test)]
-mod word_tests;
