@@ -2,10 +2,10 @@
 #![tactic(auto)]
 
 #[cfg(test)]
+mod changes;
+#[cfg(test)]
 mod limits;
 #[cfg(test)]
 mod needs;
 #[cfg(test)]
-mod tables;
-#[cfg(test)]
-mod tests;
+mod plans;

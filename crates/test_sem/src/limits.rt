@@ -1,115 +1,120 @@
 //! Programs of one process at the edges of what validity allows.
 
-use ppd_ast::{Body, Expr, Ids, Kind, Memory, Nums, Place, Program, Seq, Stmt, Var};
+use crate::changes::{Act, body_of, stmt_of};
+use ppd_ast::{Expr, Kind, Memory, Place, Program, Seq, Stmt};
+use ppd_check::read_source;
 use std::alloc::Global;
 
-/// A program of nothing.
-pub fn empty(alloc: Global) -> Program {
-    Program {
-        exprs: Seq::new(alloc),
-        stmts: Seq::new(alloc),
-        bodies: Seq::new(alloc),
-        functions: 0,
-        shared: Seq::new(alloc),
-        starts: Nums::new(alloc),
-        sems: Seq::new(alloc),
-        chans: Seq::new(alloc),
-    }
-}
+/// A shared scalar, a shared array of one cell, and a print of the scalar.
+const PRINTING: &str = "shared int x, a[1]; process p { print(x); }";
 
-/// Adds a shared scalar, and a shared array of one cell.
-pub fn add_shared(alloc: Global, program: &mut Program) -> Result<(), Memory> {
-    for (base, len) in [(0, None), (1, Some(1))] {
-        let name = Seq::new(alloc);
-        program.shared.push(Var { name, base, len })?;
-        program.starts.push(0)?;
-    }
-    Ok(())
-}
-
-fn add_stmt(program: &mut Program, parent: Option<u32>, kind: Kind) -> Result<(), Memory> {
-    program.stmts.push(Stmt {
+/// Has the print tell the last expression.
+fn print_last(program: &mut Program) {
+    let last = program.exprs.len().min(4096).saturating_sub(1) as u32;
+    let stmt = Stmt {
         place: Place { line: 1, column: 1 },
         body: 0,
-        parent,
-        kind,
-    })
+        parent: None,
+        kind: Kind::Print(last),
+    };
+    program.stmts.set(0, stmt);
 }
 
-fn ids(alloc: Global, items: &[u32]) -> Result<Ids, Memory> {
-    Ok(Seq::from_vec(Vec::from_slice(alloc, items)?))
-}
-
-/// Adds the process of all statements, of which these are the outermost.
-fn add_process(alloc: Global, program: &mut Program, top: &[u32]) -> Result<(), Memory> {
-    let end = program.stmts.len().min(4096) as u32;
-    let top = ids(alloc, top)?;
-    program.bodies.push(Body {
-        name: Seq::new(alloc),
-        process: true,
-        params: 0,
-        value: false,
-        cells: 0,
-        locals: Seq::new(alloc),
-        top,
-        first: 0,
-        end,
-    })
-}
-
-/// Adds a process that prints the last expression.
-fn add_printing(alloc: Global, program: &mut Program) -> Result<(), Memory> {
-    let last = program.exprs.len().min(4096).saturating_sub(1) as u32;
-    add_stmt(program, None, Kind::Print(last))?;
-    add_stmt(program, None, Kind::End)?;
-    add_process(alloc, program, &[0, 1])
-}
-
-/// Adds a print of the shared scalar under so many signs.
-pub fn add_signs(alloc: Global, program: &mut Program, count: u16) -> Result<(), Memory> {
-    program.exprs.push(Expr::Shared(0))?;
+/// A print of the scalar under so many signs.
+fn add_signs(program: &mut Program, count: u16) -> Result<(), Memory> {
     for number in 0..count {
         program.exprs.push(Expr::Neg(number as u32))?;
     }
-    add_printing(alloc, program)
+    print_last(program);
+    Ok(())
 }
 
-/// Adds a print of an element whose index is an element, and so on, so many nodes deep.
-pub fn add_elements(alloc: Global, program: &mut Program, nodes: u16) -> Result<(), Memory> {
-    program.exprs.push(Expr::Shared(0))?;
+/// A print of an element whose index is an element, and so on, so many nodes deep.
+fn add_elements(program: &mut Program, nodes: u16) -> Result<(), Memory> {
     for number in 1..nodes {
+        let at = number as u32 - 1;
         program.exprs.push(Expr::SharedAt {
             base: 1,
             len: 1,
-            at: number as u32 - 1,
+            at,
         })?;
     }
-    add_printing(alloc, program)
+    print_last(program);
+    Ok(())
 }
 
-/// Adds a loop of this number inside the one before, round the statement after it.
-fn add_loop(alloc: Global, program: &mut Program, number: u8) -> Result<(), Memory> {
-    let number = u32::from(number);
-    let parent = if number == 0 { None } else { Some(number - 1) };
+/// Adds a statement inside the one before, with an expression of its own.
+fn add_inside(alloc: Global, program: &mut Program, number: u8, act: Act) -> Result<(), Memory> {
     program.exprs.push(Expr::Const(1))?;
-    let inside = ids(alloc, &[number + 1])?;
-    add_stmt(program, parent, Kind::While(number, inside))
+    let parent = match number {
+        0 => None,
+        _ => Some(u32::from(number) - 1),
+    };
+    let stmt = stmt_of(alloc, 0, parent, act)?;
+    program.stmts.push(stmt)
 }
 
-/// Adds a print inside so many loops, and the end of the process.
-fn add_print(program: &mut Program, loops: u8) -> Result<(), Memory> {
-    let loops = u32::from(loops);
-    let parent = if loops == 0 { None } else { Some(loops - 1) };
-    program.exprs.push(Expr::Const(1))?;
-    add_stmt(program, parent, Kind::Print(loops))?;
-    add_stmt(program, None, Kind::End)
+/// Adds the end after so many loops and the print, and makes the process of all of it.
+fn add_end(alloc: Global, program: &mut Program, count: u8) -> Result<(), Memory> {
+    let end = u32::from(count) + 1;
+    let stmt = stmt_of(alloc, 0, None, Act::End)?;
+    program.stmts.push(stmt)?;
+    let body = body_of(alloc, (true, false, 0), &[0, end], (0, end + 1))?;
+    program.bodies.set(0, body);
+    Ok(())
 }
 
-/// Adds a print inside so many loops.
-pub fn add_loops(alloc: Global, program: &mut Program, count: u8) -> Result<(), Memory> {
+/// A print inside so many loops.
+fn set_loops(alloc: Global, program: &mut Program, count: u8) -> Result<(), Memory> {
+    program.exprs = Seq::new(alloc);
+    program.stmts = Seq::new(alloc);
     for number in 0..count {
-        add_loop(alloc, program, number)?;
+        let loop_number = u32::from(number);
+        let act = Act::While(loop_number, &[loop_number + 1]);
+        add_inside(alloc, program, number, act)?;
     }
-    add_print(program, count)?;
-    add_process(alloc, program, &[0, u32::from(count) + 1])
+    add_inside(alloc, program, count, Act::Print(u32::from(count)))?;
+    add_end(alloc, program, count)
+}
+
+#[derive(Clone, Copy)]
+enum Limit {
+    Signs(u16),
+    Nodes(u16),
+    Loops(u8),
+}
+
+fn set(alloc: Global, program: &mut Program, limit: Limit) -> Result<(), Memory> {
+    match limit {
+        Limit::Signs(count) => add_signs(program, count),
+        Limit::Nodes(count) => add_elements(program, count),
+        Limit::Loops(count) => set_loops(alloc, program, count),
+    }
+}
+
+/// Whether a program with so many of them is valid. None where memory is wanting.
+fn is_valid(alloc: Global, limit: Limit) -> Option<bool> {
+    let mut program = read_source(alloc, PRINTING.as_bytes()).ok()?;
+    set(alloc, &mut program, limit).ok()?;
+    Some(program.valid())
+}
+
+// Operators, nodes and nesting at their limits and one past them.
+const LIMITS: [(Limit, bool); 9] = [
+    (Limit::Signs(0), true),
+    (Limit::Signs(513), true),
+    (Limit::Signs(514), false),
+    (Limit::Nodes(1), true),
+    (Limit::Nodes(1024), true),
+    (Limit::Nodes(1025), false),
+    (Limit::Loops(1), true),
+    (Limit::Loops(63), true),
+    (Limit::Loops(64), false),
+];
+
+#[test]
+fn limits_of_expressions_and_nesting(rt: HostRuntime) {
+    for (number, (limit, valid)) in LIMITS.iter().enumerate() {
+        assert!(rt; is_valid(rt.alloc(), *limit) == Some(*valid), "{number}");
+    }
 }

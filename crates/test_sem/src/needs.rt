@@ -32,7 +32,7 @@ fn name_of(trap: Trap) -> &'static str {
     }
 }
 
-fn told(need: Need) -> Told {
+fn in_short(need: Need) -> Told {
     match need {
         Need::Read(cell) => ("read", [i64::from(cell), NO, NO]),
         Need::Write(cell, value) => ("write", [i64::from(cell), value, NO]),
@@ -83,7 +83,7 @@ fn needs(
         _ => Answer::Go,
     };
     feed(program, plan, proc, &answer)?;
-    Ok(told(need) == wanted)
+    Ok(in_short(need) == wanted)
 }
 
 fn have_needs(
