@@ -1,3 +1,6 @@
+ghost use Rattle.ppd_ast.specs.Valid.{IsValid};
+
+use ppd_ast::Program;
 use ppd_cfg::{Cfg, flow_graph};
 use ppd_check::read_source;
 use ppd_sets::{VarSets, sets};
@@ -54,24 +57,21 @@ fn are_rows(graph: &Cfg, first: u32, rows: &[&[u32]]) -> bool {
     !graph.has(stmt)
 }
 
-/// Whether the body's statements have these successors.
-fn flows(alloc: Global, (source, body, first, rows): Flow) -> bool {
-    let Ok(program) = read_source(alloc, source.as_bytes()) else {
-        return false;
-    };
-    if body as usize >= program.bodies.len() {
+fn flows_in(alloc: Global, program: &Program, (_, body, first, rows): &Flow) -> bool {
+    if *body as usize >= program.bodies.len() {
         return false;
     }
-    match flow_graph(alloc, &program, body) {
+    match flow_graph(alloc, program, *body) {
+        Ok(graph) => are_rows(&graph, *first, rows),
         Err(_) => false,
-        Ok(graph) => are_rows(&graph, first, rows),
     }
 }
 
-#[test]
-fn statements_flow(rt: HostRuntime) {
-    for (number, flow) in FLOWS.iter().enumerate() {
-        assert!(rt; flows(rt.alloc(), *flow), "{number}");
+/// Whether the body's statements have these successors.
+fn flows(alloc: Global, row: &Flow) -> bool {
+    match read_source(alloc, row.0.as_bytes()) {
+        Ok(program) => flows_in(alloc, &program, row),
+        Err(_) => false,
     }
 }
 
@@ -91,26 +91,33 @@ const LOOPS: [Loop; 7] = [
     (CALL_IN_LOOP, 3, &[1], &[0]),
 ];
 
-fn sets_of(alloc: Global, source: &str) -> Option<VarSets> {
-    let program = read_source(alloc, source.as_bytes()).ok()?;
-    sets(alloc, &program).ok()
+fn are_cells(sets: &VarSets, (_, stmt, used, defined): &Loop) -> bool {
+    sets.has_stmt(*stmt) && sets.loop_used(*stmt) == *used && sets.loop_defined(*stmt) == *defined
+}
+
+fn has_cells_in(alloc: Global, program: &Program, row: &Loop) -> bool
+    requires { IsValid program.now }
+{
+    match sets(alloc, program) {
+        Ok(sets) => are_cells(&sets, row),
+        Err(_) => false,
+    }
 }
 
 /// Whether the loop uses and defines these cells.
-fn has_cells(alloc: Global, (source, stmt, used, defined): Loop) -> bool {
-    match sets_of(alloc, source) {
-        None => false,
-        Some(sets) => {
-            sets.has_stmt(stmt)
-                && sets.loop_used(stmt) == used
-                && sets.loop_defined(stmt) == defined
-        }
+fn has_cells(alloc: Global, row: &Loop) -> bool {
+    match read_source(alloc, row.0.as_bytes()) {
+        Ok(program) => has_cells_in(alloc, &program, row),
+        Err(_) => false,
     }
 }
 
 #[test]
-fn loops_use_and_define(rt: HostRuntime) {
+fn statements_flow_and_loops_use_and_define(rt: HostRuntime) {
+    for (number, flow) in FLOWS.iter().enumerate() {
+        assert!(rt; flows(rt.alloc(), flow), "{number}");
+    }
     for (number, row) in LOOPS.iter().enumerate() {
-        assert!(rt; has_cells(rt.alloc(), *row), "{number}");
+        assert!(rt; has_cells(rt.alloc(), row), "{number}");
     }
 }

@@ -25,13 +25,6 @@ fn lists(alloc: Global, set: &CellSet, cells: &[u16]) -> bool {
     }
 }
 
-#[test]
-fn a_set_lists_cells_in_order(rt: HostRuntime) {
-    let alloc = rt.alloc();
-    assert!(rt; lists(alloc, &set_of(&ENDS), &[0, 63, 64, 1023]));
-    assert!(rt; lists(alloc, &CellSet::new(), &[]));
-}
-
 /// Whether a set has a cell and meets the set of that cell, or neither.
 fn has(set: &CellSet, cell: u16, wanted: bool) -> bool {
     let single = set_of(&[cell]);
@@ -41,22 +34,24 @@ fn has(set: &CellSet, cell: u16, wanted: bool) -> bool {
         && single.meets(set) == wanted
 }
 
-#[test]
-fn a_set_has_its_cells_and_no_others(rt: HostRuntime) {
-    let set = set_of(&ENDS);
-    for cell in ENDS {
-        assert!(rt; has(&set, cell, true), "{cell}");
+fn have(set: &CellSet, cells: &[u16], wanted: bool) -> bool {
+    for cell in cells {
+        if !has(set, *cell, wanted) {
+            return false;
+        }
     }
-    for cell in OTHERS {
-        assert!(rt; has(&set, cell, false), "{cell}");
-    }
-    assert!(rt; !set.meets(&CellSet::new()));
+    true
 }
 
+// A set lists its cells in order, has these and no others, takes in another set, and is cleared.
 #[test]
-fn a_set_takes_in_another_and_is_cleared(rt: HostRuntime) {
+fn a_set_has_its_cells(rt: HostRuntime) {
     let alloc = rt.alloc();
     let mut set = set_of(&ENDS);
+    assert!(rt; lists(alloc, &set, &[0, 63, 64, 1023]));
+    assert!(rt; lists(alloc, &CellSet::new(), &[]));
+    assert!(rt; have(&set, &ENDS, true) && have(&set, &OTHERS, false));
+    assert!(rt; !set.meets(&CellSet::new()));
     set.insert_all(&set_of(&[65, 63]));
     assert!(rt; lists(alloc, &set, &[0, 63, 64, 65, 1023]));
     set.clear();
