@@ -1,13 +1,9 @@
-//! Logs that need be no run's: tests of the index of logs and of the replay.
+//! Logs that need be no run's: tests of the intervals of their index, and of replays that fail.
 #![tactic(auto)]
 
 #[cfg(test)]
-mod damaged_tests;
+mod claims;
 #[cfg(test)]
-mod index_tests;
-#[cfg(test)]
-mod runs;
-#[cfg(test)]
-mod shown;
+mod tests;
 #[cfg(test)]
 mod written;
