@@ -1,14 +1,18 @@
-//! The edges of each event as the full trace has them, beside those that are found by replays.
+//! The edges of each event as a full trace has them, beside those that are found by replays.
 
+ghost use Rattle.std.specs.Prelude.{◌≡◌, ◌<◌};
 ghost use Rattle.ppd_flow_past.specs.Pasts.{IsPast};
+ghost use Rattle.test_pasts.specs.Runs.{IsRan};
 
 use ppd_ast::{Kind, Program, Seq, Steps};
 use ppd_flow::edges;
-use ppd_flow_past::{Past, count_of, replayed};
+use ppd_flow_past::{Past, replayed};
 use ppd_model::{EdgeKind, EventId, FlowEdge, Item, Origin, Trace, TracedEvent};
-use ppd_text::{put, put_count};
+use ppd_trace::full_trace;
 use std::alloc::Global;
-use std::sync::ledger::Ledger;
+use std::marker::Brand;
+use std::sync::ledger::{Blank, Ledger};
+use test_pasts::Ran;
 
 /// How many processes there are at most.
 const PROCESSES: u8 = 16;
@@ -16,163 +20,184 @@ const PROCESSES: u8 = 16;
 /// How many items a process of these tests has at most.
 const MOST_ITEMS: u32 = 10_000;
 
-/// Item `item` of interval `interval`.
+/// Item `item` of interval `interval` of a process.
 #[derive(Clone, Copy)]
 struct Place {
+    process: u8,
     interval: u32,
     item: u32,
 }
 
-impl Place {
-    fn next(self) -> Place {
-        Place {
-            interval: self.interval,
-            item: self.item.saturating_add(1),
-        }
-    }
+/// What stands at a place: no item, an event, or an interval.
+#[derive(Clone, Copy)]
+enum Standing {
+    Nothing,
+    Event,
+    Interval(u32),
 }
 
-// ---- where each event of a process stands
+/// A process, how many events it has, and whether each has the edges that are found at its place.
+pub type Told = (u8, usize, bool);
 
-/// The items of each interval of a process.
-fn intervals_of<L: Ledger>(
+// ---- where each event stands
+
+/// What stands at a place. None where the replay fails.
+fn standing_at<L: Ledger>(
     alloc: Global,
     past: &Past,
-    process: u8,
+    place: Place,
     steps: &mut Steps<L>,
-) -> Option<Seq<Seq<Item>>>
+) -> Option<Standing>
     requires { IsPast past.now }
 {
-    let mut intervals = Seq::new(alloc);
-    for interval in 0..count_of(past, process) {
-        let items = replayed(alloc, past, process, interval, steps).ok()?;
-        intervals.push(items).ok()?;
+    let items = replayed(alloc, past, place.process, place.interval, steps).ok()?;
+    match items.as_slice().get(place.item as usize) {
+        None => Some(Standing::Nothing),
+        Some(Item::Own(_)) => Some(Standing::Event),
+        Some(Item::Nested { interval, .. }) => Some(Standing::Interval(*interval)),
     }
-    Some(intervals)
-}
-
-fn item_at(intervals: &[Seq<Item>], place: Place) -> Option<&Item> {
-    intervals
-        .get(place.interval as usize)?
-        .as_slice()
-        .get(place.item as usize)
 }
 
 /// Puts an event's place behind these; an interval's items come before what is behind the interval.
 fn pass(
-    places: &mut Seq<Place>,
+    places: &mut Vec<Place>,
     todo: &mut Vec<Place>,
-    item: Option<&Item>,
     place: Place,
+    standing: Standing,
 ) -> Option<()> {
-    match item {
-        None => Some(()),
-        Some(Item::Own(_)) => {
+    let next = Place {
+        item: place.item.saturating_add(1),
+        ..place
+    };
+    match standing {
+        Standing::Nothing => Some(()),
+        Standing::Event => {
             places.push(place).ok()?;
-            todo.push(place.next()).ok()
+            todo.push(next).ok()
         }
-        Some(Item::Nested { interval, .. }) => {
-            todo.push(place.next()).ok()?;
+        Standing::Interval(interval) => {
+            todo.push(next).ok()?;
             let first = Place {
-                interval: *interval,
+                interval,
                 item: 0,
+                ..place
             };
             todo.push(first).ok()
         }
     }
 }
 
-/// The place of each event of a process with these intervals, in order.
-fn places_in(alloc: Global, intervals: &[Seq<Item>]) -> Option<Seq<Place>> {
-    let mut places = Seq::new(alloc);
-    let mut todo = Vec::new(alloc);
-    let first = Place {
-        interval: 0,
-        item: 0,
-    };
-    todo.push(first).ok()?;
+/// Puts the events' places behind these, from the places that are left.
+fn put_left<L: Ledger>(
+    alloc: Global,
+    past: &Past,
+    places: &mut Vec<Place>,
+    todo: &mut Vec<Place>,
+    steps: &mut Steps<L>,
+) -> Option<()>
+    requires { IsPast past.now }
+{
     for _ in 0..MOST_ITEMS {
         let Some(place) = todo.pop() else {
-            return Some(places);
+            return Some(());
         };
-        pass(&mut places, &mut todo, item_at(intervals, place), place)?;
+        let standing = standing_at(alloc, past, place, steps)?;
+        pass(places, todo, place, standing)?;
     }
     None
 }
 
-/// The place of each event of a process.
-fn places_of<L: Ledger>(
-    alloc: Global,
-    past: &Past,
-    process: u8,
-    steps: &mut Steps<L>,
-) -> Option<Seq<Place>>
-    requires { IsPast past.now }
-{
-    let intervals = intervals_of(alloc, past, process, steps)?;
-    places_in(alloc, intervals.as_slice())
+/// Puts where each process begins behind these.
+fn put_begins(todo: &mut Vec<Place>) -> Option<()> {
+    for process in 0..PROCESSES {
+        let first = Place {
+            process,
+            interval: 0,
+            item: 0,
+        };
+        todo.push(first).ok()?;
+    }
+    Some(())
 }
 
-/// The place of each event of each process; of one that is not there no place.
-fn all_places<L: Ledger>(
+/// Puts the place of each event of each process, in the order of the process.
+fn put_places<L: Ledger>(
     alloc: Global,
     past: &Past,
+    places: &mut Vec<Place>,
     steps: &mut Steps<L>,
-) -> Option<Seq<Seq<Place>>>
+) -> Option<()>
     requires { IsPast past.now }
 {
-    let mut all = Seq::new(alloc);
-    for process in 0..PROCESSES {
-        all.push(places_of(alloc, past, process, steps)?).ok()?;
+    let mut todo = Vec::new(alloc);
+    put_begins(&mut todo)?;
+    put_left(alloc, past, places, &mut todo, steps)
+}
+
+fn place_of(places: &[Place], event: EventId) -> Option<Place> {
+    let mut left = event.number;
+    for place in places {
+        if place.process == event.process {
+            if left == 0 {
+                return Some(*place);
+            }
+            left = left.saturating_sub(1);
+        }
     }
-    Some(all)
+    None
 }
 
 // ---- the edges of an event
 
 /// Where an event stands, and this origin where there is none.
-fn origin_of(all: &[Seq<Place>], event: Option<EventId>, none: Origin) -> Option<Origin> {
-    let Some(EventId { process, number }) = event else {
+fn origin_of(places: &[Place], event: Option<EventId>, none: Origin) -> Option<Origin> {
+    let Some(event) = event else {
         return Some(none);
     };
-    let place = all.get(process as usize)?.as_slice().get(number as usize)?;
+    let place = place_of(places, event)?;
     Some(Origin::Item {
-        process,
+        process: place.process,
         interval: place.interval,
         item: place.item,
     })
 }
 
-/// Puts an edge of no cell behind these.
-fn push_bare(edges: &mut Seq<FlowEdge>, kind: EdgeKind, from: Option<Origin>) -> Option<()> {
-    let edge = FlowEdge {
-        kind,
-        spot: None,
-        value: None,
-        from: from?,
-    };
-    edges.push(edge).ok()
-}
-
-/// The edge of an event's read of this number.
-fn read_of(event: &TracedEvent, number: usize, all: &[Seq<Place>]) -> Option<FlowEdge> {
-    let read = event.event.reads.as_slice().get(number)?;
-    let writer = *event.writers.as_slice().get(number)?;
-    Some(FlowEdge {
-        kind: EdgeKind::Read,
-        spot: Some(read.spot),
-        value: Some(read.value),
-        from: origin_of(all, writer, Origin::Initial)?,
-    })
-}
-
-/// The edges of an event's reads.
-fn reads_of(alloc: Global, event: &TracedEvent, all: &[Seq<Place>]) -> Option<Seq<FlowEdge>> {
-    let mut edges = Seq::new(alloc);
-    for number in 0..event.event.reads.len() {
-        edges.push(read_of(event, number, all)?).ok()?;
+/// Whether this is an edge of no cell.
+fn is_bare(edge: Option<&FlowEdge>, kind: EdgeKind, from: Option<Origin>) -> bool {
+    match edge {
+        Some(edge) => {
+            edge.kind == kind
+                && edge.spot.is_none()
+                && edge.value.is_none()
+                && Some(edge.from) == from
+        }
+        None => false,
     }
-    Some(edges)
+}
+
+/// Whether this is the edge of an event's read of this number.
+fn is_read(places: &[Place], event: &TracedEvent, number: usize, edge: &FlowEdge) -> bool {
+    let Some(read) = event.event.reads.as_slice().get(number) else {
+        return false;
+    };
+    let Some(writer) = event.writers.as_slice().get(number) else {
+        return false;
+    };
+    edge.kind == EdgeKind::Read
+        && edge.spot == Some(read.spot)
+        && edge.value == Some(read.value)
+        && Some(edge.from) == origin_of(places, *writer, Origin::Initial)
+}
+
+/// Whether the first of these are the edges of an event's reads.
+fn are_reads(places: &[Place], event: &TracedEvent, found: &[FlowEdge]) -> bool {
+    for number in 0..event.event.reads.len() {
+        match found.get(number) {
+            Some(edge) if is_read(places, event, number, edge) => {}
+            _ => return false,
+        }
+    }
+    true
 }
 
 /// Whether an event takes from a semaphore.
@@ -183,40 +208,46 @@ fn is_taking(program: &Program, event: &TracedEvent) -> bool {
     }
 }
 
-/// The edges that a trace gives one of its events.
-fn edges_of(
-    alloc: Global,
-    program: &Program,
-    event: &TracedEvent,
-    all: &[Seq<Place>],
-) -> Option<Seq<FlowEdge>> {
-    let mut edges = reads_of(alloc, event, all)?;
-    if event.paired.is_some() || is_taking(program, event) {
-        let from = origin_of(all, event.paired, Origin::Initial);
-        push_bare(&mut edges, EdgeKind::Sync, from)?;
-    }
-    let from = origin_of(all, event.parent, Origin::Entry);
-    push_bare(&mut edges, EdgeKind::Control, from)?;
-    Some(edges)
+/// Whether these are the edges that a trace gives one of its events.
+fn are_edges(places: &[Place], program: &Program, event: &TracedEvent, found: &[FlowEdge]) -> bool {
+    let reads = event.event.reads.len();
+    let is_paired = event.paired.is_some() || is_taking(program, event);
+    let control = if is_paired {
+        reads.saturating_add(1)
+    } else {
+        reads
+    };
+    let pair = origin_of(places, event.paired, Origin::Initial);
+    let parent = origin_of(places, event.parent, Origin::Entry);
+    found.len() == control.saturating_add(1)
+        && are_reads(places, event, found)
+        && (!is_paired || is_bare(found.get(reads), EdgeKind::Sync, pair))
+        && is_bare(found.get(control), EdgeKind::Control, parent)
 }
 
 // ---- the comparison
 
-/// Whether an event of a trace has the edges that are found at its place.
+/// Whether an event of a trace has the edges that are found at its place. None where the search fails.
 fn is_found<L: Ledger>(
     alloc: Global,
     past: &Past,
-    at: (u8, Place),
+    place: Place,
     event: &TracedEvent,
-    all: &[Seq<Place>],
+    places: &[Place],
     steps: &mut Steps<L>,
 ) -> Option<bool>
     requires { IsPast past.now }
 {
-    let (process, place) = at;
-    let found = edges(alloc, past, process, place.interval, place.item, steps).ok()?;
-    let told = edges_of(alloc, past.program, event, all)?;
-    Some(found == told)
+    let found = edges(
+        alloc,
+        past,
+        place.process,
+        place.interval,
+        place.item,
+        steps,
+    )
+    .ok()?;
+    Some(are_edges(places, past.program, event, found.as_slice()))
 }
 
 /// Whether each event of a process has the edges that are found at its place, and each place its event.
@@ -225,73 +256,79 @@ fn are_found<L: Ledger>(
     past: &Past,
     process: u8,
     events: &[TracedEvent],
-    all: &[Seq<Place>],
+    places: &[Place],
     steps: &mut Steps<L>,
 ) -> Option<bool>
     requires { IsPast past.now }
 {
-    let places = all.get(process as usize)?.as_slice();
-    if places.len() != events.len() {
-        return Some(false);
-    }
-    for (number, event) in events.iter().enumerate() {
-        let place = *places.get(number)?;
-        if !is_found(alloc, past, (process, place), event, all, steps)? {
+    let mut number: u32 = 0;
+    for event in events {
+        let Some(place) = place_of(places, EventId { process, number }) else {
+            return Some(false);
+        };
+        if !is_found(alloc, past, place, event, places, steps)? {
             return Some(false);
         }
+        number = number.saturating_add(1);
     }
-    Some(true)
+    Some(place_of(places, EventId { process, number }).is_none())
 }
 
-fn put_told(text: &mut Vec<u8>, count: usize, found: bool) -> Option<()> {
-    let told: &[u8] = if found {
-        b" as traced\n"
-    } else {
-        b" otherwise\n"
-    };
-    put_count(text, count).ok()?;
-    put(text, told).ok()
-}
-
-/// Appends for each process how many events it has, and whether each has the edges that are found.
-fn put_processes<L: Ledger>(
-    text: &mut Vec<u8>,
+/// Whether the processes of a trace are as told.
+fn are_told<L: Ledger>(
     alloc: Global,
     past: &Past,
     lists: &[Seq<TracedEvent>],
-    all: &[Seq<Place>],
+    places: &[Place],
+    told: &[Told],
     steps: &mut Steps<L>,
-) -> Option<()>
+) -> bool
     requires { IsPast past.now }
 {
-    for process in 0..PROCESSES {
-        let Some(events) = lists.get(process as usize) else {
-            return Some(());
+    for (process, count, same) in told {
+        let Some(events) = lists.get(*process as usize) else {
+            return false;
         };
-        let events = events.as_slice();
-        let found = are_found(alloc, past, process, events, all, steps)?;
-        put_told(text, events.len(), found)?;
+        let found = are_found(alloc, past, *process, events.as_slice(), places, steps);
+        if events.len() != *count || found != Some(*same) {
+            return false;
+        }
     }
-    Some(())
+    lists.len() == told.len()
 }
 
-/// Appends for each process of the trace how many events it has, and whether each has the edges that are found.
-pub fn put_compared<L: Ledger>(
-    text: &mut Vec<u8>,
+fn compares<L: Ledger>(
     alloc: Global,
     past: &Past,
     trace: &Trace,
-    steps: &mut Steps<L>,
-) -> Option<()>
-    requires { IsPast past.now }
+    told: &[Told],
+    blank: Blank,
+) -> bool
+    requires past { IsPast past.now }
+    requires name { blank.name ≡ L.name }
+    requires parts { blank.parts ≡ L.parts }
+    requires some { 0 < blank.parts }
 {
-    let all = all_places(alloc, past, steps)?;
-    put_processes(
-        text,
-        alloc,
-        past,
-        trace.events.as_slice(),
-        all.as_slice(),
-        steps,
-    )
+    let mut steps: Steps<L> = Steps::new(blank);
+    let mut places = Vec::new(alloc);
+    put_places(alloc, past, &mut places, &mut steps).is_some()
+        && are_told(
+            alloc,
+            past,
+            trace.events.as_slice(),
+            &places,
+            told,
+            &mut steps,
+        )
+}
+
+/// Whether the edges that are found in a run stand so to those of the full trace of a schedule.
+pub fn stand_so(alloc: Global, ran: &Ran<'_>, schedule: &[u8], told: &[Told]) -> bool
+    requires { IsRan ran.now }
+{
+    let read = ran.read;
+    match full_trace(alloc, &read.program, &read.plan, read.budget, schedule) {
+        Ok(trace) => compares::<Brand>(alloc, &ran.past(), &trace, told, Blank::new(1)),
+        Err(_) => false,
+    }
 }

@@ -1,4 +1,4 @@
-use ppd_ast::Policy;
+use ppd_ast::{Plan, Policy, Program};
 
 /// A source with its policy, the budget of each process, and a schedule.
 #[derive(Clone, Copy)]
@@ -17,4 +17,12 @@ pub fn by_default<'a>(source: &'a str, schedule: &'a [u8]) -> Row<'a> {
         budget: 100_000,
         schedule,
     }
+}
+
+/// The program of a row with the plan of its policy and the budget of each process.
+#[derive(Drop)]
+pub struct Read {
+    pub program: Program,
+    pub plan: Plan,
+    pub budget: u32,
 }

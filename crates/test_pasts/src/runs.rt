@@ -1,17 +1,12 @@
 // The run of a row, and what is kept of it.
-ghost use Rattle.std.specs.Prelude.{◌≡◌, ◌≤◌, IfSome};
-ghost use Rattle.ppd_ast.specs.Valid.{IsValid};
-ghost use Rattle.ppd_ast.specs.ValidPlan.{IsValidPlan};
+ghost use Rattle.std.specs.Prelude.{◌≡◌, IfSome};
 ghost use Rattle.ppd_flow_past.specs.Pasts.{IsPast};
 ghost use Rattle.ppd_race.specs.Races.{AreCellsThere};
-ghost use Rattle.test_pasts.specs.Runs.{IsRan};
 ghost use Rattle.ppd_world.specs.Running.{IsReached};
+ghost use Rattle.test_pasts.specs.Runs.{IsRan, IsRead};
 
-use crate::rows::Row;
-use ppd_ast::limits::{MOST_BUDGET, MOST_POLICY, MOST_PROCESSES};
-use ppd_ast::{Plan, Program};
-use ppd_blocks::partition;
-use ppd_check::read_source;
+use crate::rows::Read;
+use ppd_ast::limits::MOST_PROCESSES;
 use ppd_entry::Logs;
 use ppd_flow_past::Past;
 use ppd_graph::{SyncGraph, graph};
@@ -19,19 +14,16 @@ use ppd_index::{LogIndex, index};
 use ppd_world::World;
 use std::alloc::Global;
 
-/// What is kept of a whole run: its program with the plan of its policy and the budget of each process, its logs, and
-/// their index and graph.
+/// What is kept of a whole run: what it was read from, its logs, and their index and graph.
 #[derive(Drop)]
-pub struct Ran {
-    pub program: Program,
-    pub plan: Plan,
-    pub budget: u32,
+pub struct Ran<'a> {
+    pub read: &'a Read,
     pub logs: Logs,
     pub index: LogIndex,
     pub graph: SyncGraph,
 }
 
-impl Ran {
+impl Ran<'_> {
     /// The same as a past.
     pub fn past(&self) -> Past<'_>
         requires { IsRan self.now }
@@ -39,14 +31,14 @@ impl Ran {
         ensures uncut { result.cut.now ≡ result.logs.now }
     {
         Past {
-            program: &self.program,
-            plan: &self.plan,
+            program: &self.read.program,
+            plan: &self.read.plan,
             logs: &self.logs,
             index: &self.index,
             graph: &self.graph,
             cut: &self.logs,
             cut_index: &self.index,
-            budget: self.budget,
+            budget: self.read.budget,
             kept: &[],
         }
     }
@@ -67,19 +59,11 @@ fn close_world(world: World) -> Option<Logs>
 }
 
 /// The logs of a run by this schedule, if it is whole.
-fn logs_of(
-    alloc: Global,
-    program: &Program,
-    plan: &Plan,
-    budget: u32,
-    schedule: &[u8],
-) -> Option<Logs>
-    requires program { IsValid program.now }
-    requires plan { IsValidPlan program.now plan.now }
-    requires budget { budget ≤ MOST_BUDGET }
-    ensures { IfSome result (AreCellsThere program.now) }
+fn logs_of(alloc: Global, read: &Read, schedule: &[u8]) -> Option<Logs>
+    requires { IsRead read.now }
+    ensures { IfSome result (AreCellsThere read.now.program) }
 {
-    let Ok(mut world) = World::new(alloc, program, plan, budget) else {
+    let Ok(mut world) = World::new(alloc, &read.program, &read.plan, read.budget) else {
         return None;
     };
     match world.drive(schedule) {
@@ -89,48 +73,35 @@ fn logs_of(
 }
 
 /// The same with the index and the graph of these logs.
-fn with_index(alloc: Global, program: Program, plan: Plan, budget: u32, logs: Logs) -> Option<Ran>
-    requires program { IsValid program }
-    requires plan { IsValidPlan program plan }
-    requires budget { budget ≤ MOST_BUDGET }
-    requires cells { AreCellsThere program logs }
+fn with_index<'a>(alloc: Global, read: &'a Read, logs: Logs) -> Option<Ran<'a>>
+    requires read { IsRead read.now }
+    requires cells { AreCellsThere read.now.program logs }
     ensures { IfSome result IsRan }
 {
     if logs.lists.len() > MOST_PROCESSES {
         return None;
     }
-    let Ok(index) = index(alloc, &program, &plan, &logs) else {
+    let Ok(index) = index(alloc, &read.program, &read.plan, &logs) else {
         return None;
     };
-    let Ok(graph) = graph(alloc, &program, &logs) else {
-        return None;
-    };
-    Some(Ran {
-        program,
-        plan,
-        budget,
-        logs,
-        index,
-        graph,
-    })
+    match graph(alloc, &read.program, &logs) {
+        Ok(graph) => Some(Ran {
+            read,
+            logs,
+            index,
+            graph,
+        }),
+        Err(_) => None,
+    }
 }
 
-/// What is kept of the run of a row. None where the source or the options are refused, the schedule is not whole, or
-/// memory is wanting.
-pub fn run_row(alloc: Global, row: &Row) -> Option<Ran>
+/// What is kept of a run by this schedule. None where the schedule is not whole, or memory is wanting.
+pub fn run<'a>(alloc: Global, read: &'a Read, schedule: &[u8]) -> Option<Ran<'a>>
+    requires { IsRead read.now }
     ensures { IfSome result IsRan }
 {
-    if row.policy.leaf > MOST_POLICY || row.policy.loops > MOST_POLICY || row.budget > MOST_BUDGET {
-        return None;
+    match logs_of(alloc, read, schedule) {
+        Some(logs) => with_index(alloc, read, logs),
+        None => None,
     }
-    let Ok(program) = read_source(alloc, row.source.as_bytes()) else {
-        return None;
-    };
-    let Ok(plan) = partition(alloc, &program, &row.policy) else {
-        return None;
-    };
-    let Some(logs) = logs_of(alloc, &program, &plan, row.budget, row.schedule) else {
-        return None;
-    };
-    with_index(alloc, program, plan, row.budget, logs)
 }

@@ -11,4 +11,6 @@ mod sessions;
 #[cfg(test)]
 mod steps;
 #[cfg(test)]
+mod tests;
+#[cfg(test)]
 mod worlds;

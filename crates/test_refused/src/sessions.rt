@@ -1,31 +1,41 @@
-// A session that is asked the same line again.
+//! A session that is asked the same line again.
 ghost use Rattle.std.specs.Prelude.{IfSome};
-ghost use Rattle.test_pasts.specs.Runs.{IsRan};
+ghost use Rattle.test_pasts.specs.Runs.{IsRan, IsRead};
 
-use ppd_ast::Policy;
 use ppd_session::{Reply, Session, SessionError};
 use std::alloc::Global;
-use std::process::Abort;
-use std::test::Fail;
 use std::thread::Threads;
-use test_pasts::{Ran, Row, by_default, run_row};
+use test_pasts::{Ran, Read, Row, read_row, run};
 
-const LOCKED: &str = "shared int x; sem m = 1; process a { P(m); x = x + 1; V(m); } \
-    process b { P(m); x = x + 1; V(m); }";
+/// A line and its answer.
+pub type Asked = (&'static str, &'static str);
 
-const LOOP: &str = "process a { int i = 3; while (i < 3) { i = i + 1; } print(i); }";
-
-/// What is kept of a run, at the first try or at the second.
-fn ran_of(alloc: Global, row: &Row) -> Option<Ran>
-    ensures { IfSome result IsRan }
+/// What a row is read to, at the first try or at the second.
+fn read_of(alloc: Global, row: &Row) -> Option<Read>
+    ensures { IfSome result IsRead }
 {
-    match run_row(alloc, row) {
-        Some(ran) => Some(ran),
-        None => run_row(alloc, row),
+    match read_row(alloc, row) {
+        Some(read) => Some(read),
+        None => read_row(alloc, row),
     }
 }
 
-fn session_of<'a>(rt: &(impl Threads + Sync), alloc: Global, ran: &'a Ran) -> Option<Session<'a>>
+/// What is kept of a run, at the first try or at the second.
+fn ran_of<'a>(alloc: Global, read: &'a Read, schedule: &[u8]) -> Option<Ran<'a>>
+    requires { IsRead read.now }
+    ensures { IfSome result IsRan }
+{
+    match run(alloc, read, schedule) {
+        Some(ran) => Some(ran),
+        None => run(alloc, read, schedule),
+    }
+}
+
+fn session_of<'a>(
+    rt: &(impl Threads + Sync),
+    alloc: Global,
+    ran: &'a Ran<'_>,
+) -> Option<Session<'a>>
     requires { IsRan ran.now }
 {
     match Session::new(rt, alloc, ran.past()) {
@@ -42,9 +52,6 @@ fn asked(session: &mut Session<'_>, line: &str) -> Option<Reply> {
     }
 }
 
-/// A line and its answer.
-type Asked = (&'static str, &'static str);
-
 fn is_answered(session: &mut Session<'_>, (line, text): Asked) -> bool {
     match asked(session, line) {
         Some(reply) => reply.text.as_slice() == text.as_bytes(),
@@ -52,66 +59,42 @@ fn is_answered(session: &mut Session<'_>, (line, text): Asked) -> bool {
     }
 }
 
-fn check_lines(
-    rt: &(impl Abort + Threads + Sync),
+fn are_answered(session: &mut Session<'_>, lines: &[Asked]) -> bool {
+    for asked in lines {
+        if !is_answered(session, *asked) {
+            return false;
+        }
+    }
+    true
+}
+
+fn answers_of(
+    rt: &(impl Threads + Sync),
+    alloc: Global,
+    read: &Read,
+    schedule: &[u8],
+    lines: &[Asked],
+) -> bool
+    requires { IsRead read.now }
+{
+    let Some(ran) = ran_of(alloc, read, schedule) else {
+        return false;
+    };
+    match session_of(rt, alloc, &ran) {
+        Some(mut session) => are_answered(&mut session, lines),
+        None => false,
+    }
+}
+
+/// Whether a session over the run of a row answers so to these lines.
+pub fn answers_again(
+    rt: &(impl Threads + Sync),
     alloc: Global,
     row: &Row,
     lines: &[Asked],
-) -> Result<(), Fail> {
-    let Some(ran) = ran_of(alloc, row) else {
-        return Err(Fail::new("no run"));
-    };
-    let Some(mut session) = session_of(rt, alloc, &ran) else {
-        return Err(Fail::new("no session"));
-    };
-    for asked in lines {
-        assert!(rt; is_answered(&mut session, *asked), "{}", asked.0);
+) -> bool {
+    match read_of(alloc, row) {
+        Some(read) => answers_of(rt, alloc, &read, row.schedule, lines),
+        None => false,
     }
-    Ok(())
-}
-
-const LOCKED_LINES: [Asked; 4] = [
-    ("races", "races 0\n"),
-    (
-        "why b 0 0",
-        "item 0 stmt 4 1:75 P m number 2\nsync from a 0 2\ncontrol from entry\n",
-    ),
-    (
-        "why b 0 1",
-        "item 1 stmt 5 1:81 set read x=1 write x=2\nread x=1 from a 0 1\ncontrol from entry\n",
-    ),
-    ("final", "x=2 from b 0 1\n"),
-];
-
-#[test]
-fn a_session_is_asked_again_about_a_lock(rt: HostRuntime) -> Result<(), Fail> {
-    let row = by_default(LOCKED, &[0, 0, 0, 0, 0, 1, 1, 1, 1, 1]);
-    check_lines(&rt, rt.alloc(), &row, &LOCKED_LINES)
-}
-
-const LOOP_LINES: [Asked; 4] = [
-    (
-        "why a 0 1",
-        "item 1 block 1 loop 1:24 left i=3\nleft i=3 from a 0 0\ncontrol from entry\n",
-    ),
-    (
-        "why a 0 2",
-        "item 2 stmt 3 1:53 print read i=3 value 3\nread i=3 from a 0 0\ncontrol from entry\n",
-    ),
-    (
-        "why a 1 0",
-        "item 0 stmt 1 1:24 test read i=3 value 0\nread i=3 from a 0 0\ncontrol from entry\n",
-    ),
-    ("open a 1", "item 0 stmt 1 1:24 test read i=3 value 0\n"),
-];
-
-#[test]
-fn a_session_is_asked_again_about_a_loop(rt: HostRuntime) -> Result<(), Fail> {
-    let row = Row {
-        source: LOOP,
-        policy: Policy { leaf: 0, loops: 1 },
-        budget: 100_000,
-        schedule: &[0; 5],
-    };
-    check_lines(&rt, rt.alloc(), &row, &LOOP_LINES)
 }

@@ -1,17 +1,12 @@
-// A process that is fed again.
+//! A process that is fed again.
 ghost use Rattle.std.specs.Prelude.{IfSome};
 ghost use Rattle.ppd_ast.specs.Valid.{IsValid};
 ghost use Rattle.ppd_ast.specs.ValidPlan.{IsValidPlan};
 ghost use Rattle.ppd_sem.specs.Runs.{IsNumbered, IsRunnable, IsRunning};
 
-use crate::parts::{plan_of, program_of};
 use ppd_ast::{Plan, Program};
 use ppd_sem::{Answer, Proc, feed, valid_can_run, valid_is_numbered};
 use std::alloc::Global;
-use std::test::Fail;
-
-const LOCAL: &str =
-    "int f(int n) { return n + 1; } process a { int v = f(4); print(v); print(v + v); }";
 
 /// Takes a step that needs no value; where memory is wanting, the process must be as before, and the step is taken
 /// again.
@@ -56,34 +51,19 @@ fn first_of(alloc: Global, program: &Program, plan: &Plan) -> Option<Proc>
     }
 }
 
-/// The first process after so many steps.
-fn fed(alloc: Global, program: &Program, plan: &Plan, steps: usize) -> Option<Proc>
+/// Whether five steps of the first process come to these prints.
+pub fn is_fed_again(alloc: Global, program: &Program, plan: &Plan, prints: &[i64]) -> bool
     requires program { IsValid program.now }
     requires plan { IsValidPlan program.now plan.now }
 {
     valid_can_run();
     valid_is_numbered();
-    let mut proc = first_of(alloc, program, plan)?;
-    if feed_all(program, plan, &mut proc, steps) {
-        Some(proc)
-    } else {
-        None
+    match first_of(alloc, program, plan) {
+        Some(mut proc) => {
+            feed_all(program, plan, &mut proc, 5)
+                && proc.steps == 5
+                && proc.prints.as_slice() == prints
+        }
+        None => false,
     }
-}
-
-fn fed_of(alloc: Global, source: &str, steps: usize) -> Option<Proc> {
-    let program = program_of(alloc, source)?;
-    let plan = plan_of(alloc, &program)?;
-    fed(alloc, &program, &plan, steps)
-}
-
-// Four steps of the caller, and one of the function.
-#[test]
-fn a_process_is_fed_again(rt: HostRuntime) -> Result<(), Fail> {
-    let Some(proc) = fed_of(rt.alloc(), LOCAL, 5) else {
-        return Err(Fail::new("not fed"));
-    };
-    assert_eq!(rt; proc.steps, 5);
-    assert_eq!(rt; proc.prints.as_slice(), [5, 10].as_slice());
-    Ok(())
 }
