@@ -14,5 +14,5 @@ pub record IsRead (r : Read) : Type 0 where
 
 pub record IsRan (r : Ran) : Type 0 where
   pub parts : BelongTogether r.read.now.program r.read.now.plan r.logs r.index r.graph r.logs r.index
-    r.read.now.budget []
+      r.read.now.budget []
   pub budget : r.read.now.budget ≤ MOST_BUDGET
