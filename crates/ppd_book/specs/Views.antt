@@ -1,16 +1,16 @@
 -- A process on a copy, which goes on by Plain steps, and their commit.
-use Rattle.std.specs.Prelude.{◌≡◌, ◌≢◌, ℕ, ◌+◌, ◌-◌, ◌<◌, ◌≤◌, [], ◌++◌, length, replicate, slice_get, Option, Some, None}
+use Rattle.std.specs.Prelude.{◌≡◌, ◌≢◌, ℕ, ◌+◌, ◌-◌, ◌<◌, ◌≤◌, [], ◌++◌, length, replicate, Option, Some, None}
 use Rattle.ppd_ast.specs.declared.plan.Plan.{Plan}
 use Rattle.ppd_ast.specs.declared.program.Program.{Program}
 use Rattle.ppd_sem.specs.declared.proc.Answer.TheVariants.{Go}
 use Rattle.ppd_sem.specs.declared.proc.Need.{Need}
 use Rattle.ppd_sem.specs.declared.proc.Need.TheVariants.{Plain}
 use Rattle.ppd_sem.specs.declared.proc.Proc.{Proc}
-use Rattle.ppd_sem.specs.Printed.{unprinted}
 use Rattle.ppd_sem.specs.Process.{act, need_of}
 use Rattle.ppd_sem.specs.Runs.{IsNumbered, IsRunnable, IsRunning}
 use Rattle.ppd_model.specs.World.{need}
 use Rattle.ppd_world.specs.Plain.{GoesPlainly, stepped_times}
+use Rattle.ppd_book_steps.specs.States.{state_of}
 use Rattle.ppd_book.specs.declared.commit.Commit.{Commit}
 use Rattle.ppd_book.specs.declared.commit.Commit.TheVariants.{Done, Stale}
 use Rattle.ppd_book.specs.declared.view.TheConstants.{MOST_VIEW_STEPS}
@@ -57,13 +57,9 @@ advanced program plan v = record v { after = act program plan v.after Go; count 
 abbrev pub need_in : Held → ℕ → Need
 need_in held p = need held.world.program held.world.plan held.world.world p
 
-abbrev pub unprinted_if : Option Proc → Option Proc
-unprinted_if None = None
-unprinted_if (Some s) = Some (unprinted s)
-
 -- the state of process p, what it printed aside, if it is there
 abbrev pub state_in : Held → ℕ → Option Proc
-state_in held p = unprinted_if (slice_get held.world.world.procs p)
+state_in held p = state_of held.world p
 
 -- before the first step of a view
 pub record IsFresh (worker : ℕ) (v : Seen) : Type 0 where

@@ -8,6 +8,7 @@ use crate::job::Job;
 use crate::turn::{Ran, Turn};
 use crate::view::View;
 use ppd_ast::{Bytes, Memory};
+use ppd_book_steps::{is_current, step_down};
 use ppd_model::schedules_are_bounded;
 use ppd_sem::Need;
 use ppd_world::World;
@@ -91,15 +92,7 @@ impl<'a, J: Job> Kept<'a, J> {
         ensures same { OnErr result (self.new ≡ self.old) }
         ensures held { IsHeld J.program J.plan J.budget self.new.world self.new.schedule }
     {
-        let count = self.schedule.len();
-        self.schedule.push(p)?;
-        match self.world.step(p) {
-            Ok(()) => Ok(()),
-            Err(_) => {
-                self.schedule.truncate(count);
-                Err(Memory)
-            }
-        }
+        step_down(&mut self.world, &mut self.schedule, p)
     }
 
     /// Steps the worker's process where that can take a step, else the lowest process that can.
@@ -178,7 +171,7 @@ impl<'a, J: Job> Kept<'a, J> {
             count,
             of: _,
         } = view;
-        if !self.world.proc(worker).same_unprinted(&before) {
+        if !is_current(&self.world, worker, &before) {
             return Ok(Commit::Stale);
         }
         let first = self.schedule.len();

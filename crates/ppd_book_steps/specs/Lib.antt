@@ -1,0 +1,2 @@
+-- States of processes as they are copied.
+pub mod States
