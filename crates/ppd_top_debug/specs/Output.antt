@@ -1,5 +1,5 @@
 -- What is written of a run and of the command lines that are asked about it, and with which status that ends.
-use Rattle.std.specs.Prelude.{◌≡◌, ◌⊎◌, ◌||◌, is_some, ℕ, ◌+◌, ◌<◌, ◌≤◌, nat_lt, nat_le, Bool, false, List, [], ◌∷◌, ◌++◌, length, take, Option, Some, None, IfSome, codes, if◌then◌else◌}
+use Rattle.std.specs.Prelude.{◌≡◌, ◌||◌, is_some, ℕ, ◌+◌, ◌<◌, ◌≤◌, nat_lt, nat_le, Bool, false, List, [], ◌∷◌, ◌++◌, length, take, Option, Some, None, IfSome, codes, if◌then◌else◌}
 use Rattle.std.specs.List.{flat_map}
 use Rattle.ppd_ast.specs.declared.limits.TheConstants.{MOST_INPUT_LINES, MOST_LINE_BYTES}
 use Rattle.ppd_io.specs.declared.bytes.TheConstants.{CHUNK_BYTES}
@@ -11,6 +11,7 @@ use Rattle.ppd_session.specs.Questions.{is_quit}
 use Rattle.ppd_session.specs.Sessions.{FlowError, error_of}
 use Rattle.ppd_session.specs.Texts.{failure_of, text_of}
 use Rattle.ppd_text_refusals.specs.Recordings.{refused_replay}
+pub use Rattle.ppd_top_output.specs.Finishing.{Finished}
 
 -- a status, and all that is written with it
 pub record Output : Type 0 where
@@ -154,10 +155,3 @@ pub data Talks (x : Known) (head : List ℕ) (a b : Standing) : ℕ → Type 0 w
       → AppendsPart a.written b.written (head ++ (answers x commands).text) → Talks x head a b 4
   unfinished : (commands : List ℕ) → AreCommands a.left b.left commands
       → AppendsFront a.written b.written (head ++ (answers x commands).text) → Talks x head a b 5
-
--- ---- one text
-
--- what a text leaves: all of it with its status, or a proper prefix with status 4 and a rise of the count
-abbrev pub Finished : Option (List ℕ) → Option (List ℕ) → ℕ → ℕ → ℕ → ℕ → List ℕ → Type 0
-Finished old new before now result status text = ((result ≡ status) × Appends old new text)
-    ⊎ ((result ≡ 4) × Rose before now × AppendsPart old new text)

@@ -5,30 +5,19 @@ ghost use Rattle.ppd_session.specs.Known.{Known};
 ghost use Rattle.ppd_session.specs.Questions.{is_quit};
 ghost use Rattle.ppd_session.specs.Texts.{failure_of, text_of};
 ghost use Rattle.ppd_top_debug.specs.Asking.{Becomes, Goes, IsAsked, IsFailed};
-ghost use Rattle.ppd_top_debug.specs.Output.{Standing, Talks, standing, Finished};
+ghost use Rattle.ppd_top_debug.specs.Output.{Standing, Talks, standing};
 
 use ppd_ast::limits::MOST_INPUT_LINES;
 use ppd_ast::{Memory, Program};
-use ppd_io::{LineError, LineReader, Sink, Source, put_all};
+use ppd_io::{LineError, LineReader, Sink, Source};
 use ppd_session::{Reply, Session, SessionError};
 use ppd_text_refusals::replay_line;
+use ppd_top_output::{finish, finish_reply};
 use std::alloc::Global;
 
 const LONG_LINE: &[u8] = b"long line\n";
 
 const MANY_LINES: &[u8] = b"many lines\n";
-
-/// Writes all that there is to write, and answers the status.
-pub fn finish<O: Sink>(output: &mut O, text: &[u8], status: u8) -> u8
-    ensures end { Finished (O.written output.old) (O.written output.new) (O.faults output.old)
-        (O.faults output.new) result status text.now }
-    ensures later { O.faults output.old ≤ O.faults output.new }
-{
-    match put_all(output, text) {
-        Ok(()) => status,
-        Err(_) => 4,
-    }
-}
 
 /// Writes a reply, and says with which status that ends, if it ends.
 fn deliver<O: Sink>(reply: &Reply, output: &mut O) -> Option<u8>
@@ -38,15 +27,7 @@ fn deliver<O: Sink>(reply: &Reply, output: &mut O) -> Option<u8>
         (O.faults output.new) result }
     ensures later { O.faults output.old ≤ O.faults output.new }
 {
-    match put_all(output, reply.text.as_slice()) {
-        Err(_) => Some(4),
-        Ok(()) => {
-            if reply.quit {
-                return Some(0);
-            }
-            None
-        }
-    }
+    finish_reply(output, reply.text.as_slice(), reply.quit)
 }
 
 /// Ends the answers where a line has none, with a line that says why, and answers the status.

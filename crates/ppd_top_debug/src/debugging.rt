@@ -4,10 +4,11 @@ ghost use Rattle.ppd_codec_runs.specs.Recordings.{IsRecalled, known_of};
 ghost use Rattle.ppd_top_debug.specs.Output.{Talks, standing};
 ghost use Rattle.ppd_top_debug.specs.Debugging.{Debugs};
 
-use crate::asking::{finish, talk};
+use crate::asking::talk;
 use ppd_codec_runs::{NoRecall, Recalled, recall};
 use ppd_io::{LineReader, Sink, Source};
 use ppd_session::{Past, Session};
+use ppd_top_output::finish;
 use std::alloc::Global;
 use std::thread::Threads;
 

@@ -5,5 +5,6 @@
 mod asking;
 mod debugging;
 
-pub use asking::{finish, refuse_replay, talk};
+pub use asking::{refuse_replay, talk};
 pub use debugging::debug;
+pub use ppd_top_output::finish;

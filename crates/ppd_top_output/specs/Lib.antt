@@ -1,0 +1,2 @@
+-- Texts that are written.
+pub mod Finishing
