@@ -5,11 +5,12 @@ use Rattle.std.proofs.lemmas.Option.{slice_get_past}
 use Rattle.ppd_model.specs.declared.flow.FlowEdge.{FlowEdge}
 use Rattle.ppd_model.specs.declared.flow.Item.{Item}
 use Rattle.ppd_flow_past.specs.declared.flow_error.FlowError.{FlowError}
-use Rattle.ppd_flow_past.specs.declared.flow_error.FlowError.TheVariants.{NoEvent}
+use Rattle.ppd_flow_past.specs.declared.flow_error.FlowError.TheVariants.{Diverged, NoEvent, Sets, Memory}
 use Rattle.ppd_flow_past.specs.declared.past.Past.{Past}
 use Rattle.ppd_flow_past.specs.ByReplays.{AreReplayed, IsFoundBy, steps_to_replay}
 use Rattle.ppd_flow_past.specs.SeenBy.{items_in}
-use Rattle.ppd_flow_past.proofs.Found.{found_given, found_then}
+use Rattle.ppd_flow_past.proofs.Found.{found_err, found_given, found_then}
+use Rattle.ppd_flow_edges.specs.Asked.{IsAsked}
 use Rattle.ppd_flow_model.specs.Found.{edges_if, item_edges, item_replays}
 use Rattle.ppd_flow_model.specs.Seen.{Seen, items_at}
 use Rattle.ppd_flow_model.specs.Shared.{seen_at}
@@ -64,6 +65,13 @@ module _ (past : Past) (p k j n m : ℕ) where
     an_item t l r e f =
         moved (Some t) r l (ap (λ (ts : List Item). slice_get ts j) items_are ∙ e)
         (found_then past ((p, k) ∷ []) (replays_of (Some t)) (Ok (items_in past p k)) (answer_for (Some t)) items n m l r got f)
+
+  -- the items are not answered
+  pub asked_fails : (e : FlowError) → IsAsked past p k j n m (Err e) → IsEdges past p k j n m (Err e)
+  asked_fails NoEvent f = no_item (items_in past p k) f.0 f.1
+  asked_fails (Diverged q x) f = found_err past ((p, k) ∷ []) (replays_of there) (items_in past p k) (answer_for there) n m (Diverged q x) f
+  asked_fails (Sets q x c) f = found_err past ((p, k) ∷ []) (replays_of there) (items_in past p k) (answer_for there) n m (Sets q x c) f
+  asked_fails Memory f = tt
 
   -- ---- the items are given
 

@@ -1,4 +1,4 @@
-ghost use Rattle.std.specs.Prelude.{◌≡◌, ◌+◌, ◌<◌, ◌∷◌, ◌++◌, [], length, IfSome, Ok, OnOk, Some, option_copied, option_to_list};
+ghost use Rattle.std.specs.Prelude.{◌≡◌, ◌+◌, ◌<◌, length, IfSome, Ok, Some, option_copied};
 ghost use Rattle.ppd_flow.specs.Answers.{IsEdges, pair_edge_at, pair_replays_at};
 ghost use Rattle.ppd_flow.specs.Missing.{IsCauseOfSets};
 ghost use Rattle.ppd_flow.specs.Runs.{CostsEdges, GivesEdges};
@@ -14,8 +14,9 @@ ghost use Rattle.ppd_flow_tables.specs.Tabled.{IsOfInterval, IsTabled};
 use crate::reads::read_edges;
 use law_flow_own::all_own_parts_are_found;
 use law_flow_shared::{edges_are_found, edges_cost_little};
-use ppd_ast::{Memory, Seq, Steps};
-use ppd_flow_local::{Place, Search, control_edge};
+use ppd_ast::{Seq, Steps};
+use ppd_flow_edges::{asked_items, control_edge, push_rest};
+use ppd_flow_local::{Place, Search};
 use ppd_flow_past::{FlowError, Past, replays_are_seen};
 use ppd_flow_shared::{Place as PairPlace, pair_origin};
 use ppd_flow_tables::{TabledItems, Tables};
@@ -67,28 +68,6 @@ fn pair_edge<L: Ledger>(
         Some(from) => Ok(Some(sync_edge(from))),
         None => Ok(None),
     }
-}
-
-/// Puts the edge behind these, if there is one.
-fn push_if(edges: &mut Seq<FlowEdge>, edge: Option<FlowEdge>) -> Result<(), Memory>
-    ensures { OnOk result (edges.new ≡ edges.old ++ option_to_list edge) }
-{
-    match edge {
-        Some(edge) => edges.push(edge),
-        None => Ok(()),
-    }
-}
-
-/// Puts the edge from the pair, if there is one, and that of control behind these.
-fn push_rest(
-    edges: &mut Seq<FlowEdge>,
-    pair: Option<FlowEdge>,
-    control: FlowEdge,
-) -> Result<(), Memory>
-    ensures { OnOk result (edges.new ≡ (edges.old ++ option_to_list pair) ++ control ∷ []) }
-{
-    push_if(edges, pair)?;
-    edges.push(control)
 }
 
 /// The edges of an event at a place: its reads in order, its pair, and what let it run.
@@ -161,11 +140,8 @@ fn edges_found<L: Ledger>(
         tables: *tables,
         process: at.process,
     };
-    let items = search.items(at.interval, steps)?;
+    let items = asked_items(alloc, past, at.process, at.interval, at.item, steps)?;
     let items = items.as_slice();
-    if at.item >= items.len() {
-        return Err(FlowError::NoEvent);
-    }
     let place = Place {
         interval: at.interval,
         items,

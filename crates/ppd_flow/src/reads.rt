@@ -2,28 +2,16 @@ ghost use Rattle.std.specs.Prelude.{◌≡◌};
 ghost use Rattle.ppd_flow.specs.Answers.{reads_at, reads_replays_at, spot_origin, spot_replays};
 ghost use Rattle.ppd_flow_local.specs.Searches.{IsPlace, IsSearch};
 ghost use Rattle.ppd_flow_past.specs.ByReplays.{IsFoundBy};
-ghost use Rattle.ppd_flow_model.specs.Own.{read_from};
 ghost use Rattle.ppd_flow_shared.specs.SharedCells.{answer_of};
 
 use ppd_ast::{Seq, Steps};
+use ppd_flow_edges::push_read;
 use ppd_flow_local::{LocalCell, Place, Search};
 use ppd_flow_past::FlowError;
 use ppd_flow_shared::CellSearch;
-use ppd_model::{EdgeKind, FlowEdge, Origin};
+use ppd_model::{FlowEdge, Origin};
 use ppd_sem::{Access, Spot};
 use std::sync::ledger::Ledger;
-
-/// The edge of a read, from where what is read was written.
-fn read_edge(read: &Access, from: Origin) -> FlowEdge
-    ensures { result ≡ read_from read.now from }
-{
-    FlowEdge {
-        kind: EdgeKind::Read,
-        spot: Some(read.spot),
-        value: Some(read.value),
-        from,
-    }
-}
 
 /// Where a spot that is read at a place was written.
 fn read_origin<L: Ledger>(
@@ -69,7 +57,7 @@ pub(crate) fn read_edges<L: Ledger>(
     let mut edges = Seq::new(search.alloc);
     for read in reads {
         let from = read_origin(search, place, read.spot, steps)?;
-        edges.push(read_edge(read, from))?;
+        push_read(&mut edges, read, from)?;
     }
     Ok(edges)
 }

@@ -3,7 +3,6 @@ use Rattle.std.specs.Prelude.{◌≡◌, ℕ, ◌+◌, ◌<◌, ◌≤◌, ◌++
 use Rattle.ppd_ast.specs.declared.plan.Plan.{Plan}
 use Rattle.ppd_ast.specs.declared.program.Program.{Program}
 use Rattle.ppd_sem.specs.declared.event.Spot.TheVariants.{Local}
-use Rattle.ppd_model.specs.declared.flow.EdgeKind.TheVariants.{Left}
 use Rattle.ppd_model.specs.declared.flow.FlowEdge.{FlowEdge}
 use Rattle.ppd_model.specs.declared.flow.Origin.{Origin}
 use Rattle.ppd_model.specs.FullTrace.{or_else}
@@ -12,6 +11,7 @@ use Rattle.ppd_flow_model.specs.Control.{control_origin, control_replays}
 use Rattle.ppd_flow_model.specs.Locals.{in_loops, local_origin, local_replays, loop_replays, writer_at, writer_replays}
 use Rattle.ppd_flow_model.specs.Seen.{Seen, items_at, unless}
 use Rattle.ppd_flow_model.specs.Shared.{of_process}
+use Rattle.ppd_flow_edges.specs.Joined.{left_at}
 use Rattle.ppd_flow_past.specs.declared.flow_error.FlowError.{FlowError}
 use Rattle.ppd_flow_past.specs.ByReplays.{IsFoundBy}
 use Rattle.ppd_flow_past.specs.SeenBy.{seen_in}
@@ -69,7 +69,7 @@ IsLocalFound s place w before after result =
 
 -- the edge of a cell that a loop left with this value
 abbrev pub left_from : LocalCell → ℤ → Origin → FlowEdge
-left_from w v from = record { kind = Left; spot = Some (Local w.frame w.cell); value = Some v; from = from }
+left_from w v from = left_at (Local w.frame w.cell) v from
 
 -- for a cell that the loop at a place left: the last write before the loop's end
 abbrev pub left_origin_at : Search → Place → LocalCell → Origin

@@ -1,6 +1,6 @@
 ghost use Rattle.std.specs.Prelude.{◌≡◌, ◌<◌, ◌-◌, ◌∷◌, ◌++◌, [], get_or, length, pos, ℕ};
 ghost use Rattle.ppd_ast.specs.declared.plan.BlockKind.TheVariants as blocks;
-ghost use Rattle.ppd_flow_local.specs.Searches.{IsFound, IsItemPlace, IsSearch, left_from, left_origin_at, left_replays_at, plan_in, program_in, seen};
+ghost use Rattle.ppd_flow_local.specs.Searches.{IsFound, IsItemPlace, IsSearch, left_origin_at, left_replays_at, plan_in, program_in, seen};
 ghost use Rattle.ppd_model.specs.declared.flow.EdgeKind.TheVariants as edge_kind;
 ghost use Rattle.ppd_model.specs.declared.flow.Origin.TheVariants as origin;
 ghost use Rattle.ppd_model.specs.FlowbackEdges.{bare_edge};
@@ -10,35 +10,11 @@ ghost use Rattle.ppd_flow_model.specs.Own.{edges_of_nested, left_edges as left_e
 use crate::scan::LocalCell;
 use crate::search::{Place, Search};
 use ppd_ast::{BlockKind, Seq, Steps};
+use ppd_flow_edges::{control_edge, push_left};
 use ppd_flow_past::{FlowError, number};
 use ppd_model::{EdgeKind, FlowEdge, Origin};
 use ppd_sem::{Spot, block_kind, postlog_cells};
 use std::sync::ledger::Ledger;
-
-/// The edge from what let an item run.
-pub fn control_edge(from: Origin) -> FlowEdge
-    ensures { result ≡ bare_edge edge_kind.Control from }
-{
-    FlowEdge {
-        kind: EdgeKind::Control,
-        spot: None,
-        value: None,
-        from,
-    }
-}
-
-/// The edge from the last write of a local cell that a loop left with this value.
-fn left_edge(wanted: LocalCell, value: i64, from: Origin) -> FlowEdge
-    ensures { result ≡ left_from wanted value from }
-{
-    let LocalCell { frame, cell } = wanted;
-    FlowEdge {
-        kind: EdgeKind::Left,
-        spot: Some(Spot::Local { frame, cell }),
-        value: Some(value),
-        from,
-    }
-}
 
 fn cell_at(cells: &[u16], i: usize) -> u16
     requires { i < length cells.now }
@@ -99,7 +75,7 @@ impl<'a> Search<'a> {
             let value = value_at(values, i);
             let wanted = LocalCell { frame, cell };
             let from = self.left_origin(place, wanted, steps)?;
-            edges.push(left_edge(wanted, value, from))?;
+            push_left(&mut edges, Spot::Local { frame, cell }, value, from)?;
         }
         Ok(edges)
     }

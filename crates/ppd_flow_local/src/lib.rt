@@ -10,6 +10,5 @@ mod scan;
 mod search;
 mod testing;
 
-pub use edges::control_edge;
 pub use scan::LocalCell;
 pub use search::{Place, Search};

@@ -12,7 +12,7 @@ returns-in_err-from g c =
 pub loop-read-preserved : goal.loop-read-preserved
 loop-read-preserved g c = λ o r f.
     next_read c.args.search.now c.args.place.now c.args.reads.now c.loop-read.read-index c.args.steps.now c.loop-read.steps c.loop-read.edges c.loop-read.invariant
-    _ _ c.read_edge.result c.in_ok-from.from c.push.new.self c.read_origin.new.steps c.loop-read-test.true refl c.in_ok-push.ensures.ok c.read_edge.ensures c.in_ok-from.ensures o r f
+    _ _ _ c.in_ok-from.from c.push_read.new.edges c.read_origin.new.steps c.loop-read-test.true refl c.in_ok-push_read.ensures refl c.in_ok-from.ensures o r f
 
 pub returns : goal.returns
 returns g c =

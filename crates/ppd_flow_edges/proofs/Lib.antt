@@ -1,0 +1,2 @@
+-- The items of an interval in which one is asked for.
+mod Failing
