@@ -40,7 +40,7 @@ use Rattle.ppd_codec_runs.specs.Recordings.{known_of}
 use Rattle.ppd_text_refusals.specs.Recordings.{refused_replay}
 use Rattle.ppd_text_items.specs.Names.{process_name}
 use Rattle.ppd_text_verdict.specs.Texts.{verdict_text}
-use Rattle.ppd_whole_replays.specs.Intervals.{intervals_from}
+use Rattle.ppd_whole_intervals.specs.Intervals.{intervals_from}
 use Rattle.ppd_whole.specs.WholeText.{whole_text}
 
 -- ---- what is asked

@@ -6,13 +6,14 @@ use Rattle.ppd_model.specs.declared.flow.Item.{Item}
 use Rattle.ppd_flow_past.specs.declared.past.Past.{Past}
 use Rattle.ppd_flow_past.specs.ByReplays.{failure_or, first_failed_in}
 use Rattle.ppd_flow_past.specs.SeenBy.{failed_in, items_in, steps_in}
-use Rattle.ppd_whole_replays.specs.declared.whole_error.WholeError.{WholeError}
-use Rattle.ppd_whole_replays.specs.declared.whole_error.WholeError.TheVariants.{Diverged, Memory}
+use Rattle.ppd_whole_intervals.specs.declared.whole_error.WholeError.{WholeError}
+use Rattle.ppd_whole_intervals.specs.declared.whole_error.WholeError.TheVariants.{Diverged, Memory}
 use Rattle.std.specs.Prelude.{IfErr, IfOk}
 use Rattle.std.proofs.lemmas.List.{append_assoc, drop_more, map-append, take-append-drop, take_more}
 use Rattle.std.proofs.lemmas.List.Sums.{sum_by-append}
-use Rattle.ppd_whole_replays.specs.Costs.{replays_cost}
-use Rattle.ppd_whole_replays.specs.Replays.{AreReplays, IsFailure, IsReplay, StopsAt}
+use Rattle.ppd_whole_intervals.specs.Costs.{replays_cost}
+use Rattle.ppd_whole_intervals.specs.Replays.{IsFailure, IsReplay}
+use Rattle.ppd_whole_replays.specs.Replays.{AreReplays, StopsAt}
 
 first_is : {A : Type 0} (x y : A) (xs ys : List A) → x ∷ xs ≡ y ∷ ys → x ≡ y
 first_is x y xs ys e = ap (λ zs. elim zs [ [] ↦ x | z ∷ rest ↦ z ]) e

@@ -1,3 +1,2 @@
--- Replays one after the other, and the intervals of all processes.
+-- Replays one after the other.
 mod Gathered
-pub mod Intervals

@@ -2,12 +2,10 @@
 #![tactic(auto)]
 
 mod in_turn;
-mod jobs;
 mod replays;
 mod shares;
-mod whole_error;
 
 pub use in_turn::all_items_in;
+pub use ppd_whole_intervals::WholeError;
 pub use replays::{all_items, drop_all};
 pub use shares::share;
-pub use whole_error::WholeError;

@@ -1,42 +1,23 @@
 // The items of all intervals, by replays that are split among workers.
-ghost use Rattle.std.specs.Prelude.{◌≡◌, ◌<◌, ◌+◌, [], ◌∷◌, map, Ok, IfErr, IfOk, OnOk};
+ghost use Rattle.std.specs.Prelude.{◌≡◌, ◌<◌, map, Ok, IfErr, IfOk};
 ghost use Rattle.std.specs.List.{AllZip};
 ghost use Rattle.ppd_flow_past.specs.Pasts.{IsPast};
-ghost use Rattle.ppd_whole_replays.specs.Intervals.{all_intervals};
-ghost use Rattle.ppd_whole_replays.specs.Costs.{replays_cost};
-ghost use Rattle.ppd_whole_replays.specs.Replays.{AreReplays, IsReplay, StopsAt};
+ghost use Rattle.ppd_whole_intervals.specs.Intervals.{all_intervals};
+ghost use Rattle.ppd_whole_intervals.specs.Replays.{IsReplay};
+ghost use Rattle.ppd_whole_replays.specs.Replays.{AreReplays, StopsAt};
 
-use crate::jobs::{Job, jobs_of};
 use crate::shares::share;
-use crate::whole_error::WholeError;
 use ppd_ast::{Memory, Seq, Steps};
-use ppd_flow_past::{FlowError, Past, replayed};
+use ppd_flow_past::Past;
 use ppd_model::Item;
+use ppd_whole_intervals::{Job, WholeError, items_in, jobs_of};
 use rayon::prelude::*;
 use std::alloc::{AllocError, Global};
 use std::marker::Brand;
 use std::sync::ledger::{Blank, Ledger};
 use std::thread::Threads;
 
-/// The items of an interval, which is replayed once: the counter rises by the steps that the interval itself takes.
-pub(crate) fn items_in<L: Ledger>(
-    alloc: Global,
-    past: &Past,
-    job: Job,
-    steps: &mut Steps<L>,
-) -> Result<Seq<Item>, WholeError>
-    requires { IsPast past.now }
-    ensures is { IsReplay past.now job result }
-    ensures cost { OnOk result (steps.new ≡ steps.old + replays_cost past.now (job ∷ [])) }
-{
-    match replayed(alloc, past, job.0, job.1, steps) {
-        Ok(items) => Ok(items),
-        Err(FlowError::Diverged { process, entry }) => Err(WholeError::Diverged { process, entry }),
-        Err(_) => Err(WholeError::Memory),
-    }
-}
-
-// The same, with steps that nobody reads.
+// The items of an interval, with steps that nobody reads.
 fn items_from<L: Ledger>(
     alloc: Global,
     past: &Past,

@@ -2,7 +2,7 @@ use Rattle.std.proofs.Common.{◌∙◌, ap, sym, subst}
 use Rattle.std.specs.List.{AllZip}
 use Rattle.rayon.proofs.ToStd.{slice-AllZip}
 use Rattle.ppd_flow_past.specs.declared.past.Past.{Past}
-use Rattle.ppd_whole_replays.specs.Replays.{IsReplay}
+use Rattle.ppd_whole_intervals.specs.Replays.{IsReplay}
 use Rattle.ppd_whole_replays.proofs.replays.replays.Goals as goal
 
 pub returns-in-Ok : goal.returns-in-Ok

@@ -12,7 +12,7 @@ use Rattle.ppd_flow_past.specs.declared.past.Past.{Past}
 use Rattle.ppd_flow_past.specs.SeenBy.{items_in, seen_by, seen_in}
 use Rattle.ppd_flow_model.specs.Seen.{Seen}
 use Rattle.ppd_flow_shared.specs.SharedCells.{seens_in}
-use Rattle.ppd_whole_replays.specs.Intervals.{all_intervals, intervals_from, intervals_of}
+use Rattle.ppd_whole_intervals.specs.Intervals.{all_intervals, intervals_from, intervals_of}
 
 module _ (past : Past) (uncut : past.cut.now ≡ past.logs.now) where
   abbrev seen : List Entry → Seen

@@ -2,14 +2,14 @@
 ghost use Rattle.std.specs.Prelude.{◌≡◌, ◌++◌, map, IfOk, OnOk};
 ghost use Rattle.std.specs.List.{range_with_len};
 ghost use Rattle.ppd_flow_past.specs.Pasts.{IsPast};
-ghost use Rattle.ppd_whole_replays.specs.Intervals.{all_intervals};
+ghost use Rattle.ppd_whole_intervals.specs.Intervals.{all_intervals};
 
 use ppd_ast::Memory;
 use ppd_flow_past::{Past, count_of};
 use std::alloc::Global;
 
 /// An interval by its process and its number.
-pub(crate) type Job = (u8, u32);
+pub type Job = (u8, u32);
 
 fn add_jobs(jobs: &mut Vec<Job>, process: u8, count: u32) -> Result<(), Memory>
     ensures { OnOk result
@@ -22,7 +22,7 @@ fn add_jobs(jobs: &mut Vec<Job>, process: u8, count: u32) -> Result<(), Memory>
 }
 
 /// The intervals of all processes. `Memory` is want of memory, also for a process that has no 8-bit number.
-pub(crate) fn jobs_of(alloc: Global, past: &Past) -> Result<Vec<Job>, Memory>
+pub fn jobs_of(alloc: Global, past: &Past) -> Result<Vec<Job>, Memory>
     requires past { IsPast past.now }
     requires uncut { past.now.cut.now ≡ past.now.logs.now }
     ensures { IfOk result (λ jobs. jobs.items ≡ all_intervals past.now) }

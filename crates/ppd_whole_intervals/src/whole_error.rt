@@ -14,7 +14,7 @@ pub enum WholeError {
 
 impl From<Memory> for WholeError {
     ghost use Rattle.std.specs.Prelude.{◌≡◌};
-    ghost use Rattle.ppd_whole_replays.specs.declared.whole_error.WholeError.TheVariants as error;
+    ghost use Rattle.ppd_whole_intervals.specs.declared.whole_error.WholeError.TheVariants as error;
 
     ghost from_gives = { λ _ e. e ≡ error.Memory };
 

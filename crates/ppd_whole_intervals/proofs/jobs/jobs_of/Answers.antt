@@ -4,9 +4,9 @@ use Rattle.std.proofs.lemmas.List.{append_assoc}
 use Rattle.ppd_flow_past.specs.declared.past.Past.{Past}
 use Rattle.ppd_flow_past.specs.SeenBy.{seen_in}
 use Rattle.ppd_flow_shared.specs.SharedCells.{seens_in}
-use Rattle.ppd_whole_replays.specs.Intervals.{intervals_from, intervals_of}
-use Rattle.ppd_whole_replays.proofs.Intervals.{intervals_drop}
-use Rattle.ppd_whole_replays.proofs.jobs.jobs_of.Goals as goal
+use Rattle.ppd_whole_intervals.specs.Intervals.{intervals_from, intervals_of}
+use Rattle.ppd_whole_intervals.proofs.Intervals.{intervals_drop}
+use Rattle.ppd_whole_intervals.proofs.jobs.jobs_of.Goals as goal
 
 pub loop-p-preserved : goal.loop-p-preserved
 loop-p-preserved c =

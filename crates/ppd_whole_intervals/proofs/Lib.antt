@@ -1,0 +1,2 @@
+-- The intervals of all processes.
+pub mod Intervals
