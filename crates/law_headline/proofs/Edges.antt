@@ -2,7 +2,7 @@
 use Rattle.std.specs.Prelude.{None, Some, codes, option_map, slice_get, if◌then◌else◌}
 use Rattle.std.proofs.Common.{◌≡◌, ℕ, zero, suc, ◌+◌, ◌<◌, true, List, [], ◌∷◌, Option, Ok, Err, arith, get_or, inl, inr, length, lt-ltb, map, nat_lt, refl, ap, sym, ◌∙◌}
 use Rattle.std.proofs.lemmas.Bool.{cases_lt}
-use Rattle.std.proofs.lemmas.Option.{none-some}
+use Rattle.std.proofs.lemmas.Option.{none-some, slice_get_past, slice_get_within}
 use Rattle.ppd_ast.specs.declared.plan.Plan.{Plan}
 use Rattle.ppd_ast.specs.declared.program.Program.{Program}
 use Rattle.ppd_ast.specs.Digits.{number_in}
@@ -25,11 +25,12 @@ use Rattle.ppd_model.specs.Laws.{ProcessesFollowTheirSteps}
 use Rattle.ppd_session.specs.Laws.{RunsAreAnswered}
 use Rattle.ppd_session.specs.Known.{Flow, Known, Told, flow_told, known_of_run, of_processes, told_of_split, unless_raced}
 use Rattle.ppd_session.specs.Questions.{asked, why_of}
+use Rattle.ppd_session.proofs.Tables.{flow_inside, flow_nowhere, flow_past}
 use Rattle.ppd_session.specs.Texts.{answer_text, at_interval, flow_at, flow_text, intervals_at, item_text_of, raced, text_of, told_at, told_text}
 use Rattle.ppd_text_items.specs.Edges.{why_text}
 use Rattle.law_headline.specs.Answered.{AreEdgesOf, AsksEdges, HasEdges, HasItsEdges, IsItem, MissesNoEdge, told_if}
 use Rattle.law_headline.specs.Runs.{Run, plan_in, splits_in, story_in}
-use Rattle.law_headline.proofs.Tables.{below, count_in, count_row, flow_nowhere, flow_past, flow_there, past_end, told_in, told_in_span, told_row}
+use Rattle.law_headline.proofs.Tables.{count_in, count_row, told_in, told_in_span, told_row}
 use Rattle.law_headline.proofs.Values.{told_as, told_here}
 
 found : (o : Option (List FlowEdge)) (es : List FlowEdge) → edges_or_none o ≡ Ok es → o ≡ Some es
@@ -91,13 +92,13 @@ module _ (items_whole : ItemsAreWhole) (r : Run) (valid : IsValid r.program) (h 
         let is : slice_get (get_or (map told_of_split (splits_in r h)) p []) k ≡ Some (Ok (items_of y i)) = told_row xs p k ∙ (ap (told_in k) e ∙ ap (told_in_span y) f) in
         let count : length (items_of y i) ≡ length i.parts = (items_whole r.program (plan_in r) r.budget h p y valid e).whole k i f in
         elim (cases_lt j (length (items_of y i))) [
-          | inl lt ↦ table ∙ flow_there flows (map told_of_split (splits_in r h)) p k j (items_of y i) is lt
+          | inl lt ↦ table ∙ flow_inside flows (map told_of_split (splits_in r h)) p k j (items_of y i) is lt
           | inr le ↦
               table
               ∙ (flow_past flows (map told_of_split (splits_in r h)) p k j (items_of y i) is le
               ∙ sym (ap edges_or_none (ap (edges_in r.program (plan_in r) xs k j) e
               ∙ (ap (λ o. edges_if r.program (plan_in r) xs y (part_in o j)) f
-              ∙ ap (edges_if r.program (plan_in r) xs y) (past_end i.parts j (omega (arith, le, count)))))))
+              ∙ ap (edges_if r.program (plan_in r) xs y) (slice_get_past i.parts j (omega (arith, le, count)))))))
         ]
 
     -- of each item that is asked for its edges are answered
@@ -117,7 +118,7 @@ module _ (items_whole : ItemsAreWhole) (r : Run) (valid : IsValid r.program) (h 
   event_has follow p n e is =
       let at = trace_at follow r.program (plan_in r) r.budget h 0 p n e (story_in r h).steps is in
       let y : Split = at.0 in
-      let referred : IsReferred xs y p n = (items_whole r.program (plan_in r) r.budget h p y valid at.1).events n (below y.trace.events n e at.2) in
+      let referred : IsReferred xs y p n = (items_whole r.program (plan_in r) r.budget h p y valid at.1).events n (slice_get_within y.trace.events n e at.2) in
       record {
         interval = referred.interval;
         item = referred.item;
@@ -132,7 +133,7 @@ module _ (items_whole : ItemsAreWhole) (r : Run) (valid : IsValid r.program) (h 
   module _ (p k j : ℕ) (item : Item) (es : List FlowEdge) (there : IsItem r h p k j item) (has : HasEdges r h p k j es) where
     counted_span : (y : Split) (o : Option Span) → slice_get y.spans k ≡ o → items_at y o ≡ Some there.0 → k < length y.spans
     counted_span y None f e = absurd (cc)
-    counted_span y (Some i) f e = below y.spans k i f
+    counted_span y (Some i) f e = slice_get_within y.spans k i f
 
     counted : (o : Option Split) → items_in k o ≡ Some there.0 → k < count_in o
     counted None e = absurd (cc)

@@ -1,9 +1,8 @@
 -- What is told of a run without a race is found by replays of single intervals, each from its own log.
 use Rattle.std.specs.Prelude.{None, Some, option_map, slice_get}
-use Rattle.std.proofs.Common.{◌≡◌, ℕ, zero, suc, ◌+◌, ◌<◌, List, [], ◌∷◌, Option, arith, get_or, length, map, refl, ap, ◌∙◌, subst}
+use Rattle.std.proofs.Common.{◌≡◌, ℕ, ◌+◌, ◌<◌, [], Option, arith, get_or, length, map, refl, ap, ◌∙◌, subst}
 use Rattle.ppd_ast.specs.Valid.{IsValid}
 use Rattle.ppd_emul_model.specs.Replay.{replay}
-use Rattle.ppd_entry.specs.declared.entry.Entry.{Entry}
 use Rattle.ppd_entry.specs.IntervalLogs.{Indexed, indexed, interval_log, log_in}
 use Rattle.ppd_entry.specs.Entries.{entries_at}
 use Rattle.ppd_model.specs.Races.{races}
@@ -12,16 +11,9 @@ use Rattle.ppd_race.specs.Races.{races_of_logs}
 use Rattle.ppd_session.specs.Laws.{LogsTellRuns}
 use Rattle.ppd_session.specs.Known.{Known, flow_by, known_of_logs, known_of_run, last_by, of_cells, told_by, told_of_entries, unless_raced}
 use Rattle.ppd_session.specs.Texts.{told_at}
+use Rattle.ppd_session.proofs.Tables.{cell_at, flow_inside, told_logs}
 use Rattle.law_headline.specs.Replayed.{AreByReplays, told_by_replay}
 use Rattle.law_headline.specs.Runs.{Run, logs_in, plan_in}
-use Rattle.law_headline.proofs.Tables.{cell_at, flow_there, get_mapped}
-
-told_entries : (r : Run) (lists : List (List Entry)) (p : ℕ)
-    → get_or (map (told_of_entries r.program (plan_in r) r.budget) lists) p [] ≡ told_of_entries r.program (plan_in r) r.budget (get_or lists p [])
-told_entries r [] zero = refl
-told_entries r [] (suc p) = refl
-told_entries r (es ∷ lists) zero = refl
-told_entries r (es ∷ lists) (suc p) = told_entries r lists p
 
 replayed : (r : Run) (o : Option Indexed) → option_map (λ (i : Indexed). told_by (replay r.program (plan_in r) i.log r.budget).answer) o ≡ told_by_replay r (log_in o)
 replayed r None = refl
@@ -34,9 +26,8 @@ module _ (r : Run) (free : races_of_logs r.program (logs_in r) ≡ []) where
   told_is : (p k : ℕ) → told_at known p k ≡ told_by_replay r (interval_log (plan_in r) (entries_at (logs_in r) p) k)
   told_is p k =
       ap (λ rs. slice_get (get_or (unless_raced rs (map (told_of_entries r.program (plan_in r) r.budget) (logs_in r).lists)) p []) k) free
-      ∙ (ap (λ ts. slice_get ts k) (told_entries r (logs_in r).lists p)
-      ∙ (get_mapped (λ (i : Indexed). told_by (replay r.program (plan_in r) i.log r.budget).answer) (indexed (plan_in r) (entries_at (logs_in r) p)) k
-      ∙ replayed r (slice_get (indexed (plan_in r) (entries_at (logs_in r) p)) k)))
+      ∙ (told_logs r.program (plan_in r) r.budget (logs_in r).lists p k
+      ∙ replayed r (slice_get (indexed (plan_in r) (entries_at (logs_in r) p)) k))
 
   last_is : (c : ℕ) → c < length r.program.starts → slice_get known.lasts c ≡ Some (last_by r.program (plan_in r) r.budget (logs_in r) c)
   last_is c lt =
@@ -48,7 +39,7 @@ module _ (r : Run) (free : races_of_logs r.program (logs_in r) ≡ []) where
   by_logs : AreByReplays r known
   by_logs = record {
     intervals = told_is;
-    edges = λ p k j there. flow_there (flow_by r.program (plan_in r) r.budget (logs_in r)) known.items p k j there.0 there.1 there.2;
+    edges = λ p k j there. flow_inside (flow_by r.program (plan_in r) r.budget (logs_in r)) known.items p k j there.0 there.1 there.2;
     lasts = last_is;
   }
 

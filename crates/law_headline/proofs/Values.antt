@@ -14,13 +14,15 @@ use Rattle.ppd_model.specs.Races.{races_of}
 use Rattle.ppd_model.specs.declared.tracing.Story.{Story}
 use Rattle.ppd_model.specs.Story.{story}
 use Rattle.ppd_model.specs.Laws.{ProcessesFollowTheirSteps}
+use Rattle.ppd_model.proofs.OneHistory.{map-map}
 use Rattle.ppd_session.specs.Known.{Known, known_of_run, last_told, of_cells, told_of_split, unless_raced}
 use Rattle.ppd_session.specs.Texts.{told_at}
+use Rattle.ppd_session.proofs.Tables.{cell_at}
 use Rattle.law_whole.specs.Joined.{events_in, events_of_items, joined}
 use Rattle.law_whole.specs.Laws.{JoinedAreEvents, bare}
 use Rattle.law_headline.specs.Answered.{AreValuesOf, events_told, items_told, told_if}
 use Rattle.law_headline.specs.Runs.{Run, plan_in, splits_in, story_in}
-use Rattle.law_headline.proofs.Tables.{cell_at, map_map, told_in, told_in_span, told_row}
+use Rattle.law_headline.proofs.Tables.{told_in, told_in_span, told_row}
 
 -- ---- events
 
@@ -38,7 +40,7 @@ events_same a b e = ap (λ (is : List (List Item)). joined (length is) a 0) e �
 
 told_events : (y : Split) → events_told (told_of_split y) ≡ events_in (seen_of y)
 told_events y =
-    ap (λ is. events_in (record { items = is; blocks = []; rounds = [] })) (map_map items_told (λ (i : Span). Ok (items_of y i)) y.spans)
+    ap (λ is. events_in (record { items = is; blocks = []; rounds = [] })) (map-map items_told (λ (i : Span). Ok (items_of y i)) y.spans)
     ∙ events_same (record { items = map (items_of y) y.spans; blocks = []; rounds = [] }) (seen_of y) refl
 
 module _ (follow : ProcessesFollowTheirSteps) (program : Program) (plan : Plan) (budget : ℕ) (h : List ℕ) where
@@ -75,7 +77,7 @@ module _ (r : Run) (valid : IsValid r.program) (h : List ℕ) (free : races_of r
   events_are : ProcessesFollowTheirSteps → JoinedAreEvents → map events_told known.items ≡ map bare (events_from r.program (plan_in r) r.budget (story_in r h) 0 (story_in r h).steps)
   events_are follow joined_events =
       ap (λ rows. map events_told rows) rows_are
-      ∙ (map_map events_told told_of_split (splits_in r h)
+      ∙ (map-map events_told told_of_split (splits_in r h)
       ∙ (map_same (λ y. events_told (told_of_split y)) (λ (y : Split). bare y.trace.events) (splits_in r h)
       (λ p y e. told_events y ∙ joined_events r.program (plan_in r) r.budget h p y valid e)
       ∙ traced follow r.program (plan_in r) r.budget h 0 (story_in r h).steps))

@@ -1,4 +1,3 @@
 pub mod Cells
 pub mod Same
 pub mod Runs
-pub mod Knowing

@@ -1,4 +1,3 @@
 -- Recordings of runs, and which are accepted.
 pub mod Recordings
-pub mod Knowing
 pub mod Laws

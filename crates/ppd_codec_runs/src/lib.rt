@@ -5,6 +5,6 @@ mod laws;
 mod recalling;
 mod storing;
 
-pub use laws::{recalled_runs, recordings_are_known, refused_or_accepted};
+pub use laws::{recalled_runs, refused_or_accepted};
 pub use recalling::{NoRecall, Recalled, recall};
 pub use storing::record;

@@ -3,6 +3,7 @@ pub mod Positions
 pub mod Lines
 pub mod Static
 pub mod Indexed
+pub mod Tables
 pub mod Honest
 pub mod Replayed
 pub mod Answered
@@ -12,3 +13,4 @@ mod LastKept
 mod LastTables
 pub mod Flows
 pub mod Missing
+pub mod Knowing

@@ -3,7 +3,7 @@ use Rattle.std.specs.Prelude.{◌==◌, None, OnOk, Some, option_map, slice_get}
 use Rattle.std.proofs.Common.{◌≡◌, ℕ, zero, suc, ◌<◌, ◌≤◌, List, [], ◌∷◌, ◌++◌, Option, Result, Ok, Err, true, get_or, length, map, refl, ap, sym, subst, ◌∙◌, arith}
 use Rattle.std.proofs.lemmas.Bool.Decides.{nat_tests}
 use Rattle.std.proofs.lemmas.List.{length-map}
-use Rattle.std.proofs.lemmas.Option.{same_Some}
+use Rattle.std.proofs.lemmas.Option.{same_Some, slice_get-map}
 use Rattle.ppd_ast.specs.declared.plan.Plan.{Plan}
 use Rattle.ppd_ast.specs.declared.program.Program.{Program}
 use Rattle.ppd_ast.proofs.Walks.{got_none}
@@ -32,27 +32,11 @@ use Rattle.ppd_session.specs.Sessions.{IsCause, IsWhy, error_of, known_by}
 use Rattle.ppd_session.specs.Texts.{failure_at, failure_in, item_failure, items_text, told_at, told_failure, told_text}
 use Rattle.ppd_session.specs.declared.reply.SessionError.{SessionError}
 use Rattle.ppd_session.specs.declared.reply.SessionError.TheVariants as session_error
-
-slice_get-map : {A B : Type 0} (f : A → B) (xs : List A) (k : ℕ) → slice_get (map f xs) k ≡ option_map f (slice_get xs k)
-slice_get-map f [] zero = refl
-slice_get-map f [] (suc k) = refl
-slice_get-map f (x ∷ xs) zero = refl
-slice_get-map f (x ∷ xs) (suc k) = slice_get-map f xs k
+use Rattle.ppd_session.proofs.Tables.{told_entries, told_of}
 
 module _ (program : Program) (plan : Plan) (budget : ℕ) where
-  abbrev answer_of : Indexed → Result BlockTrace EmulError
+  abbrev pub answer_of : Indexed → Result BlockTrace EmulError
   answer_of i = (replay program plan i.log budget).answer
-
-  abbrev told_of : Indexed → Told
-  told_of i = told_by (answer_of i)
-
-  -- ---- of a process that is there, and of none
-
-  told_entries : (lists : List (List Entry)) (q : ℕ)
-      → get_or (map (told_of_entries program plan budget) lists) q [] ≡ told_of_entries program plan budget (get_or lists q [])
-  told_entries [] q = refl
-  told_entries (es ∷ lists) zero = refl
-  told_entries (es ∷ lists) (suc q) = told_entries lists q
 
   -- ---- one replay
 
@@ -61,7 +45,7 @@ module _ (program : Program) (plan : Plan) (budget : ℕ) where
   fails_as q (Err (Diverged n w f)) = refl
   fails_as q (Err Memory) = refl
 
-  failure_as : (q : ℕ) (o : Option Indexed) → failure_or q (failure_of (replay_of program plan budget (log_in o))) None ≡ failure_in q (option_map told_of o)
+  failure_as : (q : ℕ) (o : Option Indexed) → failure_or q (failure_of (replay_of program plan budget (log_in o))) None ≡ failure_in q (option_map (told_of program plan budget) o)
   failure_as q None = refl
   failure_as q (Some i) = fails_as q (answer_of i)
 
@@ -71,7 +55,7 @@ module _ (program : Program) (plan : Plan) (budget : ℕ) where
   tells_as q (Err Memory) e = refl
 
   told_as : (q : ℕ) (is : List Indexed) (k : ℕ) → k < length is → failure_or q (failure_of (replay_of program plan budget (log_in (slice_get is k)))) None ≡ None
-      → slice_get (map told_of is) k ≡ Some (Ok (get_or (map (λ i. items_by (answer_of i)) is) k []))
+      → slice_get (map (told_of program plan budget) is) k ≡ Some (Ok (get_or (map (λ i. items_by (answer_of i)) is) k []))
   told_as q [] k lt e = absurd (omega arith)
   told_as q (i ∷ is) zero lt e = ap Some (tells_as q (answer_of i) e)
   told_as q (i ∷ is) (suc k) lt e = told_as q is k (omega arith) e
@@ -83,10 +67,10 @@ module _ (program : Program) (plan : Plan) (budget : ℕ) where
   gives_as (Err (Diverged n w f)) items e = absurd (cc)
   gives_as (Err Memory) items e = cc
 
-  given_as : (is : List Indexed) (k : ℕ) (items : List Item) → slice_get (map told_of is) k ≡ Some (Ok items)
+  pub given_as : (is : List Indexed) (k : ℕ) (items : List Item) → slice_get (map (told_of program plan budget) is) k ≡ Some (Ok items)
       → items ≡ get_or (map (λ i. items_by (answer_of i)) is) k []
   given_as [] k items e = absurd (cc)
-  given_as (i ∷ is) zero items e = gives_as (answer_of i) items (same_Some (told_of i) (Ok items) e)
+  given_as (i ∷ is) zero items e = gives_as (answer_of i) items (same_Some (told_of program plan budget i) (Ok items) e)
   given_as (i ∷ is) (suc k) items e = given_as is k items e
 
 -- ---- how many

@@ -29,7 +29,7 @@ use Rattle.ppd_flow_past.specs.ByReplays.{first_failed}
 use Rattle.ppd_flow_past.specs.SeenBy.{seen_by}
 use Rattle.ppd_race.specs.Races.{races_of_logs}
 use Rattle.ppd_flow_model.specs.Found.{edges_replays, found_edges}
-use Rattle.ppd_flow_model.specs.Seen.{Seen}
+pub use Rattle.ppd_flow_model.specs.Seen.{Seen}
 use Rattle.ppd_flow_model.specs.Shared.{found_last, last_replays}
 use Rattle.ppd_flow_shared.specs.SharedCells.{answer_of}
 

@@ -9,3 +9,4 @@ pub mod LastTables
 pub mod Sessions
 pub mod Laws
 pub mod Missing
+pub mod Knowing

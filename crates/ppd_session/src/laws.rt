@@ -1,3 +1,4 @@
+ghost use Rattle.ppd_session.specs.Knowing.{LogsAreKnown};
 ghost use Rattle.ppd_session.specs.Laws.{LogsTellRuns, RunsAreAnswered};
 ghost use Rattle.ppd_session.specs.Missing.{MissingWritesAreTold};
 
@@ -17,4 +18,11 @@ pub fn runs_are_answered()
 /// replays give of that edge writes the cell.
 pub fn missing_writes_are_told()
     ensures { MissingWritesAreTold }
+{}
+
+/// Law: of logs that the index accepts this is known. Their races are those of their record and sets, their intervals
+/// those of their entries, and their items what the replay of each gives. Where a last value or the edges of an item are
+/// not found, the replay of an interval fails at the entry that is named, or a write is missing that it records.
+pub fn logs_are_known()
+    ensures { LogsAreKnown }
 {}

@@ -19,7 +19,7 @@ mod session;
 mod why;
 mod words;
 
-pub use laws::{logs_tell_runs, missing_writes_are_told, runs_are_answered};
+pub use laws::{logs_are_known, logs_tell_runs, missing_writes_are_told, runs_are_answered};
 pub use opening::{interval_there, no_items};
 pub use ppd_entry::At;
 pub use ppd_flow_past::Past;

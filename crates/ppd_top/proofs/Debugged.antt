@@ -14,12 +14,11 @@ use Rattle.ppd_session.specs.Texts.{failure_of}
 use Rattle.ppd_session.specs.declared.reply.SessionError.TheVariants.{Sets}
 use Rattle.ppd_race.specs.Races.{races_of_logs}
 use Rattle.ppd_session.proofs.Answered.{run_answered}
+use Rattle.ppd_session.proofs.Knowing.{logs_are_known}
 use Rattle.ppd_session.proofs.Missing.{missing_writes_told}
 use Rattle.ppd_io.specs.Content.{Loads}
-use Rattle.ppd_codec_runs.specs.Knowing.{seens_of}
 use Rattle.ppd_codec_runs.specs.Laws.{known_by}
-use Rattle.ppd_codec_runs.specs.Recordings.{IsAccepted, IsRunRecorded, known_of as known_of_recording}
-use Rattle.ppd_codec_runs.proofs.Knowing.{recordings_are_known}
+use Rattle.ppd_codec_runs.specs.Recordings.{IsAccepted, IsRunRecorded, known_of as known_of_recording, seens_of}
 use Rattle.ppd_codec_runs.proofs.Runs.{no_run_is_refused, runs_are_recalled}
 use Rattle.ppd_codec_runs.proofs.Same.{refused_or_accepted}
 use Rattle.ppd_top_debug.specs.Output.{Standing, Talks, answers, output}
@@ -66,7 +65,7 @@ module _ (c : Call) (name bytes : List ℕ) (asks : AsksDebug c.words name) (loa
     asked = asks;
     loaded = loads;
     accepted = accepted;
-    knows = recordings_are_known bytes r accepted;
+    knows = logs_are_known r.program r.plan r.header.budget r.logs accepted.indexed;
     of_runs = runs_are_recalled bytes r accepted;
   }
 
@@ -125,7 +124,7 @@ module _ (c : Call) (name bytes : List ℕ) (asks : AsksDebug c.words name) (loa
         told = u.told;
         out = answers (known_of_recording r) u.commands;
         writes = for_recording name bytes asks loads no_run (answers (known_of_recording r) u.commands)
-            (answered r (known_of_recording r) accepted (recordings_are_known bytes r accepted) (runs_are_recalled bytes r accepted));
+            (answered r (known_of_recording r) accepted (logs_are_known r.program r.plan r.header.budget r.logs accepted.indexed) (runs_are_recalled bytes r accepted));
         written = u.written;
       }
 

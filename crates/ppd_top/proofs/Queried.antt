@@ -18,13 +18,13 @@ use Rattle.ppd_top_query.specs.OfRuns.{AnswersAreOfRuns}
 use Rattle.ppd_top_query.specs.Replies.{IsAskable, IsError}
 use Rattle.ppd_session.specs.declared.reply.SessionError.{SessionError}
 use Rattle.ppd_session.specs.declared.reply.SessionError.TheVariants.{Diverged, Sets, Memory}
+use Rattle.ppd_session.proofs.Knowing.{logs_are_known}
 use Rattle.ppd_text_refusals.specs.Recordings.{refused_replay}
 use Rattle.ppd_top_debug.specs.Asking.{IsFailed}
 use Rattle.ppd_top_query.proofs.Ends.{queries_end, runs_are_told}
 use Rattle.ppd_top_query.proofs.Determined.{answers_are_determined, failed_are_missing}
 use Rattle.ppd_codec_runs.specs.Recordings.{IsAccepted, IsRecalled, IsRunRecorded, known_of}
 use Rattle.ppd_codec_runs.specs.declared.recalling.Recalled.{Recalled}
-use Rattle.ppd_codec_runs.proofs.Knowing.{recordings_are_known}
 use Rattle.ppd_codec_runs.proofs.Runs.{no_run_is_refused, runs_are_recalled}
 use Rattle.ppd_codec_runs.proofs.Same.{refused_or_accepted}
 use Rattle.ppd_top_words.specs.Reads.{texts_in}
@@ -107,7 +107,7 @@ module _ (c : Call) (name : List ℕ) (query : Query) (bytes : List ℕ) (asks :
     asked = asks;
     loaded = loads;
     accepted = accepted;
-    knows = recordings_are_known bytes r accepted;
+    knows = logs_are_known r.program r.plan r.header.budget r.logs accepted.indexed;
     of_runs = runs_are_recalled bytes r accepted;
     gives = subst (λ k. GivesBy r (known_of r) query c.schedule k text) (sym is) (answers_are_determined bytes r query c.schedule n text accepted g);
     answers_runs = λ zero. of_runs bytes r query c.schedule text accepted (subst (λ k. Gives r query c.schedule k text) (sym is ∙ zero) g);
@@ -123,7 +123,7 @@ module _ (c : Call) (name : List ℕ) (query : Query) (bytes : List ℕ) (asks :
 
   told_of : AnswersAreOfRuns → (r : Recording) → IsAccepted bytes r → (n : ℕ) (text : List ℕ) → Gives r query c.schedule n text → Tells bytes query c.schedule (output n text)
   told_of of_runs r accepted n text g =
-      given r (known_of r) c.schedule n text accepted (recordings_are_known bytes r accepted) (runs_are_recalled bytes r accepted)
+      given r (known_of r) c.schedule n text accepted (logs_are_known r.program r.plan r.header.budget r.logs accepted.indexed) (runs_are_recalled bytes r accepted)
       (answers_are_determined bytes r query c.schedule n text accepted g)
       (λ zero. of_runs bytes r query c.schedule text accepted (subst (λ k. Gives r query c.schedule k text) zero g))
 

@@ -25,9 +25,8 @@ use Rattle.ppd_top_query.specs.Missing.{IsMissingFor}
 use Rattle.ppd_top_query.specs.OfRuns.{IsOfRuns}
 use Rattle.ppd_top_query.specs.Queries.{Query}
 use Rattle.ppd_top_query.specs.Queries.Query.{Rerun}
-use Rattle.ppd_codec_runs.specs.Knowing.{IsKnownOf, seens_of}
 use Rattle.ppd_codec_runs.specs.Laws.{IsKnownOfRuns}
-use Rattle.ppd_codec_runs.specs.Recordings.{IsAccepted, IsRefusedBy, IsRunRecorded}
+use Rattle.ppd_codec_runs.specs.Recordings.{IsAccepted, IsKnownOf, IsRefusedBy, IsRunRecorded, seens_of}
 use Rattle.ppd_top_telling.specs.declared.options.Options.{Options}
 use Rattle.ppd_top.specs.Call.{Call, HasFailedLoad, HasFailedRead, HasFailedStore, HasFailedWrite, LeftInput, Wrote, WroteFront, WroteNothing, WrotePart}
 use Rattle.ppd_top_debug.specs.Output.{AreCommands, AreFine, IsBroken, IsReadNoFurther, Output, answers}

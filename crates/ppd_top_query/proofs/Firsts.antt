@@ -5,7 +5,6 @@ use Rattle.std.proofs.Common.{◌≡◌, ℕ, zero, suc, ◌+◌, ◌<◌, ◌�
 use Rattle.std.proofs.lemmas.Bool.{ltb-false, ltb-true}
 use Rattle.std.proofs.lemmas.List.{length-map}
 use Rattle.ppd_codec.specs.declared.recording.Recording.{Recording}
-use Rattle.ppd_codec_runs.proofs.Knowing.{failing, failing_is_told, there}
 use Rattle.ppd_entry.specs.declared.entry.At.{At}
 use Rattle.ppd_entry.specs.declared.entry.Entry.{Entry}
 use Rattle.ppd_entry.specs.Entries.{entries_at}
@@ -15,6 +14,7 @@ use Rattle.ppd_flow_past.specs.ByReplays.{failure_or, first_failed}
 use Rattle.ppd_flow_past.specs.SeenBy.{failed_at, seen_by}
 use Rattle.ppd_model.specs.declared.graph.Race.{Race}
 use Rattle.ppd_session.specs.Known.{Known, known_with}
+use Rattle.ppd_session.proofs.Knowing.{failing, failing_is_told, there}
 use Rattle.ppd_top_query.specs.Determined.{IsFirstFailure, NoneFails}
 use Rattle.ppd_top_query.specs.Queries.{first_failure}
 use Rattle.ppd_whole_intervals.specs.Intervals.{intervals_from}
@@ -107,7 +107,7 @@ module _ (r : Recording) where
   -- an interval that fails is among those of its process
   in_row : (p k n : ℕ) (entries : List Entry) → entries ≡ entries_at r.logs p → F p k ≡ Some n → k < length (seen_of entries).items
   in_row p k n entries e f =
-      let lt : k < length (indexed r.plan entries) = subst (λ es. k < length (indexed r.plan es)) (sym e) (there r p k n f) in
+      let lt : k < length (indexed r.plan entries) = subst (λ es. k < length (indexed r.plan es)) (sym e) (there r.program r.plan r.header.budget r.logs p k n f) in
       let count : length (seen_of entries).items ≡ length (indexed r.plan entries) = length-map (indexed r.plan entries) _ in
       omega (arith, lt, count)
 
@@ -124,7 +124,7 @@ module _ (r : Recording) where
   -- a process that is not there has no interval
   none_there : (p i k n : ℕ) → AreFrom p [] → F (p + i) k ≡ Some n → ⊥
   none_there p i k n h f =
-      let lt : k < length (indexed r.plan []) = subst (λ es. k < length (indexed r.plan es)) (sym (h i) ∙ no_entries i) (there r (p + i) k n f) in
+      let lt : k < length (indexed r.plan []) = subst (λ es. k < length (indexed r.plan es)) (sym (h i) ∙ no_entries i) (there r.program r.plan r.header.budget r.logs (p + i) k n f) in
       omega (arith, lt)
 
   all_clear : (p : ℕ) (lists : List (List Entry)) → AreFrom p lists → first_of (intervals_from p (map seen_of lists)) ≡ None → (i k n : ℕ) → F (p + i) k ≡ Some n → ⊥
@@ -210,16 +210,16 @@ module _ (r : Recording) where
   none_fails : first_failure r ≡ None → NoneFails known
   none_fails e q k n f =
       let z : 0 + q ≡ q = omega arith in
-      all_clear 0 r.logs.lists from_start e q k n (ap (λ i. F i k) z ∙ failing r q k n f)
+      all_clear 0 r.logs.lists from_start e q k n (ap (λ i. F i k) z ∙ failing r.program r.plan r.header.budget r.logs q k n f)
 
   first_is : (at : At) → first_failure r ≡ Some at → IsFirstFailure known at
   first_is at e = record {
     interval = found.interval;
-    fails = failing_is_told r at.process found.interval at.entry found.fails;
+    fails = failing_is_told r.program r.plan r.header.budget r.logs at.process found.interval at.entry found.fails;
     first = λ q k n f.
         let z : 0 + q ≡ q = omega arith in
         subst (λ i. (at.process < i) ⊎ ((at.process ≡ i) × (found.interval ≤ k))) z
-        (found.first q k n (ap (λ i. F i k) z ∙ failing r q k n f));
+        (found.first q k n (ap (λ i. F i k) z ∙ failing r.program r.plan r.header.budget r.logs q k n f));
   }
     where
       found : IsFirst 0 at

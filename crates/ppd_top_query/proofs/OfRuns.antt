@@ -12,9 +12,8 @@ use Rattle.ppd_codec.specs.declared.recording.Header.{Header}
 use Rattle.ppd_codec.specs.declared.recording.Recording.{Recording}
 use Rattle.ppd_codec_runs.proofs.Runs.{runs_are_recalled}
 use Rattle.ppd_codec_runs.proofs.Same.{IsOfThree, of_three}
-use Rattle.ppd_codec_runs.specs.Knowing.{seens_of}
 use Rattle.ppd_codec_runs.specs.Laws.{known_by}
-use Rattle.ppd_codec_runs.specs.Recordings.{IsAccepted, IsRunRecorded, known_of}
+use Rattle.ppd_codec_runs.specs.Recordings.{IsAccepted, IsRunRecorded, known_of, seens_of}
 use Rattle.ppd_entry.specs.declared.entry.At.{At}
 use Rattle.ppd_entry.specs.declared.entry.Logs.{Logs}
 use Rattle.ppd_flow_model.specs.Seen.{Seen}

@@ -1,8 +1,7 @@
 -- What `Sets` says of a query: a write that the entry records is missing.
 use Rattle.std.specs.Prelude.{◌≡◌, ℕ, List, Some}
 use Rattle.ppd_codec.specs.declared.recording.Recording.{Recording}
-use Rattle.ppd_codec_runs.specs.Knowing.{seens_of}
-use Rattle.ppd_codec_runs.specs.Recordings.{IsAccepted}
+use Rattle.ppd_codec_runs.specs.Recordings.{IsAccepted, seens_of}
 use Rattle.ppd_entry.specs.declared.entry.At.{At}
 use Rattle.ppd_session.specs.Known.{seens}
 use Rattle.ppd_session.specs.Missing.{IsMissingAt}

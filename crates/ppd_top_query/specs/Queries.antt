@@ -35,8 +35,7 @@ use Rattle.ppd_session.specs.Texts.{flow_at, intervals_at, no_event, no_process,
 use Rattle.ppd_session.specs.declared.reply.SessionError.{SessionError}
 use Rattle.ppd_session.specs.declared.reply.SessionError.TheVariants.{Diverged, Sets, Memory}
 use Rattle.ppd_slice.specs.Slices.{places_found}
-use Rattle.ppd_codec_runs.specs.Knowing.{seens_of}
-use Rattle.ppd_codec_runs.specs.Recordings.{known_of}
+use Rattle.ppd_codec_runs.specs.Recordings.{known_of, seens_of}
 use Rattle.ppd_text_refusals.specs.Recordings.{refused_replay}
 use Rattle.ppd_text_items.specs.Names.{process_name}
 use Rattle.ppd_text_verdict.specs.Texts.{verdict_text}
