@@ -18,13 +18,15 @@ use Rattle.ppd_text_tables.specs.Table.{stmt_at}
 use Rattle.ppd_session.specs.declared.question.Opening.{Opening}
 use Rattle.ppd_session.specs.declared.question.Question.{Question}
 use Rattle.ppd_session.specs.declared.question.Question.TheVariants.{Nothing, Unknown, Races, Final, Blocks, Open, Why, Deps, Quit}
+use Rattle.ppd_session.specs.declared.reply.SessionError.{SessionError}
+use Rattle.ppd_session.specs.declared.reply.SessionError.TheVariants as session_error
 use Rattle.ppd_session.specs.Known.{Flow, Interval, Known, Last, Told}
 use Rattle.ppd_session.specs.Questions.{question}
 use Rattle.ppd_flow_past.specs.declared.flow_error.FlowError.{FlowError}
 use Rattle.ppd_flow_past.specs.declared.flow_error.FlowError.TheVariants as flow_error
 use Rattle.ppd_text_items.specs.Edges.{last_line, why_text}
 use Rattle.ppd_text_items.specs.Items.{open_text}
-use Rattle.ppd_text_items.specs.Names.{cell_text, process_name, what_text}
+use Rattle.ppd_text_items.specs.Names.{at_entry, cell_text, process_name, what_text}
 
 -- ---- races
 
@@ -244,3 +246,10 @@ failure x asked =
 -- the failure that leaves a line without an answer
 abbrev pub failure_of : Known → List ℕ → Option FlowError
 failure_of x line = failure x (question x.program line)
+
+-- what is written in place of an answer, where a replay fails at an entry of a process, or replays write a cell of its
+-- set nowhere
+abbrev pub refused_replay : Program → SessionError → List ℕ
+refused_replay p (session_error.Diverged at) = at_entry p (codes "recording refused replay 1 Diverged ") at
+refused_replay p (session_error.Sets at) = at_entry p (codes "recording refused replay 3 Sets ") at
+refused_replay p session_error.Memory = []

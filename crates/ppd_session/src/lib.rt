@@ -25,6 +25,7 @@ pub use ppd_entry::At;
 pub use ppd_flow_past::Past;
 pub use question::process_named;
 pub use races::put_racy;
+pub use refusing::replay_line;
 pub use reply::{Reply, SessionError};
 pub use session::Session;
 pub use why::why_text;

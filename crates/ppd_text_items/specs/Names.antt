@@ -7,11 +7,16 @@ use Rattle.ppd_ast.specs.declared.program.Var.{Var}
 use Rattle.ppd_ast.specs.declared.status.Trap.{Trap}
 use Rattle.ppd_ast.specs.declared.status.Trap.TheVariants as trap
 use Rattle.ppd_ast.specs.Lookups.{name_of_body}
+use Rattle.ppd_entry.specs.declared.entry.At.{At}
 use Rattle.ppd_text_tables.specs.Plans.{block_what}
 
 -- the name of process k
 abbrev pub process_name : Program → ℕ → List ℕ
 process_name p k = name_of_body (slice_get p.bodies (p.functions + k))
+
+-- the line of a test that failed at an entry of a process, which begins with these words
+abbrev pub at_entry : Program → List ℕ → At → List ℕ
+at_entry p words at = words ++ process_name p at.process ++ codes " " ++ decimal at.entry ++ codes "\n"
 
 -- an element of an array by its index
 abbrev pub index_text : Var → ℕ → Option ℕ → List ℕ

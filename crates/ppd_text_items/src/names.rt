@@ -1,17 +1,33 @@
 // How processes, cells and the words of traps are written, and whose cells are named.
-ghost use Rattle.std.specs.Prelude.{◌≡◌, ◌≤◌, ◌++◌, OnOk, slice_get};
+ghost use Rattle.std.specs.Prelude.{◌≡◌, ◌≤◌, ◌++◌, IfOk, OnOk, slice_get};
 ghost use Rattle.ppd_ast.specs.Cells.{holds as holds_of};
-ghost use Rattle.ppd_text_items.specs.Names.{cell_text, index_text, process_name as process_name_of, trap_word, what_text};
+ghost use Rattle.ppd_text_items.specs.Names.{at_entry as at_entry_of, cell_text, index_text};
+ghost use Rattle.ppd_text_items.specs.Names.{process_name as process_name_of, trap_word, what_text};
 
 use ppd_ast::{Memory, Plan, Program, Trap, Var};
+use ppd_entry::At;
 use ppd_text::{put, put_number};
 use ppd_text_tables::{body_name, put_block_what};
+use std::alloc::Global;
 
 /// The name of a process, empty where there is none of this number.
 pub fn process_name(program: &Program, process: u8) -> &[u8]
     ensures { result.now ≡ process_name_of program.now process }
 {
     body_name(program, program.functions as usize + process as usize)
+}
+
+/// The line of a test that failed at an entry of a process, which begins with these words.
+pub fn at_entry(alloc: Global, program: &Program, words: &[u8], at: At) -> Result<Vec<u8>, Memory>
+    ensures { IfOk result (λ line. line.items ≡ at_entry_of program.now words.now at) }
+{
+    let mut line = Vec::new(alloc);
+    put(&mut line, words)?;
+    put(&mut line, process_name(program, at.process))?;
+    put(&mut line, b" ")?;
+    put_number(&mut line, at.entry)?;
+    put(&mut line, b"\n")?;
+    Ok(line)
 }
 
 /// Whether the cell is one of the variable's.

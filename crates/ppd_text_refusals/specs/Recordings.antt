@@ -9,15 +9,12 @@ use Rattle.ppd_codec.specs.declared.bad.BadBytes.{BadBytes}
 use Rattle.ppd_codec.specs.declared.bad.BadBytes.TheVariants as bytes
 use Rattle.ppd_codec.specs.declared.bad.Field.{Field}
 use Rattle.ppd_codec.specs.declared.bad.Field.TheVariants as field
-use Rattle.ppd_entry.specs.declared.entry.At.{At}
 use Rattle.ppd_graph.specs.declared.refusal.BadSync.{BadSync}
 use Rattle.ppd_graph.specs.declared.refusal.BadSync.TheVariants as sync
 use Rattle.ppd_index.specs.declared.refusal.BadLog.{BadLog}
 use Rattle.ppd_index.specs.declared.refusal.BadLog.TheVariants as log
 use Rattle.ppd_model.specs.declared.graph.NodeId.{NodeId}
-use Rattle.ppd_session.specs.declared.reply.SessionError.{SessionError}
-use Rattle.ppd_session.specs.declared.reply.SessionError.TheVariants as session_error
-use Rattle.ppd_text_items.specs.Names.{process_name}
+use Rattle.ppd_text_items.specs.Names.{at_entry, process_name}
 use Rattle.ppd_text_tables.specs.Names.{chan_name, sem_name}
 use Rattle.ppd_text_refusals.specs.Stages.{stage_text}
 
@@ -54,22 +51,12 @@ refused_bytes bytes.Memory = []
 
 -- ---- logs and synchronization
 
--- a test of this number and name that failed at an entry of a process
-abbrev pub at_entry : Program → List ℕ → At → List ℕ
-at_entry program what at = what ++ process_name program at.process ++ codes " " ++ decimal at.entry ++ codes "\n"
-
 abbrev pub refused_log : Program → BadLog → List ℕ
 refused_log program (log.Unpaired at) = at_entry program (codes "recording refused log 1 Unpaired ") at
 refused_log program (log.NoEnd at) = at_entry program (codes "recording refused log 2 NoEnd ") at
 refused_log program (log.AfterEnd at) = at_entry program (codes "recording refused log 3 AfterEnd ") at
 refused_log program (log.WrongValues at) = at_entry program (codes "recording refused log 4 WrongValues ") at
 refused_log program log.Memory = []
-
--- a replay that fails at an entry of a process, or replays that write a cell of its set nowhere
-abbrev pub refused_replay : Program → SessionError → List ℕ
-refused_replay program (session_error.Diverged at) = at_entry program (codes "recording refused replay 1 Diverged ") at
-refused_replay program (session_error.Sets at) = at_entry program (codes "recording refused replay 3 Sets ") at
-refused_replay program session_error.Memory = []
 
 -- the word of a kind, and the name of its object
 abbrev pub object_text : Program → SyncKind → ℕ → List ℕ

@@ -5,5 +5,5 @@ mod recording;
 mod source;
 mod stage;
 
-pub use recording::{bytes_line, log_line, replay_line, sync_line};
+pub use recording::{bytes_line, log_line, sync_line};
 pub use source::refusal_line;

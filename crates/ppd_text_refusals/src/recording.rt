@@ -4,23 +4,19 @@ ghost use Rattle.std.specs.List.{flat_map};
 ghost use Rattle.ppd_codec.specs.declared.bad.BadBytes.TheVariants as bytes;
 ghost use Rattle.ppd_graph.specs.declared.refusal.BadSync.TheVariants as sync;
 ghost use Rattle.ppd_index.specs.declared.refusal.BadLog.TheVariants as log;
-ghost use Rattle.ppd_session.specs.declared.reply.SessionError.TheVariants as session_error;
-ghost use Rattle.ppd_text_refusals.specs.Recordings.{at_entry as at_entry_of, at_offset as at_offset_of, field_word};
-ghost use Rattle.ppd_text_refusals.specs.Recordings.{node_text, object_text, refused_bytes, refused_log, refused_replay};
-ghost use Rattle.ppd_text_refusals.specs.Recordings.{refused_sync};
+ghost use Rattle.ppd_text_refusals.specs.Recordings.{at_offset as at_offset_of, field_word, node_text, object_text};
+ghost use Rattle.ppd_text_refusals.specs.Recordings.{refused_bytes, refused_log, refused_sync};
 
 use crate::stage::put_stage;
 use ppd_ast::limits::MOST_RECORDING_BYTES;
 use ppd_ast::{Memory, Program, SyncKind};
 use ppd_check::SourceError;
 use ppd_codec::{BadBytes, Field};
-use ppd_entry::At;
 use ppd_graph::BadSync;
 use ppd_index::BadLog;
 use ppd_model::NodeId;
-use ppd_session::SessionError;
 use ppd_text::{put, put_count, put_number};
-use ppd_text_items::process_name;
+use ppd_text_items::{at_entry, process_name};
 use ppd_text_tables::{chan_name, sem_name};
 use std::alloc::Global;
 
@@ -106,19 +102,6 @@ pub fn bytes_line(alloc: Global, bad: BadBytes) -> Result<Vec<u8>, Memory>
     }
 }
 
-/// A line of a test that failed at an entry.
-fn at_entry(alloc: Global, program: &Program, what: &[u8], at: At) -> Result<Vec<u8>, Memory>
-    ensures { IfOk result (λ line. line.items ≡ at_entry_of program.now what.now at) }
-{
-    let mut line = Vec::new(alloc);
-    put(&mut line, what)?;
-    put(&mut line, process_name(program, at.process))?;
-    put(&mut line, b" ")?;
-    put_number(&mut line, at.entry)?;
-    put(&mut line, b"\n")?;
-    Ok(line)
-}
-
 /// The line that says why logs have no index.
 pub fn log_line(alloc: Global, program: &Program, bad: BadLog) -> Result<Vec<u8>, Memory>
     ensures line { IfOk result (λ line. line.items ≡ refused_log program.now bad) }
@@ -132,23 +115,6 @@ pub fn log_line(alloc: Global, program: &Program, bad: BadLog) -> Result<Vec<u8>
             at_entry(alloc, program, b"recording refused log 4 WrongValues ", at)
         }
         BadLog::Memory => Err(Memory),
-    }
-}
-
-/// The line of a replay that fails, or that writes a cell nowhere, in place of the answer that needs it. The error is
-/// want of memory, also where that was why there is no answer.
-pub fn replay_line(alloc: Global, program: &Program, error: SessionError) -> Result<Vec<u8>, Memory>
-    ensures line { IfOk result (λ line. line.items ≡ refused_replay program.now error) }
-    ensures fault { OnOk result (error ≢ session_error.Memory) }
-{
-    match error {
-        SessionError::Diverged(at) => {
-            at_entry(alloc, program, b"recording refused replay 1 Diverged ", at)
-        }
-        SessionError::Sets(at) => {
-            at_entry(alloc, program, b"recording refused replay 3 Sets ", at)
-        }
-        SessionError::Memory => Err(Memory),
     }
 }
 

@@ -16,10 +16,10 @@ use Rattle.ppd_top_query.specs.Queries.Query.{Clean, Rerun, Slice, Whole}
 use Rattle.ppd_top_query.specs.Determined.{GivesBy}
 use Rattle.ppd_top_query.specs.OfRuns.{AnswersAreOfRuns}
 use Rattle.ppd_top_query.specs.Replies.{IsAskable, IsError}
+use Rattle.ppd_session.specs.Texts.{refused_replay}
 use Rattle.ppd_session.specs.declared.reply.SessionError.{SessionError}
 use Rattle.ppd_session.specs.declared.reply.SessionError.TheVariants.{Diverged, Sets, Memory}
 use Rattle.ppd_session.proofs.Knowing.{logs_are_known}
-use Rattle.ppd_text_refusals.specs.Recordings.{refused_replay}
 use Rattle.ppd_top_debug.specs.Asking.{IsFailed}
 use Rattle.ppd_top_query.proofs.Ends.{queries_end, runs_are_told}
 use Rattle.ppd_top_query.proofs.Determined.{answers_are_determined, failed_are_missing}

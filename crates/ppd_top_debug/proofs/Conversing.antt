@@ -14,8 +14,7 @@ use Rattle.ppd_io.proofs.Prefixes.{appends_nothing, appends_twice}
 use Rattle.ppd_session.specs.Known.{Known}
 use Rattle.ppd_session.specs.Questions.{is_quit}
 use Rattle.ppd_session.specs.Sessions.{FlowError, IsWhy, error_of}
-use Rattle.ppd_session.specs.Texts.{failure_of, text_of}
-use Rattle.ppd_text_refusals.specs.Recordings.{refused_replay}
+use Rattle.ppd_session.specs.Texts.{failure_of, refused_replay, text_of}
 use Rattle.ppd_session.specs.declared.reply.SessionError.{SessionError}
 use Rattle.ppd_session.specs.declared.reply.SessionError.TheVariants as session_error
 use Rattle.ppd_top_debug.specs.Asking.{Becomes, Goes, IsAsked, IsFailed, IsReadAtNeed, IsReadTo}

@@ -7,10 +7,9 @@ use Rattle.ppd_session.specs.Known.{Known}
 use Rattle.ppd_session.specs.Questions.{is_quit}
 use Rattle.ppd_ast.specs.declared.program.Program.{Program}
 use Rattle.ppd_session.specs.Sessions.{FlowError, error_of}
-use Rattle.ppd_session.specs.Texts.{failure_of, text_of}
+use Rattle.ppd_session.specs.Texts.{failure_of, refused_replay, text_of}
 use Rattle.ppd_session.specs.declared.reply.SessionError.{SessionError}
 use Rattle.ppd_session.specs.declared.reply.SessionError.TheVariants.{Memory}
-use Rattle.ppd_text_refusals.specs.Recordings.{refused_replay}
 use Rattle.ppd_top_debug.specs.Output.{Finished, AreAnswered, AreNotYetTaken, ArePlain, Standing, Talks, ended, texts}
 
 -- these lines were read of these bytes, and what is left of them: before the end was met, and after it

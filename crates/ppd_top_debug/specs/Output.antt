@@ -9,8 +9,7 @@ use Rattle.ppd_io.specs.Lines.{HasNoNewline, lines_of}
 use Rattle.ppd_session.specs.Known.{Known}
 use Rattle.ppd_session.specs.Questions.{is_quit}
 use Rattle.ppd_session.specs.Sessions.{FlowError, error_of}
-use Rattle.ppd_session.specs.Texts.{failure_of, text_of}
-use Rattle.ppd_text_refusals.specs.Recordings.{refused_replay}
+use Rattle.ppd_session.specs.Texts.{failure_of, refused_replay, text_of}
 pub use Rattle.ppd_top_output.specs.Finishing.{Finished}
 
 -- a status, and all that is written with it

@@ -10,8 +10,7 @@ ghost use Rattle.ppd_top_debug.specs.Output.{Standing, Talks, standing};
 use ppd_ast::limits::MOST_INPUT_LINES;
 use ppd_ast::{Memory, Program};
 use ppd_io::{LineError, LineReader, Sink, Source};
-use ppd_session::{Reply, Session, SessionError};
-use ppd_text_refusals::replay_line;
+use ppd_session::{Reply, Session, SessionError, replay_line};
 use ppd_top_output::{finish, finish_reply};
 use std::alloc::Global;
 

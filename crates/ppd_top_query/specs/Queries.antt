@@ -31,12 +31,11 @@ use Rattle.ppd_rerun_model.specs.declared.verdict.Verdict.{Verdict}
 use Rattle.ppd_rerun_model.specs.declared.verdict.Verdict.TheVariants as verdict
 use Rattle.ppd_session.specs.Known.{Flow, Known, Told}
 use Rattle.ppd_session.specs.Questions.{process_named}
-use Rattle.ppd_session.specs.Texts.{flow_at, intervals_at, no_event, no_process, raced, told_at}
+use Rattle.ppd_session.specs.Texts.{flow_at, intervals_at, no_event, no_process, raced, refused_replay, told_at}
 use Rattle.ppd_session.specs.declared.reply.SessionError.{SessionError}
 use Rattle.ppd_session.specs.declared.reply.SessionError.TheVariants.{Diverged, Sets, Memory}
 use Rattle.ppd_slice.specs.Slices.{places_found}
 use Rattle.ppd_codec_runs.specs.Recordings.{known_of, seens_of}
-use Rattle.ppd_text_refusals.specs.Recordings.{refused_replay}
 use Rattle.ppd_text_items.specs.Names.{process_name}
 use Rattle.ppd_text_verdict.specs.Texts.{verdict_text}
 use Rattle.ppd_whole_intervals.specs.Intervals.{intervals_from}

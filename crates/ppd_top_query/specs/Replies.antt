@@ -7,10 +7,9 @@ use Rattle.ppd_codec_runs.specs.Recordings.{IsRecalled}
 use Rattle.ppd_codec_runs.specs.declared.recalling.Recalled.{Recalled}
 use Rattle.ppd_graph.specs.Refusals.{AreOrdered}
 use Rattle.ppd_session.specs.Known.{Known}
-use Rattle.ppd_session.specs.Texts.{told_at}
+use Rattle.ppd_session.specs.Texts.{refused_replay, told_at}
 use Rattle.ppd_session.specs.declared.reply.SessionError.{SessionError}
 use Rattle.ppd_session.specs.declared.reply.SessionError.TheVariants.{Diverged, Sets, Memory}
-use Rattle.ppd_text_refusals.specs.Recordings.{refused_replay}
 use Rattle.ppd_top_query.specs.declared.query.Answer.{Answer}
 use Rattle.law_clean.specs.Answers.{unwritten}
 use Rattle.ppd_clean.specs.Answers.{IsFound}
