@@ -3,14 +3,13 @@ ghost use Rattle.std.specs.Prelude.{◌≡◌, ◌++◌, IfErr, IfOk, OnOk, opti
 ghost use Rattle.ppd_flow.specs.Far.{RoseWithin, far_in, far_of_event, far_of_reads_at, far_of_spot_at, far_of_sync_at};
 ghost use Rattle.ppd_flow_local.specs.Searches.{IsPlace, IsSearch};
 ghost use Rattle.ppd_flow_past.specs.ByReplays.{IsReplayFailure};
-ghost use Rattle.ppd_flow_tables.specs.Tabled.{IsTabled};
+ghost use Rattle.ppd_flow_shared.specs.Tabled.{IsTabled};
 ghost use Rattle.ppd_sem.specs.declared.event.Spot.TheVariants as spot;
 
 use ppd_ast::{Memory, Seq, Steps};
 use ppd_flow_local::{Place, Search};
 use ppd_flow_past::{FlowError, Past};
-use ppd_flow_shared::{CellSearch, Place as PairPlace, pair_of};
-use ppd_flow_tables::Tables;
+use ppd_flow_shared::{CellSearch, ItemPlace, Tables, pair_of};
 use ppd_graph::Paired;
 use ppd_model::Item;
 use ppd_sem::{Access, Event, Spot};
@@ -105,7 +104,7 @@ fn pair_process(search: &Search, place: &Place, number: Option<u32>) -> Result<O
     if number.is_none() {
         return Ok(None);
     }
-    let at = PairPlace {
+    let at = ItemPlace {
         process: search.process,
         interval: place.interval,
         item: place.item,
@@ -145,7 +144,7 @@ pub fn far_processes<L: Ledger>(
     alloc: Global,
     past: &Past,
     tables: &Tables,
-    at: PairPlace,
+    at: ItemPlace,
     steps: &mut Steps<L>,
 ) -> Result<Seq<u8>, FlowError>
     requires { IsTabled past.now tables.now }

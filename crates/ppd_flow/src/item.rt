@@ -9,7 +9,7 @@ ghost use Rattle.ppd_flow_past.specs.ByReplays.{AreReplayed, IsFoundBy, steps_to
 ghost use Rattle.ppd_flow_past.specs.Pasts.{IsPast};
 ghost use Rattle.ppd_flow_model.specs.Found.{event_edges as event_edges_of, event_replays, item_edges as item_edges_of, item_replays};
 ghost use Rattle.ppd_flow_shared.specs.SharedCells.{answer_of, seens_in};
-ghost use Rattle.ppd_flow_tables.specs.Tabled.{IsOfInterval, IsTabled};
+ghost use Rattle.ppd_flow_shared.specs.Tabled.{IsOfInterval, IsTabled};
 
 use crate::reads::read_edges;
 use law_flow_own::all_own_parts_are_found;
@@ -18,8 +18,7 @@ use ppd_ast::{Seq, Steps};
 use ppd_flow_edges::{asked_items, control_edge, push_rest};
 use ppd_flow_local::{Place, Search};
 use ppd_flow_past::{FlowError, Past, replays_are_seen};
-use ppd_flow_shared::{Place as PairPlace, pair_origin};
-use ppd_flow_tables::{TabledItems, Tables};
+use ppd_flow_shared::{ItemPlace, TabledItems, Tables, pair_origin};
 use ppd_model::{EdgeKind, FlowEdge, Item, Origin};
 use ppd_sem::Event;
 use std::alloc::Global;
@@ -52,7 +51,7 @@ fn pair_edge<L: Ledger>(
     if number.is_none() {
         return Ok(None);
     }
-    let at = PairPlace {
+    let at = ItemPlace {
         process: search.process,
         interval: place.interval,
         item: place.item,
@@ -128,7 +127,7 @@ fn edges_found<L: Ledger>(
     alloc: Global,
     past: &Past,
     tables: &Tables,
-    at: PairPlace,
+    at: ItemPlace,
     steps: &mut Steps<L>,
 ) -> Result<Seq<FlowEdge>, FlowError>
     requires { IsTabled past.now tables.now }
@@ -156,7 +155,7 @@ pub fn edges_by_tables<L: Ledger>(
     alloc: Global,
     past: &Past,
     tables: &Tables,
-    at: PairPlace,
+    at: ItemPlace,
     steps: &mut Steps<L>,
 ) -> Result<Seq<FlowEdge>, FlowError>
     requires { IsTabled past.now tables.now }
@@ -176,7 +175,7 @@ pub fn edges_by_tables<L: Ledger>(
 fn edges_given<L: Ledger>(
     alloc: Global,
     past: &Past,
-    at: PairPlace,
+    at: ItemPlace,
     given: TabledItems,
     steps: &mut Steps<L>,
 ) -> Result<Seq<FlowEdge>, FlowError>
@@ -208,7 +207,7 @@ fn edges_given<L: Ledger>(
 pub fn edges_from<L: Ledger>(
     alloc: Global,
     past: &Past,
-    at: PairPlace,
+    at: ItemPlace,
     given: TabledItems,
     steps: &mut Steps<L>,
 ) -> Result<Seq<FlowEdge>, FlowError>
@@ -262,7 +261,7 @@ pub fn edges<L: Ledger>(
     ensures cost { CostsEdges past.now process interval item steps.old steps.new result }
     ensures sets { IsCauseOfSets past.now result }
 {
-    let at = PairPlace {
+    let at = ItemPlace {
         process,
         interval,
         item: item as usize,

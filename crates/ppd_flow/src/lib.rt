@@ -12,7 +12,8 @@ pub use far::far_processes;
 pub use item::{edges, edges_by_tables, edges_from};
 pub use laws::answers_are_of_runs;
 pub use ppd_flow_past::{FlowError, KeptReplays, Past, interval_items};
-pub use ppd_flow_shared::{LastEdge, Place, last_edge};
-pub use ppd_flow_tables::{BlockTables, KeptTables, TabledItems, Tables};
+pub use ppd_flow_shared::{
+    BlockTables, ItemPlace, KeptTables, LastEdge, TabledItems, Tables, last_edge,
+};
 pub use ppd_model::{EdgeKind, FlowEdge, Origin};
 pub use value::{block_tables, last, last_from};

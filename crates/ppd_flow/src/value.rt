@@ -5,14 +5,12 @@ ghost use Rattle.ppd_flow_past.specs.ByReplays.{steps_to_replay};
 ghost use Rattle.ppd_flow_past.specs.Pasts.{IsPast};
 ghost use Rattle.ppd_flow_past.specs.SeenBy.{items_in};
 ghost use Rattle.ppd_flow_shared.specs.SharedCells.{AreItemsOfLast, IsLastFound};
-ghost use Rattle.ppd_flow_tables.specs.Tabled.{IsOfInterval};
+ghost use Rattle.ppd_flow_shared.specs.Tabled.{IsOfInterval};
 
 use law_flow_shared::{last_costs_little, last_writes_are_found};
 use ppd_ast::{Memory, Steps};
 use ppd_flow_past::{FlowError, Past, replays_are_seen};
-use ppd_flow_places::EdgeTable;
-use ppd_flow_shared::{LastEdge, last_write, last_write_from};
-use ppd_flow_tables::{BlockTables, TabledItems};
+use ppd_flow_shared::{BlockTables, EdgeTable, LastEdge, TabledItems, last_write, last_write_from};
 use ppd_model::{Item, Origin};
 use std::alloc::Global;
 use std::sync::ledger::Ledger;

@@ -10,7 +10,7 @@ use Rattle.ppd_flow_past.specs.declared.past.Past.{Past}
 use Rattle.ppd_flow_past.specs.ByReplays.{IsFoundBy}
 use Rattle.ppd_flow_past.specs.SeenBy.{items_in, round_by, seen_in}
 use Rattle.ppd_flow_past.proofs.Found.{found_err, found_none, found_then}
-use Rattle.ppd_flow_places.specs.Stops.{ArePassed}
+use Rattle.ppd_flow_tables.specs.Stops.{ArePassed}
 use Rattle.ppd_flow_past.proofs.Parents.{round_goes_on, round_is_before}
 use Rattle.ppd_flow_model.specs.declared.walked.Walked.{Walked}
 use Rattle.ppd_flow_model.specs.declared.walked.Walked.TheVariants.{Passed}

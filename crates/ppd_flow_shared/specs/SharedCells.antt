@@ -19,7 +19,7 @@ use Rattle.ppd_flow_model.specs.Walk.{walk, walk_replays}
 use Rattle.ppd_flow_model.specs.declared.walked.Walked.{Walked}
 use Rattle.ppd_flow_model.specs.declared.walked.Walked.TheVariants.{Found}
 use Rattle.ppd_flow_shared.specs.declared.edge_end.EdgeEnd.{EdgeEnd}
-use Rattle.ppd_flow_shared.specs.declared.last.LastEdge.{LastEdge}
+pub use Rattle.ppd_flow_shared.specs.declared.last.LastEdge.{LastEdge}
 
 -- what the replays of each process of a past give
 abbrev pub seens_in : Past → List Seen

@@ -13,6 +13,7 @@ mod shared;
 mod written;
 
 pub use last::{LastEdge, last_edge, last_write_from};
-pub use pairs::{Place, pair_of, pair_origin};
+pub use pairs::{ItemPlace, pair_of, pair_origin};
+pub use ppd_flow_tables::{BlockTables, EdgeTable, KeptTables, TabledItems, Tables};
 pub use search::CellSearch;
 pub use shared::last_write;

@@ -16,7 +16,7 @@ use std::sync::ledger::Ledger;
 
 /// A place in an interval of a process: before the item of this number.
 #[derive(Clone, Copy, PartialEq, Eq, Debug)]
-pub struct Place {
+pub struct ItemPlace {
     pub process: u8,
     pub interval: u32,
     pub item: usize,
@@ -24,14 +24,19 @@ pub struct Place {
 
 /// What leads to the synchronization at a place of an interval, whose items these are. `Memory` is want of memory, also
 /// for places that have no 32-bit numbers.
-pub fn pair_of(past: &Past, tables: &Tables, place: Place, items: &[Item]) -> Result<Paired, Memory>
+pub fn pair_of(
+    past: &Past,
+    tables: &Tables,
+    place: ItemPlace,
+    items: &[Item],
+) -> Result<Paired, Memory>
     requires past { IsTabled past.now tables.now }
     requires items { items.now ≡ items_in past.now place.process place.interval }
     ensures { IfOk result (λ pair. pair
         ≡ pair_of_place past.now.program.now past.now.logs.now (seens_in past.now) place.process place.interval
         place.item) }
 {
-    let Place {
+    let ItemPlace {
         process,
         interval,
         item,
@@ -74,7 +79,7 @@ pub fn pair_origin<L: Ledger>(
     alloc: Global,
     past: &Past,
     tables: &Tables,
-    place: Place,
+    place: ItemPlace,
     items: &[Item],
     steps: &mut Steps<L>,
 ) -> Result<Option<Origin>, FlowError>

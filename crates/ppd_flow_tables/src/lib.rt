@@ -11,5 +11,6 @@ mod tables;
 pub use block::BlockTables;
 pub use kept::KeptTables;
 pub use lookups::{edge_at, end_interval, greatest_before, place_of, stop_before, sync_item};
+pub use ppd_flow_places::EdgeTable;
 pub use process::ProcessTables;
 pub use tables::{TabledItems, Tables};

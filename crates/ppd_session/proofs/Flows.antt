@@ -14,7 +14,7 @@ use Rattle.ppd_flow_model.specs.Found.{edges_replays, found_edges}
 use Rattle.ppd_session.specs.Known.{Flow, flow_by, unless_failed}
 use Rattle.ppd_session.specs.Sessions.{IsItemThere, known_by}
 use Rattle.ppd_session.specs.Texts.{flow_at}
-use Rattle.ppd_flow_shared.specs.SharedCells.{IsMemoryOr, seens_in}
+use Rattle.ppd_flow.specs.SharedCells.{IsMemoryOr, seens_in}
 use Rattle.ppd_session.proofs.Tables.{flow_inside}
 
 module _ (past : Past) (uncut : past.cut.now ≡ past.logs.now) (q k j : ℕ) where

@@ -40,7 +40,7 @@ use Rattle.ppd_flow_past.specs.ByReplays.{failure_or, first_failed}
 use Rattle.ppd_flow_past.specs.SeenBy.{failed_at, failure_of, seen_by}
 use Rattle.ppd_model.specs.FlowbackEdges.{edges, edges_in}
 use Rattle.ppd_model.proofs.Items.{splits_length}
-use Rattle.ppd_flow_shared.specs.SharedCells.{answer_of}
+use Rattle.ppd_flow.specs.SharedCells.{answer_of}
 use Rattle.ppd_session.specs.Known.{Flow, Interval, Known, Last, Told, flow_by, flow_told, of_processes, known_of_logs, known_of_run, last_by, last_told, of_cells, of_extent, of_span, of_split, seens, told_by, told_of_entries, told_of_split, unless_failed, unless_raced}
 
 same_interval : (i : Span) (x : Extent) → IsSameInterval i x → of_span i ≡ of_extent x

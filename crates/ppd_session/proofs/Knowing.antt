@@ -22,7 +22,7 @@ use Rattle.ppd_flow_model.specs.Shared.{Missing, found_last, last_replays, seen_
 use Rattle.ppd_flow_past.specs.ByReplays.{failure_or, first_failed}
 use Rattle.ppd_flow_past.specs.Laws.{replay_of}
 use Rattle.ppd_flow_past.specs.SeenBy.{failed_at, failure_by, failure_of, seen_by}
-use Rattle.ppd_flow_shared.specs.SharedCells.{answer_of as answer_found}
+use Rattle.ppd_flow.specs.SharedCells.{answer_of as answer_found}
 use Rattle.ppd_model.specs.declared.flow.FlowEdge.{FlowEdge}
 use Rattle.ppd_model.specs.declared.flow.Item.{Item}
 use Rattle.ppd_model.specs.declared.graph.Race.{Race}

@@ -12,7 +12,7 @@ use Rattle.ppd_flow_model.specs.Shared.{Missing, found_last, last_replays}
 use Rattle.ppd_flow_past.specs.declared.flow_error.FlowError.{FlowError}
 use Rattle.ppd_flow_past.specs.declared.flow_error.FlowError.TheVariants as flow_error
 use Rattle.ppd_flow_past.specs.ByReplays.{first_failed}
-use Rattle.ppd_flow_shared.specs.SharedCells.{answer_of}
+use Rattle.ppd_flow.specs.SharedCells.{answer_of}
 use Rattle.ppd_model.specs.declared.flow.FlowEdge.{FlowEdge}
 use Rattle.ppd_model.specs.declared.flow.Item.{Item}
 use Rattle.ppd_model.specs.declared.flow.Origin.{Origin}

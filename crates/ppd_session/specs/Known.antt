@@ -31,7 +31,7 @@ use Rattle.ppd_race.specs.Races.{races_of_logs}
 use Rattle.ppd_flow_model.specs.Found.{edges_replays, found_edges}
 pub use Rattle.ppd_flow_model.specs.Seen.{Seen}
 use Rattle.ppd_flow_model.specs.Shared.{found_last, last_replays}
-use Rattle.ppd_flow_shared.specs.SharedCells.{answer_of}
+use Rattle.ppd_flow.specs.SharedCells.{answer_of}
 
 -- an interval: its block, the interval directly round it, and whether it was left
 pub record Interval : Type 0 where

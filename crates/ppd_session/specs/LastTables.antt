@@ -1,8 +1,7 @@
 -- The tables of the block in which last values are looked for.
 use Rattle.std.specs.Prelude.{◌≡◌, nat_eq, ◌&&◌, Option, Some, None, if◌then◌else◌}
 use Rattle.ppd_flow_past.specs.declared.past.Past.{Past}
-use Rattle.ppd_flow_tables.specs.declared.block.BlockTables.{BlockTables}
-use Rattle.ppd_flow_tables.specs.Tabled.{IsOfInterval}
+use Rattle.ppd_flow.specs.Tabled.{BlockTables, IsOfInterval}
 use Rattle.ppd_session.specs.declared.last_tables.LastTables.{LastTables}
 use Rattle.ppd_session.specs.declared.place.Place.{Place}
 

@@ -3,7 +3,7 @@ ghost use Rattle.std.specs.Prelude.{◌≡◌, IfSome, option_copied};
 ghost use Rattle.ppd_flow_past.specs.declared.past.Past.{Past as APast};
 ghost use Rattle.ppd_flow_past.specs.Pasts.{IsPast};
 ghost use Rattle.ppd_flow_past.specs.SeenBy.{items_in};
-ghost use Rattle.ppd_flow_tables.specs.Tabled.{IsOfInterval};
+ghost use Rattle.ppd_flow.specs.Tabled.{IsOfInterval};
 ghost use Rattle.ppd_session.specs.LastTables.{AreOfLast, same_tables};
 
 use crate::place::Place;

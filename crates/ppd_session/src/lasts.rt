@@ -3,14 +3,14 @@ ghost use Rattle.std.specs.Prelude.{◌≡◌, ◌⊎◌, ◌<◌, ◌++◌, [],
 ghost use Rattle.ppd_index.specs.Indexes.{rows_at};
 ghost use Rattle.ppd_flow_past.specs.Pasts.{IsPast};
 ghost use Rattle.ppd_session.specs.Known.{last_by, unless_raced};
-ghost use Rattle.ppd_flow_tables.specs.Tabled.{IsOfInterval};
+ghost use Rattle.ppd_flow.specs.Tabled.{IsOfInterval};
 ghost use Rattle.ppd_session.specs.LastTables.{AreOfLast};
 ghost use Rattle.ppd_session.specs.Keeping.{AreAsked, AreAskedInPart, IsAsked};
 ghost use Rattle.ppd_session.specs.Sessions.{AreTold, IsSession, IsLineOf, IsWhy, known_by, last_block, last_blocks};
 ghost use Rattle.ppd_session.specs.Sessions.{place_of, unfound};
 ghost use Rattle.ppd_session.specs.declared.reply.SessionError.TheVariants as session_error;
 ghost use Rattle.ppd_session.specs.Texts.{first_unfound, lasts_text, raced, told_at};
-ghost use Rattle.ppd_flow_shared.specs.SharedCells.{last_edge as last_edge_of};
+ghost use Rattle.ppd_flow.specs.SharedCells.{last_edge as last_edge_of};
 ghost use Rattle.ppd_text_items.specs.Edges.{last_line};
 
 use crate::kept::Kept;

@@ -9,7 +9,7 @@ ghost use Rattle.ppd_slice.specs.Slices.{IsNoItem, IsSliceOf};
 
 use crate::held::{Kept, keep};
 use ppd_ast::{Seq, Steps};
-use ppd_flow::{FlowEdge, FlowError, Past, Place, edges_by_tables, far_processes};
+use ppd_flow::{FlowEdge, FlowError, ItemPlace, Past, edges_by_tables, far_processes};
 use ppd_slice_model::ItemAt;
 use ppd_slice_search::has_item;
 use std::alloc::Global;
@@ -101,7 +101,7 @@ fn far_known<L: Ledger>(
 {
     let known = past.with_kept(kept.replays.as_slice());
     let tables = kept.tables.tables();
-    let place = Place {
+    let place = ItemPlace {
         process: at.process,
         interval: at.interval,
         item: at.item as usize,
@@ -149,7 +149,7 @@ fn edges_known<L: Ledger>(
 {
     let known = past.with_kept(kept.replays.as_slice());
     let tables = kept.tables.tables();
-    let place = Place {
+    let place = ItemPlace {
         process: at.process,
         interval: at.interval,
         item: at.item as usize,

@@ -5,7 +5,7 @@ use Rattle.std.proofs.lemmas.Result.{err_from_is_err_and}
 use Rattle.ppd_model.specs.declared.flow.Item.{Item}
 use Rattle.ppd_flow_past.specs.ByReplays.{IsFoundBy}
 use Rattle.ppd_flow_past.specs.SeenBy.{items_in}
-use Rattle.ppd_flow_places.specs.Stops.{ArePassed}
+use Rattle.ppd_flow_tables.specs.Stops.{ArePassed}
 use Rattle.ppd_flow_shared.specs.Items.{is_passed}
 use Rattle.ppd_flow_shared.proofs.Steps.{item_ended, item_failed, item_passed, items_jump, items_passed, whole_err, whole_ok}
 use Rattle.ppd_flow_shared.proofs.inside.+walk.Goals as goal
