@@ -4,11 +4,11 @@ use Rattle.ppd_codec_runs.specs.Recordings.{IsRunRecorded}
 use Rattle.ppd_io.specs.Content.{Loads, Stores}
 use Rattle.ppd_model.specs.Logs.{close}
 use Rattle.ppd_session.specs.Known.{Known}
-use Rattle.ppd_top_telling.specs.declared.options.Options.{Options}
+use Rattle.ppd_top.specs.Commands.{Options}
 use Rattle.ppd_top.specs.Call.{Call, Wrote}
 use Rattle.ppd_top.specs.Clauses.{IsOutcome, IsPromised, IsPromisedAnswers}
-use Rattle.ppd_top_debug.specs.Output.{AreCommands, answers}
-use Rattle.ppd_top_telling.specs.Summary.{summary_of}
+use Rattle.ppd_top.specs.Output.{AreCommands, answers}
+use Rattle.ppd_top.specs.Summary.{summary_of}
 use Rattle.ppd_top.specs.Top.{most_bytes, most_recording}
 use Rattle.ppd_top.specs.Words.{Asks, AsksDebug}
 use Rattle.ppd_top.specs.Words.Command.{Flow, Run as RunTo}

@@ -11,8 +11,8 @@ use Rattle.ppd_entry.specs.declared.entry.At.{At}
 use Rattle.ppd_entry.specs.declared.entry.Entry.{Entry}
 use Rattle.ppd_entry.specs.declared.entry.Logs.{Logs}
 use Rattle.ppd_entry.specs.IntervalLogs.{indexed}
-use Rattle.ppd_flow.specs.Answers.{answer_if}
-use Rattle.ppd_flow.specs.Runs.{edges_or_none}
+pub use Rattle.ppd_flow.specs.Answers.{answer_if}
+pub use Rattle.ppd_flow.specs.Runs.{edges_or_none}
 use Rattle.ppd_model.specs.declared.flow.FlowEdge.{FlowEdge}
 use Rattle.ppd_model.specs.declared.flow.Item.{Item}
 use Rattle.ppd_model.specs.declared.flow.Origin.{Origin}

@@ -3,7 +3,7 @@ use Rattle.std.specs.Prelude.{◌⊎◌}
 use Rattle.std.proofs.Common.{◌≡◌, ℕ, ◌<◌, List, [], ◌∷◌, false, arith, inl, inr, refl, subst}
 use Rattle.ppd_io.specs.Content.{StoreFails}
 use Rattle.ppd_top_query.specs.OfRuns.{AnswersAreOfRuns}
-use Rattle.ppd_top_telling.specs.declared.options.Options.{Options}
+use Rattle.ppd_top_runs.specs.Commands.{Options}
 use Rattle.ppd_top.specs.Call.{Call, HasFailedLoad, LeftShelf, Wrote}
 use Rattle.ppd_top.specs.Clauses.{AnswersCutOff, DrillCutOff, InputFailed, IsOutcome, IsPromised, IsPromisedAnswers, IsPromisedDrill, IsPromisedQuery, IsTaken, LinesFailed, LoadFailed, MemoryRanOut, QueryRefused, RanWhole, RecordingUnread, ReplayRefused, StoreFailed, StoresNothing, WasAnswered, WasCutOff, WasDrilled, WasNotAsked, WasNotRecalled, WasNotStored, WasQueried, WasRefused, WasShown, WasStored, WriteFailed}
 use Rattle.ppd_top.specs.Clauses.IsTaken.{by_drill, by_run}

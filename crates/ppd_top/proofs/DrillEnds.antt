@@ -13,11 +13,10 @@ use Rattle.ppd_top_drill.specs.Drills.{generated}
 use Rattle.ppd_io.specs.Causes.{Rose}
 use Rattle.ppd_io.specs.Content.{Appends, AppendsPart}
 use Rattle.ppd_io.specs.Lines.{lines_of}
-use Rattle.ppd_top_telling.specs.declared.options.Options.{Options}
+use Rattle.ppd_top_runs.specs.Commands.{Flows, Options, known_of, summary_of_run}
 use Rattle.ppd_top_debug.specs.Output.{AppendsFront, Standing, Talks, answers, Finished}
 use Rattle.ppd_top_debug.specs.Output.Talks.{whole, unread, unwritten, unfinished}
 use Rattle.ppd_top.specs.Ran.{Drilled, Drills, Refuses}
-use Rattle.ppd_top_runs.specs.Commands.{Flows, known_of, summary_of_run}
 use Rattle.ppd_top.specs.Ran.Drilled.{no_program, drilled}
 use Rattle.ppd_top.specs.Call.{Call, LeftInput}
 use Rattle.ppd_top.specs.Clauses.{DrillCutOff, IsPromisedDrill, MemoryRanOut, WasDrilled, WriteFailed}

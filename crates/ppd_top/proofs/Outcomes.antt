@@ -11,10 +11,9 @@ use Rattle.ppd_check.proofs.Excluded.{read_or_refused}
 use Rattle.ppd_text_tables.specs.Table.{table_of}
 use Rattle.ppd_session.specs.Texts.{failure_of}
 use Rattle.ppd_session.proofs.Answered.{run_answered}
-use Rattle.ppd_top_telling.specs.declared.options.Options.{Options}
+use Rattle.ppd_top_runs.specs.Commands.{Flows, Options, Shows, WasTold, known_of, plan_of, summary_of_run}
 use Rattle.ppd_top_debug.specs.Output.{AreCommands, Standing, output, Finished}
 use Rattle.ppd_top.specs.Ran.{Refuses}
-use Rattle.ppd_top_runs.specs.Commands.{Flows, Shows, WasTold, known_of, plan_of, summary_of_run}
 use Rattle.ppd_text_refusals.specs.Sources.{refused}
 use Rattle.ppd_top.specs.Call.{Call, LeftInput}
 use Rattle.ppd_top.specs.Clauses.{InputFailed, IsPromised, MemoryRanOut, RanWhole, WasCutOff, WasRead, WasRefused, WasShown, WriteFailed}

@@ -28,7 +28,7 @@ use Rattle.ppd_codec_runs.specs.declared.recalling.Recalled.{Recalled}
 use Rattle.ppd_codec_runs.proofs.Runs.{no_run_is_refused, runs_are_recalled}
 use Rattle.ppd_codec_runs.proofs.Same.{refused_or_accepted}
 use Rattle.ppd_top_words.specs.Reads.{texts_in}
-use Rattle.ppd_top_telling.specs.declared.options.Options.{Options}
+use Rattle.ppd_top_runs.specs.Commands.{Options}
 use Rattle.ppd_top_debug.specs.Output.{output, Finished}
 use Rattle.ppd_top.specs.Ran.{IsTold, Queries}
 use Rattle.ppd_top.specs.Ran.Queries.{no_query, query_refused, queried}

@@ -4,10 +4,9 @@ use Rattle.std.proofs.Common.{◌≡◌, ℕ, List, [], ◌∷◌, arith, inl, i
 use Rattle.ppd_ast.specs.declared.program.Program.{Program}
 use Rattle.ppd_check.specs.Read.{IsRead}
 use Rattle.ppd_io.specs.Content.{Loads, StoreFails}
-use Rattle.ppd_top_telling.specs.declared.options.Options.{Options}
+use Rattle.ppd_top_runs.specs.Commands.{IsRecordingOfRun, Keeps, Options, Records, summary_of_run}
 use Rattle.ppd_top_debug.specs.Output.{output}
 use Rattle.ppd_top.specs.Ran.{kept_in}
-use Rattle.ppd_top_runs.specs.Commands.{Keeps, Records, IsRecordingOfRun, summary_of_run}
 use Rattle.ppd_top_runs.specs.Commands.Keeps.{not_kept, store_failed, kept}
 use Rattle.ppd_top.specs.Call.{Call, LeftInput}
 use Rattle.ppd_top.specs.Clauses.{IsPromised, MemoryRanOut, StoreFailed, WasNotStored, WasRead, WasStored, WriteFailed}

@@ -12,14 +12,13 @@ use Rattle.ppd_model.specs.declared.trace.DriveError.{DriveError}
 use Rattle.ppd_model.specs.declared.trace.DriveError.TheVariants as drive
 use Rattle.ppd_model.specs.declared.closed.Closed.{Closed}
 use Rattle.ppd_model.specs.Logs.{close}
-use Rattle.ppd_top_telling.specs.declared.options.Options.{Options}
+use Rattle.ppd_top_runs.specs.Commands.{DidNothing, Flows, IsWholeRun, Keeping, Options, Records, Shows, keeping, plan_of}
 use Rattle.ppd_top.specs.declared.following.FollowError.{FollowError}
 use Rattle.ppd_top.specs.declared.following.FollowError.TheVariants.{Refused, NotEnabled, NotWhole, LongLine, ManyLines, Memory}
 use Rattle.ppd_top.specs.Call.{Call, Devices, HasFailedLoad, LeftInput, LeftShelf}
 use Rattle.ppd_top_debug.specs.Output.{AppendsFront, output, Finished}
 use Rattle.ppd_text_refusals.specs.Sources.{refused}
 use Rattle.ppd_top.specs.Top.{EndsWith, IsStuckAt, IsUnfinished, drill_options, drill_out, most_bytes, out_of, usage, most_recording}
-use Rattle.ppd_top_runs.specs.Commands.{IsWholeRun, plan_of, DidNothing, Flows, Shows, Keeping, keeping, Records}
 use Rattle.ppd_top_query.specs.Queries.{Gives, Query}
 use Rattle.ppd_top.specs.Words.{Asks, AsksDebug, AsksDrill, AsksQuery, AsksRecording, Command, IsNotAsked}
 use Rattle.ppd_top.specs.Words.Command.{Flow, Run, Show}

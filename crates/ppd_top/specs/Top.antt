@@ -12,7 +12,7 @@ use Rattle.ppd_model.specs.Races.{races}
 use Rattle.ppd_model.specs.Schedule.{run as run_of}
 use Rattle.ppd_model.specs.World.{World, enabled}
 use Rattle.ppd_text_tables.specs.Table.{table_of}
-use Rattle.ppd_top_telling.specs.declared.options.Options.{Options}
+use Rattle.ppd_top_runs.specs.Commands.{IsWholeRun, Options, known_of, plan_of, summary_of_run}
 use Rattle.ppd_top.specs.declared.following.FollowError.{FollowError}
 use Rattle.ppd_top.specs.declared.following.FollowError.TheVariants.{Refused, NotEnabled, NotWhole, LongLine, ManyLines, Memory}
 use Rattle.ppd_top.specs.Call.{Call}
@@ -27,7 +27,6 @@ use Rattle.ppd_top_query.specs.OfRuns.{IsOfRuns}
 use Rattle.ppd_top_query.specs.Queries.{Query}
 use Rattle.ppd_codec_runs.specs.Laws.{IsKnownOfRuns}
 use Rattle.ppd_codec_runs.specs.Recordings.{IsAccepted, IsKnownOf, IsRefusedBy}
-use Rattle.ppd_top_runs.specs.Commands.{plan_of, IsWholeRun, summary_of_run, known_of}
 
 -- ---- the run of a program
 

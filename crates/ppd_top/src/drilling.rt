@@ -11,8 +11,7 @@ use ppd_ast::{Policy, Program};
 use ppd_check::read_source;
 use ppd_io::{CHUNK_BYTES, Gate, Sink, SteadySource};
 use ppd_top_drill::generate;
-use ppd_top_runs::{Outcome, ended, flow};
-use ppd_top_telling::{Means, Options, Task};
+use ppd_top_runs::{Means, Options, Outcome, Task, ended, flow};
 use std::sync::Wait;
 use std::thread::Threads;
 

@@ -12,5 +12,4 @@ mod words;
 pub use call::ppd;
 pub use following::{FollowError, follow};
 pub use ppd_top_drill::generate;
-pub use ppd_top_runs::Outcome;
-pub use ppd_top_telling::Options;
+pub use ppd_top_runs::{Options, Outcome};

@@ -11,7 +11,7 @@ use ppd_ast::limits::{DEFAULT_BUDGET, MOST_BUDGET, MOST_DRILL, MOST_POLICY};
 use ppd_ast::{Memory, Policy};
 use ppd_text::number_in;
 use ppd_top_query::{AskedItem, Query};
-use ppd_top_telling::Options;
+use ppd_top_runs::Options;
 use ppd_top_words::{Command as Word, CommandWords, read_command};
 use std::alloc::Global;
 

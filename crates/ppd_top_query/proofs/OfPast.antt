@@ -4,7 +4,7 @@ use Rattle.std.proofs.Common.{◌≡◌, ℕ, zero, suc, ◌+◌, ◌<◌, ◌�
 use Rattle.std.proofs.lemmas.Bool.{lt-ltb, le-ltb, ltb-true}
 use Rattle.std.proofs.lemmas.Option.{slice_get_within}
 use Rattle.ppd_entry.specs.declared.entry.At.{At}
-use Rattle.ppd_flow.specs.Answers.{answer_if}
+use Rattle.ppd_session.specs.Known.{Flow, Known, Told, answer_if, flow_by, unless_failed}
 use Rattle.ppd_index.specs.Indexes.{IsIndexOf, rows_at}
 use Rattle.ppd_model.specs.declared.flow.FlowEdge.{FlowEdge}
 use Rattle.ppd_model.specs.declared.flow.Item.{Item}
@@ -19,7 +19,6 @@ use Rattle.ppd_slice_model.specs.declared.reached.ItemAt.{ItemAt}
 use Rattle.ppd_slice_model.specs.declared.reached.Reached.{Reached}
 use Rattle.ppd_slice_model.specs.Reach.{IsReach, item_of}
 use Rattle.ppd_slice_model.proofs.Levels.{reach_as}
-use Rattle.ppd_session.specs.Known.{Flow, Known, Told, flow_by, unless_failed}
 use Rattle.ppd_session.specs.Sessions.{known_by}
 use Rattle.ppd_session.specs.Texts.{failure_in, flow_at, no_event, told_at}
 use Rattle.ppd_session.specs.declared.reply.SessionError.TheVariants.{Diverged, Sets}

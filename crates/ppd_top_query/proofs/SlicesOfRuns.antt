@@ -17,9 +17,8 @@ use Rattle.ppd_model.specs.Intervals.{Part, Span, Split, items_of, splits}
 use Rattle.ppd_model.specs.Items.{ItemsAreWhole}
 use Rattle.ppd_model.specs.Races.{races_of}
 use Rattle.ppd_model.specs.Story.{story}
-use Rattle.ppd_flow.specs.Runs.{edges_or_none}
+use Rattle.ppd_session.specs.Known.{Flow, Known, Told, edges_or_none, flow_told, known_of_run, of_cells, of_intervals, of_items, of_processes, of_span, of_split, told_of_split, unless_raced}
 use Rattle.ppd_flow_past.specs.declared.flow_error.FlowError.TheVariants as flow_error
-use Rattle.ppd_session.specs.Known.{Flow, Known, Told, flow_told, known_of_run, of_cells, of_intervals, of_items, of_processes, of_span, of_split, told_of_split, unless_raced}
 use Rattle.ppd_session.specs.Sessions.{IsItemThere}
 use Rattle.ppd_session.specs.Texts.{intervals_at, no_event, told_at}
 use Rattle.ppd_slice.specs.Slices.{places_found}

@@ -4,7 +4,7 @@ ghost use Rattle.ppd_ast.specs.Valid.{IsValid};
 ghost use Rattle.ppd_ast.specs.ValidPlan.{IsValidPolicy};
 ghost use Rattle.ppd_ast.specs.declared.limits.TheConstants.{MOST_BUDGET};
 ghost use Rattle.ppd_text_tables.specs.Table.{table_of};
-ghost use Rattle.ppd_top_debug.specs.Output.{standing};
+ghost use Rattle.ppd_top_telling.specs.Output.{standing};
 ghost use Rattle.ppd_top_runs.specs.Commands.{Flows, Shows, plan_of};
 
 use crate::outcome::{Outcome, ended};
@@ -13,8 +13,7 @@ use ppd_blocks::partition;
 use ppd_io::{Gate, Sink, Source};
 use ppd_sets::sets;
 use ppd_text_tables::table;
-use ppd_top_debug::finish;
-use ppd_top_telling::{Means, Options, Task, run_task, tell};
+use ppd_top_telling::{Means, Options, Task, finish, run_task, tell};
 use std::alloc::Global;
 use std::sync::Wait;
 use std::thread::Threads;

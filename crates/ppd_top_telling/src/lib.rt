@@ -9,5 +9,6 @@ mod telling;
 mod text;
 
 pub use options::Options;
+pub use ppd_top_debug::finish;
 pub use run::{ClosedRun, Means, RunByThreads, Task, run_task};
 pub use telling::{summarize, tell};
