@@ -1,23 +1,12 @@
 // Whether the past of an item has a race.
 ghost use Rattle.std.specs.Prelude.{◌≡◌};
 ghost use Rattle.ppd_clean_past.specs.ByOrder.{is_led_to as is_led_to_of, is_unclean_at as is_unclean_in_edge};
-ghost use Rattle.ppd_flow_model.specs.Ends.{is_sync_item as is_sync_there};
 ghost use Rattle.ppd_flow_past.specs.Pasts.{IsPast};
 
 use crate::asked::Asked;
 use crate::by_order::{last_edge, leads_from_race};
-use ppd_flow_past::Past;
+use ppd_flow_past::{Past, is_sync_item};
 use ppd_model::{EdgeId, Item};
-
-/// Whether an item is a synchronization.
-fn is_sync_item(item: &Item) -> bool
-    ensures { result ≡ is_sync_there item.now }
-{
-    match item {
-        Item::Own(event) => event.number.is_some(),
-        Item::Nested { .. } => false,
-    }
-}
 
 /// Whether a race ends before the item, where it is the synchronization that ends this edge.
 fn is_led_to(past: &Past, asked: &Asked, item: &Item, edge: EdgeId) -> bool

@@ -81,7 +81,8 @@ pub fn end_interval(past: &Past, process: u8, edge: u32) -> u32
     innermost_at(past, process, ending(edge, entries_of(past.logs, process)))
 }
 
-fn is_sync_item(item: &Item) -> bool
+/// Whether an item is a synchronization.
+pub fn is_sync_item(item: &Item) -> bool
     ensures { result ≡ is_sync_there item.now }
 {
     match item {

@@ -14,7 +14,7 @@ mod places;
 mod replaying;
 mod syncs;
 
-pub use ends::{end_interval, ending, sync_item};
+pub use ends::{end_interval, ending, is_sync_item, sync_item};
 pub use flow_error::FlowError;
 pub use greatest::{greatest_before, greatest_writing};
 pub use intervals::{block_of, count_of, outer_of};

@@ -1,7 +1,6 @@
 // The items of an interval by the numbers under which they are looked up.
 ghost use Rattle.std.specs.Prelude.{◌≡◌, ◌&&◌, ◌||◌, ◌<◌, ◌^◌, ℕ, IfOk, OnOk, is_some, length, nat_eq};
 ghost use Rattle.ppd_ast.specs.Members.{has};
-ghost use Rattle.ppd_flow_model.specs.Ends.{is_sync_item as is_sync_there};
 ghost use Rattle.ppd_flow_model.specs.Seen.{is_item_of};
 ghost use Rattle.ppd_flow_model.specs.Walk.{is_shared, value_to};
 ghost use Rattle.ppd_flow_places.specs.Listed.{key};
@@ -10,6 +9,7 @@ ghost use Rattle.ppd_flow_places.specs.Tables.{AreWhere, is_marked, is_under};
 
 use crate::listing::{Listing, push_if, push_place};
 use ppd_ast::{Memory, Seq};
+use ppd_flow_past::is_sync_item;
 use ppd_model::Item;
 use ppd_sem::{Access, Spot};
 use std::alloc::Global;
@@ -25,15 +25,6 @@ pub(crate) enum Mark {
     Write,
     /// An inner interval or an event with a number, under 0.
     Border,
-}
-
-fn is_sync_item(item: &Item) -> bool
-    ensures { result ≡ is_sync_there item.now }
-{
-    match item {
-        Item::Own(event) => event.number.is_some(),
-        Item::Nested { .. } => false,
-    }
 }
 
 fn is_border(item: &Item) -> bool
