@@ -15,6 +15,8 @@ use Rattle.ppd_flow_past.specs.declared.flow_error.FlowError.TheVariants.{NoEven
 use Rattle.ppd_flow_past.specs.declared.past.Past.{Past}
 use Rattle.ppd_flow_past.specs.ByReplays.{IsFoundBy}
 use Rattle.ppd_flow_shared.specs.SharedCells.{answer_of, seens_in}
+pub use Rattle.ppd_flow_shared.specs.SharedCells.{BlockTables}
+pub use Rattle.ppd_flow_shared.specs.declared.last.LastEdge.{LastEdge}
 use Rattle.ppd_flow_local.specs.declared.search.Place.{Place}
 use Rattle.ppd_flow_local.specs.declared.search.Search.{Search}
 

@@ -18,8 +18,9 @@ use Rattle.ppd_flow_model.specs.Shared.{Missing, found_last, greatest_writing, l
 use Rattle.ppd_flow_model.specs.Walk.{walk, walk_replays}
 use Rattle.ppd_flow_model.specs.declared.walked.Walked.{Walked}
 use Rattle.ppd_flow_model.specs.declared.walked.Walked.TheVariants.{Found}
+pub use Rattle.ppd_flow_tables.specs.declared.block.BlockTables.{BlockTables}
 use Rattle.ppd_flow_shared.specs.declared.edge_end.EdgeEnd.{EdgeEnd}
-pub use Rattle.ppd_flow_shared.specs.declared.last.LastEdge.{LastEdge}
+use Rattle.ppd_flow_shared.specs.declared.last.LastEdge.{LastEdge}
 
 -- what the replays of each process of a past give
 abbrev pub seens_in : Past → List Seen

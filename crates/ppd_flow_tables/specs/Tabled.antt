@@ -9,7 +9,7 @@ use Rattle.ppd_flow_places.specs.declared.edge_table.EdgeTable.{EdgeTable}
 use Rattle.ppd_flow_places.specs.Tables.{IsEdgeTable, IsPlaceTable}
 use Rattle.ppd_flow_writers.specs.declared.by_cell.WritingEdges.{WritingEdges}
 use Rattle.ppd_flow_writers.specs.Writing.{AreWritingEdges}
-pub use Rattle.ppd_flow_tables.specs.declared.block.BlockTables.{BlockTables}
+use Rattle.ppd_flow_tables.specs.declared.block.BlockTables.{BlockTables}
 use Rattle.ppd_flow_tables.specs.declared.kept.KeptTables.{KeptTables}
 use Rattle.ppd_flow_tables.specs.declared.process.ProcessTables.{ProcessTables}
 use Rattle.ppd_flow_tables.specs.declared.tables.Tables.{Tables}

@@ -16,7 +16,8 @@ use Rattle.ppd_session.specs.declared.reply.SessionError.{SessionError}
 use Rattle.ppd_session.specs.declared.reply.SessionError.TheVariants.{Diverged, Sets, Memory}
 use Rattle.ppd_session.proofs.LastValues.{last_fails}
 use Rattle.ppd_session.proofs.Replayed.{same_failure}
-use Rattle.ppd_flow.specs.SharedCells.{LastEdge, last_edge, seens_in, with_end}
+use Rattle.ppd_flow.specs.Answers.{LastEdge}
+use Rattle.ppd_flow.specs.SharedCells.{last_edge, seens_in, with_end}
 
 first_fails : (p : ℕ) (f : Option ℕ) (rest : Option At) (at : At) → failure_or p f None ≡ Some at → failure_or p f rest ≡ Some at
 first_fails p None rest at e = absurd (cc)

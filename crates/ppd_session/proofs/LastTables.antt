@@ -4,7 +4,8 @@ use Rattle.std.specs.Prelude.{◌&&◌, nat_eq, if◌then◌else◌}
 use Rattle.std.proofs.lemmas.Bool.{eqb-true}
 use Rattle.std.proofs.lemmas.Option.{same_Some}
 use Rattle.ppd_flow_past.specs.declared.past.Past.{Past}
-use Rattle.ppd_flow.specs.Tabled.{BlockTables, IsOfInterval}
+use Rattle.ppd_flow.specs.Answers.{BlockTables}
+use Rattle.ppd_flow.specs.Tabled.{IsOfInterval}
 use Rattle.ppd_session.specs.declared.last_tables.LastTables.{LastTables}
 use Rattle.ppd_session.specs.declared.place.Place.{Place}
 use Rattle.ppd_session.specs.LastTables.{AreOfLast, same_tables}

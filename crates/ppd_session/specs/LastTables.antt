@@ -1,7 +1,8 @@
 -- The tables of the block in which last values are looked for.
 use Rattle.std.specs.Prelude.{◌≡◌, nat_eq, ◌&&◌, Option, Some, None, if◌then◌else◌}
 use Rattle.ppd_flow_past.specs.declared.past.Past.{Past}
-use Rattle.ppd_flow.specs.Tabled.{BlockTables, IsOfInterval}
+use Rattle.ppd_flow.specs.Answers.{BlockTables}
+use Rattle.ppd_flow.specs.Tabled.{IsOfInterval}
 use Rattle.ppd_session.specs.declared.last_tables.LastTables.{LastTables}
 use Rattle.ppd_session.specs.declared.place.Place.{Place}
 

@@ -9,7 +9,8 @@ pub use Rattle.ppd_flow_past.specs.declared.flow_error.FlowError.{FlowError}
 use Rattle.ppd_flow_past.specs.declared.flow_error.FlowError.TheVariants as flow_error
 use Rattle.ppd_flow_past.specs.declared.past.Past.{Past}
 use Rattle.ppd_flow_past.specs.Pasts.{IsPast}
-use Rattle.ppd_flow.specs.SharedCells.{LastEdge, last_edge}
+use Rattle.ppd_flow.specs.Answers.{LastEdge}
+use Rattle.ppd_flow.specs.SharedCells.{last_edge}
 use Rattle.ppd_race.specs.Races.{races_of_logs}
 use Rattle.ppd_text_items.specs.Edges.{last_line}
 use Rattle.ppd_session.specs.Keeping.{Keeping, none_kept}
