@@ -71,7 +71,7 @@ HEADLINE = [
             ("ppd_model/specs/Intervals.antt", "items", "emulate"),
             ("ppd_model/specs/FlowbackEdges.antt", "edges", "edges"),
             ("ppd_model/specs/FlowbackEdges.antt", "last", "last"),
-            ("ppd_slice_model/specs/Reach.antt", "IsReach", "slice"),
+            ("ppd_slice_search/specs/Reach.antt", "IsReach", "slice"),
         ],
     ),
     (

@@ -54,7 +54,7 @@ use Rattle.law_flow_shared.proofs.Edges.Spans.Facts.{count_to}
 use Rattle.law_flow_shared.proofs.Edges.StepEvents.Processes.{Facts, facts}
 use Rattle.law_flow_shared.proofs.Edges.StepEvents.Timeline.{did, did_more}
 use Rattle.law_flow_shared.proofs.Edges.StepEvents.Writers.{HasEvent, edge_is_count, ev_at, ev_count}
-use Rattle.law_static.proofs.SharedCells.Writers.{events_in}
+use Rattle.law_steps.proofs.StaticEdges.SharedCells.Writers.{events_in}
 use Rattle.law_clean.proofs.Prefixes.{edge_same, end_same, walk_same}
 
 -- ---- the greatest of a list

@@ -4,7 +4,8 @@ use Rattle.std.proofs.lemmas.Option.{same_Some}
 use Rattle.ppd_ast.specs.declared.program.Program.{Program}
 use Rattle.ppd_check.specs.Read.{HaveOneProgram, IsRead}
 use Rattle.ppd_io.specs.Content.{Loads}
-use Rattle.ppd_top.specs.Commands.{Options, known_of}
+use Rattle.ppd_top.specs.Commands.{known_of}
+use Rattle.ppd_top.specs.Ran.{Options}
 use Rattle.ppd_top.specs.Call.{Call}
 use Rattle.ppd_top.specs.Clauses.{IsOutcome, IsPromised, RanWhole, WasAnswered, WasDrilled, WasQueried, WasShown, WasStored}
 use Rattle.ppd_top.specs.Top.{most_bytes, most_recording}

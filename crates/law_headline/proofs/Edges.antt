@@ -27,7 +27,7 @@ use Rattle.ppd_session.specs.Known.{Flow, Known, Told, flow_told, known_of_run, 
 use Rattle.ppd_session.specs.Questions.{asked, why_of}
 use Rattle.ppd_session.proofs.Tables.{flow_inside, flow_nowhere, flow_past}
 use Rattle.ppd_session.specs.Texts.{answer_text, at_interval, flow_at, flow_text, intervals_at, item_text_of, raced, text_of, told_at, told_text}
-use Rattle.ppd_text_items.specs.Edges.{why_text}
+use Rattle.ppd_text.specs.Edges.{why_text}
 use Rattle.law_headline.specs.Answered.{AreEdgesOf, AsksEdges, HasEdges, HasItsEdges, IsItem, MissesNoEdge, told_if}
 use Rattle.law_headline.specs.Runs.{Run, plan_in, splits_in, story_in}
 use Rattle.law_headline.proofs.Tables.{count_in, count_row, told_in, told_in_span, told_row}

@@ -4,7 +4,7 @@ use Rattle.ppd_codec_runs.specs.Recordings.{IsRunRecorded}
 use Rattle.ppd_io.specs.Content.{Loads, Stores}
 use Rattle.ppd_model.specs.Logs.{close}
 use Rattle.ppd_session.specs.Known.{Known}
-use Rattle.ppd_top.specs.Commands.{Options}
+use Rattle.ppd_top.specs.Ran.{Options}
 use Rattle.ppd_top.specs.Call.{Call, Wrote}
 use Rattle.ppd_top.specs.Clauses.{IsOutcome, IsPromised, IsPromisedAnswers}
 use Rattle.ppd_top.specs.Output.{AreCommands, answers}

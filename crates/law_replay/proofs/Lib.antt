@@ -8,3 +8,4 @@ pub mod Alone
 pub mod Openings
 pub mod Theorem
 pub mod Vocabulary
+pub mod Skips

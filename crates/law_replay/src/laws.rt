@@ -3,5 +3,6 @@
 pub mod beside;
 pub mod coming;
 pub mod in_force;
+pub mod skips;
 pub mod spans;
 pub mod theorem;

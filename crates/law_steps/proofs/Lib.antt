@@ -2,3 +2,4 @@ pub mod Course
 pub mod Units
 pub mod Policies
 pub mod OpenBlocks
+pub mod StaticEdges

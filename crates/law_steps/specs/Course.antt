@@ -19,7 +19,7 @@ use Rattle.ppd_sem.specs.declared.proc.Todo.{Todo}
 use Rattle.ppd_sem.specs.Runs.{returns}
 use Rattle.ppd_sem.specs.Tables.{block_of, unit_of}
 use Rattle.ppd_sem.specs.Passed.{next_stmt_of}
-use Rattle.ppd_units.specs.Walk.{stands_in}
+use Rattle.ppd_blocks.specs.Walk.{stands_in}
 
 -- ---- a way along the flow graph
 

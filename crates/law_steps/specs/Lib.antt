@@ -1,7 +1,8 @@
 -- Where the steps of a process lead, what they read, and what they cost.
-pub use Rattle.ppd_blocks.specs.Blocks
 pub mod Course
 pub mod Steps
 pub mod Units
 pub mod Policies
 pub mod OpenBlocks
+pub use Rattle.ppd_blocks.specs.Blocks
+pub mod Sound

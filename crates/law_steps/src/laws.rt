@@ -1,4 +1,5 @@
 //! Laws of what the other calls give: each is the contract of a function that does nothing.
 
+pub mod edges;
 pub mod open_blocks;
 pub mod steps;

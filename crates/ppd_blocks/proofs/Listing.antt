@@ -15,7 +15,7 @@ use Rattle.ppd_ast.specs.Numbered.{starts_at as starts_of_policy}
 use Rattle.ppd_ast.specs.Members.{has}
 use Rattle.ppd_ast.specs.Lookups.{kind_of_stmt}
 use Rattle.ppd_ast.proofs.Members.{has_first, has_cons, has_left, has_right, has_cases}
-use Rattle.ppd_units.specs.Starts.{unit_starts_at, starts_in, all_starts}
+use Rattle.ppd_blocks.specs.Starts.{unit_starts_at, starts_in, all_starts}
 use Rattle.ppd_blocks.specs.Blocks.{loop_in, block_loops}
 
 module _ (p : Program) (policy : Policy) where

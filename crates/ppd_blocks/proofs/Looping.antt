@@ -21,7 +21,7 @@ use Rattle.ppd_sets.specs.Named.{cells_in, reads, writes}
 use Rattle.ppd_sets.proofs.InBody.{InBody, inside_in}
 use Rattle.ppd_sets.proofs.Looping.{cells_below, writes_below}
 use Rattle.ppd_sets.specs.Used.{loop_defined_of, loop_stmts, loop_used_of, reads_at, sorted, writes_at}
-use Rattle.ppd_units.proofs.Paths.{sorted_rises, sorted_gives, all_from}
+use Rattle.ppd_blocks.proofs.Paths.{sorted_rises, sorted_gives, all_from}
 
 -- ---- the statements inside a loop are of its body
 

@@ -11,7 +11,7 @@ use Rattle.ppd_ast.specs.declared.plan.BlockKind.TheVariants.{Function, Process,
 use Rattle.ppd_ast.specs.Bare.{gives_value}
 use Rattle.ppd_ast.specs.Numbered.{blocks_by}
 use Rattle.ppd_sets.specs.Used.{loop_used_of, loop_defined_of, sorted}
-use Rattle.ppd_units.specs.Starts.{units_of}
+use Rattle.ppd_blocks.specs.Starts.{units_of}
 
 abbrev pub params_of : Option Body → List ℕ
 params_of None = []

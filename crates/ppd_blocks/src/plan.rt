@@ -4,9 +4,9 @@ ghost use Rattle.ppd_ast.specs.ValidPlan.{IsValidPlan, IsValidPolicy};
 ghost use Rattle.ppd_blocks.specs.Blocks.{plan_of};
 
 use crate::blocks::{fill, loops_among};
+use crate::numbering::units;
 use ppd_ast::{Memory, Plan, Policy, Program};
 use ppd_sets::sets;
-use ppd_units::units;
 use std::alloc::Global;
 
 /// The plan of a policy, in the order of the blocks' and the units' numbers. A function's prelog

@@ -19,7 +19,7 @@ use Rattle.ppd_deps.specs.declared.edges.StaticEdge.TheVariants.{Data, ControlEn
 use Rattle.ppd_deps.specs.Edges.{begins, comes_to, control_into, control_of, data_from, data_into, edges_of, ends_paths, kept_rows, local_edge, locals_from, outer_edge, shared_edge, shared_from}
 use Rattle.ppd_deps.specs.Laws.{IsKeptPath, NoEdgeIsInvented}
 use Rattle.ppd_deps.specs.Named.{local_reads, shared_reads, shared_writes}
-use Rattle.ppd_units.proofs.Paths.{not_true}
+use Rattle.ppd_blocks.proofs.Paths.{not_true}
 
 -- ---- paths
 

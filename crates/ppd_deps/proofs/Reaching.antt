@@ -15,7 +15,7 @@ use Rattle.ppd_cfg.specs.Reach.{Reached, closure, leads}
 use Rattle.ppd_cfg.specs.WorkList.{AreRowsBelow, is_marked}
 use Rattle.ppd_cfg.proofs.Leading.{leads-tests, row_there}
 use Rattle.ppd_cfg.proofs.Rows.{length_rows, row_at}
-use Rattle.ppd_units.proofs.Fitting.{first_of_body_fits, listed_below, next_below}
+use Rattle.ppd_blocks.proofs.Fitting.{first_of_body_fits, listed_below, next_below}
 use Rattle.ppd_deps.specs.Edges.{begins, ends_paths, kept_next, kept_rows}
 use Rattle.ppd_deps.specs.Named.{local_writes, passes, places}
 

@@ -25,7 +25,7 @@ use Rattle.ppd_cfg.specs.Lists.{row}
 use Rattle.ppd_cfg.proofs.Rows.{length_rows, row_at}
 use Rattle.ppd_sets.specs.Used.{numbers_in, stmts_at}
 use Rattle.ppd_sets.proofs.Calling.{one_below}
-use Rattle.ppd_units.proofs.Fitting.{none_below}
+use Rattle.ppd_blocks.proofs.Fitting.{none_below}
 use Rattle.ppd_deps.specs.Named.{calls, local_writes, places, places_by, processes}
 
 pub table_long : (f : ℕ → List ℕ) (rows : List (List ℕ)) (n s : ℕ) → rows ≡ map f (range_with_len 0 n) → s < n → s < length rows

@@ -8,8 +8,7 @@ ghost use Rattle.ppd_sets.specs.Used.{AreSmall, is_met, reads_at, writes_at};
 ghost use Rattle.ppd_deps.specs.Named.{calls};
 
 use ppd_ast::{Cells, Kind, Memory, Program, Var};
-use ppd_bits::CellSet;
-use ppd_sets::{add_reads, add_writes, does_meet};
+use ppd_sets::{CellSet, add_reads, add_writes, does_meet};
 use std::alloc::Global;
 
 pub(crate) fn body_at(program: &Program, stmt: u32) -> u16

@@ -1,4 +1,5 @@
--- The log of each interval, from the log of its process.
+-- The entries of logs, the logs of intervals, and the lists in them.
+pub mod Boxed
 pub mod Entries
 pub mod Pieces
 pub mod IntervalLogs

@@ -28,6 +28,10 @@ there_is (x ∷ ts) (suc i) t h e = there_is ts i t (omega (arith, h)) e
 pub item_there : (ts us : List Item) (i : ℕ) (t : Item) → ts ≡ us → i < length ts → t ≡ get_or ts i t → slice_get us i ≡ Some t
 item_there ts us i t same h e = ap (λ (z : List Item). slice_get z i) (sym same) ∙ there_is ts i t h e
 
+-- the same where its number is known of this one
+pub asked_there : (ts us : List Item) (i : ℕ) (t : Item) → ts ≡ us → i < length us → t ≡ get_or ts i t → slice_get us i ≡ Some t
+asked_there ts us i t same h e = item_there ts us i t same (subst (λ (z : List Item). i < length z) (sym same) h) e
+
 pub none_there : (ts us : List Item) (i : ℕ) → ts ≡ us → length ts ≤ i → length us ≤ i
 none_there ts us i same h = subst (λ (z : List Item). length z ≤ i) same h
 

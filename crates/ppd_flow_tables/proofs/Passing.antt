@@ -3,7 +3,7 @@ use Rattle.std.proofs.Common.{◌≡◌, ℕ, zero, suc, ◌≤◌, ◌⊎◌, i
 use Rattle.std.proofs.lemmas.List.{take_all}
 use Rattle.std.specs.Prelude.{min}
 use Rattle.ppd_flow_model.specs.Walk.{back_over, backwards, over_replays}
-use Rattle.ppd_flow_places.specs.Stops.{ArePassed}
+use Rattle.ppd_flow_tables.specs.Stops.{ArePassed}
 use Rattle.ppd_model.specs.declared.flow.Item.{Item}
 
 -- the same items come before both places

@@ -6,13 +6,13 @@ use Rattle.std.proofs.lemmas.Bool.{eqb-true}
 use Rattle.std.proofs.lemmas.Option.{none-some, same_Some}
 use Rattle.ppd_flow_past.specs.declared.past.Past.{Past}
 use Rattle.ppd_entry.specs.Entries.{entries_at}
-use Rattle.ppd_flow_places.specs.declared.edge_table.EdgeTable.{EdgeTable}
-use Rattle.ppd_flow_places.specs.Tables.{IsEdgeTable, IsPlaceTable}
+use Rattle.ppd_flow_tables.specs.declared.edge_table.EdgeTable.{EdgeTable}
+use Rattle.ppd_flow_tables.specs.Tables.{IsEdgeTable, IsPlaceTable}
 use Rattle.ppd_flow_past.specs.Keeping.{AreFirstItems, AreKeptOf}
 use Rattle.ppd_flow_past.specs.SeenBy.{items_in}
 use Rattle.ppd_model.specs.declared.flow.Item.{Item}
-use Rattle.ppd_flow_writers.specs.declared.by_cell.WritingEdges.{WritingEdges}
-use Rattle.ppd_flow_writers.specs.Writing.{AreWritingEdges}
+use Rattle.ppd_flow_tables.specs.declared.by_cell.WritingEdges.{WritingEdges}
+use Rattle.ppd_flow_tables.specs.Writing.{AreWritingEdges}
 use Rattle.ppd_flow_tables.specs.declared.block.BlockTables.{BlockTables}
 use Rattle.ppd_flow_tables.specs.declared.process.ProcessTables.{ProcessTables}
 use Rattle.ppd_flow_tables.specs.declared.tables.Tables.{Tables}

@@ -1,3 +1,7 @@
--- Tables that are at hand of the intervals of a past.
-pub use Rattle.ppd_flow_places.specs.Stops
+-- Tables of the internal edges of a process and of the places of an interval.
+pub mod Listed
+pub mod Stops
+pub mod Tables
+pub mod Counts
+pub mod Writing
 pub mod Tabled

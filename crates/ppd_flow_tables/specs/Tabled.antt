@@ -5,10 +5,10 @@ use Rattle.ppd_flow_local_tables.specs.Tables.{IsTableOf}
 use Rattle.ppd_flow_past.specs.declared.past.Past.{Past}
 use Rattle.ppd_flow_past.specs.Pasts.{IsPast}
 use Rattle.ppd_flow_past.specs.SeenBy.{items_in}
-use Rattle.ppd_flow_places.specs.declared.edge_table.EdgeTable.{EdgeTable}
-use Rattle.ppd_flow_places.specs.Tables.{IsEdgeTable, IsPlaceTable}
-use Rattle.ppd_flow_writers.specs.declared.by_cell.WritingEdges.{WritingEdges}
-use Rattle.ppd_flow_writers.specs.Writing.{AreWritingEdges}
+use Rattle.ppd_flow_tables.specs.declared.edge_table.EdgeTable.{EdgeTable}
+use Rattle.ppd_flow_tables.specs.Tables.{IsEdgeTable, IsPlaceTable}
+use Rattle.ppd_flow_tables.specs.declared.by_cell.WritingEdges.{WritingEdges}
+use Rattle.ppd_flow_tables.specs.Writing.{AreWritingEdges}
 use Rattle.ppd_flow_tables.specs.declared.block.BlockTables.{BlockTables}
 use Rattle.ppd_flow_tables.specs.declared.kept.KeptTables.{KeptTables}
 use Rattle.ppd_flow_tables.specs.declared.process.ProcessTables.{ProcessTables}

@@ -2,13 +2,14 @@ ghost use Rattle.std.specs.Prelude.{◌≡◌, IfOk};
 ghost use Rattle.ppd_entry.specs.Entries.{entries_at};
 ghost use Rattle.ppd_flow_past.specs.Pasts.{IsPast};
 ghost use Rattle.ppd_flow_past.specs.SeenBy.{items_in};
-ghost use Rattle.ppd_flow_places.specs.Tables.{IsEdgeTable};
+ghost use Rattle.ppd_flow_tables.specs.Tables.{IsEdgeTable};
 ghost use Rattle.ppd_flow_tables.specs.Tabled.{IsOfInterval};
 
+use crate::edge_table::EdgeTable;
+use crate::place_table::PlaceTable;
 use ppd_ast::Memory;
 use ppd_flow_local_tables::LocalTable;
 use ppd_flow_past::Past;
-use ppd_flow_places::{EdgeTable, PlaceTable};
 use ppd_model::Item;
 use std::alloc::Global;
 

@@ -5,11 +5,11 @@ ghost use Rattle.ppd_flow_past.specs.Keeping.{AreKeptOf};
 ghost use Rattle.ppd_flow_past.specs.Pasts.{IsPast};
 ghost use Rattle.ppd_flow_tables.specs.Tabled.{AreKeptTables, AreOfProcesses, AreTablesOf};
 
+use crate::by_cell::{WritingEdges, writing_edges};
 use crate::process::ProcessTables;
 use crate::tables::Tables;
 use ppd_ast::{Memory, Seq};
 use ppd_flow_past::Past;
-use ppd_flow_writers::{WritingEdges, writing_edges};
 use ppd_model::Item;
 use std::alloc::Global;
 

@@ -1,16 +1,31 @@
-//! Tables of the items of intervals that are at hand in a search, by which it looks up in place of going over items
-//! and entries.
+//! Tables by which a search looks up in place of going over entries or items: the internal edges of a process and the
+//! places of an interval, the edges that write each shared cell, and the items of intervals that are at hand.
 #![tactic(auto)]
 
 mod block;
+mod by_cell;
+mod counts;
+mod edge_build;
+mod edge_table;
+mod greatest;
+mod halves;
+mod innermost;
 mod kept;
+mod listing;
 mod lookups;
+mod marks;
+mod numbers;
+mod place_build;
+mod place_table;
 mod process;
+mod spans;
 mod tables;
 
 pub use block::BlockTables;
+pub use by_cell::{WritingEdges, writing_edges};
+pub use edge_table::EdgeTable;
 pub use kept::KeptTables;
 pub use lookups::{edge_at, end_interval, greatest_before, place_of, stop_before, sync_item};
-pub use ppd_flow_places::EdgeTable;
+pub use place_table::PlaceTable;
 pub use process::ProcessTables;
 pub use tables::{TabledItems, Tables};

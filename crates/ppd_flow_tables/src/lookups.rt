@@ -6,8 +6,8 @@ ghost use Rattle.ppd_flow_model.specs.Seen.{is_item_of, place_of as place_among}
 ghost use Rattle.ppd_flow_model.specs.Shared.{greatest_before as greatest_before_of};
 ghost use Rattle.ppd_flow_past.specs.SeenBy.{items_in};
 ghost use Rattle.ppd_flow_past.specs.declared.past.Past.{Past};
-ghost use Rattle.ppd_flow_places.specs.Stops.{ArePassed, after};
-ghost use Rattle.ppd_flow_places.specs.Tables.{edge_of};
+ghost use Rattle.ppd_flow_tables.specs.Stops.{ArePassed, after};
+ghost use Rattle.ppd_flow_tables.specs.Tables.{edge_of};
 ghost use Rattle.ppd_flow_tables.specs.Tabled.{AreTablesOf, IsTabled};
 
 use crate::tables::Tables;

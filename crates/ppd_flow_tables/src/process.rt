@@ -2,13 +2,13 @@ ghost use Rattle.std.specs.Prelude.{◌≡◌, IfOk};
 ghost use Rattle.ppd_entry.specs.Entries.{entries_at};
 ghost use Rattle.ppd_flow_past.specs.Keeping.{AreFirstItems};
 ghost use Rattle.ppd_flow_past.specs.Pasts.{IsPast};
-ghost use Rattle.ppd_flow_places.specs.Tables.{IsEdgeTable};
+ghost use Rattle.ppd_flow_tables.specs.Tables.{IsEdgeTable};
 ghost use Rattle.ppd_flow_tables.specs.Tabled.{AreOfProcess, AreOfFirst};
 
 use crate::block::BlockTables;
+use crate::edge_table::EdgeTable;
 use ppd_ast::{Memory, Seq};
 use ppd_flow_past::{Past, number};
-use ppd_flow_places::EdgeTable;
 use ppd_model::Item;
 use std::alloc::Global;
 

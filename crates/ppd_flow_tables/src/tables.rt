@@ -3,9 +3,9 @@ ghost use Rattle.ppd_flow_past.specs.declared.past.Past.{Past};
 ghost use Rattle.ppd_flow_tables.specs.Tabled.{AreTablesOf, IsOfInterval, block_in, blocks_of, edges_in, edges_of, writing_in};
 
 use crate::block::BlockTables;
+use crate::by_cell::WritingEdges;
+use crate::edge_table::EdgeTable;
 use crate::process::ProcessTables;
-use ppd_flow_places::EdgeTable;
-use ppd_flow_writers::WritingEdges;
 use ppd_model::Item;
 
 /// The tables that are at hand in a search: none, those of one interval, or those of processes that are kept.

@@ -7,8 +7,8 @@ ghost use Rattle.ppd_race_found.specs.Lists.{GrowsBy};
 
 use ppd_ast::limits::MOST_SHARED_CELLS;
 use ppd_ast::{Memory, Steps};
-use ppd_bits::CellSet;
 use ppd_race_found::{Accessor, Busy, ByCell, Lists, no_lists, push_at};
+use ppd_sets::CellSet;
 use std::alloc::Global;
 use std::sync::ledger::Ledger;
 

@@ -1,6 +1,6 @@
 use ppd_ast::Cells;
-use ppd_bits::CellSet;
 use ppd_model::{EdgeId, RaceKind};
+use ppd_sets::CellSet;
 
 /// An internal edge that accesses shared cells: those that it reads, those that it writes, and all of them, rising.
 #[derive(Drop)]

@@ -17,7 +17,7 @@ use Rattle.ppd_session.specs.Texts.{first_unfound, lasts_text}
 use Rattle.ppd_session.specs.declared.reply.SessionError.{SessionError}
 use Rattle.ppd_session.specs.declared.reply.SessionError.TheVariants.{Diverged, Sets, Memory}
 use Rattle.ppd_flow.specs.SharedCells.{answer_of, seens_in}
-use Rattle.ppd_text_items.specs.Edges.{last_line}
+use Rattle.ppd_text.specs.Edges.{last_line}
 
 -- ---- the search for a last write
 

@@ -12,7 +12,7 @@ use Rattle.ppd_flow_past.specs.Pasts.{IsPast}
 use Rattle.ppd_flow.specs.Answers.{LastEdge}
 use Rattle.ppd_flow.specs.SharedCells.{last_edge}
 use Rattle.ppd_race.specs.Races.{races_of_logs}
-use Rattle.ppd_text_items.specs.Edges.{last_line}
+use Rattle.ppd_text.specs.Edges.{last_line}
 use Rattle.ppd_session.specs.Keeping.{Keeping, none_kept}
 use Rattle.ppd_session.specs.Known.{Known, Last, known_with, of_cells, unless_raced}
 use Rattle.ppd_session.specs.Questions.{question}

@@ -13,8 +13,8 @@ use Rattle.ppd_model.specs.declared.flow.Item.{Item}
 use Rattle.ppd_model.specs.declared.graph.Race.{Race}
 use Rattle.ppd_model.specs.declared.graph.RaceKind.{RaceKind}
 use Rattle.ppd_model.specs.declared.graph.RaceKind.TheVariants.{ReadWrite, WriteRead, WriteWrite}
-use Rattle.ppd_text_tables.specs.Names.{var_name}
-use Rattle.ppd_text_tables.specs.Table.{stmt_at}
+use Rattle.ppd_text.specs.Names.{var_name}
+use Rattle.ppd_text.specs.Table.{stmt_at}
 use Rattle.ppd_session.specs.declared.question.Opening.{Opening}
 use Rattle.ppd_session.specs.declared.question.Question.{Question}
 use Rattle.ppd_session.specs.declared.question.Question.TheVariants.{Nothing, Unknown, Races, Final, Blocks, Open, Why, Deps, Quit}
@@ -24,9 +24,9 @@ use Rattle.ppd_session.specs.Known.{Flow, Interval, Known, Last, Told}
 use Rattle.ppd_session.specs.Questions.{question}
 use Rattle.ppd_flow_past.specs.declared.flow_error.FlowError.{FlowError}
 use Rattle.ppd_flow_past.specs.declared.flow_error.FlowError.TheVariants as flow_error
-use Rattle.ppd_text_items.specs.Edges.{last_line, why_text}
-use Rattle.ppd_text_items.specs.Items.{open_text}
-use Rattle.ppd_text_items.specs.Names.{at_entry, cell_text, process_name, what_text}
+use Rattle.ppd_text.specs.Edges.{last_line, why_text}
+use Rattle.ppd_text.specs.Items.{open_text}
+use Rattle.ppd_text.specs.CellNames.{at_entry, cell_text, process_name, what_text}
 
 -- ---- races
 

@@ -6,8 +6,7 @@ ghost use Rattle.ppd_session.specs.Texts.{interval_line, interval_lines, parent_
 
 use ppd_ast::{Memory, Plan, Program};
 use ppd_index::{Interval, LogIndex};
-use ppd_text::{put, put_number};
-use ppd_text_items::put_what;
+use ppd_text::{put, put_number, put_what};
 
 fn put_parent(text: &mut Vec<u8>, parent: Option<u32>) -> Result<(), Memory>
     ensures { OnOk result (text.new.items ≡ text.old.items ++ parent_text parent) }

@@ -10,8 +10,7 @@ ghost use Rattle.ppd_session.specs.Texts.{deps_text, edge_line, variables_at as 
 use ppd_ast::{Memory, Program, Var};
 use ppd_deps::{DepGraph, StaticEdge, static_graph};
 use ppd_sets::sets;
-use ppd_text::{put, put_number};
-use ppd_text_tables::{put_stmt_at, var_name};
+use ppd_text::{put, put_number, put_stmt_at, var_name};
 use std::alloc::Global;
 
 // The local variables of the body in which a statement stands.

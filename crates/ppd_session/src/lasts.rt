@@ -11,7 +11,7 @@ ghost use Rattle.ppd_session.specs.Sessions.{place_of, unfound};
 ghost use Rattle.ppd_session.specs.declared.reply.SessionError.TheVariants as session_error;
 ghost use Rattle.ppd_session.specs.Texts.{first_unfound, lasts_text, raced, told_at};
 ghost use Rattle.ppd_flow.specs.SharedCells.{last_edge as last_edge_of};
-ghost use Rattle.ppd_text_items.specs.Edges.{last_line};
+ghost use Rattle.ppd_text.specs.Edges.{last_line};
 
 use crate::kept::Kept;
 use crate::last_tables::LastTables;
@@ -22,7 +22,7 @@ use ppd_ast::Steps;
 use ppd_flow::{BlockTables, LastEdge, TabledItems, last, last_edge, last_from};
 use ppd_flow_past::Past;
 use ppd_model::{Item, Origin, Race};
-use ppd_text_items::put_last;
+use ppd_text::put_last;
 use std::alloc::Global;
 use std::marker::Brand;
 use std::sync::ledger::{Blank, Ledger};

@@ -2,12 +2,11 @@
 ghost use Rattle.std.specs.Prelude.{◌≡◌, ◌++◌, [], OnOk, codes, decimal};
 ghost use Rattle.std.specs.List.{flat_map};
 ghost use Rattle.ppd_session.specs.Texts.{race_line, race_word, raced, races_text};
-ghost use Rattle.ppd_text_items.specs.Names.{process_name as process_name_of};
+ghost use Rattle.ppd_text.specs.CellNames.{process_name as process_name_of};
 
 use ppd_ast::{Memory, Program};
 use ppd_model::{Race, RaceKind};
-use ppd_text::{put, put_count, put_number};
-use ppd_text_items::{process_name, put_cell};
+use ppd_text::{process_name, put, put_cell, put_count, put_number};
 
 fn put_kind(text: &mut Vec<u8>, kind: RaceKind) -> Result<(), Memory>
     ensures { OnOk result (text.new.items ≡ text.old.items ++ race_word kind) }

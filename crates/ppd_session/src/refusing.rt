@@ -5,8 +5,7 @@ ghost use Rattle.ppd_session.specs.declared.reply.SessionError.TheVariants as se
 
 use crate::reply::SessionError;
 use ppd_ast::{Memory, Program};
-use ppd_text::put;
-use ppd_text_items::at_entry;
+use ppd_text::{at_entry, put};
 use std::alloc::Global;
 
 /// Appends a refusal.

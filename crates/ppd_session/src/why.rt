@@ -6,7 +6,7 @@ ghost use Rattle.ppd_session.specs.Sessions.{IsItemThere, IsWhy, known_by};
 ghost use Rattle.ppd_session.specs.Texts.{flow_at, flow_text, item_failure_of, item_text_of, told_at, unfound_flow};
 ghost use Rattle.ppd_session.specs.declared.reply.SessionError.TheVariants as session_error;
 ghost use Rattle.ppd_flow.specs.SharedCells.{IsMemoryOr};
-ghost use Rattle.ppd_text_items.specs.Edges.{why_text as why_text_of};
+ghost use Rattle.ppd_text.specs.Edges.{why_text as why_text_of};
 
 use crate::opening::no_items;
 use crate::place::Place;
@@ -16,7 +16,7 @@ use ppd_ast::{Memory, Seq, Steps};
 use ppd_flow::{ItemPlace, TabledItems, edges_from};
 use ppd_flow_past::{FlowError, Past, number};
 use ppd_model::{FlowEdge, Item};
-use ppd_text_items::put_why;
+use ppd_text::put_why;
 use std::alloc::Global;
 use std::marker::Brand;
 use std::sync::ledger::{Blank, Ledger};

@@ -1,3 +1,4 @@
+pub mod CellSets
 pub mod Gaining
 pub mod Expressions
 pub mod Statements

@@ -1,4 +1,5 @@
--- The variables that a body or a loop may read and write.
+-- Sets of cells, and the variables that a body or a loop may read and write.
+pub mod CellSets
 pub mod Named
 pub mod Used
 pub mod Gained

@@ -6,9 +6,9 @@ ghost use Rattle.ppd_sets.specs.Named.{shared_cells, local_cells, cells_in, read
 ghost use Rattle.ppd_sets.specs.Gained.{Gains};
 ghost use Rattle.std.specs.List.{flat_map, range_with_len};
 
+use crate::cell_set::CellSet;
 use ppd_ast::limits::MOST_SHARED_CELLS;
 use ppd_ast::{Expr, Kind, Program, Target};
-use ppd_bits::CellSet;
 
 /// Adds the cell. None of a valid program is `MOST_SHARED_CELLS` or more; such a one is left out.
 pub fn add_cell(cells: &mut CellSet, cell: u32)

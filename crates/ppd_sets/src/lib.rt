@@ -1,7 +1,8 @@
-//! The shared variables that a body may read and write, and the local cells that a loop may.
+//! Sets of cells; the shared variables that a body may read and write, and the local cells that a loop may.
 #![tactic(auto)]
 
 mod bodies;
+mod cell_set;
 mod cells;
 mod laws;
 mod loops;
@@ -10,10 +11,10 @@ mod touched;
 mod var_sets;
 
 pub use bodies::{calls, end_of};
+pub use cell_set::CellSet;
 pub use cells::{add_cell, add_reads, add_shared_reads, add_writes};
 pub use laws::{
     defined_by_chains, loop_defined_by_statements, loop_used_by_statements, used_by_chains,
 };
-pub use ppd_bits::CellSet;
 pub use rows::{does_meet, vars_in};
 pub use var_sets::{VarSets, sets};

@@ -7,9 +7,9 @@ ghost use Rattle.ppd_ast.specs.Valid.{IsValid};
 ghost use Rattle.ppd_sets.specs.Used.{AreSmall, vars_met, used_of, defined_of, loop_used_of, loop_defined_of, loop_stmts, reads_at, writes_at, sorted};
 
 use crate::bodies::{calls, touched_by_bodies, touched_from};
+use crate::cell_set::CellSet;
 use crate::loops::loop_touched;
 use ppd_ast::{Cells, Memory, Program, Seq, Var};
-use ppd_bits::CellSet;
 use std::alloc::Global;
 
 // For each body or statement, by number, what it uses and what it defines.

@@ -3,9 +3,9 @@ ghost use Rattle.ppd_ast.specs.Table.{EachAt, AreChildrenBelow};
 ghost use Rattle.ppd_sets.specs.Named.{reads, writes};
 ghost use Rattle.ppd_sets.specs.Gained.{GainsBoth};
 
+use crate::cell_set::CellSet;
 use crate::cells::{add_reads, add_writes};
 use ppd_ast::{Kind, Program};
-use ppd_bits::CellSet;
 
 // The cells that some statements may read, and those that they write.
 #[derive(Drop)]

@@ -10,10 +10,10 @@ use Rattle.ppd_flow_past.specs.declared.past.Past.{Past}
 use Rattle.ppd_flow_shared.specs.SharedCells.{seens_in}
 use Rattle.ppd_model.specs.declared.flow.FlowEdge.{FlowEdge}
 use Rattle.ppd_model.specs.declared.flow.Item.{Item}
-use Rattle.ppd_slice_model.specs.declared.reached.ItemAt.{ItemAt}
-use Rattle.ppd_slice_model.specs.declared.reached.Reached.{Reached}
-use Rattle.ppd_slice_model.specs.Levels.{at_depth}
-use Rattle.ppd_slice_model.specs.Reach.{IsIn, item_of, places_of}
+use Rattle.ppd_slice_search.specs.declared.reached.ItemAt.{ItemAt}
+use Rattle.ppd_slice_search.specs.declared.reached.Reached.{Reached}
+use Rattle.ppd_slice_search.specs.Levels.{at_depth}
+use Rattle.ppd_slice_search.specs.Reach.{IsIn, item_of, places_of}
 use Rattle.ppd_slice.specs.Asked.{AreKeptAmong, AreKeptFor, IsAsked}
 use Rattle.ppd_slice_search.specs.Searched.{IsSortedOf, same_at, was_found, with_all_found, with_found}
 use Rattle.ppd_slice.specs.Slices.{IsNoItem, has_process}

@@ -7,9 +7,9 @@ use Rattle.ppd_flow_past.specs.declared.flow_error.FlowError.TheVariants.{NoEven
 use Rattle.ppd_flow_past.specs.declared.past.Past.{Past}
 use Rattle.ppd_model.specs.declared.flow.FlowEdge.{FlowEdge}
 use Rattle.ppd_model.specs.declared.flow.Item.{Item}
-use Rattle.ppd_slice_model.specs.declared.reached.ItemAt.{ItemAt}
-use Rattle.ppd_slice_model.specs.declared.reached.Reached.{Reached}
-use Rattle.ppd_slice_model.specs.Reach.{item_of, places_of}
+use Rattle.ppd_slice_search.specs.declared.reached.ItemAt.{ItemAt}
+use Rattle.ppd_slice_search.specs.declared.reached.Reached.{Reached}
+use Rattle.ppd_slice_search.specs.Reach.{item_of, places_of}
 use Rattle.ppd_slice.specs.Asked.{AreKeptAmong, AreKeptFor, IsAsked}
 use Rattle.ppd_slice_search.specs.Searched.{with_all_found}
 use Rattle.ppd_slice.specs.Slices.{IsAnsweredFor, IsNoItem, IsUnfound, flow_of, has_process, origins_in}

@@ -16,8 +16,8 @@ use Rattle.ppd_flow_tables.specs.declared.tables.Tables.{Tables}
 use Rattle.ppd_flow_tables.specs.Tabled.{AreTablesOf, IsTabled}
 use Rattle.ppd_model.specs.declared.flow.FlowEdge.{FlowEdge}
 use Rattle.ppd_model.specs.declared.flow.Item.{Item}
-use Rattle.ppd_slice_model.specs.declared.reached.ItemAt.{ItemAt}
-use Rattle.ppd_slice_model.specs.declared.reached.Reached.{Reached}
+use Rattle.ppd_slice_search.specs.declared.reached.ItemAt.{ItemAt}
+use Rattle.ppd_slice_search.specs.declared.reached.Reached.{Reached}
 use Rattle.ppd_slice.specs.Asked.{AreAllKept, AreKeptAmong, AreKeptFor, AreStillKept, IsAsked, IsThere}
 use Rattle.ppd_slice.specs.Slices.{CostsSlice, IsNoItem, IsSliceOf}
 use Rattle.ppd_slice.proofs.Kept.{all_more, asked_err, asked_free, asked_ok, costs_none, costs_slice, far_free, got_in, is_there, kept_next, kept_only, known_past, rose_then, still_all, still_kept, why_none}

@@ -21,9 +21,9 @@ use Rattle.ppd_flow_past.proofs.Keeping.{AreFree, costs_nothing, kept_free}
 use Rattle.ppd_flow_shared.specs.SharedCells.{seens_in}
 use Rattle.ppd_model.specs.declared.flow.FlowEdge.{FlowEdge}
 use Rattle.ppd_model.specs.declared.flow.Item.{Item}
-use Rattle.ppd_slice_model.specs.declared.reached.ItemAt.{ItemAt}
-use Rattle.ppd_slice_model.specs.declared.reached.Reached.{Reached}
-use Rattle.ppd_slice_model.specs.Reach.{IsIn}
+use Rattle.ppd_slice_search.specs.declared.reached.ItemAt.{ItemAt}
+use Rattle.ppd_slice_search.specs.declared.reached.Reached.{Reached}
+use Rattle.ppd_slice_search.specs.Reach.{IsIn}
 use Rattle.ppd_slice.specs.Asked.{AreAllKept, AreKeptAmong, AreKeptFor, AreStillKept, IsAsked, IsThere}
 use Rattle.ppd_slice.specs.Slices.{CostsSlice, IsNoItem, flow_of, has_process, steps_of_processes}
 use Rattle.ppd_slice.proofs.Origins.{in_behind, in_front}

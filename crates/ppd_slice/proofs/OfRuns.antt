@@ -25,12 +25,12 @@ use Rattle.ppd_model.specs.declared.flow.FlowEdge.{FlowEdge}
 use Rattle.ppd_model.specs.declared.flow.Item.{Item}
 use Rattle.ppd_model.specs.FlowbackEdges.{edges, edges_if, edges_in, part_in}
 use Rattle.ppd_model.specs.Intervals.{Part, Span, Split}
-use Rattle.ppd_slice_model.specs.declared.reached.ItemAt.{ItemAt}
-use Rattle.ppd_slice_model.specs.declared.reached.Reached.{Reached}
-use Rattle.ppd_slice_model.specs.Laws.{ReachesAreSlices, SlicesAreOne}
-use Rattle.ppd_slice_model.specs.OfRuns.{origins, places_if, reach}
-use Rattle.ppd_slice_model.specs.Reach.{IsReach, at, item_of}
-use Rattle.ppd_slice_model.proofs.Levels.{reach_as}
+use Rattle.ppd_slice_search.specs.declared.reached.ItemAt.{ItemAt}
+use Rattle.ppd_slice_search.specs.declared.reached.Reached.{Reached}
+use Rattle.ppd_slice_search.specs.Laws.{ReachesAreSlices, SlicesAreOne}
+use Rattle.ppd_slice_search.specs.OfRuns.{origins, places_if, reach}
+use Rattle.ppd_slice_search.specs.Reach.{IsReach, at, item_of}
+use Rattle.ppd_slice_search.proofs.Levels.{reach_as}
 use Rattle.ppd_slice.specs.Slices.{IsSlice, SlicesAreOfRuns, flow_of, origins_in, places_found, slice_or_none, unless_failed}
 use Rattle.ppd_slice.proofs.Flows.{none_flow}
 

@@ -9,9 +9,9 @@ use Rattle.ppd_flow_past.specs.Keeping.{AreKeptOf, IsAllKept}
 use Rattle.ppd_flow_past.specs.SeenBy.{failed_in, items_in}
 use Rattle.ppd_flow_tables.specs.Tabled.{AreKeptTables}
 use Rattle.ppd_slice.specs.declared.held.Kept.{Kept}
-use Rattle.ppd_slice_model.specs.declared.reached.ItemAt.{ItemAt}
-use Rattle.ppd_slice_model.specs.declared.reached.Reached.{Reached}
-use Rattle.ppd_slice_model.specs.Reach.{IsIn}
+use Rattle.ppd_slice_search.specs.declared.reached.ItemAt.{ItemAt}
+use Rattle.ppd_slice_search.specs.declared.reached.Reached.{Reached}
+use Rattle.ppd_slice_search.specs.Reach.{IsIn}
 use Rattle.ppd_slice.specs.Slices.{IsNoItem, flow_of, has_process}
 
 -- ---- what is kept

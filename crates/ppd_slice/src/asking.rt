@@ -10,8 +10,7 @@ ghost use Rattle.ppd_slice.specs.Slices.{IsNoItem, IsSliceOf};
 use crate::held::{Kept, keep};
 use ppd_ast::{Seq, Steps};
 use ppd_flow::{FlowEdge, FlowError, ItemPlace, Past, edges_by_tables, far_processes};
-use ppd_slice_model::ItemAt;
-use ppd_slice_search::has_item;
+use ppd_slice_search::{ItemAt, has_item};
 use std::alloc::Global;
 use std::sync::ledger::Ledger;
 

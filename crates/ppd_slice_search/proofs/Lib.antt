@@ -1,2 +1,5 @@
--- Whether an item is there.
+-- That the search by levels finds the slice, and that there is one.
+pub mod Levels
+pub mod Slices
+pub mod Closed
 mod There

@@ -7,7 +7,7 @@ use Rattle.ppd_flow_past.specs.declared.past.Past.{Past}
 use Rattle.ppd_flow_past.specs.ByReplays.{IsFoundBy}
 use Rattle.ppd_flow_past.specs.SeenBy.{items_in}
 use Rattle.ppd_model.specs.declared.flow.Item.{Item}
-use Rattle.ppd_slice_model.specs.declared.reached.ItemAt.{ItemAt}
+use Rattle.ppd_slice_search.specs.declared.reached.ItemAt.{ItemAt}
 
 module _ (past : Past) (a : ItemAt) (n m : ℕ) where
   abbrev IsItems : Result (List Item) FlowError → Type 0

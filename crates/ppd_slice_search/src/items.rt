@@ -3,9 +3,9 @@ ghost use Rattle.ppd_flow_past.specs.ByReplays.{IsFoundBy};
 ghost use Rattle.ppd_flow_past.specs.Pasts.{IsPast};
 ghost use Rattle.ppd_flow_past.specs.SeenBy.{items_in};
 
+use crate::reached::ItemAt;
 use ppd_ast::Steps;
 use ppd_flow_past::{FlowError, Past, interval_items};
-use ppd_slice_model::ItemAt;
 use std::alloc::Global;
 use std::sync::ledger::Ledger;
 

@@ -14,8 +14,8 @@ use Rattle.ppd_graph.specs.declared.refusal.BadSync.TheVariants as sync
 use Rattle.ppd_index.specs.declared.refusal.BadLog.{BadLog}
 use Rattle.ppd_index.specs.declared.refusal.BadLog.TheVariants as log
 use Rattle.ppd_model.specs.declared.graph.NodeId.{NodeId}
-use Rattle.ppd_text_items.specs.Names.{at_entry, process_name}
-use Rattle.ppd_text_tables.specs.Names.{chan_name, sem_name}
+use Rattle.ppd_text.specs.CellNames.{at_entry, process_name}
+use Rattle.ppd_text.specs.Names.{chan_name, sem_name}
 use Rattle.ppd_text_refusals.specs.Stages.{stage_text}
 
 -- ---- bytes

@@ -15,9 +15,7 @@ use ppd_codec::{BadBytes, Field};
 use ppd_graph::BadSync;
 use ppd_index::BadLog;
 use ppd_model::NodeId;
-use ppd_text::{put, put_count, put_number};
-use ppd_text_items::{at_entry, process_name};
-use ppd_text_tables::{chan_name, sem_name};
+use ppd_text::{at_entry, chan_name, process_name, put, put_count, put_number, sem_name};
 use std::alloc::Global;
 
 /// A line of a test that failed at an offset.

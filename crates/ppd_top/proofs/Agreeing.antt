@@ -4,8 +4,9 @@ use Rattle.ppd_ast.specs.declared.program.Program.{Program}
 use Rattle.law_agreement.proofs.Agreeing.{agreeing_histories, agreeing_stories}
 use Rattle.ppd_model.specs.Logs.{close}
 use Rattle.ppd_session.specs.Known.{Known, known_of_story}
-use Rattle.ppd_top_runs.specs.Commands.{Options, known_of, plan_of, summary_of_run}
-use Rattle.ppd_top_debug.specs.Output.{answers, before}
+use Rattle.ppd_top_runs.specs.Commands.{known_of, plan_of, summary_of_run}
+use Rattle.ppd_top_runs.specs.declared.options.Options.{Options}
+use Rattle.ppd_top_runs.specs.Output.{answers, before}
 use Rattle.ppd_top_runs.specs.Summary.{summary_of}
 use Rattle.ppd_top.specs.Top.{IsOfAgreeing, out_of}
 

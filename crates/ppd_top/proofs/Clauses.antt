@@ -3,7 +3,7 @@ use Rattle.std.specs.Prelude.{◌⊎◌}
 use Rattle.std.proofs.Common.{◌≡◌, ℕ, ◌<◌, List, [], ◌∷◌, false, arith, inl, inr, refl, subst}
 use Rattle.ppd_io.specs.Content.{StoreFails}
 use Rattle.ppd_top_query.specs.OfRuns.{AnswersAreOfRuns}
-use Rattle.ppd_top_runs.specs.Commands.{Options}
+use Rattle.ppd_top_runs.specs.declared.options.Options.{Options}
 use Rattle.ppd_top.specs.Call.{Call, HasFailedLoad, LeftShelf, Wrote}
 use Rattle.ppd_top.specs.Clauses.{AnswersCutOff, DrillCutOff, InputFailed, IsOutcome, IsPromised, IsPromisedAnswers, IsPromisedDrill, IsPromisedQuery, IsTaken, LinesFailed, LoadFailed, MemoryRanOut, QueryRefused, RanWhole, RecordingUnread, ReplayRefused, StoreFailed, StoresNothing, WasAnswered, WasCutOff, WasDrilled, WasNotAsked, WasNotRecalled, WasNotStored, WasQueried, WasRefused, WasShown, WasStored, WriteFailed}
 use Rattle.ppd_top.specs.Clauses.IsTaken.{by_drill, by_run}
@@ -11,11 +11,11 @@ use Rattle.ppd_top.specs.Ran.{Comes}
 use Rattle.ppd_top.specs.Ran.Comes.{not_asked, no_memory, not_loaded, refusal, flow_done, show_done, run_done, recording_not_loaded, debug_done, drill_done, query_done}
 use Rattle.ppd_top.specs.Ran.Drilled.{no_program, drilled}
 use Rattle.ppd_top.specs.Top.{usage}
-use Rattle.ppd_top_debug.specs.Output.{Finished}
+use Rattle.ppd_top_runs.specs.Output.{Finished}
 use Rattle.ppd_top.specs.Top.Writes.{for_words}
 use Rattle.ppd_top.specs.Words.{Asks, Command}
 use Rattle.ppd_top.specs.Words.Command.{Flow, Run, Show}
-use Rattle.ppd_top_debug.proofs.Conversing.{same_input}
+use Rattle.ppd_top_runs.proofs.Conversing.{same_input}
 use Rattle.ppd_top.proofs.Debugged.{debug_any, debug_broken, debug_complete, debug_out, debug_refused, debug_unwritten, debug_whole}
 use Rattle.ppd_top.proofs.DrillEnds.{drill_any, drill_complete, drill_cut_off, drill_no_run, drill_not_refused, drill_unwritten, drill_whole, not_nothing, not_recording, not_source}
 use Rattle.ppd_top.proofs.Outcomes.{ask_nothing, debug_nothing, one_run, flow_any, flow_broken, flow_complete, flow_out, flow_unwritten, flow_whole, not_both, one_name, refused_complete, refused_out, refused_so, refused_unwritten, refused_any, show_any, show_complete, show_done as shown, show_out, show_unwritten, was_read, write_failed}

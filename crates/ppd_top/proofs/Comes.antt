@@ -4,7 +4,8 @@ use Rattle.std.proofs.Common.{◌≡◌, ℕ, List, subst}
 use Rattle.ppd_ast.specs.declared.program.Program.{Program}
 use Rattle.ppd_model.specs.Schedule.{run}
 use Rattle.ppd_world.specs.Running.{Running}
-use Rattle.ppd_top_runs.specs.Commands.{Options, plan_of}
+use Rattle.ppd_top_runs.specs.Commands.{plan_of}
+use Rattle.ppd_top_runs.specs.declared.options.Options.{Options}
 
 module _ (program : Program) (options : Options) (r : Running) (is_program : r.program ≡ program) (is_plan : r.plan ≡ plan_of program options) (is_budget : r.budget ≡ options.budget) where
   pub runs_as : (h : List ℕ) → run r.program r.plan r.budget h ≡ Some r.world → run program (plan_of program options) options.budget h ≡ Some r.world

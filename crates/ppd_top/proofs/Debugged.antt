@@ -21,16 +21,16 @@ use Rattle.ppd_codec_runs.specs.Laws.{known_by}
 use Rattle.ppd_codec_runs.specs.Recordings.{IsAccepted, IsRunRecorded, known_of as known_of_recording, seens_of}
 use Rattle.ppd_codec_runs.proofs.Runs.{no_run_is_refused, runs_are_recalled}
 use Rattle.ppd_codec_runs.proofs.Same.{refused_or_accepted}
-use Rattle.ppd_top_debug.specs.Output.{Standing, Talks, answers, output}
-use Rattle.ppd_top_debug.specs.Debugging.{Debugs}
-use Rattle.ppd_top_debug.specs.Debugging.Debugs.{no_recall, recording_refused, recalled}
+use Rattle.ppd_top_runs.specs.Output.{Standing, Talks, answers, output}
+use Rattle.ppd_top_runs.specs.Debugging.{Debugs}
+use Rattle.ppd_top_runs.specs.Debugging.Debugs.{no_recall, recording_refused, recalled}
 use Rattle.ppd_top.specs.Call.{Call}
 use Rattle.ppd_top.specs.Clauses.{AnswersCutOff, IsPromisedAnswers, IsRecalledFrom, LinesFailed, MemoryRanOut, ReplayRefused, WasAnswered, WasNotRecalled, WriteFailed}
 use Rattle.ppd_top.specs.Top.{most_recording}
 use Rattle.ppd_top.specs.Top.Recalls.{refused_recording, answered}
 use Rattle.ppd_top.specs.Top.Writes.{for_recording}
 use Rattle.ppd_top.specs.Words.{AsksDebug}
-use Rattle.ppd_top_debug.proofs.Conversing.{same_input}
+use Rattle.ppd_top_runs.proofs.Conversing.{same_input}
 use Rattle.ppd_top.proofs.Outcomes.{loaded, one_recording_name, write_failed}
 use Rattle.ppd_top.proofs.Statuses.{IsIn, any_in, other_than}
 use Rattle.ppd_top.proofs.Talked.{IsEnd, IsLast, answers_whole, talks_any, talks_broken, talks_cut_off, talks_fine, talks_unwritten, talks_whole}

@@ -13,9 +13,10 @@ use Rattle.ppd_top_drill.specs.Drills.{generated}
 use Rattle.ppd_io.specs.Causes.{Rose}
 use Rattle.ppd_io.specs.Content.{Appends, AppendsPart}
 use Rattle.ppd_io.specs.Lines.{lines_of}
-use Rattle.ppd_top_runs.specs.Commands.{Flows, Options, known_of, summary_of_run}
-use Rattle.ppd_top_debug.specs.Output.{AppendsFront, Standing, Talks, answers, Finished}
-use Rattle.ppd_top_debug.specs.Output.Talks.{whole, unread, unwritten, unfinished}
+use Rattle.ppd_top_runs.specs.Commands.{Flows, known_of, summary_of_run}
+use Rattle.ppd_top_runs.specs.declared.options.Options.{Options}
+use Rattle.ppd_top_runs.specs.Output.{AppendsFront, Standing, Talks, answers, Finished}
+use Rattle.ppd_top_runs.specs.Output.Talks.{whole, unread, unwritten, unfinished}
 use Rattle.ppd_top.specs.Ran.{Drilled, Drills, Refuses}
 use Rattle.ppd_top.specs.Ran.Drilled.{no_program, drilled}
 use Rattle.ppd_top.specs.Call.{Call, LeftInput}
@@ -27,7 +28,7 @@ use Rattle.ppd_top_words.specs.Reads.{texts_in}
 use Rattle.ppd_top.specs.Words.{Asks, AsksDebug, AsksDrill, Command, IsNotAsked, asked}
 use Rattle.ppd_top.specs.Words.Request.{on_source, on_recording, on_number}
 use Rattle.ppd_top.proofs.Agreeing.{of_agreeing}
-use Rattle.ppd_top_debug.proofs.Conversing.{same_input}
+use Rattle.ppd_top_runs.proofs.Conversing.{same_input}
 use Rattle.ppd_top.proofs.Outcomes.{no_failure, one_request}
 use Rattle.ppd_top.proofs.Statuses.{IsIn, other_than}
 use Rattle.ppd_top.proofs.Talked.{fine_end, same_commands}

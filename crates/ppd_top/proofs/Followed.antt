@@ -6,7 +6,8 @@ use Rattle.ppd_model.specs.declared.trace.DriveError.{DriveError}
 use Rattle.ppd_model.specs.declared.trace.DriveError.TheVariants as drive
 use Rattle.ppd_model.specs.World.{enabled}
 use Rattle.ppd_world.specs.Running.{Running, IsOf, IsDriven, Takes, begun, can_step}
-use Rattle.ppd_top_runs.specs.Commands.{Options, plan_of}
+use Rattle.ppd_top_runs.specs.Commands.{plan_of}
+use Rattle.ppd_top_runs.specs.declared.options.Options.{Options}
 use Rattle.ppd_top.specs.declared.following.FollowError.{FollowError}
 use Rattle.ppd_top.specs.Ran.{StopsAt, drive_error}
 use Rattle.ppd_top.specs.Top.{IsStuckAt, IsUnfinished}

@@ -2,7 +2,7 @@
 use Rattle.std.specs.Prelude.{◌⊎◌}
 use Rattle.std.specs.Borrow.{Bor}
 use Rattle.std.proofs.Common.{◌≡◌, ℕ, List, inl, inr, subst}
-use Rattle.ppd_top_runs.specs.Commands.{Options}
+use Rattle.ppd_top_runs.specs.declared.options.Options.{Options}
 use Rattle.ppd_top.specs.Clauses.{ReadsNothing}
 use Rattle.ppd_top.specs.Words.{Asks, AsksDebug, Command}
 use Rattle.ppd_top.specs.Words.Command.{Flow}

@@ -8,11 +8,12 @@ use Rattle.ppd_ast.specs.declared.program.Program.{Program}
 use Rattle.ppd_check.specs.declared.error.SourceError.{SourceError}
 use Rattle.ppd_check.specs.Read.{IsRead, IsRefused}
 use Rattle.ppd_check.proofs.Excluded.{read_or_refused}
-use Rattle.ppd_text_tables.specs.Table.{table_of}
+use Rattle.ppd_text.specs.Table.{table_of}
 use Rattle.ppd_session.specs.Texts.{failure_of}
 use Rattle.ppd_session.proofs.Answered.{run_answered}
-use Rattle.ppd_top_runs.specs.Commands.{Flows, Options, Shows, WasTold, known_of, plan_of, summary_of_run}
-use Rattle.ppd_top_debug.specs.Output.{AreCommands, Standing, output, Finished}
+use Rattle.ppd_top_runs.specs.Commands.{Flows, Shows, WasTold, known_of, plan_of, summary_of_run}
+use Rattle.ppd_top_runs.specs.declared.options.Options.{Options}
+use Rattle.ppd_top_runs.specs.Output.{AreCommands, Standing, output, Finished}
 use Rattle.ppd_top.specs.Ran.{Refuses}
 use Rattle.ppd_text_refusals.specs.Sources.{refused}
 use Rattle.ppd_top.specs.Call.{Call, LeftInput}
@@ -25,7 +26,7 @@ use Rattle.ppd_top.specs.Words.{Asks, AsksDebug, Command, IsNotAsked, Request, a
 use Rattle.ppd_top.specs.Words.Command.{Flow, Run, Show}
 use Rattle.ppd_top.specs.Words.Request.{on_source, on_recording}
 use Rattle.ppd_top.proofs.Agreeing.{of_agreeing}
-use Rattle.ppd_top_debug.proofs.Conversing.{same_input}
+use Rattle.ppd_top_runs.proofs.Conversing.{same_input}
 use Rattle.ppd_top.proofs.Statuses.{IsIn, any_in, but_six, other_than}
 use Rattle.ppd_top.proofs.Talked.{IsEnd, talks_any, talks_broken, talks_cut_off, talks_fine, talks_not_refused, talks_unwritten, talks_whole}
 

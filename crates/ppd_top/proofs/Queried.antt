@@ -20,7 +20,7 @@ use Rattle.ppd_session.specs.Texts.{refused_replay}
 use Rattle.ppd_session.specs.declared.reply.SessionError.{SessionError}
 use Rattle.ppd_session.specs.declared.reply.SessionError.TheVariants.{Diverged, Sets, Memory}
 use Rattle.ppd_session.proofs.Knowing.{logs_are_known}
-use Rattle.ppd_top_debug.specs.Asking.{IsFailed}
+use Rattle.ppd_top_runs.specs.Asking.{IsFailed}
 use Rattle.ppd_top_query.proofs.Ends.{queries_end, runs_are_told}
 use Rattle.ppd_top_query.proofs.Determined.{answers_are_determined, failed_are_missing}
 use Rattle.ppd_codec_runs.specs.Recordings.{IsAccepted, IsRecalled, IsRunRecorded, known_of}
@@ -28,8 +28,8 @@ use Rattle.ppd_codec_runs.specs.declared.recalling.Recalled.{Recalled}
 use Rattle.ppd_codec_runs.proofs.Runs.{no_run_is_refused, runs_are_recalled}
 use Rattle.ppd_codec_runs.proofs.Same.{refused_or_accepted}
 use Rattle.ppd_top_words.specs.Reads.{texts_in}
-use Rattle.ppd_top_runs.specs.Commands.{Options}
-use Rattle.ppd_top_debug.specs.Output.{output, Finished}
+use Rattle.ppd_top_runs.specs.declared.options.Options.{Options}
+use Rattle.ppd_top_runs.specs.Output.{output, Finished}
 use Rattle.ppd_top.specs.Ran.{IsTold, Queries}
 use Rattle.ppd_top.specs.Ran.Queries.{no_query, query_refused, queried}
 use Rattle.ppd_top.specs.Call.{Call, LeftInput, Wrote}
@@ -40,7 +40,7 @@ use Rattle.ppd_top.specs.Top.Tells.{given, not_recalled}
 use Rattle.ppd_top.specs.Top.Writes.{for_query}
 use Rattle.ppd_top.specs.Words.{Asks, AsksDebug, AsksDrill, AsksQuery, AsksRecording, Command, IsNotAsked, asked}
 use Rattle.ppd_top.specs.Words.Request.{on_source, on_recording, on_number, on_query}
-use Rattle.ppd_top_debug.proofs.Conversing.{same_input}
+use Rattle.ppd_top_runs.proofs.Conversing.{same_input}
 use Rattle.ppd_top.proofs.DrillEnds.{not_recording}
 use Rattle.ppd_top.proofs.Outcomes.{loaded, not_both, one_recording_name, one_request, write_failed}
 use Rattle.ppd_top.proofs.Statuses.{IsIn, right_true}

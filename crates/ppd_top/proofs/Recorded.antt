@@ -4,8 +4,9 @@ use Rattle.std.proofs.Common.{◌≡◌, ℕ, List, [], ◌∷◌, arith, inl, i
 use Rattle.ppd_ast.specs.declared.program.Program.{Program}
 use Rattle.ppd_check.specs.Read.{IsRead}
 use Rattle.ppd_io.specs.Content.{Loads, StoreFails}
-use Rattle.ppd_top_runs.specs.Commands.{IsRecordingOfRun, Keeps, Options, Records, summary_of_run}
-use Rattle.ppd_top_debug.specs.Output.{output}
+use Rattle.ppd_top_runs.specs.Commands.{IsRecordingOfRun, Keeps, Records, summary_of_run}
+use Rattle.ppd_top_runs.specs.declared.options.Options.{Options}
+use Rattle.ppd_top_runs.specs.Output.{output}
 use Rattle.ppd_top.specs.Ran.{kept_in}
 use Rattle.ppd_top_runs.specs.Commands.Keeps.{not_kept, store_failed, kept}
 use Rattle.ppd_top.specs.Call.{Call, LeftInput}
@@ -15,7 +16,7 @@ use Rattle.ppd_top.specs.Top.Answers.{stored}
 use Rattle.ppd_top.specs.Top.Writes.{for_source}
 use Rattle.ppd_top.specs.Words.{Asks}
 use Rattle.ppd_top.specs.Words.Command.{Run}
-use Rattle.ppd_top_debug.proofs.Conversing.{same_input}
+use Rattle.ppd_top_runs.proofs.Conversing.{same_input}
 use Rattle.ppd_top.proofs.Outcomes.{one_command, was_read, write_failed}
 use Rattle.ppd_top.proofs.Statuses.{IsIn}
 

@@ -10,8 +10,9 @@ use Rattle.ppd_race.specs.Races.{races_of_logs}
 use Rattle.ppd_session.specs.Known.{Known, known_of_logs}
 use Rattle.ppd_top.specs.declared.following.FollowError.{FollowError}
 use Rattle.ppd_top.specs.declared.following.FollowError.TheVariants.{Refused, NotEnabled, NotWhole, LongLine, ManyLines, Memory}
-use Rattle.ppd_top_runs.specs.Commands.{Options, plan_of, summary_of_run}
-use Rattle.ppd_top_debug.specs.Output.{Output, answers, before, output}
+use Rattle.ppd_top_runs.specs.Commands.{plan_of, summary_of_run}
+use Rattle.ppd_top_runs.specs.declared.options.Options.{Options}
+use Rattle.ppd_top_runs.specs.Output.{Output, answers, before, output}
 use Rattle.ppd_top.specs.Ran.{FailsBy, IsClosed, RanTo, ScheduleFails, StopsAt}
 use Rattle.ppd_top_runs.specs.Summary.{summary_of}
 use Rattle.ppd_top.specs.Top.{EndsWith, Follows, out_of}

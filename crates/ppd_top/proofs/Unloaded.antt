@@ -3,7 +3,8 @@ use Rattle.std.specs.Prelude.{◌⊎◌}
 use Rattle.std.proofs.Common.{◌≡◌, ℕ, List, arith, inl, inr, refl}
 use Rattle.ppd_io.specs.declared.shelf.ShelfError.{ShelfError}
 use Rattle.ppd_io.specs.declared.shelf.ShelfError.TheVariants as shelf
-use Rattle.ppd_top_runs.specs.Commands.{DidNothing, Options}
+use Rattle.ppd_top_runs.specs.Commands.{DidNothing}
+use Rattle.ppd_top_runs.specs.declared.options.Options.{Options}
 use Rattle.ppd_top.specs.Call.{Call, HasFailedLoad, LeftShelf}
 use Rattle.ppd_top.specs.Ran.{Comes, IsUnloaded}
 use Rattle.ppd_top.specs.Ran.Comes.{no_memory, not_loaded, recording_not_loaded}

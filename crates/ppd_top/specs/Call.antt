@@ -3,7 +3,7 @@ use Rattle.std.specs.Prelude.{◌≡◌, ℕ, List, Option}
 use Rattle.std.specs.Borrow.{Bor}
 use Rattle.ppd_io.specs.Causes.{Rose}
 use Rattle.ppd_io.specs.Content.{Appends, AppendsPart}
-use Rattle.ppd_top_debug.specs.Output.{AppendsFront, IsUnread, Standing}
+use Rattle.ppd_top_runs.specs.Output.{AppendsFront, IsUnread, Standing}
 
 -- how the devices stand: what the shelf is told to hold, its counts of loads and of stores that failed, and input and
 -- output

@@ -8,7 +8,7 @@ use Rattle.ppd_check.specs.declared.error.SourceError.{SourceError}
 use Rattle.ppd_check.specs.declared.error.SourceError.TheVariants as source
 use Rattle.ppd_check.specs.Read.{IsRead, IsRefused}
 use Rattle.ppd_top_drill.specs.Drills.{generated}
-use Rattle.ppd_text_tables.specs.Table.{table_of}
+use Rattle.ppd_text.specs.Table.{table_of}
 use Rattle.ppd_text_refusals.specs.Sources.{refused}
 use Rattle.ppd_codec.specs.declared.recording.Header.{Header}
 use Rattle.ppd_codec.specs.declared.recording.Recording.{Recording}
@@ -27,9 +27,10 @@ use Rattle.ppd_top_query.specs.Queries.{Query}
 use Rattle.ppd_top_query.specs.Queries.Query.{Rerun}
 use Rattle.ppd_codec_runs.specs.Laws.{IsKnownOfRuns}
 use Rattle.ppd_codec_runs.specs.Recordings.{IsAccepted, IsKnownOf, IsRefusedBy, IsRunRecorded, seens_of}
-use Rattle.ppd_top_runs.specs.Commands.{IsRecordingOfRun, IsWholeRun, Options, known_of, plan_of, summary_of_run}
+use Rattle.ppd_top_runs.specs.Commands.{IsRecordingOfRun, IsWholeRun, known_of, plan_of, summary_of_run}
+use Rattle.ppd_top_runs.specs.declared.options.Options.{Options}
 use Rattle.ppd_top.specs.Call.{Call, HasFailedLoad, HasFailedRead, HasFailedStore, HasFailedWrite, LeftInput, Wrote, WroteFront, WroteNothing, WrotePart}
-use Rattle.ppd_top_debug.specs.Output.{AreCommands, AreFine, IsBroken, IsReadNoFurther, Output, answers}
+use Rattle.ppd_top_runs.specs.Output.{AreCommands, AreFine, IsBroken, IsReadNoFurther, Output, answers}
 use Rattle.ppd_top.specs.Top.{IsOfAgreeing, Writes, drill_commands, drill_options, drill_out, most_bytes, most_recording, out_of, usage}
 use Rattle.ppd_top.specs.Words.{Asks, AsksDebug, AsksDrill, AsksQuery, AsksRecording, Command, IsNotAsked}
 use Rattle.ppd_top.specs.Words.Command.{Flow, Run, Show}

@@ -1,5 +1,5 @@
 -- What the words ask for, and what is written for a source, its run and the commands.
-pub use Rattle.ppd_top_debug.specs.Output
+pub use Rattle.ppd_top_runs.specs.Output
 pub use Rattle.ppd_top_runs.specs.Commands
 pub use Rattle.ppd_top_runs.specs.Summary
 pub mod Call

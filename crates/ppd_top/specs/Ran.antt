@@ -12,11 +12,12 @@ use Rattle.ppd_model.specs.declared.trace.DriveError.{DriveError}
 use Rattle.ppd_model.specs.declared.trace.DriveError.TheVariants as drive
 use Rattle.ppd_model.specs.declared.closed.Closed.{Closed}
 use Rattle.ppd_model.specs.Logs.{close}
-use Rattle.ppd_top_runs.specs.Commands.{DidNothing, Flows, IsWholeRun, Keeping, Options, Records, Shows, keeping, plan_of}
+use Rattle.ppd_top_runs.specs.Commands.{DidNothing, Flows, IsWholeRun, Keeping, Records, Shows, keeping, plan_of}
+pub use Rattle.ppd_top_runs.specs.declared.options.Options.{Options}
 use Rattle.ppd_top.specs.declared.following.FollowError.{FollowError}
 use Rattle.ppd_top.specs.declared.following.FollowError.TheVariants.{Refused, NotEnabled, NotWhole, LongLine, ManyLines, Memory}
 use Rattle.ppd_top.specs.Call.{Call, Devices, HasFailedLoad, LeftInput, LeftShelf}
-use Rattle.ppd_top_debug.specs.Output.{AppendsFront, output, Finished}
+use Rattle.ppd_top_runs.specs.Output.{AppendsFront, output, Finished}
 use Rattle.ppd_text_refusals.specs.Sources.{refused}
 use Rattle.ppd_top.specs.Top.{EndsWith, IsStuckAt, IsUnfinished, drill_options, drill_out, most_bytes, out_of, usage, most_recording}
 use Rattle.ppd_top_query.specs.Queries.{Gives, Query}
@@ -24,7 +25,7 @@ use Rattle.ppd_top.specs.Words.{Asks, AsksDebug, AsksDrill, AsksQuery, AsksRecor
 use Rattle.ppd_top.specs.Words.Command.{Flow, Run, Show}
 use Rattle.ppd_codec.specs.declared.recording.Recording.{Recording}
 use Rattle.ppd_codec_runs.specs.Recordings.{IsAccepted, IsRefusedBy}
-use Rattle.ppd_top_debug.specs.Debugging.{Debugs}
+use Rattle.ppd_top_runs.specs.Debugging.{Debugs}
 
 -- ---- a command
 

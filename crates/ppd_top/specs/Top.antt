@@ -11,12 +11,13 @@ use Rattle.ppd_model.specs.Agreement.{Agree}
 use Rattle.ppd_model.specs.Races.{races}
 use Rattle.ppd_model.specs.Schedule.{run as run_of}
 use Rattle.ppd_model.specs.World.{World, enabled}
-use Rattle.ppd_text_tables.specs.Table.{table_of}
-use Rattle.ppd_top_runs.specs.Commands.{IsWholeRun, Options, known_of, plan_of, summary_of_run}
+use Rattle.ppd_text.specs.Table.{table_of}
+use Rattle.ppd_top_runs.specs.Commands.{IsWholeRun, known_of, plan_of, summary_of_run}
+use Rattle.ppd_top_runs.specs.declared.options.Options.{Options}
 use Rattle.ppd_top.specs.declared.following.FollowError.{FollowError}
 use Rattle.ppd_top.specs.declared.following.FollowError.TheVariants.{Refused, NotEnabled, NotWhole, LongLine, ManyLines, Memory}
 use Rattle.ppd_top.specs.Call.{Call}
-use Rattle.ppd_top_debug.specs.Output.{Output, answers, before, output}
+use Rattle.ppd_top_runs.specs.Output.{Output, answers, before, output}
 use Rattle.ppd_text_refusals.specs.Sources.{refused}
 use Rattle.ppd_top.specs.Words.{Asks, AsksDebug, AsksDrill, AsksQuery, Command, IsNotAsked}
 use Rattle.ppd_top.specs.Words.Command.{Flow, Run, Show}

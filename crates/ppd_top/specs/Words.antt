@@ -9,7 +9,8 @@ use Rattle.ppd_top_words.specs.declared.commands.Command.TheVariants as word
 use Rattle.ppd_top_words.specs.Words.{Text, Uses, value_of}
 use Rattle.ppd_top_words.specs.Commands.{command_gives}
 use Rattle.ppd_top_words.specs.Reads.{texts_in}
-use Rattle.ppd_top_runs.specs.Commands.{AreInRange, Options}
+use Rattle.ppd_top_runs.specs.Commands.{AreInRange}
+use Rattle.ppd_top_runs.specs.declared.options.Options.{Options}
 use Rattle.ppd_top.specs.declared.words.Command.{Command as GivenCommand}
 use Rattle.ppd_top.specs.declared.words.Command.TheVariants as given
 use Rattle.ppd_top.specs.declared.words.Request.{Request as GivenRequest}

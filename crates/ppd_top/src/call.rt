@@ -3,7 +3,7 @@ ghost use Rattle.std.specs.Prelude.{◌≡◌, ◌⊎◌, ℕ, List, [], Option}
 ghost use Rattle.std.specs.Borrow.{Bor};
 ghost use Rattle.ppd_top.specs.Call.{call_of, devices};
 ghost use Rattle.ppd_top.specs.Clauses.{IsOutcome, ReadsNothing};
-ghost use Rattle.ppd_top_debug.specs.Output.{standing};
+ghost use Rattle.ppd_top_runs.specs.Output.{standing};
 ghost use Rattle.ppd_top.specs.Ran.{Comes, IsUnloaded, Refuses};
 ghost use Rattle.ppd_top_query.specs.Queries.{query_of};
 ghost use Rattle.ppd_top.specs.Words.{Asks, AsksDebug, AsksQuery, command_of};
@@ -18,9 +18,10 @@ use ppd_ast::{Memory, Seq};
 use ppd_check::{SourceError, read_source};
 use ppd_io::{Gate, Shelf, ShelfError, Sink, Source};
 use ppd_text_refusals::refusal_line;
-use ppd_top_debug::{debug, finish};
 use ppd_top_query::{Query, answers_are_of_runs};
-use ppd_top_runs::{Means, Outcome, RecordTask, Task, ended, flow, record_run, show};
+use ppd_top_runs::{
+    Means, Outcome, RecordTask, Task, debug, ended, finish, flow, record_run, show,
+};
 use std::alloc::Global;
 use std::sync::Wait;
 use std::thread::Threads;

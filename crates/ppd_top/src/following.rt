@@ -6,7 +6,7 @@ ghost use Rattle.ppd_ast.specs.declared.limits.TheConstants.{MOST_BUDGET};
 ghost use Rattle.ppd_race.specs.Races.{races_of_logs};
 ghost use Rattle.ppd_session.specs.Known.{known_of_logs};
 ghost use Rattle.ppd_model.specs.Schedule.{IsOver};
-ghost use Rattle.ppd_top_debug.specs.Output.{answers, before, output};
+ghost use Rattle.ppd_top_runs.specs.Output.{answers, before, output};
 ghost use Rattle.ppd_top.specs.Ran.{FailsBy, IsClosed, RanTo, ScheduleFails, StopsAt, drive_error as drive_error_of};
 ghost use Rattle.ppd_top_runs.specs.Runs.{CanBeTold};
 ghost use Rattle.ppd_top_runs.specs.Summary.{summary_of};

@@ -6,9 +6,8 @@ ghost use Rattle.ppd_top.specs.Ran.{IsTold, Queries};
 use ppd_ast::Seq;
 use ppd_codec_runs::{NoRecall, Recalled, recall};
 use ppd_io::Sink;
-use ppd_top_debug::{finish, refuse_replay};
 use ppd_top_query::{Query, answer};
-use ppd_top_runs::{Outcome, ended};
+use ppd_top_runs::{Outcome, ended, finish, refuse_replay};
 use std::alloc::Global;
 use std::thread::Threads;
 

@@ -15,10 +15,10 @@ use Rattle.ppd_flow_past.specs.ByReplays.{cost, failure_or, first_failed_in}
 use Rattle.ppd_flow_past.specs.SeenBy.{failed_in, items_in}
 use Rattle.ppd_flow_model.specs.Found.{edges_replays, found_edges}
 use Rattle.ppd_flow_shared.specs.SharedCells.{seens_in}
-use Rattle.ppd_slice_model.specs.declared.reached.ItemAt.{ItemAt}
-use Rattle.ppd_slice_model.specs.declared.reached.Reached.{Reached}
-use Rattle.ppd_slice_model.specs.Reach.{IsReach, item_of}
-use Rattle.ppd_slice_model.proofs.Levels.{reach_as}
+use Rattle.ppd_slice_search.specs.declared.reached.ItemAt.{ItemAt}
+use Rattle.ppd_slice_search.specs.declared.reached.Reached.{Reached}
+use Rattle.ppd_slice_search.specs.Reach.{IsReach, item_of}
+use Rattle.ppd_slice_search.proofs.Levels.{reach_as}
 use Rattle.ppd_session.specs.Sessions.{known_by}
 use Rattle.ppd_session.specs.Texts.{failure_in, flow_at, no_event, told_at}
 use Rattle.ppd_session.specs.declared.reply.SessionError.TheVariants.{Diverged, Sets}

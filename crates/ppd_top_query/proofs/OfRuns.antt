@@ -32,7 +32,7 @@ use Rattle.ppd_rerun_model.specs.declared.verdict.Verdict.{Verdict}
 use Rattle.ppd_rerun_model.specs.declared.verdict.Verdict.TheVariants as verdict
 use Rattle.ppd_session.proofs.Honest.{all_there, never}
 use Rattle.ppd_session.specs.Known.{Known, seens}
-use Rattle.ppd_text_verdict.specs.Texts.{verdict_text}
+use Rattle.ppd_top_query.specs.VerdictTexts.{verdict_text}
 use Rattle.ppd_top_query.specs.OfRuns.{AnswersAreOfRuns}
 use Rattle.ppd_model.specs.Items.{ItemsAreWhole}
 use Rattle.ppd_session.specs.Known.{known_of_run}

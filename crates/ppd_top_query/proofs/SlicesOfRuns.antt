@@ -22,12 +22,12 @@ use Rattle.ppd_flow_past.specs.declared.flow_error.FlowError.TheVariants as flow
 use Rattle.ppd_session.specs.Sessions.{IsItemThere}
 use Rattle.ppd_session.specs.Texts.{intervals_at, no_event, told_at}
 use Rattle.ppd_slice.specs.Slices.{places_found}
-use Rattle.ppd_slice_model.specs.declared.reached.ItemAt.{ItemAt}
-use Rattle.ppd_slice_model.specs.declared.reached.Reached.{Reached}
-use Rattle.ppd_slice_model.specs.Laws.{ReachesAreSlices, SlicesAreOne}
-use Rattle.ppd_slice_model.specs.OfRuns.{origins, places_if, reach}
-use Rattle.ppd_slice_model.specs.Reach.{IsReach, at, item_of}
-use Rattle.ppd_slice_model.proofs.Levels.{reach_as}
+use Rattle.ppd_slice_search.specs.declared.reached.ItemAt.{ItemAt}
+use Rattle.ppd_slice_search.specs.declared.reached.Reached.{Reached}
+use Rattle.ppd_slice_search.specs.Laws.{ReachesAreSlices, SlicesAreOne}
+use Rattle.ppd_slice_search.specs.OfRuns.{origins, places_if, reach}
+use Rattle.ppd_slice_search.specs.Reach.{IsReach, at, item_of}
+use Rattle.ppd_slice_search.proofs.Levels.{reach_as}
 use Rattle.ppd_top_query.specs.Queries.{IsSliceAnswer, IsSliceText, ItemAsked, block_refusal, event_refusal, origins_of, origins_told, process_refusal, races_refusal, reached_line, slice_refusal}
 use Rattle.ppd_top_query.specs.SlicesOfRuns.{IsSliceOfRun, SliceTextsAreOfRuns, SlicesAreOfRuns, lines_of_reach}
 

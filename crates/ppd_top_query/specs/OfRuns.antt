@@ -15,7 +15,7 @@ use Rattle.ppd_model.specs.Story.{story}
 use Rattle.ppd_rerun_model.specs.declared.verdict.Verdict.TheVariants as verdict
 use Rattle.ppd_session.specs.Known.{known_of_run}
 use Rattle.ppd_session.specs.Questions.{process_named}
-use Rattle.ppd_text_verdict.specs.Texts.{verdict_text}
+use Rattle.ppd_top_query.specs.VerdictTexts.{verdict_text}
 use Rattle.ppd_top_query.specs.Queries.{Gives, ItemAsked, Query, clean_text, slice_refusal}
 use Rattle.ppd_top_query.specs.Queries.Query.{Slice, Whole, Rerun, Clean}
 use Rattle.ppd_top_query.specs.SlicesOfRuns.{IsSliceOfRun}

@@ -10,9 +10,9 @@ use Rattle.ppd_flow_past.specs.declared.flow_error.FlowError.TheVariants as flow
 use Rattle.ppd_top_query.specs.declared.query.AskedItem.{AskedItem as GivenItem}
 use Rattle.ppd_top_query.specs.declared.query.Query.{Query as GivenQuery}
 use Rattle.ppd_top_query.specs.declared.query.Query.TheVariants as given
-use Rattle.ppd_slice_model.specs.declared.reached.ItemAt.{ItemAt}
-use Rattle.ppd_slice_model.specs.declared.reached.Reached.{Reached}
-use Rattle.ppd_slice_model.specs.Reach.{IsReach, at}
+use Rattle.ppd_slice_search.specs.declared.reached.ItemAt.{ItemAt}
+use Rattle.ppd_slice_search.specs.declared.reached.Reached.{Reached}
+use Rattle.ppd_slice_search.specs.Reach.{IsReach, at}
 use Rattle.law_clean.specs.Answers.{CleanOr, clean, no_item, unclean, unwritten}
 use Rattle.law_clean.specs.Search.{clean_by, cut_by, first_raced}
 use Rattle.law_whole.specs.Linked.{joined_trace}
@@ -24,7 +24,7 @@ use Rattle.ppd_flow_model.specs.Ends.{first_edge}
 use Rattle.ppd_flow_past.specs.SeenBy.{failed_at}
 use Rattle.ppd_model.specs.RecordedSets.{record_in}
 use Rattle.ppd_model.specs.declared.graph.EdgeId.{EdgeId}
-use Rattle.ppd_text_items.specs.Edges.{why_text}
+use Rattle.ppd_text.specs.Edges.{why_text}
 use Rattle.ppd_race.specs.Races.{races_of_logs}
 use Rattle.ppd_rerun_model.specs.Verdicts.{IsVerdict}
 use Rattle.ppd_rerun_model.specs.declared.verdict.Verdict.{Verdict}
@@ -36,8 +36,8 @@ use Rattle.ppd_session.specs.declared.reply.SessionError.{SessionError}
 use Rattle.ppd_session.specs.declared.reply.SessionError.TheVariants.{Diverged, Sets, Memory}
 use Rattle.ppd_slice.specs.Slices.{places_found}
 use Rattle.ppd_codec_runs.specs.Recordings.{known_of, seens_of}
-use Rattle.ppd_text_items.specs.Names.{process_name}
-use Rattle.ppd_text_verdict.specs.Texts.{verdict_text}
+use Rattle.ppd_text.specs.CellNames.{process_name}
+use Rattle.ppd_top_query.specs.VerdictTexts.{verdict_text}
 use Rattle.ppd_whole_intervals.specs.Intervals.{intervals_from}
 use Rattle.ppd_whole.specs.WholeText.{whole_text}
 

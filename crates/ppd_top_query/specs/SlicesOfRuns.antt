@@ -8,9 +8,9 @@ use Rattle.ppd_model.specs.Story.{story}
 use Rattle.ppd_session.specs.Known.{known_of_run}
 use Rattle.ppd_session.specs.Questions.{process_named}
 use Rattle.ppd_session.specs.Sessions.{IsItemThere}
-use Rattle.ppd_slice_model.specs.declared.reached.Reached.{Reached}
-use Rattle.ppd_slice_model.specs.OfRuns.{origins, reach}
-use Rattle.ppd_slice_model.specs.Reach.{IsReach, at}
+use Rattle.ppd_slice_search.specs.declared.reached.Reached.{Reached}
+use Rattle.ppd_slice_search.specs.OfRuns.{origins, reach}
+use Rattle.ppd_slice_search.specs.Reach.{IsReach, at}
 use Rattle.ppd_top_query.specs.Queries.{IsSliceAnswer, IsSliceText, ItemAsked, reached_line, slice_refusal}
 
 -- a line for each item that the edges of the run reach from item j of interval k of process q

@@ -2,7 +2,7 @@
 ghost use Rattle.std.specs.Prelude.{◌≡◌, ◌<◌, ◌++◌, Err, IfErr, IfOk, OnOk};
 ghost use Rattle.ppd_codec_runs.specs.Recordings.{IsRecalled, known_of};
 ghost use Rattle.ppd_session.specs.declared.reply.SessionError.TheVariants as session_error;
-ghost use Rattle.ppd_text_items.specs.Edges.{why_text as why_text_of};
+ghost use Rattle.ppd_text.specs.Edges.{why_text as why_text_of};
 ghost use Rattle.ppd_top_query.specs.Queries.{asked_of, unclean_line};
 ghost use Rattle.ppd_top_query.specs.Queries.Query.{Clean as CleanQuery};
 ghost use Rattle.ppd_top_query.specs.Replies.{IsAskable, IsCleanItem, IsFoundClean, IsReply, IsTextReply};
@@ -14,8 +14,7 @@ use ppd_clean::{Clean, CleanError, clean_edges};
 use ppd_codec_runs::Recalled;
 use ppd_model::{EdgeId, Race};
 use ppd_session::{At, SessionError, interval_there, process_named, why_text};
-use ppd_text::{put, put_number};
-use ppd_text_items::process_name;
+use ppd_text::{process_name, put, put_number};
 use std::alloc::Global;
 use std::marker::Brand;
 use std::sync::ledger::{Blank, Ledger};

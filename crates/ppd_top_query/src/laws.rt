@@ -5,7 +5,7 @@ ghost use Rattle.ppd_top_query.specs.OfRuns.{AnswersAreOfRuns};
 ghost use Rattle.ppd_top_query.specs.SlicesOfRuns.{SliceTextsAreOfRuns, SlicesAreOfRuns};
 
 use ppd_model::items_are_whole;
-use ppd_slice_model::{reaches_are_slices, slices_are_one};
+use ppd_slice_search::{reaches_are_slices, slices_are_one};
 
 /// Law: what is asked of a recording ends with status 0 or with status 6, and of the recording of a whole run with
 /// status 0.

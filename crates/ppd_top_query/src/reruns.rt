@@ -2,17 +2,17 @@
 ghost use Rattle.std.specs.Prelude.{◌≡◌, ◌<◌, IfErr, IfOk};
 ghost use Rattle.ppd_rerun_model.specs.Verdicts.{IsVerdict};
 ghost use Rattle.ppd_session.specs.declared.reply.SessionError.TheVariants as session_error;
-ghost use Rattle.ppd_text_verdict.specs.Texts.{verdict_text};
+ghost use Rattle.ppd_top_query.specs.VerdictTexts.{verdict_text};
 ghost use Rattle.ppd_top_query.specs.Queries.{schedule_of};
 ghost use Rattle.ppd_top_query.specs.Queries.Query.{Rerun};
 ghost use Rattle.ppd_top_query.specs.Replies.{IsAskable, IsReply};
 
 use crate::query::Answer;
+use crate::verdict_text::put_verdict;
 use ppd_ast::{Bytes, Memory, Seq, Steps};
 use ppd_codec_runs::Recalled;
 use ppd_rerun::{Verdict, rerun};
 use ppd_session::SessionError;
-use ppd_text_verdict::put_verdict;
 use std::alloc::Global;
 use std::marker::Brand;
 use std::sync::ledger::{Blank, Ledger};

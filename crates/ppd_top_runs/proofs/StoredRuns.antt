@@ -14,12 +14,12 @@ use Rattle.ppd_model.specs.Schedule.{IsWhole}
 use Rattle.ppd_entry.specs.declared.entry.Logs.{Logs}
 use Rattle.ppd_race.specs.Races.{races_of_logs}
 use Rattle.ppd_codec_runs.specs.Recordings.{AreOfSomeRun}
-use Rattle.ppd_top_telling.specs.declared.options.Options.{Options}
-use Rattle.ppd_top_telling.specs.declared.run.ClosedRun.{ClosedRun}
+use Rattle.ppd_top_runs.specs.declared.options.Options.{Options}
+use Rattle.ppd_top_runs.specs.declared.run.ClosedRun.{ClosedRun}
 use Rattle.ppd_top_runs.specs.Commands.{Keeping, Keeps, Records, WasRecorded, keeping, header_of, plan_of, AreInRange}
 use Rattle.ppd_top_runs.specs.Commands.Keeps.{not_kept, store_failed, kept}
-use Rattle.ppd_top_telling.specs.Runs.{IsRunOf}
-use Rattle.ppd_top_telling.specs.Summary.{summary_of}
+use Rattle.ppd_top_runs.specs.Runs.{IsRunOf}
+use Rattle.ppd_top_runs.specs.Summary.{summary_of}
 use Rattle.ppd_top_runs.proofs.Told.{summary_from}
 
 keeps_as : (P Q : List ℕ → Type 0) (name summary : List ℕ) (x y : Keeping) (status : ℕ) → ((b : List ℕ) → P b → Q b) → Keeps P name summary x y status → Keeps Q name summary x y status

@@ -9,13 +9,13 @@ use Rattle.ppd_race.specs.Races.{races_of_logs}
 use Rattle.ppd_race.proofs.OfRuns.{of_runs}
 use Rattle.ppd_codec_runs.specs.Known.{Known, known_of_logs}
 use Rattle.ppd_codec_runs.proofs.Honest.{known_as}
-use Rattle.ppd_top_telling.specs.declared.options.Options.{Options}
-use Rattle.ppd_top_telling.specs.Output.{Standing, Talks}
-use Rattle.ppd_top_telling.specs.Summary.{summary_of}
+use Rattle.ppd_top_runs.specs.declared.options.Options.{Options}
+use Rattle.ppd_top_runs.specs.Output.{Standing, Talks}
+use Rattle.ppd_top_runs.specs.Summary.{summary_of}
 use Rattle.ppd_top_runs.specs.Commands.{IsWholeRun, known_of, plan_of, summary_of_run, WasTold}
 use Rattle.ppd_model.specs.Schedule.{IsWhole}
-use Rattle.ppd_top_telling.specs.declared.run.ClosedRun.{ClosedRun}
-use Rattle.ppd_top_telling.specs.Runs.{IsRunOf}
+use Rattle.ppd_top_runs.specs.declared.run.ClosedRun.{ClosedRun}
+use Rattle.ppd_top_runs.specs.Runs.{IsRunOf}
 
 -- ---- of a run, by its logs
 

@@ -8,10 +8,10 @@ use Rattle.ppd_ast.specs.declared.limits.TheConstants.{MOST_BUDGET}
 use Rattle.ppd_blocks.specs.Blocks.{plan_of as plan_by_policy}
 use Rattle.ppd_model.specs.Schedule.{IsWhole}
 use Rattle.ppd_codec_runs.specs.Known.{Known, known_of_run}
-use Rattle.ppd_text_tables.specs.Table.{table_of}
-pub use Rattle.ppd_top_telling.specs.declared.options.Options.{Options}
-use Rattle.ppd_top_telling.specs.Output.{IsUnread, Standing, Talks, Finished}
-use Rattle.ppd_top_telling.specs.Summary.{summary}
+use Rattle.ppd_text.specs.Table.{table_of}
+use Rattle.ppd_top_runs.specs.declared.options.Options.{Options}
+use Rattle.ppd_top_runs.specs.Output.{IsUnread, Standing, Talks, Finished}
+use Rattle.ppd_top_runs.specs.Summary.{summary}
 use Rattle.ppd_codec.specs.declared.recording.Header.{Header}
 use Rattle.ppd_codec_runs.specs.Recordings.{IsRunRecorded}
 use Rattle.ppd_ast.specs.ValidPlan.{IsValidPolicy}

@@ -1,4 +1,7 @@
--- What the commands on a source come to for its program.
-pub use Rattle.ppd_top_telling.specs.Runs
-pub use Rattle.ppd_top_telling.specs.Summary
+-- The answers to the lines of an input, one after another.
+pub mod Output
+pub mod Asking
+pub mod Debugging
+pub mod Summary
+pub mod Runs
 pub mod Commands

@@ -3,17 +3,20 @@ ghost use Rattle.std.specs.Prelude.{◌≡◌, ◌≤◌, ℕ, List, [], IfOk, O
 ghost use Rattle.ppd_ast.specs.Valid.{IsValid};
 ghost use Rattle.ppd_ast.specs.ValidPlan.{IsValidPolicy};
 ghost use Rattle.ppd_ast.specs.declared.limits.TheConstants.{MOST_BUDGET};
-ghost use Rattle.ppd_text_tables.specs.Table.{table_of};
-ghost use Rattle.ppd_top_telling.specs.Output.{standing};
+ghost use Rattle.ppd_text.specs.Table.{table_of};
+ghost use Rattle.ppd_top_runs.specs.Output.{standing};
 ghost use Rattle.ppd_top_runs.specs.Commands.{Flows, Shows, plan_of};
 
+use crate::options::Options;
 use crate::outcome::{Outcome, ended};
+use crate::run::{Means, Task, run_task};
+use crate::telling::tell;
 use ppd_ast::{Memory, Program, Seq};
 use ppd_blocks::partition;
 use ppd_io::{Gate, Sink, Source};
 use ppd_sets::sets;
-use ppd_text_tables::table;
-use ppd_top_telling::{Means, Options, Task, finish, run_task, tell};
+use ppd_text::table;
+use ppd_top_output::finish;
 use std::alloc::Global;
 use std::sync::Wait;
 use std::thread::Threads;

@@ -10,12 +10,13 @@ ghost use Rattle.ppd_whole.specs.WholeText.{whole_text};
 
 use crate::in_turn::whole_in;
 use crate::laws::wholes_are_of_runs;
+use crate::marks::marks_of_all;
+use crate::processes::{are_few, events_of_all};
 use crate::text::{joined, lines_of_all};
 use ppd_ast::{Bytes, Memory, Seq, Steps};
 use ppd_flow_past::Past;
-use ppd_flow_writers::writing_edges;
+use ppd_flow_tables::writing_edges;
 use ppd_model::Item;
-use ppd_whole_events::{are_few, events_of_all, marks_of_all};
 use ppd_whole_link::{linkers_are_linked, marks_are_writers};
 use ppd_whole_origins::LinkedPast;
 use ppd_whole_replays::{WholeError, all_items, drop_all};

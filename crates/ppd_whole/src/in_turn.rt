@@ -14,12 +14,13 @@ ghost use Rattle.ppd_whole.specs.WholeText.{whole_text};
 
 use crate::laws::wholes_are_of_runs;
 use crate::lines::put_process;
+use crate::marks::marks_in_turn;
+use crate::processes::{are_few, events_in_turn};
 use ppd_ast::{Memory, Seq, Steps};
 use ppd_flow_past::Past;
-use ppd_flow_writers::writing_edges;
+use ppd_flow_tables::writing_edges;
 use ppd_model::Item;
 use ppd_sem::Event;
-use ppd_whole_events::{are_few, events_in_turn, marks_in_turn};
 use ppd_whole_link::{linkers_are_linked, marks_are_writers};
 use ppd_whole_origins::LinkedPast;
 use ppd_whole_replays::{WholeError, all_items_in};

@@ -29,7 +29,7 @@ use Rattle.ppd_model.proofs.States.{logs_grow}
 use Rattle.ppd_model.proofs.Stories.{stories_are_of_runs}
 use Rattle.ppd_model.proofs.Earlier.{each_more}
 use Rattle.ppd_world.specs.Parts.{IsReady, IsSmallLogging, world_of}
-use Rattle.ppd_world_objects.specs.Objects.{IsSmallChan, IsSmallSem, store}
+use Rattle.ppd_world_steps.specs.Objects.{IsSmallChan, IsSmallSem, store}
 use Rattle.ppd_world.specs.Running.{IsCause, IsDriven, IsFollowed, IsOf, IsReached, Running, Takes, begun, can_step, stepped}
 use Rattle.ppd_world.specs.Starts.{begun_chans, begun_logs, begun_sems}
 use Rattle.ppd_world.proofs.Begun.{logs_begun, procs_begun}

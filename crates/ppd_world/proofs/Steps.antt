@@ -22,8 +22,8 @@ use Rattle.ppd_model.specs.World.{World, answer, can, change, effect, enabled, n
 use Rattle.ppd_model.proofs.Earlier.{each_more}
 use Rattle.ppd_model.proofs.Lists.{map_change}
 use Rattle.ppd_world.specs.Parts.{finished, need_of_logging, sent, sent_after, unsent, unsent_after, world_of, IsReceivable, without_last}
-use Rattle.ppd_world_entries.specs.Entries.{moment_with}
-use Rattle.ppd_world_objects.specs.Objects.{IsSmallChan}
+use Rattle.ppd_world_steps.specs.Entries.{moment_with}
+use Rattle.ppd_world_steps.specs.Objects.{IsSmallChan}
 use Rattle.ppd_world.proofs.Lists.{all_every, change_back, every_all, every_change}
 
 -- the shared state after a step, in its parts

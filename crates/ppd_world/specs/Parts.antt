@@ -14,9 +14,9 @@ use Rattle.ppd_model.specs.declared.state.Counts.{Counts}
 use Rattle.ppd_model.specs.declared.state.Logging.{Logging}
 use Rattle.ppd_model.specs.Logs.{rest_after}
 use Rattle.ppd_model.specs.World.{World, change, one_taken, one_given, with_value, one_received, one_completed}
-use Rattle.ppd_world_entries.specs.declared.note.Note.{Note}
-use Rattle.ppd_world_objects.specs.Objects.{IsSmallChan, IsSmallSem}
-use Rattle.ppd_world_entries.specs.Entries.{noted}
+use Rattle.ppd_world_steps.specs.declared.note.Note.{Note}
+use Rattle.ppd_world_steps.specs.Objects.{IsSmallChan, IsSmallSem}
+use Rattle.ppd_world_steps.specs.Entries.{noted}
 
 -- ---- bounds
 

@@ -6,7 +6,7 @@ use ppd_ast::{Memory, Program, Seq, Status};
 use ppd_entry::{Entry, Logs};
 use ppd_model::{Closed, Logging, ProcEnd};
 use ppd_sem::{Proc, next_stmt};
-use ppd_world_appends::push_end;
+use ppd_world_steps::push_end;
 use std::alloc::Global;
 
 /// The last statement of a body, and 0 past the table.

@@ -5,15 +5,14 @@ ghost use Rattle.ppd_model.specs.World.{change};
 ghost use Rattle.ppd_sem.specs.Process.{act, need_of};
 ghost use Rattle.ppd_sem.specs.Runs.{IsNumbered, IsRunnable, IsRunning};
 ghost use Rattle.ppd_world.specs.Parts.{IsSmallLogging, logged, need_of_logging};
-ghost use Rattle.ppd_world_entries.specs.Entries.{moment_with};
+ghost use Rattle.ppd_world_steps.specs.Entries.{moment_with};
 ghost use Rattle.ppd_world.specs.Plain.{gone_on, gone_on_printing};
 
 use ppd_ast::{Memory, Seq};
 use ppd_entry::Entry;
 use ppd_model::{Logging, Taken};
 use ppd_sem::{Need, Proc, look, meet};
-use ppd_world_appends::Code;
-use ppd_world_entries::{Note, apply, entries_of, note_of};
+use ppd_world_steps::{Code, Note, apply, entries_of, note_of};
 
 /// The steps since the last one that wrote an entry, after a step that wrote these.
 fn rest_of(rest: u32, new: &[Entry]) -> u32

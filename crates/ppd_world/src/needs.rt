@@ -6,7 +6,7 @@ ghost use Rattle.ppd_world.specs.Parts.{IsSmallLogging, need_of_logging, needs_o
 use ppd_ast::Memory;
 use ppd_model::Logging;
 use ppd_sem::{Need, look};
-use ppd_world_appends::Code;
+use ppd_world_steps::Code;
 use std::alloc::Global;
 
 /// What the process at this place needs, as it is kept.

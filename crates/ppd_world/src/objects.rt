@@ -2,7 +2,7 @@ ghost use Rattle.std.specs.Prelude.{◌≡◌, OnOk, OnErr};
 ghost use Rattle.std.specs.List.{All};
 ghost use Rattle.ppd_model.specs.World.{change, one_taken, one_given, with_value, one_received, one_completed};
 ghost use Rattle.ppd_world.specs.Parts.{IsReceivable, without_last};
-ghost use Rattle.ppd_world_objects.specs.Objects.{IsSmallSem};
+ghost use Rattle.ppd_world_steps.specs.Objects.{IsSmallSem};
 
 use ppd_ast::Memory;
 use ppd_model::{Channel, Counts};

@@ -9,7 +9,7 @@ use ppd_ast::{BlockKind, Memory, Nums, Plan, Program, Seq, Start};
 use ppd_entry::{Boxed, Entry};
 use ppd_model::{Channel, Counts, Logging};
 use ppd_sem::{Proc, find_block, find_unit};
-use ppd_world_appends::unit_values;
+use ppd_world_steps::unit_values;
 use std::alloc::Global;
 
 fn block_of_process(plan: &Plan, body: u16) -> u16

@@ -5,8 +5,8 @@ ghost use Rattle.ppd_model.specs.Logs.{log_step};
 ghost use Rattle.ppd_model.specs.Story.{number_of as number_of_need};
 ghost use Rattle.ppd_model.specs.World.{answer as answer_of, change, step as step_of};
 ghost use Rattle.ppd_world.specs.Parts.{IsReady, need_of_logging, needs_of, sent, world_of};
-ghost use Rattle.ppd_world_entries.specs.Entries.{moment_with};
-ghost use Rattle.ppd_world_objects.specs.Objects.{IsSmallChan, IsSmallSem};
+ghost use Rattle.ppd_world_steps.specs.Entries.{moment_with};
+ghost use Rattle.ppd_world_steps.specs.Objects.{IsSmallChan, IsSmallSem};
 
 use crate::logging::step_at;
 use crate::needs::{need_at, set_need};
@@ -14,7 +14,7 @@ use crate::store::Store;
 use ppd_ast::Memory;
 use ppd_model::{Logging, Taken};
 use ppd_sem::Need;
-use ppd_world_appends::Code;
+use ppd_world_steps::Code;
 
 /// A step of this need, without the writer of what it reads.
 pub(crate) fn next_step(store: &Store, need: Need) -> Taken

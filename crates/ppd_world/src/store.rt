@@ -3,13 +3,13 @@ ghost use Rattle.std.specs.List.{All};
 ghost use Rattle.ppd_model.specs.Story.{number_of as number_of_need};
 ghost use Rattle.ppd_model.specs.World.{answer as answer_of, can};
 ghost use Rattle.ppd_world.specs.Parts.{finished, sent, unsent, IsReceivable};
-ghost use Rattle.ppd_world_objects.specs.Objects.{IsSmallChan, IsSmallSem};
+ghost use Rattle.ppd_world_steps.specs.Objects.{IsSmallChan, IsSmallSem};
 
 use crate::objects::{complete, drop_last, give, push_value, receive, take};
 use ppd_ast::{Memory, Nums};
 use ppd_model::{Channel, Counts, value_at};
 use ppd_sem::{Answer, Need};
-use ppd_world_objects::{can_complete, can_receive, can_send, can_take, next_value, number_of};
+use ppd_world_steps::{can_complete, can_receive, can_send, can_take, next_value, number_of};
 use std::marker::Model;
 
 /// The shared cells, semaphores and channels of a run: its world without the processes.
@@ -22,7 +22,7 @@ pub(crate) struct Store {
 
 impl Model for Store {
     ghost use Rattle.ppd_model.specs.World.{World};
-    ghost use Rattle.ppd_world_objects.specs.Objects.{store};
+    ghost use Rattle.ppd_world_steps.specs.Objects.{store};
 
     ghost Value = { World };
 

@@ -17,7 +17,7 @@ use ppd_ast::limits::MOST_BUDGET;
 use ppd_ast::{Memory, Nums, Plan, Program};
 use ppd_model::{Closed, DriveError, Logging, Taken};
 use ppd_sem::{Need, Proc};
-use ppd_world_appends::Code;
+use ppd_world_steps::Code;
 use std::alloc::Global;
 use std::marker::Model;
 

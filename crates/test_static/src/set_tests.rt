@@ -1,5 +1,5 @@
 use ppd_ast::limits::MOST_SHARED_CELLS;
-use ppd_bits::CellSet;
+use ppd_sets::CellSet;
 use std::alloc::Global;
 
 /// The first and the last cells of words.

@@ -11,7 +11,7 @@ use Rattle.ppd_blocks.specs.Blocks.{plan_of}
 use Rattle.ppd_sem.specs.declared.event.Event.{Event}
 use Rattle.ppd_sem.specs.declared.proc.Todo.{Todo}
 use Rattle.ppd_sem.specs.Process.{todos}
-use Rattle.ppd_units.specs.Walk.{stands_in}
+use Rattle.ppd_blocks.specs.Walk.{stands_in}
 use Rattle.ppd_model.specs.FullTrace.{is_passed, latest}
 use Rattle.ppd_model.specs.Parents.{is_choice}
 use Rattle.ppd_model.proofs.TestSteps.{View, older}

@@ -13,7 +13,7 @@ use Rattle.ppd_sem.specs.declared.event.Event.{Event}
 use Rattle.ppd_sem.specs.declared.proc.Todo.{Todo}
 use Rattle.ppd_sem.specs.Process.{todos}
 use Rattle.ppd_sem.specs.Runs.{returns}
-use Rattle.ppd_units.specs.Walk.{stands_in}
+use Rattle.ppd_blocks.specs.Walk.{stands_in}
 use Rattle.ppd_model.specs.declared.trace.EventId.{EventId}
 use Rattle.ppd_model.specs.FullTrace.{latest}
 use Rattle.ppd_model.specs.Parents.{is_choice}

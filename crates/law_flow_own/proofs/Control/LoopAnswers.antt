@@ -9,7 +9,7 @@ use Rattle.ppd_ast.specs.Lookups.{kind_of, body_of, parent_if}
 use Rattle.ppd_blocks.specs.Blocks.{plan_of}
 use Rattle.law_replay.proofs.Facts.Within.{within_cases}
 use Rattle.ppd_sem.specs.declared.proc.Todo.{Todo}
-use Rattle.ppd_units.specs.Walk.{stands_in}
+use Rattle.ppd_blocks.specs.Walk.{stands_in}
 use Rattle.ppd_model.specs.declared.flow.Origin.{Origin}
 use Rattle.ppd_model.specs.declared.flow.Origin.TheVariants as origin
 use Rattle.ppd_model.specs.declared.trace.EventId.{EventId}

@@ -18,8 +18,8 @@ use Rattle.law_steps.proofs.Course.Standing.{as_parent, in_itself}
 use Rattle.law_replay.proofs.Facts.Within.{IsOut, child_within, within_cases}
 use Rattle.law_steps.proofs.Units.Numbers.{block_loop, loop_is_while}
 use Rattle.ppd_sem.specs.Tables.{block_of}
-use Rattle.ppd_units.specs.Walk.{stands_at, stands_in}
-use Rattle.ppd_units.proofs.Staying.{stands_none}
+use Rattle.ppd_blocks.specs.Walk.{stands_at, stands_in}
+use Rattle.ppd_blocks.proofs.Staying.{stands_none}
 use Rattle.ppd_model.proofs.Changes.{some}
 
 -- ---- where statements stand

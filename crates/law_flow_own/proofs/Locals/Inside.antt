@@ -10,7 +10,7 @@ use Rattle.ppd_ast.specs.declared.program.Program.{Program}
 use Rattle.ppd_blocks.specs.Blocks.{plan_of}
 use Rattle.ppd_sem.specs.Blocks.{block_kind}
 use Rattle.ppd_sem.specs.declared.proc.Todo.{Todo}
-use Rattle.ppd_units.specs.Walk.{stands_in}
+use Rattle.ppd_blocks.specs.Walk.{stands_in}
 use Rattle.ppd_model.specs.Intervals.{Split}
 use Rattle.ppd_model.specs.declared.tracing.Story.{Story}
 use Rattle.law_flow_own.specs.Places.Levels.{IsLater, Level as Place, StandsIn, numbers}

@@ -22,8 +22,8 @@ use Rattle.ppd_sem.specs.Tables.{block_of}
 use Rattle.ppd_sets.specs.Named.{reads, writes}
 use Rattle.ppd_sets.specs.Used.{IsLoopDefined, loop_defined_of, loop_stmts, loop_used_of, reads_at, sorted, writes_at}
 use Rattle.ppd_sets.proofs.Looping.{loop_defined_by_statements, loop_used_by_statements}
-use Rattle.ppd_units.specs.Walk.{stands_in}
-use Rattle.ppd_units.proofs.Paths.{sorted_from}
+use Rattle.ppd_blocks.specs.Walk.{stands_in}
+use Rattle.ppd_blocks.proofs.Paths.{sorted_from}
 use Rattle.law_steps.proofs.Units.Numbers.{block_loop, loop_is_while}
 use Rattle.law_replay.specs.Beside.Relation.{IsListOf}
 use Rattle.law_replay.proofs.Vocabulary.Relation.{IsBlock}

@@ -14,7 +14,7 @@ use Rattle.ppd_ast.specs.declared.limits.TheConstants.{MOST_NESTING}
 use Rattle.law_steps.proofs.Course.Rising.{child_stands, stands_in_parent}
 use Rattle.law_steps.proofs.Course.Standing.{as_parent, in_itself, in_parent, outwards, none_outer}
 use Rattle.ppd_sets.specs.Used.{loop_stmts}
-use Rattle.ppd_units.specs.Walk.{stands_at, stands_in}
+use Rattle.ppd_blocks.specs.Walk.{stands_at, stands_in}
 
 -- what stands in a statement of q stands in q
 pub child_within : (p : Program) (q t x : ℕ) (y : Stmt) → IsValid p → slice_get p.stmts x ≡ Some y

@@ -14,7 +14,7 @@ use Rattle.ppd_ast.proofs.Members.{has_first, has_later, has_left, has_right}
 use Rattle.ppd_cfg.specs.Flow.{follow, follow_under, follow_within, next_in}
 use Rattle.ppd_cfg.specs.Lists.{first_or}
 use Rattle.ppd_cfg.proofs.Following.{follows_its_list}
-use Rattle.ppd_units.specs.Walk.{stands_in}
+use Rattle.ppd_blocks.specs.Walk.{stands_in}
 use Rattle.law_steps.proofs.Course.Rising.{child_stands, inner_kind, inner_rises, rises_above, rises_before, rises_behind, top_rises, top_stands}
 use Rattle.law_steps.proofs.Course.Standing.{not_in_later}
 

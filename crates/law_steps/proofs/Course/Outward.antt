@@ -17,7 +17,7 @@ use Rattle.ppd_cfg.specs.Flow.{follow, follow_under, follow_within, next_in}
 use Rattle.ppd_cfg.specs.Lists.{first_or}
 use Rattle.ppd_cfg.proofs.Depths.{follow_none}
 use Rattle.ppd_cfg.proofs.Following.{follows_its_list}
-use Rattle.ppd_units.specs.Walk.{stands_in}
+use Rattle.ppd_blocks.specs.Walk.{stands_in}
 use Rattle.law_steps.proofs.Course.Rising.{child_stands, inner_kind, parent_below, parent_same, top_stands}
 use Rattle.law_steps.proofs.Course.Standing.{as_parent}
 use Rattle.ppd_model.proofs.Changes.{some}

@@ -11,7 +11,7 @@ use Rattle.ppd_ast.specs.Members.{has}
 use Rattle.ppd_ast.proofs.Members.{has_cons, flat_gives}
 use Rattle.ppd_ast.specs.Lookups.{parent_if}
 use Rattle.ppd_ast.specs.declared.limits.TheConstants.{MOST_NESTING}
-use Rattle.ppd_units.specs.Walk.{stands_at, stands_in}
+use Rattle.ppd_blocks.specs.Walk.{stands_at, stands_in}
 use Rattle.law_steps.proofs.Course.Rising.{Place, child_stands, parent_below, place_of, top_stands}
 
 or_no : (a b : Bool) → a ≡ false → b ≡ false → (a || b) ≡ false

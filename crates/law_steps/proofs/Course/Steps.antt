@@ -25,7 +25,7 @@ use Rattle.ppd_sem.specs.Tables.{block_of}
 use Rattle.ppd_sem.proofs.Kept.{there_at}
 use Rattle.ppd_sem.proofs.Validity.{valid-runnable}
 use Rattle.ppd_sem.specs.Passed.{next_stmt_of}
-use Rattle.ppd_units.specs.Walk.{stands_in}
+use Rattle.ppd_blocks.specs.Walk.{stands_in}
 use Rattle.law_steps.specs.Course.{BeginsList, GoesOn, IsBehind, IsMarkedBehind, IsWay}
 use Rattle.law_steps.proofs.Course.Chains.{IsChain, body_chain, first_chain, second_chain, top_chain}
 use Rattle.law_steps.proofs.Course.Deeds.{IsBranch, IsInvoke, IsLocal}

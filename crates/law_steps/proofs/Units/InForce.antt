@@ -21,9 +21,9 @@ use Rattle.ppd_ast.proofs.Members.{has_first}
 use Rattle.ppd_cfg.specs.Flow.{follow}
 use Rattle.ppd_cfg.specs.Lists.{first_or}
 use Rattle.ppd_cfg.specs.Reach.{Reached, next, start as starts_at}
-use Rattle.ppd_units.specs.Starts.{all_starts}
-use Rattle.ppd_units.specs.Walk.{begin_of, enters, is_between, leaves, stands_in, unit_rows, unless}
-use Rattle.ppd_units.proofs.Staying.{row_from, unless_no}
+use Rattle.ppd_blocks.specs.Starts.{all_starts}
+use Rattle.ppd_blocks.specs.Walk.{begin_of, enters, is_between, leaves, stands_in, unit_rows, unless}
+use Rattle.ppd_blocks.proofs.Staying.{row_from, unless_no}
 use Rattle.ppd_blocks.specs.Blocks.{block_loops, plan_of}
 use Rattle.ppd_sem.specs.declared.proc.Answer.{Answer}
 use Rattle.ppd_sem.specs.declared.proc.Need.{Need}

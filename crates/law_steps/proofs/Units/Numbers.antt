@@ -21,7 +21,7 @@ use Rattle.ppd_ast.specs.Members.{has}
 use Rattle.ppd_ast.specs.Lookups.{kind_of_stmt, kind_of}
 use Rattle.ppd_ast.proofs.Members.{has_first, has_cons, has_left, has_right, in_bounds_has}
 use Rattle.ppd_cfg.proofs.Following.{in_some}
-use Rattle.ppd_units.specs.Starts.{all_starts, unit_starts_at, starts_in, unit_of as unit_from}
+use Rattle.ppd_blocks.specs.Starts.{all_starts, unit_starts_at, starts_in, unit_of as unit_from}
 use Rattle.ppd_blocks.specs.Blocks.{block_loops, block_of as block_from, loop_in, plan_of}
 use Rattle.ppd_blocks.proofs.Listing.{IsLoop, by_policy}
 use Rattle.ppd_sem.specs.Tables.{block_of, or_zero, same_block, same_start, unit_of}

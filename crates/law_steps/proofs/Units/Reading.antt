@@ -14,10 +14,10 @@ use Rattle.ppd_ast.specs.declared.limits.TheConstants.{MOST_SHARED_CELLS}
 use Rattle.ppd_cfg.specs.Reach.{Reached, closure, leads}
 use Rattle.ppd_cfg.proofs.Leading.{leads-tests}
 use Rattle.ppd_blocks.specs.Used.{reads_at}
-use Rattle.ppd_units.specs.Starts.{unit_of as unit_from}
-use Rattle.ppd_units.specs.Walk.{begin_of, unit_cells, unit_rows}
-use Rattle.ppd_units.proofs.Paths.{sorted_from}
-use Rattle.ppd_units.proofs.Reading.{read_is_stmt, reads_below}
+use Rattle.ppd_blocks.specs.Starts.{unit_of as unit_from}
+use Rattle.ppd_blocks.specs.Walk.{begin_of, unit_cells, unit_rows}
+use Rattle.ppd_blocks.proofs.Paths.{sorted_from}
+use Rattle.ppd_blocks.proofs.Reading.{read_is_stmt, reads_below}
 use Rattle.ppd_blocks.specs.Blocks.{block_loops, plan_of}
 use Rattle.ppd_sem.specs.declared.proc.Need.{Need}
 use Rattle.ppd_sem.specs.declared.proc.Need.TheVariants.{Read}

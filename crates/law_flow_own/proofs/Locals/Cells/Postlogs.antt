@@ -14,7 +14,7 @@ use Rattle.law_replay.proofs.Facts.Loops.{loop_writing}
 use Rattle.ppd_sem.specs.Blocks.{postlog_cells}
 use Rattle.ppd_sem.specs.Process.{into_of}
 use Rattle.ppd_sem.specs.Tables.{block_of}
-use Rattle.ppd_units.specs.Walk.{stands_in}
+use Rattle.ppd_blocks.specs.Walk.{stands_in}
 use Rattle.ppd_model.specs.Synchronizations.{is_number}
 use Rattle.law_flow_own.proofs.Vocabulary.LoopTells.{Takes}
 use Rattle.law_flow_own.proofs.Locals.Cells.Writes.{among_in}

@@ -26,7 +26,7 @@ use Rattle.ppd_model.proofs.Items.{items_whole}
 use Rattle.ppd_model.proofs.Tested.{In}
 use Rattle.ppd_flow_model.specs.Ends.{end_interval, end_item, ending, first_edge, innermost_at, sync_item}
 use Rattle.ppd_flow_model.specs.Seen.{items_at, seen_of}
-use Rattle.law_static.proofs.SharedCells.Writers.{events_in}
+use Rattle.law_steps.proofs.StaticEdges.SharedCells.Writers.{events_in}
 use Rattle.law_flow_shared.specs.Edges.Near.{IsOpenAt}
 use Rattle.law_flow_shared.proofs.Edges.Back.Walks.{items_are}
 use Rattle.law_flow_shared.proofs.Edges.LogPlaces.EdgeEnds.{EndsAt, at_sync, place_of_event, ending_is}

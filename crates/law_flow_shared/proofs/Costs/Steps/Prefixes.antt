@@ -25,7 +25,7 @@ use Rattle.ppd_model.proofs.Items.{step_keeps}
 use Rattle.ppd_model.proofs.Parents.{own_from, own_to}
 use Rattle.ppd_model.proofs.States.{follow}
 use Rattle.ppd_model.proofs.Tested.{In}
-use Rattle.law_static.proofs.SharedCells.Writers.{events_in}
+use Rattle.law_steps.proofs.StaticEdges.SharedCells.Writers.{events_in}
 use Rattle.law_flow_shared.specs.Edges.Near.{IsOpenAt}
 use Rattle.law_flow_shared.proofs.Edges.Near.Timed.{edge_at}
 use Rattle.law_flow_shared.proofs.Edges.Spans.Kept.{IsKept, kept}

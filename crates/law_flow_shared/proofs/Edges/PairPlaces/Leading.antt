@@ -10,7 +10,7 @@ use Rattle.ppd_model.specs.declared.trace.EventId.{EventId}
 use Rattle.ppd_model.specs.declared.tracing.Taken.{Taken}
 use Rattle.ppd_model.specs.Synchronizations.{Sync, event_or, leading_from, leading_in, leads_at, sync_of, syncs_of}
 use Rattle.ppd_model.proofs.Changes.{some}
-use Rattle.law_static.proofs.SharedCells.Writers.{events_in}
+use Rattle.law_steps.proofs.StaticEdges.SharedCells.Writers.{events_in}
 
 -- ---- synchronizations among steps
 

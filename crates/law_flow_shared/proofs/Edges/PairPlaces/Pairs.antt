@@ -51,7 +51,7 @@ use Rattle.ppd_flow_model.specs.Ends.{edge_at, end_interval, end_item}
 use Rattle.ppd_flow_model.specs.Found.{pair_edges, sync_edges}
 use Rattle.ppd_flow_model.specs.Seen.{seen_of}
 use Rattle.ppd_flow_model.specs.Shared.{pair_place, seen_at}
-use Rattle.law_static.proofs.SharedCells.Writers.{events_in}
+use Rattle.law_steps.proofs.StaticEdges.SharedCells.Writers.{events_in}
 use Rattle.law_flow_shared.specs.Edges.SharedEdges.{PairsAreFound, all_seen}
 use Rattle.law_flow_shared.proofs.Edges.LogPlaces.EdgeEnds.{EndsAt, IsAt, at_place, at_sync}
 use Rattle.law_flow_shared.proofs.Edges.Spans.Facts.{count_to}

@@ -25,7 +25,7 @@ use Rattle.ppd_flow_model.specs.Ends.{end_interval, end_item}
 use Rattle.ppd_flow_model.specs.Seen.{seen_of}
 use Rattle.ppd_flow_model.specs.Shared.{written_at, written_in}
 use Rattle.ppd_flow_model.specs.Walk.{walk}
-use Rattle.law_static.proofs.SharedCells.Writers.{events_in}
+use Rattle.law_steps.proofs.StaticEdges.SharedCells.Writers.{events_in}
 use Rattle.law_flow_shared.proofs.Vocabulary.Events.{IsLastWriter, synchronizes}
 use Rattle.law_flow_shared.specs.Edges.SharedEdges.{all_seen}
 use Rattle.law_flow_shared.proofs.Edges.LogPlaces.EdgeEnds.{EndsAt, EndsBy, at_last_edge, at_sync}

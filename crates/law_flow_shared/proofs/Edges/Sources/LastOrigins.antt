@@ -34,7 +34,7 @@ use Rattle.ppd_model.proofs.Tags.{tags}
 use Rattle.ppd_model.proofs.Tested.{In, tests_edges}
 use Rattle.ppd_model.proofs.LocalDeeds.{no_tag}
 use Rattle.ppd_flow_model.specs.Shared.{found_last, greatest, greatest_writing, is_before_in, writing, written_in, written_or_start}
-use Rattle.law_static.proofs.SharedCells.Writers.{count_is, events_in}
+use Rattle.law_steps.proofs.StaticEdges.SharedCells.Writers.{count_is, events_in}
 use Rattle.law_flow_shared.specs.Edges.SharedEdges.{LastWritesAreFound, all_seen}
 use Rattle.law_flow_shared.proofs.Edges.Sources.Greatest.{IsUnder, greatest_is}
 use Rattle.law_flow_shared.proofs.Edges.Sources.InEdges.{in_ended, in_last}

@@ -37,7 +37,7 @@ use Rattle.ppd_flow_model.specs.Seen.{seen_of}
 use Rattle.ppd_flow_model.specs.Shared.{edge_of_place, greatest, greatest_before, is_before_in, origin_in, own_or, shared_origin, writing, written_in, written_or_start}
 use Rattle.ppd_flow_model.specs.Ends.{edge_at}
 use Rattle.ppd_flow_model.specs.Walk.{walk}
-use Rattle.law_static.proofs.SharedCells.Writers.{count_is, events_in}
+use Rattle.law_steps.proofs.StaticEdges.SharedCells.Writers.{count_is, events_in}
 use Rattle.law_flow_shared.proofs.Vocabulary.Events.{AreQuiet, IsLastWriter, synchronizes, written_by}
 use Rattle.law_flow_shared.specs.Edges.SharedEdges.{SharedOriginsAreFound, all_seen}
 use Rattle.law_flow_shared.proofs.Edges.LogPlaces.EdgeEnds.{IsAt, at_place}

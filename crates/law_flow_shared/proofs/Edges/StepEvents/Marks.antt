@@ -19,9 +19,9 @@ use Rattle.ppd_model.specs.FullTrace.{begun_tracing, event_of, trace_step, traci
 use Rattle.ppd_model.specs.LocalTags.{AreOwn}
 use Rattle.ppd_model.specs.Synchronizations.{Sync, kind_of_sync, numbered, sync_of, syncs_of}
 use Rattle.ppd_model.proofs.Parents.{own_from, own_to}
-use Rattle.law_static.proofs.Events.{there}
-use Rattle.law_static.proofs.SharedCells.Writers.{events_in}
-use Rattle.law_static.proofs.SharedCells.Writing.{count_events}
+use Rattle.law_steps.proofs.StaticEdges.Events.{there}
+use Rattle.law_steps.proofs.StaticEdges.SharedCells.Writers.{events_in}
+use Rattle.law_steps.proofs.StaticEdges.SharedCells.Writing.{count_events}
 use Rattle.law_flow_shared.proofs.Vocabulary.Events.{AreQuiet, IsQuiet, synchronizes, written_by}
 use Rattle.law_flow_shared.proofs.Edges.Spans.Facts.{count_front, count_last, count_to}
 use Rattle.law_flow_shared.proofs.Edges.Spans.Steps.{IsNumbered, events_are, headed, new_event, no_sync, told_events, AreNumbered}

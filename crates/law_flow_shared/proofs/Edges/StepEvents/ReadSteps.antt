@@ -24,8 +24,8 @@ use Rattle.ppd_model.specs.SharedReads.{need_after}
 use Rattle.ppd_model.specs.Story.{story, told, writer_of}
 use Rattle.ppd_model.proofs.Changes.{some}
 use Rattle.ppd_model.proofs.Parents.{own_from, own_to}
-use Rattle.law_static.proofs.SharedCells.Writers.{events_in}
-use Rattle.law_static.proofs.SharedCells.SharedReads.{runs_on}
+use Rattle.law_steps.proofs.StaticEdges.SharedCells.Writers.{events_in}
+use Rattle.law_steps.proofs.StaticEdges.SharedCells.SharedReads.{runs_on}
 use Rattle.law_flow_shared.proofs.Edges.StepEvents.Marks.{at_event, length_is}
 use Rattle.law_flow_shared.proofs.Edges.StepEvents.Processes.{Facts}
 use Rattle.law_flow_shared.proofs.Edges.StepEvents.ReadTags.{HasAnswers, ReadIs, answers_all, answers_start, read_is}

@@ -26,8 +26,8 @@ use Rattle.ppd_sem.specs.Process.{act, act_at, act_by_asked, act_by_need, head_d
 use Rattle.ppd_sem.specs.Reads.{reads_of_kind}
 use Rattle.ppd_sem.proofs.Consumed.{reads_taken}
 use Rattle.ppd_sem.proofs.Progress.{act-stopped}
-use Rattle.law_static.proofs.SharedCells.Asking.{Finishes, Tells, need_tells}
-use Rattle.law_static.proofs.SharedCells.Aligned.{deed_answers, evaluates_at}
+use Rattle.law_steps.proofs.StaticEdges.SharedCells.Asking.{Finishes, Tells, need_tells}
+use Rattle.law_steps.proofs.StaticEdges.SharedCells.Aligned.{deed_answers, evaluates_at}
 use Rattle.law_flow_shared.proofs.Edges.Spans.Steps.{events_are, new_event, told_events}
 
 -- ---- answers and their tags

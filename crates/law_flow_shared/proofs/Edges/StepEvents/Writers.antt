@@ -21,7 +21,7 @@ use Rattle.ppd_model.specs.Story.{Telling, story, tell, told}
 use Rattle.ppd_model.specs.Synchronizations.{Sync, kind_of_sync, numbered, sync_of, syncs_of}
 use Rattle.ppd_model.proofs.Accesses.{record_at}
 use Rattle.ppd_model.specs.World.{writes_cell}
-use Rattle.law_static.proofs.SharedCells.Writers.{events_in}
+use Rattle.law_steps.proofs.StaticEdges.SharedCells.Writers.{events_in}
 use Rattle.law_flow_shared.proofs.Vocabulary.Events.{AreQuiet, IsLastWriter, synchronizes, written_by}
 use Rattle.law_flow_shared.proofs.Edges.Spans.Facts.{count_to}
 use Rattle.law_flow_shared.proofs.Edges.StepEvents.Marks.{AreStill, count_is, event_is, events_within, quiet_is, syncs_length}

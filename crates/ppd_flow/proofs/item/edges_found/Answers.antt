@@ -1,5 +1,5 @@
 use Rattle.std.proofs.lemmas.Result.{err_from_is_err_and}
-use Rattle.ppd_flow.proofs.ItemEdges.{an_item, asked_fails, item_there}
+use Rattle.ppd_flow.proofs.ItemEdges.{an_item, asked_fails, asked_there}
 use Rattle.ppd_flow.proofs.item.edges_found.Goals as goal
 
 pub returns-in_err-items : goal.returns-in_err-items
@@ -11,5 +11,5 @@ pub returns : goal.returns
 returns g c =
     an_item c.args.past.now c.args.at.process c.args.at.interval c.args.at.item c.args.steps.now c.asked_items.new.steps c.in_ok-items.items c.in_ok-items.ensures.0
     c.index-items-at.result c.item_edges.new.steps c.item_edges.result
-    (item_there c.as_slice-items.result.now c.in_ok-items.items c.args.at.item c.index-items-at.result c.as_slice-items.ensures c.index-items-at.requires c.index-items-at.is)
+    (asked_there c.as_slice-items.result.now c.in_ok-items.items c.args.at.item c.index-items-at.result c.as_slice-items.ensures c.in_ok-items.ensures.1 c.index-items-at.is)
     c.item_edges.ensures

@@ -1,6 +1,6 @@
 use Rattle.std.proofs.Common.{◌∙◌}
 use Rattle.ppd_entry.specs.Entries.{entries_at}
-use Rattle.ppd_flow_places.specs.Stops.{after}
+use Rattle.ppd_flow_tables.specs.Stops.{after}
 use Rattle.ppd_flow_tables.proofs.Passing.{none_passed}
 use Rattle.ppd_flow_tables.proofs.Tabled.{places_at}
 use Rattle.ppd_flow_tables.proofs.lookups.stop_before.Goals as goal

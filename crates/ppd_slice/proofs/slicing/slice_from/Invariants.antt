@@ -1,7 +1,7 @@
 use Rattle.std.proofs.Common.{◌≡◌, ℕ, ◌<◌, Some}
 use Rattle.std.specs.Prelude.{slice_get}
 use Rattle.ppd_flow_past.specs.Keeping.{RoseByKept}
-use Rattle.ppd_slice_model.specs.declared.reached.Reached.{Reached}
+use Rattle.ppd_slice_search.specs.declared.reached.Reached.{Reached}
 use Rattle.ppd_slice.specs.Asked.{AreKeptAmong, IsKept}
 use Rattle.ppd_slice.specs.Slices.{IsAnsweredFor, origins_in}
 use Rattle.ppd_slice.proofs.Searching.{IsSearch}

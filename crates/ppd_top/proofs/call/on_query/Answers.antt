@@ -2,7 +2,7 @@ use Rattle.std.proofs.Common.{Err, inr, refl, ap, ◌∙◌}
 use Rattle.ppd_io.specs.Content.{Loads}
 use Rattle.ppd_top_query.specs.Queries.{query_of}
 use Rattle.ppd_top.specs.Call.{call_of, devices}
-use Rattle.ppd_top_debug.specs.Output.{standing}
+use Rattle.ppd_top_runs.specs.Output.{standing}
 use Rattle.ppd_top.specs.Ran.Comes.{query_done}
 use Rattle.ppd_top.specs.Top.{most_recording}
 use Rattle.ppd_top.proofs.Unloaded.{recording_unloaded}

@@ -2,7 +2,7 @@ use Rattle.std.proofs.Common.{Err, refl, ap, subst, sym, ◌∙◌, ◌≡◌}
 use Rattle.ppd_check.specs.Read.{IsRead}
 use Rattle.ppd_io.specs.Content.{Loads}
 use Rattle.ppd_top.specs.Call.{call_of, devices}
-use Rattle.ppd_top_debug.specs.Output.{standing}
+use Rattle.ppd_top_runs.specs.Output.{standing}
 use Rattle.ppd_top.specs.Ran.Comes.{refusal, flow_done, show_done, run_done}
 use Rattle.ppd_top.specs.Top.{most_bytes}
 use Rattle.ppd_top.specs.Words.{Asks, command_of}

@@ -1,6 +1,6 @@
 use Rattle.std.proofs.Common.{refl}
 use Rattle.law_clean.specs.Answers.{clean}
-use Rattle.ppd_text_items.specs.Edges.{why_text}
+use Rattle.ppd_text.specs.Edges.{why_text}
 use Rattle.ppd_top_query.proofs.CleanTold.{item_told}
 use Rattle.ppd_top_query.proofs.cleans.clean_item.Goals as goal
 

@@ -2,7 +2,7 @@ use Rattle.std.proofs.Common.{◌∙◌, subst, sym}
 use Rattle.ppd_codec.specs.Recordings.{IsRecordingOf}
 use Rattle.ppd_top_runs.specs.Commands.Keeps.{kept}
 use Rattle.ppd_top_runs.specs.Commands.{header_of as header_for}
-use Rattle.ppd_top_telling.specs.Output.{Finished}
+use Rattle.ppd_top_runs.specs.Output.{Finished}
 use Rattle.ppd_top_runs.proofs.storing.store.Goals as goal
 
 pub returns-in-Ok-store : goal.returns-in-Ok-store

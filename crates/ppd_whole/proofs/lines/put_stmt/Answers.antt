@@ -5,7 +5,7 @@ use Rattle.std.proofs.lemmas.Result.{on_ok_weaker}
 use Rattle.ppd_ast.specs.Lookups.{locals_of}
 use Rattle.ppd_text.specs.Texts.{place_text}
 use Rattle.ppd_model.specs.declared.trace.EventId.{EventId}
-use Rattle.ppd_text_items.specs.Items.{access_text, event_kind, outcome_text, written_locals}
+use Rattle.ppd_text.specs.Items.{access_text, event_kind, outcome_text, written_locals}
 use Rattle.ppd_whole_origins.specs.Origins.{pair_by}
 use Rattle.ppd_whole.specs.Told.{told_read, told_stmt}
 use Rattle.ppd_whole.specs.WholeText.{paired_text}

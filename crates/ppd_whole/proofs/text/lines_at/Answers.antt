@@ -2,7 +2,7 @@ use Rattle.std.proofs.Common.{◌≡◌, ◌≤◌, ◌+◌, ◌∙◌, ◌++◌
 use Rattle.std.specs.List.{sum_by}
 use Rattle.ppd_whole.specs.Costs.{event_cost}
 use Rattle.ppd_whole.specs.Told.{told_process}
-use Rattle.ppd_whole_events.proofs.Parts.{made_at}
+use Rattle.ppd_whole.proofs.Events.Parts.{made_at}
 use Rattle.ppd_whole.proofs.text.lines_at.Goals as goal
 
 pub returns-clause-lines : goal.returns-clause-lines

@@ -4,7 +4,7 @@ use Rattle.rayon.specs.Numbers.{nat_range}
 use Rattle.rayon.proofs.ToStd.{nat_range-All}
 use Rattle.ppd_whole_origins.specs.LinkedPasts.{IsLinked}
 use Rattle.ppd_whole.specs.Told.{told_at}
-use Rattle.ppd_whole_events.proofs.Parts.{below, parts_in}
+use Rattle.ppd_whole.proofs.Events.Parts.{below, parts_in}
 use Rattle.ppd_whole.proofs.text.lines_of_all.Goals as goal
 
 -- the closure holds `linked` and `events` at its second and third place

@@ -2,7 +2,7 @@ use Rattle.std.proofs.Common.{rules, ◌≤◌, length, sym, arith}
 use Rattle.std.proofs.lemmas.Grind.{common_steps}
 use Rattle.ppd_model.specs.Logs.{log_step}
 use Rattle.ppd_model.proofs.Lists.{change_past, set_is_change}
-use Rattle.ppd_world_entries.specs.Entries.{moment_with}
+use Rattle.ppd_world_steps.specs.Entries.{moment_with}
 use Rattle.ppd_world.proofs.logging.step_at.Goals as goal
 
 pub returns-then-place-len-clause-ok : goal.returns-then-place-len-clause-ok

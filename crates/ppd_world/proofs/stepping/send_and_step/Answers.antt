@@ -2,7 +2,7 @@ use Rattle.std.proofs.Common.{◌≡◌, ℤ, List, OnOk, ap, subst, ◌∙◌}
 use Rattle.ppd_model.specs.Logs.{log_step}
 use Rattle.ppd_model.specs.World.{World, change}
 use Rattle.ppd_world.specs.Parts.{unsent}
-use Rattle.ppd_world_entries.specs.Entries.{moment_with}
+use Rattle.ppd_world_steps.specs.Entries.{moment_with}
 use Rattle.ppd_world.proofs.Steps.{if_refused, taken_back}
 use Rattle.ppd_world.proofs.stepping.send_and_step.Goals as goal
 

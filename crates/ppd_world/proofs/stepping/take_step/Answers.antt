@@ -1,6 +1,6 @@
 use Rattle.std.proofs.Common.{refl, ap, ◌∙◌}
 use Rattle.ppd_model.specs.declared.tracing.Taken.{Taken}
-use Rattle.ppd_world_entries.specs.Entries.{moment_with}
+use Rattle.ppd_world_steps.specs.Entries.{moment_with}
 use Rattle.ppd_model.specs.Logs.{log_step}
 use Rattle.ppd_world.proofs.KeptNeeds.{kept_after, need_is_kept}
 use Rattle.ppd_world.proofs.Steps.{next_is, receivable_after, step_is}

@@ -1,5 +1,6 @@
-use Rattle.std.proofs.Common.{◌<◌, ◌≤◌, arith, length, refl}
+use Rattle.std.proofs.Common.{◌<◌, ◌≤◌, arith, length}
 use Rattle.std.specs.Prelude.{min}
+use Rattle.std.proofs.lemmas.Int.{to_z-of_z}
 use Rattle.std.proofs.lemmas.Result.{err_from_is_err_and}
 use Rattle.ppd_flow_local.proofs.Lefts.{all_left, fails_left, next_left}
 use Rattle.ppd_flow_local.proofs.search.Search.left_edges.Goals as goal
@@ -18,7 +19,7 @@ loop-i-preserved g c = λ o r f.
     let value : c.loop-i.i < length c.args.values.now = omega (arith, c.min-i-end.ensures, c.loop-i-test.true) in
     next_left c.args.self.now c.args.place.now.interval c.args.place.now.item c.args.frame c.args.cells.now c.args.values.now c.loop-i.i c.args.steps.now c.loop-i.steps c.loop-i.edges c.loop-i.invariant
     c.cell_at-cell.result c.value_at-value.result _ c.in_ok-from.from c.push_left.new.edges c.left_origin.new.steps cell value c.cell_at-cell.ensures c.value_at-value.ensures
-    c.in_ok-push_left.ensures refl c.in_ok-from.ensures o r f
+    c.in_ok-push_left.ensures (grind (arith, to_z-of_z)) c.in_ok-from.ensures o r f
 
 pub returns : goal.returns
 returns g c =

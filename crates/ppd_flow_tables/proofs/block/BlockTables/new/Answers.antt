@@ -1,7 +1,7 @@
 use Rattle.std.proofs.Common.{List, subst}
 use Rattle.ppd_entry.specs.Entries.{entries_at}
 use Rattle.ppd_flow_local_tables.specs.Tables.{IsTableOf}
-use Rattle.ppd_flow_places.specs.Tables.{IsPlaceTable}
+use Rattle.ppd_flow_tables.specs.Tables.{IsPlaceTable}
 use Rattle.ppd_model.specs.declared.flow.Item.{Item}
 use Rattle.ppd_flow_tables.proofs.block.BlockTables.new.Goals as goal
 

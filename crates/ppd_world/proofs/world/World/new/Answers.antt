@@ -1,7 +1,7 @@
 use Rattle.ppd_sem.proofs.Validity.{valid-numbered, valid-runnable}
 use Rattle.std.proofs.Common.{refl}
 use Rattle.ppd_world.proofs.Reached.{begun_is, begun_of, begun_reached, parts_ready}
-use Rattle.ppd_world_objects.specs.Objects.{store}
+use Rattle.ppd_world_steps.specs.Objects.{store}
 use Rattle.ppd_world.proofs.world.World.new.Goals as goal
 
 pub start_logs-requires-clause-program : goal.start_logs-requires-clause-program

@@ -1,5 +1,0 @@
-use Rattle.ppd_bits.proofs.Held.{held_none}
-use Rattle.ppd_bits.proofs.cell_set.CellSet.new.Goals as goal
-
-pub returns : goal.returns
-returns c = held_none

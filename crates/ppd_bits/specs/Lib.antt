@@ -1,2 +1,0 @@
--- Sets of cells as rising lists.
-pub mod CellSets

@@ -1,0 +1,34 @@
+-- The units in the order of their numbers.
+use Rattle.std.specs.Prelude.{ℕ, List, [], ◌∷◌, map, if◌then◌else◌}
+use Rattle.std.specs.List.{flat_map}
+use Rattle.ppd_ast.specs.declared.program.Body.{Body}
+use Rattle.ppd_ast.specs.declared.program.Program.{Program}
+use Rattle.ppd_ast.specs.declared.plan.Start.{Start}
+use Rattle.ppd_ast.specs.declared.plan.Start.TheVariants.{Entry, After, Enter, Exit}
+use Rattle.ppd_ast.specs.declared.plan.Unit.{Unit as UnitOf}
+use Rattle.ppd_ast.specs.Numbered.{is_left, numbers_of, each_from}
+use Rattle.ppd_ast.specs.Members.{has}
+use Rattle.ppd_ast.specs.Lookups.{kind_of}
+use Rattle.ppd_blocks.specs.Walk.{unit_cells}
+
+-- the starts at statement k: after a call or a synchronization, and at the entry and the exit of a block loop
+abbrev pub unit_starts_at : Program → (loops : List ℕ) → ℕ → List Start
+unit_starts_at p loops k =
+    if is_left (kind_of p k) then After k ∷ []
+    else if has loops k then Enter k ∷ Exit k ∷ []
+    else []
+
+-- the starts of body j: its entry, then those at its statements
+abbrev pub starts_in : Program → (loops : List ℕ) → ℕ → Body → List Start
+starts_in p loops j b = Entry j ∷ flat_map (unit_starts_at p loops) (numbers_of p.stmts b)
+
+-- the starts of all bodies
+abbrev pub all_starts : Program → (loops : List ℕ) → List Start
+all_starts p loops = each_from (starts_in p loops) 0 p.bodies
+
+abbrev pub unit_of : Program → (loops : List ℕ) → Start → UnitOf
+unit_of p loops start = record { start = start; cells = unit_cells p loops start }
+
+-- the units of a program with these block loops
+abbrev pub units_of : Program → (loops : List ℕ) → List UnitOf
+units_of p loops = map (unit_of p loops) (all_starts p loops)

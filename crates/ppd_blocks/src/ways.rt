@@ -1,0 +1,167 @@
+// The ways that stay in a unit.
+ghost use Rattle.std.specs.Prelude.{◌≡◌, slice_get, IfOk, Some, None};
+ghost use Rattle.ppd_ast.specs.Numbered.{is_left};
+ghost use Rattle.ppd_ast.specs.Valid.{IsValid};
+ghost use Rattle.ppd_ast.specs.Members.{has};
+ghost use Rattle.ppd_ast.specs.Lookups.{kind_of, top_of, parent_if};
+ghost use Rattle.ppd_cfg.specs.Lists.{first_or};
+ghost use Rattle.ppd_cfg.specs.Flow.{follow};
+ghost use Rattle.ppd_blocks.specs.Walk.{stands_at, enters, leaves, is_between, unit_next, unit_rows, unless, begin_of};
+
+use ppd_ast::limits::MOST_NESTING;
+use ppd_ast::{Ids, Kind, Memory, Program, Seq, Start, Stmt};
+use ppd_cfg::{next_after, successors_of};
+use std::alloc::Global;
+
+pub(crate) fn contains(list: &[u32], number: u32) -> bool
+    ensures { result ≡ has list.now number }
+{
+    list.contains(&number)
+}
+
+fn parent(stmts: &[Stmt], number: u32) -> Option<u32>
+    ensures { result ≡ parent_if (slice_get stmts.now number) }
+{
+    match stmts.get(number as usize) {
+        None => None,
+        Some(found) => found.parent,
+    }
+}
+
+// Whether `outer` is among this statement and those that it stands in. It calls itself no deeper.
+fn does_stand_in(stmts: &[Stmt], outer: u32, stmt: Option<u32>, depth: u32) -> bool
+    ensures { result ≡ stands_at depth stmts.now outer stmt }
+{
+    if depth == 0 {
+        return false;
+    }
+    match stmt {
+        None => false,
+        Some(number) => {
+            if number == outer {
+                return true;
+            }
+            does_stand_in(stmts, outer, parent(stmts, number), depth - 1)
+        }
+    }
+}
+
+// Whether the way from a statement to `next` enters `next`, a block loop.
+fn does_enter(program: &Program, loops: &[u32], stmt: u32, next: u32) -> bool
+    ensures { result ≡ enters program.now loops.now stmt next }
+{
+    let stmts = program.stmts.as_slice();
+    contains(loops, next) && !does_stand_in(stmts, next, Some(stmt), MOST_NESTING)
+}
+
+// Whether the way from a statement, a block loop, to `next` leaves it.
+fn does_leave(program: &Program, loops: &[u32], stmt: u32, next: u32) -> bool
+    ensures { result ≡ leaves program.now loops.now stmt next }
+{
+    let stmts = program.stmts.as_slice();
+    contains(loops, stmt) && !does_stand_in(stmts, stmt, Some(next), MOST_NESTING)
+}
+
+// Whether a unit starts after the statement: a call or a synchronization.
+pub(crate) fn is_left_at(program: &Program, stmt: u32) -> bool
+    ensures { result ≡ is_left (kind_of program.now stmt) }
+{
+    match program.stmts.as_slice().get(stmt as usize) {
+        None => false,
+        Some(found) => match &found.kind {
+            Kind::Call { .. } | Kind::P(_) | Kind::V(_) | Kind::Send(_, _) | Kind::Recv(_, _) => {
+                true
+            }
+            _ => false,
+        },
+    }
+}
+
+// Whether a unit starts between a statement and its successor.
+fn is_between(program: &Program, loops: &[u32], stmt: u32, next: u32) -> bool
+    ensures { result ≡ is_between program.now loops.now stmt next }
+{
+    is_left_at(program, stmt)
+        || does_enter(program, loops, stmt, next)
+        || does_leave(program, loops, stmt, next)
+}
+
+// The successors of a statement that are in its unit.
+fn unit_row(alloc: Global, program: &Program, loops: &[u32], stmt: u32) -> Result<Ids, Memory>
+    ensures { IfOk result (λ ids. ids ≡ unit_next program.now loops.now stmt) }
+{
+    let next = successors_of(alloc, program, stmt)?;
+    let numbers = next.as_slice();
+    let mut ids = Ids::new(alloc);
+    for index in 0..numbers.len() {
+        if !is_between(program, loops, stmt, numbers[index]) {
+            ids.push(numbers[index])?;
+        }
+    }
+    Ok(ids)
+}
+
+pub(crate) fn unit_rows(alloc: Global, program: &Program, loops: &[u32]) -> Result<Seq<Ids>, Memory>
+    requires { IsValid program.now }
+    ensures { IfOk result (λ rows. rows ≡ unit_rows program.now loops.now) }
+{
+    let mut rows = Seq::new(alloc);
+    for stmt in 0..program.stmts.len() {
+        let row = unit_row(alloc, program, loops, stmt as u32)?;
+        rows.push(row)?;
+    }
+    Ok(rows)
+}
+
+fn first_of(program: &Program, body: u16) -> Option<u32>
+    ensures { result ≡ first_or (top_of program.now body) None }
+{
+    match program.bodies.as_slice().get(body as usize) {
+        None => None,
+        Some(found) => match found.top.as_slice().first() {
+            None => None,
+            Some(number) => Some(*number),
+        },
+    }
+}
+
+fn begin_of_body(program: &Program, loops: &[u32], body: u16) -> Option<u32>
+    ensures { result ≡ unless (has loops.now) (first_or (top_of program.now body) None) }
+{
+    match first_of(program, body) {
+        None => None,
+        Some(number) => {
+            if contains(loops, number) {
+                None
+            } else {
+                Some(number)
+            }
+        }
+    }
+}
+
+fn begin_after(program: &Program, loops: &[u32], stmt: u32) -> Option<u32>
+    ensures { result ≡ unless (enters program.now loops.now stmt) (follow program.now stmt) }
+{
+    match next_after(program, stmt) {
+        None => None,
+        Some(number) => {
+            if does_enter(program, loops, stmt, number) {
+                None
+            } else {
+                Some(number)
+            }
+        }
+    }
+}
+
+// The statement that a unit begins with, if it has one.
+pub(crate) fn begin_of(program: &Program, loops: &[u32], start: Start) -> Option<u32>
+    ensures { result ≡ begin_of program.now loops.now start }
+{
+    match start {
+        Start::Entry(body) => begin_of_body(program, loops, body),
+        Start::Enter(stmt) => Some(stmt),
+        Start::After(stmt) | Start::Exit(stmt) => begin_after(program, loops, stmt),
+    }
+}

@@ -1,9 +1,0 @@
--- What the tables hold, and what is found in them.
-pub mod Sought
-pub mod Collected
-pub mod Marked
-pub mod First
-pub mod EdgePlaces
-pub mod Passed
-pub mod Painted
-pub mod OfPast

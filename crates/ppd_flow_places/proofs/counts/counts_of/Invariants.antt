@@ -1,5 +1,0 @@
-use Rattle.ppd_flow_places.proofs.Collected.{AreCounted}
-use Rattle.ppd_flow_places.proofs.counts.counts_of.Given as goal
-
-abbrev pub invariant-loop-entry : goal.invariant-loop-entry
-invariant-loop-entry l = AreCounted l.entries l.entry-index l.count l.counts

@@ -1,7 +1,0 @@
-use Rattle.ppd_entry.specs.Entries.{entries_at}
-use Rattle.ppd_flow_model.specs.Ends.{first_edge}
-use Rattle.ppd_flow_places.proofs.Collected.{AreFirst}
-use Rattle.ppd_flow_places.proofs.spans.first_edges.Given as goal
-
-abbrev pub invariant-loop-interval : goal.invariant-loop-interval
-invariant-loop-interval l = AreFirst (first_edge (entries_at l.past.logs.now l.process)) l.interval l.first

@@ -1,5 +1,0 @@
-use Rattle.ppd_flow_writers.proofs.Growing.{AreRows}
-use Rattle.ppd_flow_writers.proofs.by_cell.writing_edges.Given as goal
-
-abbrev pub invariant-loop-process : goal.invariant-loop-process
-invariant-loop-process l = AreRows l.sets l.process l.rows

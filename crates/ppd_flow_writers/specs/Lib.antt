@@ -1,2 +1,0 @@
--- The edges that write each cell.
-pub mod Writing

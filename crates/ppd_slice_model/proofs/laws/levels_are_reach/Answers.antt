@@ -1,5 +1,0 @@
-use Rattle.ppd_slice_model.proofs.Levels.{levels_reach}
-use Rattle.ppd_slice_model.proofs.laws.levels_are_reach.Goals as goal
-
-pub returns : goal.returns
-returns c = levels_reach

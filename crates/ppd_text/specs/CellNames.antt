@@ -1,0 +1,41 @@
+-- How processes, cells and the words of traps are written.
+use Rattle.std.specs.Prelude.{ℕ, ◌+◌, ◌-◌, List, [], ◌∷◌, ◌++◌, Option, Some, None, codes, decimal, slice_get, if◌then◌else◌}
+use Rattle.ppd_ast.specs.Cells.{holds}
+use Rattle.ppd_ast.specs.declared.plan.Block.{Block}
+use Rattle.ppd_ast.specs.declared.program.Program.{Program}
+use Rattle.ppd_ast.specs.declared.program.Var.{Var}
+use Rattle.ppd_ast.specs.declared.status.Trap.{Trap}
+use Rattle.ppd_ast.specs.declared.status.Trap.TheVariants as trap
+use Rattle.ppd_ast.specs.Lookups.{name_of_body}
+use Rattle.ppd_entry.specs.declared.entry.At.{At}
+use Rattle.ppd_text.specs.Plans.{block_what}
+
+-- the name of process k
+abbrev pub process_name : Program → ℕ → List ℕ
+process_name p k = name_of_body (slice_get p.bodies (p.functions + k))
+
+-- the line of a test that failed at an entry of a process, which begins with these words
+abbrev pub at_entry : Program → List ℕ → At → List ℕ
+at_entry p words at = words ++ process_name p at.process ++ codes " " ++ decimal at.entry ++ codes "\n"
+
+-- an element of an array by its index
+abbrev pub index_text : Var → ℕ → Option ℕ → List ℕ
+index_text v c None = []
+index_text v c (Some len) = codes "[" ++ decimal (c - v.base) ++ codes "]"
+
+-- cell c as a part of the first of these variables that holds it
+abbrev pub cell_text : List Var → ℕ → List ℕ
+cell_text [] c = []
+cell_text (v ∷ vs) c = if holds c v then v.name ++ index_text v c v.len else cell_text vs c
+
+-- what a block is the code of
+abbrev pub what_text : Program → Option Block → List ℕ
+what_text p None = []
+what_text p (Some b) = block_what p b.kind
+
+abbrev pub trap_word : Trap → List ℕ
+trap_word trap.Overflow = codes "overflow"
+trap_word trap.Zero = codes "zero"
+trap_word trap.Index = codes "index"
+trap_word trap.Assert = codes "assert"
+trap_word trap.Depth = codes "depth"

@@ -1,0 +1,81 @@
+-- The lines of a plan: its blocks with the variables of their prelogs and postlogs, and its units with those that
+-- they may read.
+use Rattle.std.specs.Prelude.{ℕ, List, [], ◌++◌, Option, Some, None, codes, decimal, length, slice_get, if◌then◌else◌}
+use Rattle.std.specs.List.{flat_map, range_with_len}
+use Rattle.ppd_ast.specs.declared.program.Stmt.{Stmt}
+use Rattle.ppd_ast.specs.declared.program.Var.{Var}
+use Rattle.ppd_ast.specs.declared.program.Program.{Program}
+use Rattle.ppd_ast.specs.declared.plan.Block.{Block}
+use Rattle.ppd_ast.specs.declared.plan.BlockKind.{BlockKind}
+use Rattle.ppd_ast.specs.declared.plan.BlockKind.TheVariants.{Function, Process, Loop}
+use Rattle.ppd_ast.specs.declared.plan.Start.{Start}
+use Rattle.ppd_ast.specs.declared.plan.Start.TheVariants.{Entry, After, Enter, Exit}
+use Rattle.ppd_ast.specs.declared.plan.Unit.{Unit as UnitOf}
+use Rattle.ppd_ast.specs.Lookups.{locals_of_body, name_of_body}
+use Rattle.ppd_sets.specs.Used.{vars_met}
+use Rattle.ppd_text.specs.Texts.{place_text}
+use Rattle.ppd_text.specs.Names.{names_text}
+
+-- the names of the variables that have a cell in the list
+abbrev pub cells_text : List Var → (cells : List ℕ) → List ℕ
+cells_text vars cells = names_text vars (vars_met vars cells)
+
+-- the line of an item, if it is there
+abbrev pub line_if : {A : Type 0} → (A → List ℕ) → Option A → List ℕ
+line_if line None = []
+line_if line (Some x) = line x
+
+-- the lines of a list's items, by number
+abbrev pub lines_of : {A : Type 0} → (ℕ → A → List ℕ) → List A → List ℕ
+lines_of line items = flat_map (λ k. line_if (line k) (slice_get items k)) (range_with_len 0 (length items))
+
+-- ---- blocks
+
+abbrev pub stmt_place : Option Stmt → List ℕ
+stmt_place None = []
+stmt_place (Some s) = place_text s.place
+
+-- what a block is the code of
+abbrev pub block_what : Program → BlockKind → List ℕ
+block_what p (Function f) = codes "function " ++ name_of_body (slice_get p.bodies f)
+block_what p (Process f) = codes "process " ++ name_of_body (slice_get p.bodies f)
+block_what p (Loop s) = codes "loop " ++ stmt_place (slice_get p.stmts s)
+
+abbrev pub locals_round : Program → Option Stmt → List Var
+locals_round p None = []
+locals_round p (Some s) = locals_of_body (slice_get p.bodies s.body)
+
+-- the variables of the body that a block is, or in which its loop stands
+abbrev pub block_locals : Program → BlockKind → List Var
+block_locals p (Function f) = locals_of_body (slice_get p.bodies f)
+block_locals p (Process f) = locals_of_body (slice_get p.bodies f)
+block_locals p (Loop s) = locals_round p (slice_get p.stmts s)
+
+-- what a postlog holds: the value that a function returns, or variables
+abbrev pub postlog_text : List Var → Block → List ℕ
+postlog_text vars b = if b.value then codes " value" else cells_text vars b.postlog
+
+-- the prelog and the postlog of a block whose body has these variables
+abbrev pub logs_text : List Var → Block → List ℕ
+logs_text vars b = codes " prelog" ++ cells_text vars b.prelog ++ codes " postlog" ++ postlog_text vars b
+
+-- the line of block k
+abbrev pub block_line : Program → (k : ℕ) → Block → List ℕ
+block_line p k b =
+    codes "block " ++ decimal k ++ codes " " ++ block_what p b.kind ++ logs_text (block_locals p b.kind) b
+    ++ codes "\n"
+
+-- ---- units
+
+-- where a unit starts
+abbrev pub start_text : Program → Start → List ℕ
+start_text p (Entry b) = codes "entry " ++ name_of_body (slice_get p.bodies b)
+start_text p (After s) = codes "after " ++ decimal s
+start_text p (Enter s) = codes "enter " ++ decimal s
+start_text p (Exit s) = codes "exit " ++ decimal s
+
+-- the line of unit k
+abbrev pub unit_line : Program → (k : ℕ) → UnitOf → List ℕ
+unit_line p k u =
+    codes "unit " ++ decimal k ++ codes " " ++ start_text p u.start ++ codes " reads" ++ cells_text p.shared u.cells
+    ++ codes "\n"

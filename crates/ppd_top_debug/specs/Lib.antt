@@ -1,4 +1,0 @@
--- The answers to the lines of an input, one after another.
-pub mod Output
-pub mod Asking
-pub mod Debugging

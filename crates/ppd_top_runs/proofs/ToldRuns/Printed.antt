@@ -1,0 +1,35 @@
+-- The prints and the processes, one more at a time.
+use Rattle.std.proofs.Common.{◌≡◌, ℕ, ◌+◌, ◌<◌, ℤ, List, [], ◌∷◌, ◌++◌, length, get_or, take, refl, sym, ◌∙◌, ap, append_assoc, append-nil, arith}
+use Rattle.std.specs.Prelude.{slice_get}
+use Rattle.std.proofs.lemmas.List.{take_more, length-take-le}
+use Rattle.ppd_ast.specs.declared.program.Program.{Program}
+use Rattle.ppd_ast.specs.Lookups.{name_of_body}
+use Rattle.ppd_model.specs.declared.closed.ProcEnd.{ProcEnd}
+use Rattle.ppd_top_runs.specs.Summary.{print_text, print_texts, end_text, end_texts}
+
+print_texts-more : (name : List ℕ) (vs : List ℤ) (v : ℤ) → print_texts name (vs ++ v ∷ []) ≡ print_texts name vs ++ print_text name v
+print_texts-more name [] v = append-nil (print_text name v)
+print_texts-more name (w ∷ vs) v =
+    ap (λ (t : List ℕ). print_text name w ++ t) (print_texts-more name vs v)
+    ∙ sym (append_assoc (print_text name w) (print_texts name vs) (print_text name v))
+
+pub print_texts-taken : (name : List ℕ) (vs : List ℤ) (i : ℕ) (d : ℤ) → i < length vs → print_texts name (take (i + 1) vs) ≡ print_texts name (take i vs) ++ print_text name (get_or vs i d)
+print_texts-taken name vs i d lt = ap (print_texts name) (take_more vs i d lt) ∙ print_texts-more name (take i vs) (get_or vs i d)
+
+pub appended : (old before now more text new : List ℕ) → now ≡ old ++ before → text ≡ before ++ more → new ≡ now ++ more → new ≡ old ++ text
+appended old before now more text new a c b = b ∙ (ap (λ (w : List ℕ). w ++ more) a ∙ (append_assoc old before more ∙ ap (λ (w : List ℕ). old ++ w) (sym c)))
+
+end_texts-more : (program : Program) (b : ℕ) (es : List ProcEnd) (e : ProcEnd) → end_texts program b (es ++ e ∷ []) ≡ end_texts program b es ++ end_text program (name_of_body (slice_get program.bodies (b + length es))) e
+end_texts-more program b [] e = let z : b + 0 ≡ b = omega arith in rw z (append-nil (end_text program (name_of_body (slice_get program.bodies b)) e))
+end_texts-more program b (f ∷ es) e =
+    let n : b + 1 + length es ≡ b + length (f ∷ es) = omega arith in
+    ap (λ (w : List ℕ). end_text program (name_of_body (slice_get program.bodies b)) f ++ w) (end_texts-more program (b + 1) es e ∙ ap (λ (k : ℕ). end_texts program (b + 1) es ++ end_text program (name_of_body (slice_get program.bodies k)) e) n)
+    ∙ sym (append_assoc (end_text program (name_of_body (slice_get program.bodies b)) f) (end_texts program (b + 1) es) (end_text program (name_of_body (slice_get program.bodies (b + length (f ∷ es)))) e))
+
+-- one process more, as a loop over the processes takes it
+pub end_texts-taken : (program : Program) (b : ℕ) (es : List ProcEnd) (i : ℕ) (e : ProcEnd) (name : List ℕ) → i < length es → e ≡ get_or es i e → name ≡ name_of_body (slice_get program.bodies (b + i)) → end_texts program b (take (i + 1) es) ≡ end_texts program b (take i es) ++ end_text program name e
+end_texts-taken program b es i e name lt at is =
+    let there = sym is in
+    let here = sym at in
+    let front = length-take-le i es (omega arith) in
+    ap (end_texts program b) (take_more es i e lt) ∙ (end_texts-more program b (take i es) (get_or es i e) ∙ rw (here, front, there) refl)

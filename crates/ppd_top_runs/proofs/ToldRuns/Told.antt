@@ -1,0 +1,99 @@
+-- A run that came to its end has an index and a graph, and is what a session is about.
+use Rattle.std.proofs.Common.{◌≡◌, ℕ, ◌+◌, ◌-◌, ◌<◌, ◌≤◌, ◌^◌, None, suc, List, [], ◌∷◌, length, ap, sym, subst, ◌∙◌, refl, arith}
+use Rattle.std.proofs.lemmas.List.{length-map}
+use Rattle.std.proofs.lemmas.Option.{none-some}
+use Rattle.ppd_ast.specs.declared.plan.Plan.{Plan}
+use Rattle.ppd_ast.specs.declared.program.Program.{Program}
+use Rattle.ppd_ast.specs.declared.limits.TheConstants.{MOST_PROCESSES, MOST_NAMED}
+use Rattle.ppd_blocks.specs.Blocks.{plan_of as plan_by_policy}
+use Rattle.ppd_model.specs.declared.closed.Closed.{Closed}
+use Rattle.ppd_model.specs.declared.state.Logging.{Logging}
+use Rattle.ppd_model.specs.Logs.{closed_log, closed_logs, ends_from, loggings}
+use Rattle.ppd_model.specs.Schedule.{IsWhole}
+use Rattle.ppd_model.proofs.Prefixes.{objects_stay}
+use Rattle.ppd_model.proofs.States.{follow}
+use Rattle.ppd_graph.specs.declared.sync_graph.SyncGraph.{SyncGraph}
+use Rattle.ppd_graph.specs.declared.refusal.BadSync.{BadSync}
+use Rattle.ppd_graph.specs.declared.refusal.BadSync.TheVariants as no_graph
+use Rattle.ppd_graph.specs.Graphs.{IsGraphOf}
+use Rattle.ppd_graph.specs.Refusals.{IsRefused as IsNoGraph}
+use Rattle.law_logs.proofs.Graph.Ordered.{refused}
+use Rattle.ppd_index.specs.declared.log_index.LogIndex.{LogIndex}
+use Rattle.ppd_index.specs.declared.refusal.BadLog.{BadLog}
+use Rattle.ppd_index.specs.declared.refusal.BadLog.TheVariants as no_index
+use Rattle.ppd_index.specs.Fitting.{AreFittingLogs}
+use Rattle.ppd_index.specs.Indexes.{IsIndexOf}
+use Rattle.ppd_index.specs.Refusals.{IsRefused as IsNoIndex, first_in_lists}
+use Rattle.law_logs.proofs.Index.Found.{logs_indexed}
+use Rattle.ppd_race.specs.Races.{AreCellsThere}
+use Rattle.ppd_race.proofs.OfRuns.{of_runs}
+use Rattle.ppd_session.specs.Pasts.{BelongTogether}
+use Rattle.ppd_session.proofs.Keeping.{nothing_kept}
+use Rattle.ppd_top_runs.specs.Runs.{CanBeTold}
+
+-- ---- how many processes
+
+length-ends : (program : Program) (b : ℕ) (ls : List Logging) → length (ends_from program b ls) ≡ length ls
+length-ends program b [] = refl
+length-ends program b (l ∷ ls) = ap suc (length-ends program (b + 1) ls)
+
+module _ (program : Program) (plan : Plan) (budget : ℕ) (h : List ℕ) where
+  pub how_many : length (loggings program plan budget h) ≡ length program.bodies - program.functions
+  how_many =
+      let s = follow program plan budget h in
+      sym (length-map (loggings program plan budget h) (λ (l : Logging). l.proc))
+      ∙ (ap length (s.logged ∙ sym s.worlds) ∙ (objects_stay program plan budget h).processes)
+
+module _ (program : Program) (plan : Plan) (budget : ℕ) (closed : Closed) (t : CanBeTold program plan budget closed) where
+  few : length program.bodies - program.functions ≤ MOST_PROCESSES
+  few = omega (arith, t.program_ok.limits.processes)
+
+  pub told_lists : length closed.logs.lists ≤ MOST_NAMED
+  told_lists =
+      let e : length closed.logs.lists ≡ length program.bodies - program.functions =
+      ap (λ (c : Closed). length c.logs.lists) t.is ∙ (length-map (loggings program plan budget t.schedule) closed_log ∙ how_many program plan budget t.schedule) in
+      omega (arith, few)
+
+  pub told_ends : length closed.ends < 2 ^ 62
+  told_ends =
+      let e : length closed.ends ≡ length program.bodies - program.functions =
+      ap (λ (c : Closed). length c.ends) t.is ∙ (length-ends program program.functions (loggings program plan budget t.schedule) ∙ how_many program plan budget t.schedule) in
+      omega (arith, few)
+
+  pub told_cells : AreCellsThere program closed.logs
+  told_cells = subst (λ (c : Closed). AreCellsThere program c.logs) (sym t.is) (of_runs program plan budget t.schedule t.program_ok).1
+
+  -- its logs are never refused
+  indexed : first_in_lists program plan 0 closed.logs.lists ≡ None
+  indexed =
+      let s : plan ≡ plan_by_policy program t.policy = t.plan_is in
+      let whole : IsWhole program (plan_by_policy program t.policy) budget t.schedule = subst (λ (q : Plan). IsWhole program q budget t.schedule) s t.whole in
+      let n = logs_indexed program t.policy budget t.schedule t.program_ok whole in
+      let m : first_in_lists program plan 0 (closed_logs program plan budget t.schedule).lists ≡ None =
+      subst (λ (q : Plan). first_in_lists program q 0 (closed_logs program q budget t.schedule).lists ≡ None) (sym s) n in
+      subst (λ (c : Closed). first_in_lists program plan 0 c.logs.lists ≡ None) (sym t.is) m
+
+  pub never_unindexed : (e : BadLog) → IsNoIndex (first_in_lists program plan 0 closed.logs.lists) e → (e ≡ no_index.Memory → ⊥) → ⊥
+  never_unindexed (no_index.Unpaired at) r other = none-some (no_index.Unpaired at) (sym indexed ∙ r)
+  never_unindexed (no_index.NoEnd at) r other = none-some (no_index.NoEnd at) (sym indexed ∙ r)
+  never_unindexed (no_index.AfterEnd at) r other = none-some (no_index.AfterEnd at) (sym indexed ∙ r)
+  never_unindexed (no_index.WrongValues at) r other = none-some (no_index.WrongValues at) (sym indexed ∙ r)
+  never_unindexed no_index.Memory r other = other refl
+
+  pub never_without_graph : (e : BadSync) → IsNoGraph program closed.logs e → (e ≡ no_graph.Memory → ⊥) → ⊥
+  never_without_graph e r other =
+      let r' : IsNoGraph program (closed_logs program plan budget t.schedule) e = subst (λ (c : Closed). IsNoGraph program c.logs e) t.is r in
+      refused program plan budget t.schedule t.whole.last t.whole.runs e other r'
+
+-- with their index and graph they are what a session is about
+pub together : (program : Program) (plan : Plan) (budget : ℕ) (closed : Closed) (index : LogIndex) (graph : SyncGraph) → CanBeTold program plan budget closed → IsIndexOf plan closed.logs index.tables → AreFittingLogs plan closed.logs → IsGraphOf program closed.logs graph → BelongTogether program plan closed.logs index graph closed.logs index budget []
+together program plan budget closed index graph t i f k = record {
+  program_ok = t.program_ok;
+  plan_ok = t.plan_ok;
+  cells = told_cells program plan budget closed t;
+  index_is = i;
+  cut_index_is = i;
+  fitting = f;
+  graph_is = k;
+  kept_are = nothing_kept program plan budget closed.logs;
+}

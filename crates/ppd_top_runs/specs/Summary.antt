@@ -1,0 +1,54 @@
+-- What is written of a run: how each process ended and what it printed, and the races.
+use Rattle.std.specs.Prelude.{ℕ, ◌+◌, ℤ, List, [], ◌∷◌, ◌++◌, Option, Some, None, codes, decimal, slice_get}
+use Rattle.std.specs.Fmt.{signed_decimal}
+use Rattle.ppd_ast.specs.declared.program.Place.{Place}
+use Rattle.ppd_ast.specs.declared.program.Stmt.{Stmt}
+use Rattle.ppd_ast.specs.declared.program.Program.{Program}
+use Rattle.ppd_ast.specs.declared.plan.Plan.{Plan}
+use Rattle.ppd_ast.specs.declared.status.Status.{Status}
+use Rattle.ppd_ast.specs.declared.status.Status.TheVariants as status
+use Rattle.ppd_ast.specs.Lookups.{name_of_body}
+use Rattle.ppd_model.specs.declared.closed.ProcEnd.{ProcEnd}
+use Rattle.ppd_text.specs.Texts.{place_text}
+use Rattle.ppd_model.specs.declared.graph.Race.{Race}
+use Rattle.ppd_model.specs.Logs.{close}
+use Rattle.ppd_model.specs.Races.{races}
+use Rattle.ppd_session.specs.Texts.{races_text}
+use Rattle.ppd_text.specs.CellNames.{trap_word}
+
+abbrev pub status_text : Status → Place → List ℕ
+status_text status.Ended place = codes "ended"
+status_text (status.Trap t) place = codes "trap " ++ trap_word t ++ codes " " ++ place_text place
+status_text status.Budget place = codes "budget " ++ place_text place
+status_text status.Blocked place = codes "blocked " ++ place_text place
+
+abbrev pub print_text : List ℕ → ℤ → List ℕ
+print_text name value = codes "print " ++ name ++ codes " " ++ signed_decimal value ++ codes "\n"
+
+abbrev pub print_texts : List ℕ → List ℤ → List ℕ
+print_texts name [] = []
+print_texts name (v ∷ vs) = print_text name v ++ print_texts name vs
+
+abbrev pub place_at : Option Stmt → Place
+place_at None = record { line = 1; column = 1 }
+place_at (Some s) = s.place
+
+-- a process with this name that ended so
+abbrev pub end_text : Program → List ℕ → ProcEnd → List ℕ
+end_text program name e =
+    codes "process " ++ name ++ codes " " ++ status_text e.status (place_at (slice_get program.stmts e.stmt))
+    ++ codes " steps " ++ decimal e.steps ++ codes "\n" ++ print_texts name e.prints
+
+-- the processes in order; the first one's body has number b
+abbrev pub end_texts : Program → ℕ → List ProcEnd → List ℕ
+end_texts program b [] = []
+end_texts program b (e ∷ es) = end_text program (name_of_body (slice_get program.bodies b)) e
+    ++ end_texts program (b + 1) es
+
+-- how the processes ended, then the race list
+abbrev pub summary_of : Program → List ProcEnd → List Race → List ℕ
+summary_of program ends races = end_texts program program.functions ends ++ races_text program races
+
+-- the summary of a whole schedule
+abbrev pub summary : Program → Plan → ℕ → List ℕ → List ℕ
+summary program plan budget h = summary_of program (close program plan budget h).ends (races program plan budget h)

@@ -1,0 +1,69 @@
+// What is written of a run.
+ghost use Rattle.std.specs.Prelude.{◌≡◌, ◌++◌, ◌+◌, ◌<◌, ◌^◌, length, OnOk, IfOk, slice_get};
+ghost use Rattle.ppd_top_runs.specs.Summary.{place_at as place_for, end_text, end_texts, summary_of};
+
+use crate::text::{put_prints, put_status};
+use ppd_ast::{Memory, Place, Program};
+use ppd_model::ProcEnd;
+use ppd_session::Session;
+use ppd_text::{body_name, put, put_number};
+use std::alloc::Global;
+
+fn place_at(program: &Program, stmt: u32) -> Place
+    ensures { result ≡ place_for (slice_get program.now.stmts stmt) }
+{
+    match program.stmts.as_slice().get(stmt as usize) {
+        Some(stmt) => stmt.place,
+        None => Place { line: 1, column: 1 },
+    }
+}
+
+/// Appends how a process ended and what it printed.
+fn put_end(text: &mut Vec<u8>, program: &Program, name: &[u8], end: &ProcEnd) -> Result<(), Memory>
+    ensures { OnOk result (text.new.items ≡ text.old.items ++ end_text program.now name.now end.now) }
+{
+    let place = place_at(program, end.stmt);
+    put(text, b"process ")?;
+    put(text, name)?;
+    put(text, b" ")?;
+    put_status(text, end.status, place)?;
+    put(text, b" steps ")?;
+    put_number(text, end.steps)?;
+    put(text, b"\n")?;
+    put_prints(text, name, end.prints.as_slice())
+}
+
+/// How the processes ended, and what they printed. Their bodies are those from number `first` on.
+fn put_ends(
+    text: &mut Vec<u8>,
+    program: &Program,
+    first: u16,
+    ends: &[ProcEnd],
+) -> Result<(), Memory>
+    requires { length ends.now < 2 ^ 62 }
+    ensures { OnOk result (text.new.items ≡ text.old.items ++ end_texts program.now first ends.now) }
+{
+    for index in 0..ends.len() {
+        let name = body_name(program, first as usize + index);
+        put_end(text, program, name, &ends[index])?;
+    }
+    Ok(())
+}
+
+/// The summary of a run whose processes ended so, with the races that a session found.
+pub(crate) fn summary(
+    alloc: Global,
+    program: &Program,
+    ends: &[ProcEnd],
+    session: &Session<'_>,
+) -> Result<Vec<u8>, Memory>
+    requires program { session.now.known.program ≡ program.now }
+    requires few { length ends.now < 2 ^ 62 }
+    ensures { IfOk result (λ text. text.items ≡ summary_of program.now ends.now session.now.known.races) }
+{
+    let mut text = Vec::new(alloc);
+    put_ends(&mut text, program, program.functions, ends)?;
+    let races = session.summary_races()?;
+    put(&mut text, &races)?;
+    Ok(text)
+}

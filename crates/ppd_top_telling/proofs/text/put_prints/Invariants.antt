@@ -1,6 +1,0 @@
-use Rattle.std.proofs.Common.{◌≡◌, ◌++◌, take}
-use Rattle.ppd_top_telling.specs.Summary.{print_texts}
-use Rattle.ppd_top_telling.proofs.text.put_prints.Given as goal
-
-abbrev pub invariant-loop-value : goal.invariant-loop-value
-invariant-loop-value l = l.text.items ≡ l.initial.text.items ++ print_texts l.name (take l.value-index l.values)

@@ -1,4 +1,0 @@
-pub mod Fitting
-pub mod Staying
-pub mod Reading
-pub mod Paths

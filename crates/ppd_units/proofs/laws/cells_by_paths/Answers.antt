@@ -1,5 +1,0 @@
-use Rattle.ppd_units.proofs.Paths.{cells_by_paths}
-use Rattle.ppd_units.proofs.laws.cells_by_paths.Goals as goal
-
-pub returns : goal.returns
-returns c = cells_by_paths

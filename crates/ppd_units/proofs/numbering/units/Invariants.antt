@@ -1,7 +1,0 @@
-use Rattle.std.proofs.Common.{◌≡◌, map, take}
-use Rattle.ppd_ast.specs.Numbered.{each_from}
-use Rattle.ppd_units.specs.Starts.{starts_in, unit_of}
-use Rattle.ppd_units.proofs.numbering.units.Given as goal
-
-abbrev pub invariant-loop-number : goal.invariant-loop-number
-invariant-loop-number l = l.units ≡ map (unit_of l.program l.loops) (each_from (starts_in l.program l.loops) 0 (take l.number l.bodies))

@@ -1,7 +1,0 @@
-use Rattle.std.proofs.Common.{◌≡◌, map}
-use Rattle.std.specs.List.{range_with_len}
-use Rattle.ppd_units.specs.Walk.{unit_next}
-use Rattle.ppd_units.proofs.ways.unit_rows.Given as goal
-
-abbrev pub invariant-loop-stmt : goal.invariant-loop-stmt
-invariant-loop-stmt l = l.rows ≡ map (unit_next l.program l.loops) (range_with_len 0 l.stmt)

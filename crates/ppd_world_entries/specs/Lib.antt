@@ -1,2 +1,0 @@
--- What a step adds to the log of its process.
-pub mod Entries

@@ -1,2 +1,0 @@
--- Semaphores and channels as a step finds them.
-pub mod Objects

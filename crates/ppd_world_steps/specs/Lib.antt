@@ -1,0 +1,3 @@
+-- Semaphores and channels as a step finds them.
+pub mod Objects
+pub mod Entries

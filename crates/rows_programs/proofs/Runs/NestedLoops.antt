@@ -1,0 +1,183 @@
+-- process a { int i; int j; while (i < 2) { j = 0; while (j < 1) { j = j + 1; } i = i + 1; } } with loops as blocks
+use Rattle.std.proofs.Common.{◌≡◌, refl}
+use Rattle.std.specs.Prelude.{ℕ, zero, suc, pos, true, false, List, [], ◌∷◌, Some, None}
+use Rattle.ppd_ast.specs.Term.{terms}
+use Rattle.ppd_ast.specs.declared.plan.BlockKind.TheVariants as block
+use Rattle.ppd_ast.specs.declared.plan.Plan.{Plan}
+use Rattle.ppd_ast.specs.declared.plan.Start.TheVariants as start
+use Rattle.ppd_ast.specs.declared.program.Expr.TheVariants as expr
+use Rattle.ppd_ast.specs.declared.program.Kind.TheVariants as kind
+use Rattle.ppd_ast.specs.declared.program.Op.TheVariants as op
+use Rattle.ppd_ast.specs.declared.program.Program.{Program}
+use Rattle.ppd_ast.specs.declared.program.Target.TheVariants as target
+use Rattle.ppd_ast.specs.declared.status.Status.TheVariants as status
+use Rattle.ppd_entry.specs.declared.entry.Entry.TheVariants as entry
+use Rattle.ppd_sem.specs.declared.event.Spot.TheVariants.{Local}
+use Rattle.ppd_model.specs.declared.flow.Item.TheVariants.{Own, Nested}
+use Rattle.ppd_model.specs.declared.flow.Origin.TheVariants.{Entry, Item as ItemAt}
+use Rattle.ppd_model.specs.declared.trace.TracedEvent.{TracedEvent}
+use Rattle.ppd_model.specs.World.{enabled}
+use Rattle.ppd_model.specs.Schedule.{IsWhole}
+use Rattle.ppd_model.specs.declared.tracing.Story.{Story}
+use Rattle.ppd_model.specs.Story.{story, told}
+use Rattle.ppd_model.specs.FullTrace.{full_trace}
+use Rattle.ppd_model.specs.Record.{accesses, sync_record}
+use Rattle.ppd_model.specs.Races.{races}
+use Rattle.ppd_model.specs.Logs.{close, closed_logs}
+use Rattle.ppd_model.specs.Intervals.{items}
+use Rattle.rows_programs.proofs.Runs.Tables.{stmt_in, scalar, body_of, block_of, unit_of, access, event, quiet, id, traced, ended, read_from, left_from, control_from}
+use Rattle.rows_programs.proofs.Runs.Showing.{extent, extents, whys, nears}
+
+abbrev pub program : Program
+program = record {
+  exprs = expr.Const (pos 0) ∷ expr.Const (pos 0) ∷ expr.Local 0 ∷ expr.Const (pos 2) ∷ expr.Two op.Lt 2 3 ∷ expr.Const (pos 0) ∷ expr.Local 1 ∷ expr.Const (pos 1) ∷ expr.Two op.Lt 6 7 ∷ expr.Local 1 ∷ expr.Const (pos 1) ∷ expr.Two op.Add 9 10 ∷ expr.Local 0 ∷ expr.Const (pos 1) ∷ expr.Two op.Add 12 13 ∷ [];
+  stmts =
+      stmt_in 0 1 17 None (kind.Set (target.Local 0) 0)
+      ∷ stmt_in 0 1 24 None (kind.Set (target.Local 1) 1)
+      ∷ stmt_in 0 1 27 None (kind.While 4 (3 ∷ 4 ∷ 6 ∷ []))
+      ∷ stmt_in 0 1 43 (Some 2) (kind.Set (target.Local 1) 5)
+      ∷ stmt_in 0 1 50 (Some 2) (kind.While 8 (5 ∷ []))
+      ∷ stmt_in 0 1 66 (Some 4) (kind.Set (target.Local 1) 11)
+      ∷ stmt_in 0 1 79 (Some 2) (kind.Set (target.Local 0) 14)
+      ∷ stmt_in 0 1 92 None kind.End ∷ [];
+  bodies = body_of 97 true 0 false (scalar 105 0 ∷ scalar 106 1 ∷ []) 2 (0 ∷ 1 ∷ 2 ∷ 7 ∷ []) 0 8 ∷ [];
+  functions = 0;
+  shared = [];
+  starts = [];
+  sems = [];
+  chans = [];
+}
+
+-- the outer loop is a block, and the loop in it is none
+abbrev pub plan : Plan
+plan = record {
+  policy = record { leaf = 0; loops = 1 };
+  blocks = block_of (block.Process 0) [] [] false ∷ block_of (block.Loop 2) (0 ∷ 1 ∷ []) (0 ∷ 1 ∷ []) false ∷ [];
+  units = unit_of (start.Entry 0) [] ∷ unit_of (start.Enter 2) [] ∷ unit_of (start.Exit 2) [] ∷ [];
+}
+
+abbrev pub schedule : List ℕ
+schedule = 0 ∷ 0 ∷ 0 ∷ 0 ∷ 0 ∷ 0 ∷ 0 ∷ 0 ∷ 0 ∷ 0 ∷ 0 ∷ 0 ∷ 0 ∷ 0 ∷ 0 ∷ 0 ∷ 0 ∷ []
+
+abbrev pub the_story : Story
+the_story = story program plan 100000 schedule
+
+nobody : (p : ℕ) → enabled program plan (told program plan 100000 schedule).world p ≡ false
+unfolding terms
+nobody zero = refl
+nobody (suc p) = refl
+
+pub whole : IsWhole program plan 100000 schedule
+unfolding terms
+whole = record { last = (told program plan 100000 schedule).world; runs = refl; over = record { nobody = nobody } }
+
+pub ends : (close program plan 100000 schedule).ends ≡ ended status.Ended 7 17 [] ∷ []
+unfolding terms
+ends = refl
+
+abbrev pub events_a : List TracedEvent
+events_a =
+    traced (event 0 [] (access (Local 0 0) (pos 0) ∷ []) None None None) [] None None
+    ∷ traced (event 1 [] (access (Local 0 1) (pos 0) ∷ []) None None None) [] None None
+    ∷ traced (event 2 (access (Local 0 0) (pos 0) ∷ []) [] (Some (pos 1)) None None) (Some (id 0 0) ∷ []) None None
+    ∷ traced (event 3 [] (access (Local 0 1) (pos 0) ∷ []) None None None) [] (Some (id 0 2)) None
+    ∷ traced (event 4 (access (Local 0 1) (pos 0) ∷ []) [] (Some (pos 1)) None None) (Some (id 0 3) ∷ []) (Some (id 0 2)) None
+    ∷ traced (event 5 (access (Local 0 1) (pos 0) ∷ []) (access (Local 0 1) (pos 1) ∷ []) None None None) (Some (id 0 3) ∷ []) (Some (id 0 4)) None
+    ∷ traced (event 4 (access (Local 0 1) (pos 1) ∷ []) [] (Some (pos 0)) None None) (Some (id 0 5) ∷ []) (Some (id 0 4)) None
+    ∷ traced (event 6 (access (Local 0 0) (pos 0) ∷ []) (access (Local 0 0) (pos 1) ∷ []) None None None) (Some (id 0 0) ∷ []) (Some (id 0 2)) None
+    ∷ traced (event 2 (access (Local 0 0) (pos 1) ∷ []) [] (Some (pos 1)) None None) (Some (id 0 7) ∷ []) (Some (id 0 2)) None
+    ∷ traced (event 3 [] (access (Local 0 1) (pos 0) ∷ []) None None None) [] (Some (id 0 8)) None
+    ∷ traced (event 4 (access (Local 0 1) (pos 0) ∷ []) [] (Some (pos 1)) None None) (Some (id 0 9) ∷ []) (Some (id 0 8)) None
+    ∷ traced (event 5 (access (Local 0 1) (pos 0) ∷ []) (access (Local 0 1) (pos 1) ∷ []) None None None) (Some (id 0 9) ∷ []) (Some (id 0 10)) None
+    ∷ traced (event 4 (access (Local 0 1) (pos 1) ∷ []) [] (Some (pos 0)) None None) (Some (id 0 11) ∷ []) (Some (id 0 10)) None
+    ∷ traced (event 6 (access (Local 0 0) (pos 1) ∷ []) (access (Local 0 0) (pos 2) ∷ []) None None None) (Some (id 0 7) ∷ []) (Some (id 0 8)) None
+    ∷ traced (event 2 (access (Local 0 0) (pos 2) ∷ []) [] (Some (pos 0)) None None) (Some (id 0 13) ∷ []) (Some (id 0 8)) None
+    ∷ traced (quiet 7) [] None None ∷ []
+
+pub trace : full_trace program plan 100000 schedule ≡ record { events = events_a ∷ [] }
+unfolding terms
+trace = refl
+
+pub synchronizations : sync_record program plan 100000 schedule ≡ [] ∷ []
+unfolding terms
+synchronizations = refl
+
+pub accesses_a : accesses the_story 0 ≡ []
+unfolding terms
+accesses_a = refl
+
+pub race_list : races program plan 100000 schedule ≡ []
+unfolding terms
+race_list = refl
+
+pub log : (closed_logs program plan 100000 schedule).lists ≡
+    (entry.Prelog 0 [] ∷ entry.Unit 0 [] ∷ entry.Prelog 1 (pos 0 ∷ pos 0 ∷ []) ∷ entry.Unit 1 [] ∷ entry.Postlog 1 (pos 2 ∷ pos 1 ∷ []) ∷ entry.Unit 2 [] ∷ entry.Postlog 0 [] ∷ entry.End status.Ended 0 [] [] ∷ []) ∷ []
+unfolding terms
+log = refl
+
+pub extents_a : extents program plan 100000 the_story 0 ≡
+    extent 0 [] 0 (Some 16) 4
+    ∷ extent 1 (0 ∷ []) 2 (Some 15) 13 ∷ []
+unfolding terms
+extents_a = refl
+
+pub open_a_0 : items program plan 100000 the_story 0 0 ≡
+    Some (Own (event 0 [] (access (Local 0 0) (pos 0) ∷ []) None None None)
+    ∷ Own (event 1 [] (access (Local 0 1) (pos 0) ∷ []) None None None)
+    ∷ Nested 1 1 (pos 2 ∷ pos 1 ∷ []) true
+    ∷ Own (quiet 7) ∷ [])
+unfolding terms
+open_a_0 = refl
+
+pub open_a_1 : items program plan 100000 the_story 0 1 ≡
+    Some (Own (event 2 (access (Local 0 0) (pos 0) ∷ []) [] (Some (pos 1)) None None)
+    ∷ Own (event 3 [] (access (Local 0 1) (pos 0) ∷ []) None None None)
+    ∷ Own (event 4 (access (Local 0 1) (pos 0) ∷ []) [] (Some (pos 1)) None None)
+    ∷ Own (event 5 (access (Local 0 1) (pos 0) ∷ []) (access (Local 0 1) (pos 1) ∷ []) None None None)
+    ∷ Own (event 4 (access (Local 0 1) (pos 1) ∷ []) [] (Some (pos 0)) None None)
+    ∷ Own (event 6 (access (Local 0 0) (pos 0) ∷ []) (access (Local 0 0) (pos 1) ∷ []) None None None)
+    ∷ Own (event 2 (access (Local 0 0) (pos 1) ∷ []) [] (Some (pos 1)) None None)
+    ∷ Own (event 3 [] (access (Local 0 1) (pos 0) ∷ []) None None None)
+    ∷ Own (event 4 (access (Local 0 1) (pos 0) ∷ []) [] (Some (pos 1)) None None)
+    ∷ Own (event 5 (access (Local 0 1) (pos 0) ∷ []) (access (Local 0 1) (pos 1) ∷ []) None None None)
+    ∷ Own (event 4 (access (Local 0 1) (pos 1) ∷ []) [] (Some (pos 0)) None None)
+    ∷ Own (event 6 (access (Local 0 0) (pos 1) ∷ []) (access (Local 0 0) (pos 2) ∷ []) None None None)
+    ∷ Own (event 2 (access (Local 0 0) (pos 2) ∷ []) [] (Some (pos 0)) None None) ∷ [])
+unfolding terms
+open_a_1 = refl
+
+pub whys_a_0 : whys program plan 100000 the_story 0 0 5 ≡
+    Some (control_from Entry ∷ [])
+    ∷ Some (control_from Entry ∷ [])
+    ∷ Some (left_from (Local 0 0) (pos 2) (ItemAt 0 1 11) ∷ left_from (Local 0 1) (pos 1) (ItemAt 0 1 9) ∷ control_from Entry ∷ [])
+    ∷ Some (control_from Entry ∷ [])
+    ∷ None ∷ []
+unfolding terms
+whys_a_0 = refl
+
+-- the first test of the second run of the inner loop, item 8, has the outer test as its parent
+pub whys_a_1 : whys program plan 100000 the_story 0 1 14 ≡
+    Some (read_from (Local 0 0) (pos 0) (ItemAt 0 0 0) ∷ control_from Entry ∷ [])
+    ∷ Some (control_from (ItemAt 0 1 0) ∷ [])
+    ∷ Some (read_from (Local 0 1) (pos 0) (ItemAt 0 1 1) ∷ control_from (ItemAt 0 1 0) ∷ [])
+    ∷ Some (read_from (Local 0 1) (pos 0) (ItemAt 0 1 1) ∷ control_from (ItemAt 0 1 2) ∷ [])
+    ∷ Some (read_from (Local 0 1) (pos 1) (ItemAt 0 1 3) ∷ control_from (ItemAt 0 1 2) ∷ [])
+    ∷ Some (read_from (Local 0 0) (pos 0) (ItemAt 0 0 0) ∷ control_from (ItemAt 0 1 0) ∷ [])
+    ∷ Some (read_from (Local 0 0) (pos 1) (ItemAt 0 1 5) ∷ control_from (ItemAt 0 1 0) ∷ [])
+    ∷ Some (control_from (ItemAt 0 1 6) ∷ [])
+    ∷ Some (read_from (Local 0 1) (pos 0) (ItemAt 0 1 7) ∷ control_from (ItemAt 0 1 6) ∷ [])
+    ∷ Some (read_from (Local 0 1) (pos 0) (ItemAt 0 1 7) ∷ control_from (ItemAt 0 1 8) ∷ [])
+    ∷ Some (read_from (Local 0 1) (pos 1) (ItemAt 0 1 9) ∷ control_from (ItemAt 0 1 8) ∷ [])
+    ∷ Some (read_from (Local 0 0) (pos 1) (ItemAt 0 1 5) ∷ control_from (ItemAt 0 1 6) ∷ [])
+    ∷ Some (read_from (Local 0 0) (pos 2) (ItemAt 0 1 11) ∷ control_from (ItemAt 0 1 6) ∷ [])
+    ∷ None ∷ []
+unfolding terms
+whys_a_1 = refl
+
+pub nears_a_0 : nears program plan 100000 the_story 0 0 4 ≡ 17 ∷ 17 ∷ 17 ∷ 17 ∷ []
+unfolding terms
+nears_a_0 = refl
+
+pub nears_a_1 : nears program plan 100000 the_story 0 1 13 ≡ 17 ∷ 17 ∷ 17 ∷ 17 ∷ 17 ∷ 17 ∷ 17 ∷ 17 ∷ 17 ∷ 17 ∷ 17 ∷ 17 ∷ 17 ∷ []
+unfolding terms
+nears_a_1 = refl

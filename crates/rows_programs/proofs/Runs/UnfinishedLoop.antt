@@ -1,0 +1,182 @@
+-- shared int x; int f(int n) { int i; while (i < n) { i = i + 1; x = 1 / (2 - i); } return i; } process a { int v = f(3); print(v); }
+use Rattle.std.proofs.Common.{◌≡◌, refl}
+use Rattle.std.specs.Prelude.{ℕ, zero, suc, pos, true, false, List, [], ◌∷◌, Some, None}
+use Rattle.ppd_ast.specs.Term.{terms}
+use Rattle.ppd_ast.specs.declared.plan.BlockKind.TheVariants as block
+use Rattle.ppd_ast.specs.declared.plan.Plan.{Plan}
+use Rattle.ppd_ast.specs.declared.plan.Start.TheVariants as start
+use Rattle.ppd_ast.specs.declared.program.Expr.TheVariants as expr
+use Rattle.ppd_ast.specs.declared.program.Kind.TheVariants as kind
+use Rattle.ppd_ast.specs.declared.program.Op.TheVariants as op
+use Rattle.ppd_ast.specs.declared.program.Program.{Program}
+use Rattle.ppd_ast.specs.declared.program.Target.TheVariants as target
+use Rattle.ppd_ast.specs.declared.status.Status.TheVariants as status
+use Rattle.ppd_ast.specs.declared.status.Trap.TheVariants as trap
+use Rattle.ppd_entry.specs.declared.entry.Entry.TheVariants as entry
+use Rattle.ppd_sem.specs.declared.event.Spot.TheVariants.{Local, Shared}
+use Rattle.ppd_model.specs.declared.flow.Item.TheVariants.{Own, Nested}
+use Rattle.ppd_model.specs.declared.flow.Origin.TheVariants.{Entry, Item as ItemAt}
+use Rattle.ppd_model.specs.declared.trace.TracedEvent.{TracedEvent}
+use Rattle.ppd_model.specs.World.{enabled}
+use Rattle.ppd_model.specs.Schedule.{IsWhole}
+use Rattle.ppd_model.specs.declared.tracing.Story.{Story}
+use Rattle.ppd_model.specs.Story.{story, told}
+use Rattle.ppd_model.specs.FullTrace.{full_trace}
+use Rattle.ppd_model.specs.Record.{accesses, sync_record}
+use Rattle.ppd_model.specs.Races.{races}
+use Rattle.ppd_model.specs.Logs.{close, closed_logs}
+use Rattle.ppd_model.specs.Intervals.{items}
+use Rattle.ppd_model.specs.FlowbackEdges.{last}
+use Rattle.rows_programs.proofs.Runs.Tables.{stmt_in, scalar, body_of, block_of, unit_of, access, event, id, traced, ended, read_from, control_from}
+use Rattle.rows_programs.proofs.Runs.Showing.{touched, extent, extents, whys, nears}
+
+abbrev pub program : Program
+program = record {
+  exprs = expr.Const (pos 0) ∷ expr.Local 1 ∷ expr.Local 0 ∷ expr.Two op.Lt 1 2 ∷ expr.Local 1 ∷ expr.Const (pos 1) ∷ expr.Two op.Add 4 5 ∷ expr.Const (pos 1) ∷ expr.Const (pos 2) ∷ expr.Local 1 ∷ expr.Two op.Sub 8 9 ∷ expr.Two op.Div 7 10 ∷ expr.Local 1 ∷ expr.Const (pos 3) ∷ expr.Local 0 ∷ [];
+  stmts =
+      stmt_in 0 1 34 None (kind.Set (target.Local 1) 0)
+      ∷ stmt_in 0 1 37 None (kind.While 3 (2 ∷ 3 ∷ []))
+      ∷ stmt_in 0 1 53 (Some 1) (kind.Set (target.Local 1) 6)
+      ∷ stmt_in 0 1 64 (Some 1) (kind.Set (target.Shared 0) 11)
+      ∷ stmt_in 0 1 84 None (kind.Return (Some 12))
+      ∷ stmt_in 1 1 114 None (kind.Call 0 (13 ∷ []) (Some 0))
+      ∷ stmt_in 1 1 124 None (kind.Print 14)
+      ∷ stmt_in 1 1 134 None kind.End ∷ [];
+  bodies = body_of 102 false 1 true (scalar 110 0 ∷ scalar 105 1 ∷ []) 2 (0 ∷ 1 ∷ 4 ∷ []) 0 5 ∷ body_of 97 true 0 false (scalar 118 0 ∷ []) 1 (5 ∷ 6 ∷ 7 ∷ []) 5 8 ∷ [];
+  functions = 1;
+  shared = scalar 120 0 ∷ [];
+  starts = pos 0 ∷ [];
+  sems = [];
+  chans = [];
+}
+
+-- loops are blocks
+abbrev pub plan : Plan
+plan = record {
+  policy = record { leaf = 0; loops = 1 };
+  blocks = block_of (block.Function 0) (0 ∷ []) [] true ∷ block_of (block.Loop 1) (0 ∷ 1 ∷ []) (1 ∷ []) false ∷ block_of (block.Process 1) [] [] false ∷ [];
+  units = unit_of (start.Entry 0) [] ∷ unit_of (start.Enter 1) [] ∷ unit_of (start.Exit 1) [] ∷ unit_of (start.Entry 1) [] ∷ unit_of (start.After 5) [] ∷ [];
+}
+
+abbrev pub schedule : List ℕ
+schedule = 0 ∷ 0 ∷ 0 ∷ 0 ∷ 0 ∷ 0 ∷ 0 ∷ 0 ∷ 0 ∷ []
+
+abbrev pub the_story : Story
+the_story = story program plan 100000 schedule
+
+nobody : (p : ℕ) → enabled program plan (told program plan 100000 schedule).world p ≡ false
+unfolding terms
+nobody zero = refl
+nobody (suc p) = refl
+
+pub whole : IsWhole program plan 100000 schedule
+unfolding terms
+whole = record { last = (told program plan 100000 schedule).world; runs = refl; over = record { nobody = nobody } }
+
+-- 1 / (2 - 2)
+pub ends : (close program plan 100000 schedule).ends ≡ ended (status.Trap trap.Zero) 3 9 [] ∷ []
+unfolding terms
+ends = refl
+
+abbrev pub events_a : List TracedEvent
+events_a =
+    traced (event 5 [] (access (Local 1 0) (pos 3) ∷ []) None None None) [] None None
+    ∷ traced (event 0 [] (access (Local 0 1) (pos 0) ∷ []) None None None) [] (Some (id 0 0)) None
+    ∷ traced (event 1 (access (Local 0 1) (pos 0) ∷ access (Local 0 0) (pos 3) ∷ []) [] (Some (pos 1)) None None) (Some (id 0 1) ∷ Some (id 0 0) ∷ []) (Some (id 0 0)) None
+    ∷ traced (event 2 (access (Local 0 1) (pos 0) ∷ []) (access (Local 0 1) (pos 1) ∷ []) None None None) (Some (id 0 1) ∷ []) (Some (id 0 2)) None
+    ∷ traced (event 3 (access (Local 0 1) (pos 1) ∷ []) (access (Shared 0) (pos 1) ∷ []) None None None) (Some (id 0 3) ∷ []) (Some (id 0 2)) None
+    ∷ traced (event 1 (access (Local 0 1) (pos 1) ∷ access (Local 0 0) (pos 3) ∷ []) [] (Some (pos 1)) None None) (Some (id 0 3) ∷ Some (id 0 0) ∷ []) (Some (id 0 2)) None
+    ∷ traced (event 2 (access (Local 0 1) (pos 1) ∷ []) (access (Local 0 1) (pos 2) ∷ []) None None None) (Some (id 0 3) ∷ []) (Some (id 0 5)) None
+    ∷ traced (event 3 (access (Local 0 1) (pos 2) ∷ []) [] None None (Some trap.Zero)) (Some (id 0 6) ∷ []) (Some (id 0 5)) None ∷ []
+
+pub trace : full_trace program plan 100000 schedule ≡ record { events = events_a ∷ [] }
+unfolding terms
+trace = refl
+
+pub synchronizations : sync_record program plan 100000 schedule ≡ [] ∷ []
+unfolding terms
+synchronizations = refl
+
+pub accesses_a : accesses the_story 0 ≡ touched 0 0 true ∷ []
+unfolding terms
+accesses_a = refl
+
+pub race_list : races program plan 100000 schedule ≡ []
+unfolding terms
+race_list = refl
+
+pub log : (closed_logs program plan 100000 schedule).lists ≡
+    (entry.Prelog 2 [] ∷ entry.Unit 3 [] ∷ entry.Prelog 0 (pos 3 ∷ []) ∷ entry.Unit 0 [] ∷ entry.Prelog 1 (pos 3 ∷ pos 0 ∷ []) ∷ entry.Unit 1 [] ∷ entry.End (status.Trap trap.Zero) 5 [] (0 ∷ []) ∷ []) ∷ []
+unfolding terms
+log = refl
+
+pub extents_a : extents program plan 100000 the_story 0 ≡
+    extent 2 [] 0 None 1
+    ∷ extent 0 (0 ∷ []) 0 None 2
+    ∷ extent 1 (1 ∷ 0 ∷ []) 2 None 6 ∷ []
+unfolding terms
+extents_a = refl
+
+pub open_a_0 : items program plan 100000 the_story 0 0 ≡
+    Some (Own (event 5 [] (access (Local 1 0) (pos 3) ∷ []) None None None)
+    ∷ Nested 1 0 [] false ∷ [])
+unfolding terms
+open_a_0 = refl
+
+pub open_a_1 : items program plan 100000 the_story 0 1 ≡
+    Some (Own (event 0 [] (access (Local 0 1) (pos 0) ∷ []) None None None)
+    ∷ Nested 2 1 [] false ∷ [])
+unfolding terms
+open_a_1 = refl
+
+pub open_a_2 : items program plan 100000 the_story 0 2 ≡
+    Some (Own (event 1 (access (Local 0 1) (pos 0) ∷ access (Local 0 0) (pos 3) ∷ []) [] (Some (pos 1)) None None)
+    ∷ Own (event 2 (access (Local 0 1) (pos 0) ∷ []) (access (Local 0 1) (pos 1) ∷ []) None None None)
+    ∷ Own (event 3 (access (Local 0 1) (pos 1) ∷ []) (access (Shared 0) (pos 1) ∷ []) None None None)
+    ∷ Own (event 1 (access (Local 0 1) (pos 1) ∷ access (Local 0 0) (pos 3) ∷ []) [] (Some (pos 1)) None None)
+    ∷ Own (event 2 (access (Local 0 1) (pos 1) ∷ []) (access (Local 0 1) (pos 2) ∷ []) None None None)
+    ∷ Own (event 3 (access (Local 0 1) (pos 2) ∷ []) [] None None (Some trap.Zero)) ∷ [])
+unfolding terms
+open_a_2 = refl
+
+-- an interval that was not left has the control edge alone
+pub whys_a_0 : whys program plan 100000 the_story 0 0 3 ≡
+    Some (control_from Entry ∷ [])
+    ∷ Some (control_from (ItemAt 0 0 0) ∷ [])
+    ∷ None ∷ []
+unfolding terms
+whys_a_0 = refl
+
+pub whys_a_1 : whys program plan 100000 the_story 0 1 3 ≡
+    Some (control_from (ItemAt 0 0 0) ∷ [])
+    ∷ Some (control_from (ItemAt 0 0 0) ∷ [])
+    ∷ None ∷ []
+unfolding terms
+whys_a_1 = refl
+
+pub whys_a_2 : whys program plan 100000 the_story 0 2 7 ≡
+    Some (read_from (Local 0 1) (pos 0) (ItemAt 0 1 0) ∷ read_from (Local 0 0) (pos 3) (ItemAt 0 0 0) ∷ control_from (ItemAt 0 0 0) ∷ [])
+    ∷ Some (read_from (Local 0 1) (pos 0) (ItemAt 0 1 0) ∷ control_from (ItemAt 0 2 0) ∷ [])
+    ∷ Some (read_from (Local 0 1) (pos 1) (ItemAt 0 2 1) ∷ control_from (ItemAt 0 2 0) ∷ [])
+    ∷ Some (read_from (Local 0 1) (pos 1) (ItemAt 0 2 1) ∷ read_from (Local 0 0) (pos 3) (ItemAt 0 0 0) ∷ control_from (ItemAt 0 2 0) ∷ [])
+    ∷ Some (read_from (Local 0 1) (pos 1) (ItemAt 0 2 1) ∷ control_from (ItemAt 0 2 3) ∷ [])
+    ∷ Some (read_from (Local 0 1) (pos 2) (ItemAt 0 2 4) ∷ control_from (ItemAt 0 2 3) ∷ [])
+    ∷ None ∷ []
+unfolding terms
+whys_a_2 = refl
+
+pub nears_a_0 : nears program plan 100000 the_story 0 0 2 ≡ 9 ∷ 9 ∷ []
+unfolding terms
+nears_a_0 = refl
+
+pub nears_a_1 : nears program plan 100000 the_story 0 1 2 ≡ 9 ∷ 9 ∷ []
+unfolding terms
+nears_a_1 = refl
+
+pub nears_a_2 : nears program plan 100000 the_story 0 2 6 ≡ 9 ∷ 9 ∷ 9 ∷ 9 ∷ 9 ∷ 9 ∷ []
+unfolding terms
+nears_a_2 = refl
+
+pub final_x : last program plan 100000 the_story 0 ≡ (pos 1, ItemAt 0 2 2)
+unfolding terms
+final_x = refl
