@@ -248,7 +248,13 @@ fn writers_are_sinks(rt: HostRuntime) {
     assert!(rt; is_taken(&mut StdSink::new(io::writer(&rt)), "", 0));
 }
 
-/// Whether a load gives this, where "!" stands for `Failed`.
+/// A call of a shelf: a store of bytes under a name, and whether it succeeds; or a load of at most so many bytes, and
+/// what it gives, where "!" stands for `Failed`.
+enum Call {
+    Store(&'static str, &'static str, bool),
+    Load(&'static str, usize, &'static str),
+}
+
 fn is_loaded<F: Shelf>(alloc: Global, shelf: &mut F, name: &str, most: usize, want: &str) -> bool {
     match shelf.load(alloc, name, most) {
         Ok(bytes) => bytes.as_slice() == want.as_bytes(),
@@ -270,75 +276,77 @@ fn is_stored<F: Shelf>(
     }
 }
 
-/// Names, the most bytes to load of each, and what the loads give.
-type Load = (&'static str, usize, &'static str);
-
-/// Whether loads give these one after the other.
-fn are_loaded<F: Shelf>(alloc: Global, shelf: &mut F, loads: &[Load]) -> bool {
-    for (name, most, want) in loads {
-        if !is_loaded(alloc, shelf, name, *most, want) {
+/// Whether calls give these one after the other.
+fn are_given<F: Shelf>(alloc: Global, shelf: &mut F, calls: &[Call]) -> bool {
+    for call in calls {
+        let is_given = match call {
+            Call::Store(name, bytes, stored) => {
+                is_stored(alloc, shelf, name, bytes.as_bytes(), *stored)
+            }
+            Call::Load(name, most, want) => is_loaded(alloc, shelf, name, *most, want),
+        };
+        if !is_given {
             return false;
         }
     }
     true
 }
 
-fn shelf_of(alloc: Global, fails: &[u32]) -> Option<MemoryShelf> {
-    let fails = Vec::from_slice(alloc, fails).ok()?;
-    Some(MemoryShelf::new(alloc, fails))
-}
-
-const LOADS: [Load; 4] = [
-    ("a", 2, "xy"),
-    ("b", 9, "!"),
-    ("a", 9, "!"),
-    ("a", 9, "xyz"),
+/// Which calls of a shelf fail, and what its calls give.
+const SHELVES: [(&[u32], &[Call]); 2] = [
+    (
+        &[3],
+        &[
+            Call::Store("a", "xyz", true),
+            Call::Load("a", 2, "xy"),
+            Call::Load("b", 9, "!"),
+            Call::Load("a", 9, "!"),
+            Call::Load("a", 9, "xyz"),
+        ],
+    ),
+    // a store that fails changes nothing
+    (
+        &[1],
+        &[
+            Call::Store("b", "q", true),
+            Call::Store("b", "r", false),
+            Call::Store("a", "w", true),
+            Call::Load("a", 9, "w"),
+            Call::Load("b", 9, "q"),
+        ],
+    ),
 ];
 
-fn loads(alloc: Global) -> bool {
-    match shelf_of(alloc, &[3]) {
-        Some(mut shelf) => {
-            is_stored(alloc, &mut shelf, "a", b"xyz", true) && are_loaded(alloc, &mut shelf, &LOADS)
-        }
-        None => false,
+fn shelf_gives(alloc: Global, fails: &[u32], calls: &[Call]) -> bool {
+    match Vec::from_slice(alloc, fails) {
+        Ok(fails) => are_given(alloc, &mut MemoryShelf::new(alloc, fails), calls),
+        Err(_) => false,
     }
 }
 
-/// Whether a store that fails changes nothing.
-fn stores(alloc: Global) -> bool {
-    match shelf_of(alloc, &[1]) {
-        Some(mut shelf) => {
-            is_stored(alloc, &mut shelf, "b", b"q", true)
-                && is_stored(alloc, &mut shelf, "b", b"r", false)
-                && is_stored(alloc, &mut shelf, "a", b"w", true)
-                && are_loaded(alloc, &mut shelf, &[("a", 9, "w"), ("b", 9, "q")])
-        }
-        None => false,
-    }
-}
+/// The same of a shelf on which each name is there.
+const STEADY: [Call; 3] = [
+    Call::Load("a", 9, ""),
+    Call::Store("a", "xyz", true),
+    Call::Load("a", 2, "xy"),
+];
 
-/// Whether a steady shelf has each name, and holds what is stored.
-fn steady_holds(alloc: Global, shelf: &mut SteadyShelf) -> bool {
-    is_loaded(alloc, shelf, "a", 9, "")
-        && is_stored(alloc, shelf, "a", b"xyz", true)
-        && is_loaded(alloc, shelf, "a", 2, "xy")
-}
-
-const FILES: [Load; 3] = [
-    ("no-such-folder/file", 9, "!"),
-    ("/dev/null", 9, ""),
-    ("/dev/zero", 2, "\0\0"),
+/// The same of files.
+const FILES: [Call; 5] = [
+    Call::Load("no-such-folder/file", 9, "!"),
+    Call::Load("/dev/null", 9, ""),
+    Call::Load("/dev/zero", 2, "\0\0"),
+    Call::Store("no-such-folder/file", "a", false),
+    Call::Store("/dev/null", "a", true),
 ];
 
 #[test]
 fn shelves_hold_bytes_by_name(rt: HostRuntime) {
-    let alloc = rt.alloc();
-    assert!(rt; loads(alloc) && stores(alloc));
-    assert!(rt; steady_holds(alloc, &mut SteadyShelf::new(alloc)));
-    let mut host = HostShelf::new(&rt);
-    assert!(rt; are_loaded(alloc, &mut host, &FILES));
-    assert!(rt; is_stored(alloc, &mut host, "no-such-folder/file", b"a", false));
-    assert!(rt; is_stored(alloc, &mut host, "/dev/null", b"a", true));
+    for (fails, calls) in &SHELVES {
+        assert!(rt; shelf_gives(rt.alloc(), fails, calls));
+    }
+    assert!(rt; are_given(rt.alloc(), &mut SteadyShelf::new(rt.alloc()), &STEADY));
+    assert!(rt; are_given(rt.alloc(), &mut HostShelf::new(&rt), &FILES));
     FreeGate.pass(0, 0);
 }
 
