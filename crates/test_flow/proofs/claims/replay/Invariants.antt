@@ -1,4 +1,4 @@
-use Rattle.test_replay.proofs.claims.replay.Given as goal
+use Rattle.test_flow.proofs.claims.replay.Given as goal
 
 abbrev pub ghosts-replay_by : goal.ghosts-replay_by
 ghosts-replay_by a = record { name = a.blank.name; parts = a.blank.parts }
