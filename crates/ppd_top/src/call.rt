@@ -18,10 +18,9 @@ use ppd_ast::{Memory, Seq};
 use ppd_check::{SourceError, read_source};
 use ppd_io::{Gate, Shelf, ShelfError, Sink, Source};
 use ppd_text_refusals::refusal_line;
+use ppd_top_commands::{RecordTask, debug, flow, record_run, show};
 use ppd_top_query::{Query, answers_are_of_runs};
-use ppd_top_runs::{
-    Means, Outcome, RecordTask, Task, debug, ended, finish, flow, record_run, show,
-};
+use ppd_top_runs::{Means, Outcome, Task, ended, finish};
 use std::alloc::Global;
 use std::sync::Wait;
 use std::thread::Threads;

@@ -10,8 +10,9 @@ use ppd_ast::limits::MOST_BUDGET;
 use ppd_ast::{Policy, Program};
 use ppd_check::read_source;
 use ppd_io::{CHUNK_BYTES, Gate, Sink, SteadySource};
+use ppd_top_commands::flow;
 use ppd_top_drill::generate;
-use ppd_top_runs::{Means, Options, Outcome, Task, ended, flow};
+use ppd_top_runs::{Means, Options, Outcome, Task, ended};
 use std::sync::Wait;
 use std::thread::Threads;
 

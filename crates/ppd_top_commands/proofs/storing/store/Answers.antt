@@ -3,7 +3,7 @@ use Rattle.ppd_codec.specs.Recordings.{IsRecordingOf}
 use Rattle.ppd_top_runs.specs.Commands.Keeps.{kept}
 use Rattle.ppd_top_runs.specs.Commands.{header_of as header_for}
 use Rattle.ppd_top_runs.specs.Output.{Finished}
-use Rattle.ppd_top_runs.proofs.storing.store.Goals as goal
+use Rattle.ppd_top_commands.proofs.storing.store.Goals as goal
 
 pub returns-in-Ok-store : goal.returns-in-Ok-store
 returns-in-Ok-store g c =

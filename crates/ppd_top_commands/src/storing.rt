@@ -9,14 +9,11 @@ ghost use Rattle.ppd_top_runs.specs.Commands.{Keeps, Records, keeping, header_of
 ghost use Rattle.ppd_top_runs.specs.Runs.{CanBeTold};
 ghost use Rattle.ppd_top_runs.specs.Summary.{summary_of};
 
-use crate::options::Options;
-use crate::outcome::{Outcome, ended};
-use crate::run::{ClosedRun, Means, Task, run_task};
-use crate::telling::summarize;
 use ppd_codec::Header;
 use ppd_codec_runs::record;
 use ppd_io::{Gate, Shelf, ShelfError, Sink};
 use ppd_top_output::finish;
+use ppd_top_runs::{ClosedRun, Means, Options, Outcome, Task, ended, run_task, summarize};
 use std::alloc::Global;
 use std::sync::Wait;
 use std::thread::Threads;

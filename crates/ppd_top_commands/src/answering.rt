@@ -7,16 +7,13 @@ ghost use Rattle.ppd_text.specs.Table.{table_of};
 ghost use Rattle.ppd_top_runs.specs.Output.{standing};
 ghost use Rattle.ppd_top_runs.specs.Commands.{Flows, Shows, plan_of};
 
-use crate::options::Options;
-use crate::outcome::{Outcome, ended};
-use crate::run::{Means, Task, run_task};
-use crate::telling::tell;
 use ppd_ast::{Memory, Program, Seq};
 use ppd_blocks::partition;
 use ppd_io::{Gate, Sink, Source};
 use ppd_sets::sets;
 use ppd_text::table;
 use ppd_top_output::finish;
+use ppd_top_runs::{Means, Options, Outcome, Task, ended, run_task, tell};
 use std::alloc::Global;
 use std::sync::Wait;
 use std::thread::Threads;

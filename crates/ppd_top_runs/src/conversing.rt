@@ -1,19 +1,17 @@
-// The command `debug`: the lines of the input are answered on a recording.
+// The lines of an input on a recording.
 ghost use Rattle.std.specs.Prelude.{[]};
 ghost use Rattle.ppd_codec_runs.specs.Recordings.{IsRecalled, known_of};
 ghost use Rattle.ppd_top_runs.specs.Output.{Talks, standing};
-ghost use Rattle.ppd_top_runs.specs.Debugging.{Debugs};
 
 use crate::asking::talk;
-use ppd_codec_runs::{NoRecall, Recalled, recall};
+use ppd_codec_runs::Recalled;
 use ppd_io::{LineReader, Sink, Source};
 use ppd_session::{Past, Session};
-use ppd_top_output::finish;
 use std::alloc::Global;
 use std::thread::Threads;
 
 /// Answers the lines of the input on a recording that was accepted, and answers the status.
-fn converse<I: Source, O: Sink>(
+pub fn converse<I: Source, O: Sink>(
     rt: &(impl Threads + Sync),
     alloc: Global,
     recalled: &Recalled,
@@ -46,26 +44,4 @@ fn converse<I: Source, O: Sink>(
     };
     let program = &recalled.recording.program;
     talk(alloc, program, &mut session, &mut reader, input, output)
-}
-
-/// Answers the lines of the input on the recording that these bytes are, or writes why they are refused, and answers
-/// the status.
-pub fn debug<I: Source, O: Sink>(
-    rt: &(impl Threads + Sync),
-    alloc: Global,
-    bytes: &[u8],
-    input: &mut I,
-    output: &mut O,
-) -> u8
-    ensures { Debugs bytes.now
-        (standing (I.left input.old) (I.before_last input.old)
-        (I.faults input.old) (O.written output.old) (O.faults output.old))
-        (standing (I.left input.new) (I.before_last input.new)
-        (I.faults input.new) (O.written output.new) (O.faults output.new)) result }
-{
-    match recall(alloc, bytes) {
-        Err(NoRecall::Memory) => 5,
-        Err(NoRecall::Refused(line)) => finish(output, &line, 6),
-        Ok(recalled) => converse(rt, alloc, &recalled, input, output),
-    }
 }

@@ -1,0 +1,32 @@
+// The command `debug`: the lines of the input are answered on a recording.
+ghost use Rattle.ppd_top_runs.specs.Output.{standing};
+ghost use Rattle.ppd_top_runs.specs.Debugging.{Debugs};
+
+use ppd_codec_runs::{NoRecall, recall};
+use ppd_io::{Sink, Source};
+use ppd_top_output::finish;
+use ppd_top_runs::converse;
+use std::alloc::Global;
+use std::thread::Threads;
+
+/// Answers the lines of the input on the recording that these bytes are, or writes why they are refused, and answers
+/// the status.
+pub fn debug<I: Source, O: Sink>(
+    rt: &(impl Threads + Sync),
+    alloc: Global,
+    bytes: &[u8],
+    input: &mut I,
+    output: &mut O,
+) -> u8
+    ensures { Debugs bytes.now
+        (standing (I.left input.old) (I.before_last input.old)
+        (I.faults input.old) (O.written output.old) (O.faults output.old))
+        (standing (I.left input.new) (I.before_last input.new)
+        (I.faults input.new) (O.written output.new) (O.faults output.new)) result }
+{
+    match recall(alloc, bytes) {
+        Err(NoRecall::Memory) => 5,
+        Err(NoRecall::Refused(line)) => finish(output, &line, 6),
+        Ok(recalled) => converse(rt, alloc, &recalled, input, output),
+    }
+}
