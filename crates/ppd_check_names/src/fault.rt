@@ -1,11 +1,11 @@
 // The rules that a source can break.
-ghost use Rattle.std.specs.Prelude.{◌≡◌, ◌≤◌, Some};
-ghost use Rattle.ppd_check_names.specs.Faults.{by_then, is_before, limit_rank, rank, first, first_of_both, unless, if_so};
+ghost use Rattle.std.specs.Prelude.{◌≡◌, Some};
+ghost use Rattle.ppd_check_names.specs.Faults.{is_before, first, first_of_both, unless, if_so};
 
 use ppd_ast::Place;
 
 /// What a source can have too many of, in the order in which they are answered at one place.
-#[derive(Clone, Copy, Debug)]
+#[derive(Clone, Copy, PartialEq, Eq, PartialOrd, Ord, Debug)]
 pub enum Limit {
     /// More than 4,096 core statements.
     Statements,
@@ -24,7 +24,7 @@ pub enum Limit {
 }
 
 /// A rule that a source can break, in the order of their numbers.
-#[derive(Clone, Copy)]
+#[derive(Clone, Copy, PartialEq, Eq, PartialOrd, Ord)]
 pub enum Cause {
     Twice,
     Unknown,
@@ -38,56 +38,10 @@ pub enum Cause {
 }
 
 /// A broken rule and its place. Broken rules are ordered by their places, then in the rules' order.
-#[derive(Clone, Copy)]
+#[derive(Clone, Copy, PartialEq, Eq, PartialOrd, Ord)]
 pub struct Fault {
     pub place: Place,
     pub cause: Cause,
-}
-
-// The order of the limits.
-fn limit_rank(limit: Limit) -> u8
-    ensures value { result ≡ limit_rank limit }
-    ensures few { result ≤ 6 }
-{
-    match limit {
-        Limit::Statements => 0,
-        Limit::Functions => 1,
-        Limit::Processes => 2,
-        Limit::Semaphores => 3,
-        Limit::Channels => 4,
-        Limit::Shared => 5,
-        Limit::Locals => 6,
-    }
-}
-
-// A rule's number, times ten, and among the limits their order.
-fn rank(cause: Cause) -> u8
-    ensures { result ≡ rank cause }
-{
-    match cause {
-        Cause::Twice => 10,
-        Cause::Unknown => 20,
-        Cause::WrongKind => 30,
-        Cause::Arity => 40,
-        Cause::ReturnPlace => 50,
-        Cause::VoidValue => 60,
-        Cause::NoProcess => 70,
-        Cause::TooMany(limit) => 80 + limit_rank(limit),
-        Cause::BadSize => 90,
-    }
-}
-
-// By the first numbers, and where these are equal by the test.
-fn by_then(a: u32, b: u32, next: bool) -> bool
-    ensures { result ≡ by_then a b next }
-{
-    if a < b {
-        true
-    } else if a == b {
-        next
-    } else {
-        false
-    }
 }
 
 impl Fault {
@@ -95,9 +49,7 @@ impl Fault {
     fn is_before(&self, other: &Fault) -> bool
         ensures { result ≡ is_before self.now other.now }
     {
-        let by_rule = rank(self.cause) < rank(other.cause);
-        let by_column = by_then(self.place.column, other.place.column, by_rule);
-        by_then(self.place.line, other.place.line, by_column)
+        self < other
     }
 }
 

@@ -8,18 +8,18 @@ use thiserror::Error;
 pub enum CleanError {
     /// The past of this internal edge has an edge of a race: the least such edge of the process, from the one in which
     /// the interval begins.
-    #[error("a race touches the past of edge {} of process {}", .0.edge, .0.process)]
+    #[error("a race touches the past of this edge")]
     Unclean(EdgeId),
     /// The interval has no item of this number, and reaches no such edge.
     #[error("the interval has no item of this number")]
     NoEvent,
     /// The log of an interval of this process, cut off before the races, is not one of a run: its replay cannot go on
     /// with this entry.
-    #[error("the replay of process {process} cannot go on with entry {entry}")]
+    #[error("the replay cannot go on with this entry")]
     Diverged { process: u8, entry: u32 },
     /// The write set of this entry, a synchronization or an end, has the cell, and the replay of the internal edge
     /// that it ends does not write it.
-    #[error("process {process}: the internal edge that entry {entry} ends does not write cell {cell}")]
+    #[error("the internal edge that this entry ends does not write this cell")]
     Sets { process: u8, entry: u32, cell: u16 },
     /// Want of memory, also for items that have no 32-bit numbers.
     #[error("want of memory")]

@@ -24,19 +24,19 @@ pub enum Field {
 #[derive(Clone, Copy, Debug, Drop, Error)]
 pub enum BadBytes {
     /// The first four bytes are not `PPDR`.
-    #[error("byte {0}: this is no recording")]
+    #[error("these bytes are no recording")]
     Magic(u32),
     /// The version is neither 1 nor 2.
-    #[error("byte {0}: this version is not known")]
+    #[error("this version is not known")]
     Version(u32),
     /// The bytes end before this field does.
-    #[error("byte {0}: the recording ends before this field does")]
+    #[error("the recording ends before this field does")]
     Short(u32),
     /// The field has no lawful value. `Version` is at 4: it is not the one that the source asks for.
-    #[error("byte {0}: this field has no lawful value")]
+    #[error("this field has no lawful value")]
     Range(u32, Field),
     /// A byte follows the last entry.
-    #[error("byte {0}: bytes follow the last entry")]
+    #[error("bytes follow the last entry")]
     Trailing(u32),
     /// The source is not accepted: its first fault, which is never want of memory.
     #[error(transparent)]

@@ -15,7 +15,7 @@ pub enum EmulError {
     /// The log is not one of a run of this interval: the entry of this number in the process's log
     /// is the first that the replay cannot go on with. `wanted` is what it needed there, and
     /// `found` what stands there.
-    #[error("the replay cannot go on with entry {entry}")]
+    #[error("the replay cannot go on with this entry")]
     Diverged {
         entry: u32,
         wanted: Wanted,

@@ -5,14 +5,14 @@ use thiserror::Error;
 #[derive(Clone, Copy, PartialEq, Debug, Error)]
 pub enum FlowError {
     /// The log of an interval of this process is not one of a run: its replay cannot go on with this entry.
-    #[error("the replay of process {process} cannot go on with entry {entry}")]
+    #[error("the replay cannot go on with this entry")]
     Diverged { process: u8, entry: u32 },
     /// The interval has no item of this number.
     #[error("the interval has no item of this number")]
     NoEvent,
     /// The write set of this entry, a synchronization or an end, has the cell, and the replay of the internal edge
     /// that it ends does not write it.
-    #[error("process {process}: the internal edge that entry {entry} ends does not write cell {cell}")]
+    #[error("the internal edge that this entry ends does not write this cell")]
     Sets { process: u8, entry: u32, cell: u16 },
     /// Want of memory, also for items that have no 32-bit numbers.
     #[error("want of memory")]

@@ -10,7 +10,7 @@ pub enum BadSync {
     #[error("the number of this synchronization stood before")]
     NumberTwice(At),
     /// The synchronization of this kind, object and number is missing.
-    #[error("a synchronization is missing")]
+    #[error("a synchronization of this number is missing")]
     NumberMissing(SyncKind, u8, u32),
     /// Synchronizations each of which leads to the next, and the last to the first.
     #[error("synchronizations lead back to the first of them")]

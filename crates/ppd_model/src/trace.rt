@@ -32,7 +32,7 @@ pub struct Trace {
 pub enum DriveError {
     /// The number at this place of the schedule, from 0, names no enabled process, and it is the
     /// first such.
-    #[error("number {0} of the schedule names no process that can take a step")]
+    #[error("this number of the schedule names no process that can take a step")]
     NotEnabled(u32),
     /// Want of memory.
     #[error("want of memory")]

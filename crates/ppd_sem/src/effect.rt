@@ -1,11 +1,7 @@
-ghost use Rattle.std.specs.Prelude.{◌≡◌, ◌<◌, ◌^◌, length, IfOk, Ok, Err, if◌then◌else◌};
+ghost use Rattle.std.specs.Prelude.{◌≡◌, ◌<◌, ◌^◌, length, IfOk};
 ghost use Rattle.std.specs.List.{All};
 ghost use Rattle.ppd_ast.specs.Table.{AreChildrenBelow, EachAt};
 ghost use Rattle.ppd_ast.specs.declared.program.Kind.TheVariants.{Set};
-ghost use Rattle.ppd_ast.specs.declared.status.Trap.TheVariants.{Assert};
-ghost use Rattle.ppd_sem.specs.declared.asking.Pause.TheVariants.{Traps};
-ghost use Rattle.ppd_sem.specs.declared.effect.Effect.TheVariants.{Leave, Pass, Turn};
-ghost use Rattle.ppd_sem.specs.Ask.{is_zero as is_zero_of};
 ghost use Rattle.ppd_sem.specs.Asked.{outcome};
 ghost use Rattle.ppd_sem.specs.Deed.{ask_all, ask_deed};
 ghost use Rattle.ppd_sem.specs.Effects.{HasRange, deed_if, given, given_if};
@@ -51,10 +47,10 @@ fn check_all(exprs: &[Expr], arguments: &[u32], cells: &[i64], answers: &[i64]) 
 {
     match arguments {
         [] => Ok(()),
-        [first, rest @ ..] => match ask(exprs, *first, cells, answers) {
-            Ok((_, left)) => check_all(exprs, rest, cells, left),
-            Err(pause) => Err(pause),
-        },
+        [first, rest @ ..] => {
+            let (_, left) = ask(exprs, *first, cells, answers)?;
+            check_all(exprs, rest, cells, left)
+        }
     }
 }
 
@@ -75,50 +71,24 @@ fn assigned(
     ensures range { IfOk result HasRange }
 {
     match target {
-        Target::Local(cell) => match ask(exprs, value, cells, answers) {
-            Ok((value, _)) => Ok(Effect::SetLocal(cell, value)),
-            Err(pause) => Err(pause),
-        },
-        Target::LocalAt { base, len, at } => match place(exprs, base, len, at, cells, answers) {
-            Ok((cell, rest)) => match ask(exprs, value, cells, rest) {
-                Ok((value, _)) => Ok(Effect::SetLocal(cell, value)),
-                Err(pause) => Err(pause),
-            },
-            Err(pause) => Err(pause),
-        },
-        Target::Shared(cell) => match ask(exprs, value, cells, answers) {
-            Ok((value, _)) => Ok(Effect::SetShared(cell, value)),
-            Err(pause) => Err(pause),
-        },
-        Target::SharedAt { base, len, at } => match place(exprs, base, len, at, cells, answers) {
-            Ok((cell, rest)) => match ask(exprs, value, cells, rest) {
-                Ok((value, _)) => Ok(Effect::SetShared(cell, value)),
-                Err(pause) => Err(pause),
-            },
-            Err(pause) => Err(pause),
-        },
-    }
-}
-
-/// What a `While` does by the value of its test.
-fn turn_or_leave(value: i64) -> Effect
-    ensures { result ≡ (if is_zero_of value then Leave else Turn) }
-{
-    if is_zero(value) {
-        Effect::Leave
-    } else {
-        Effect::Turn
-    }
-}
-
-/// What an `Assert` of this value does.
-fn asserted(value: i64) -> Result<Effect, Pause>
-    ensures { result ≡ (if is_zero_of value then Err (Traps Assert) else Ok Pass) }
-{
-    if is_zero(value) {
-        Err(Pause::Traps(Trap::Assert))
-    } else {
-        Ok(Effect::Pass)
+        Target::Local(cell) => {
+            let (value, _) = ask(exprs, value, cells, answers)?;
+            Ok(Effect::SetLocal(cell, value))
+        }
+        Target::LocalAt { base, len, at } => {
+            let (cell, rest) = place(exprs, base, len, at, cells, answers)?;
+            let (value, _) = ask(exprs, value, cells, rest)?;
+            Ok(Effect::SetLocal(cell, value))
+        }
+        Target::Shared(cell) => {
+            let (value, _) = ask(exprs, value, cells, answers)?;
+            Ok(Effect::SetShared(cell, value))
+        }
+        Target::SharedAt { base, len, at } => {
+            let (cell, rest) = place(exprs, base, len, at, cells, answers)?;
+            let (value, _) = ask(exprs, value, cells, rest)?;
+            Ok(Effect::SetShared(cell, value))
+        }
     }
 }
 
@@ -139,42 +109,49 @@ pub(crate) fn effect_of(
     match kind {
         Kind::Set(target, value) => assigned(exprs, *target, *value, cells, answers),
         Kind::Zero { base, len } => Ok(Effect::Clear(*base, *len)),
-        Kind::If(test, _, _) => match ask(exprs, *test, cells, answers) {
-            Ok((value, _)) => Ok(Effect::Branch(!is_zero(value))),
-            Err(pause) => Err(pause),
-        },
-        Kind::While(test, _) => match ask(exprs, *test, cells, answers) {
-            Ok((value, _)) => Ok(turn_or_leave(value)),
-            Err(pause) => Err(pause),
-        },
+        Kind::If(test, _, _) => {
+            let (value, _) = ask(exprs, *test, cells, answers)?;
+            Ok(Effect::Branch(!is_zero(value)))
+        }
+        Kind::While(test, _) => {
+            let (value, _) = ask(exprs, *test, cells, answers)?;
+            Ok(if is_zero(value) {
+                Effect::Leave
+            } else {
+                Effect::Turn
+            })
+        }
         Kind::Call {
             function,
             args,
             into,
-        } => match check_all(exprs, args.as_slice(), cells, answers) {
-            Ok(()) => Ok(Effect::Invoke(*function, *into)),
-            Err(pause) => Err(pause),
-        },
+        } => {
+            check_all(exprs, args.as_slice(), cells, answers)?;
+            Ok(Effect::Invoke(*function, *into))
+        }
         Kind::Return(None) => Ok(Effect::Back(None)),
-        Kind::Return(Some(value)) => match ask(exprs, *value, cells, answers) {
-            Ok((value, _)) => Ok(Effect::Back(Some(value))),
-            Err(pause) => Err(pause),
-        },
+        Kind::Return(Some(value)) => {
+            let (value, _) = ask(exprs, *value, cells, answers)?;
+            Ok(Effect::Back(Some(value)))
+        }
         Kind::P(sem) => Ok(Effect::Take(*sem)),
         Kind::V(sem) => Ok(Effect::Give(*sem)),
-        Kind::Send(chan, value) => match ask(exprs, *value, cells, answers) {
-            Ok((value, _)) => Ok(Effect::Send(*chan, value)),
-            Err(pause) => Err(pause),
-        },
+        Kind::Send(chan, value) => {
+            let (value, _) = ask(exprs, *value, cells, answers)?;
+            Ok(Effect::Send(*chan, value))
+        }
         Kind::Recv(chan, into) => Ok(Effect::Receive(*chan, *into)),
-        Kind::Print(value) => match ask(exprs, *value, cells, answers) {
-            Ok((value, _)) => Ok(Effect::Print(value)),
-            Err(pause) => Err(pause),
-        },
-        Kind::Assert(value) => match ask(exprs, *value, cells, answers) {
-            Ok((value, _)) => asserted(value),
-            Err(pause) => Err(pause),
-        },
+        Kind::Print(value) => {
+            let (value, _) = ask(exprs, *value, cells, answers)?;
+            Ok(Effect::Print(value))
+        }
+        Kind::Assert(value) => {
+            let (value, _) = ask(exprs, *value, cells, answers)?;
+            if is_zero(value) {
+                return Err(Pause::Traps(Trap::Assert));
+            }
+            Ok(Effect::Pass)
+        }
         Kind::End => Ok(Effect::Finish),
     }
 }

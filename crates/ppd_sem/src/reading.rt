@@ -1,9 +1,7 @@
-ghost use Rattle.std.specs.Prelude.{◌≡◌, ◌+◌, ◌<◌, ◌≤◌, ◌^◌, ◌++◌, length, OnOk};
+ghost use Rattle.std.specs.Prelude.{◌≡◌, ◌<◌, ◌^◌, ◌++◌, length, OnOk};
 ghost use Rattle.std.specs.List.{All};
 ghost use Rattle.ppd_ast.specs.Table.{AreChildrenBelow, EachAt};
-ghost use Rattle.ppd_ast.specs.Term.{and, local_at, or, shared_at, term};
-ghost use Rattle.ppd_sem.specs.Ask.{ask as ask_of};
-ghost use Rattle.ppd_sem.specs.Asked.{once};
+ghost use Rattle.ppd_ast.specs.Term.{term};
 ghost use Rattle.ppd_sem.specs.Reads.{local_read, reads_of, reads_of_all, reads_of_kind, shared_read};
 ghost use Rattle.ppd_sem.specs.Runs.{AreUses, IsUse};
 ghost use Rattle.ppd_sem.specs.Within.{IsWithin};
@@ -39,7 +37,6 @@ fn read_shared(reads: &mut Seq<Access>, cell: u16, answers: &[i64]) -> Result<()
 
 /// Adds the reads of expression `at` over the top frame's cells, in order of evaluation, as far
 /// as it is evaluated. `Memory` is want of memory.
-#[cycle(reading)]
 #[tactic(auto, using(crate::proofs::Readings::reading))]
 pub(crate) fn push_reads(
     reads: &mut Seq<Access>,
@@ -59,161 +56,43 @@ pub(crate) fn push_reads(
         Expr::Const(_) => Ok(()),
         Expr::Local(cell) => read_local(reads, frame, cells, cell),
         Expr::LocalAt { base, len, at } => {
-            push_local_element(reads, frame, exprs, (base, len, at), cells, answers)
+            push_reads(reads, frame, exprs, at, cells, answers)?;
+            match place(exprs, base, len, at, cells, answers) {
+                Ok((cell, _)) => read_local(reads, frame, cells, cell),
+                Err(_) => Ok(()),
+            }
         }
         Expr::Shared(cell) => read_shared(reads, cell, answers),
         Expr::SharedAt { base, len, at } => {
-            push_shared_element(reads, frame, exprs, (base, len, at), cells, answers)
+            push_reads(reads, frame, exprs, at, cells, answers)?;
+            match place(exprs, base, len, at, cells, answers) {
+                Ok((cell, rest)) => read_shared(reads, cell, rest),
+                Err(_) => Ok(()),
+            }
         }
         Expr::Neg(a) => push_reads(reads, frame, exprs, a, cells, answers),
         Expr::Not(a) => push_reads(reads, frame, exprs, a, cells, answers),
-        Expr::Two(_, a, b) => push_both(reads, frame, exprs, (a, b), cells, answers),
-        Expr::And(a, b) => push_while_true(reads, frame, exprs, (a, b), cells, answers),
-        Expr::Or(a, b) => push_while_false(reads, frame, exprs, (a, b), cells, answers),
-    }
-}
-
-/// Adds the reads of an element of a local array, by the array's first cell, its length and the index.
-#[cycle(reading)]
-#[tactic(auto, using(crate::proofs::Readings::reading))]
-fn push_local_element(
-    reads: &mut Seq<Access>,
-    frame: u8,
-    exprs: &[Expr],
-    element: (u16, u16, u32),
-    cells: &[i64],
-    answers: &[i64],
-) -> Result<(), Memory>
-    requires children { EachAt AreChildrenBelow exprs.now }
-    requires at_in { element.2 < length exprs.now }
-    requires within { IsWithin (length cells.now) (term exprs.now element.2) }
-    requires range { element.0 + element.1 ≤ length cells.now }
-    requires limit { length cells.now < 2 ^ 16 }
-    ensures { OnOk result
-        (reads.new ≡ reads.old
-        ++ reads_of frame (local_at element.0 element.1 (term exprs.now element.2)) cells.now answers.now) }
-{
-    let (base, len, at) = element;
-    push_reads(reads, frame, exprs, at, cells, answers)?;
-    match place(exprs, base, len, at, cells, answers) {
-        Ok((cell, _)) => read_local(reads, frame, cells, cell),
-        Err(_) => Ok(()),
-    }
-}
-
-/// Adds the reads of an element of a shared array, by the array's first cell, its length and the index.
-#[cycle(reading)]
-#[tactic(auto, using(crate::proofs::Readings::reading))]
-fn push_shared_element(
-    reads: &mut Seq<Access>,
-    frame: u8,
-    exprs: &[Expr],
-    element: (u16, u16, u32),
-    cells: &[i64],
-    answers: &[i64],
-) -> Result<(), Memory>
-    requires children { EachAt AreChildrenBelow exprs.now }
-    requires at_in { element.2 < length exprs.now }
-    requires within { IsWithin (length cells.now) (term exprs.now element.2) }
-    requires range { element.0 + element.1 < 2 ^ 16 }
-    requires limit { length cells.now < 2 ^ 16 }
-    ensures { OnOk result
-        (reads.new ≡ reads.old
-        ++ reads_of frame (shared_at element.0 element.1 (term exprs.now element.2)) cells.now answers.now) }
-{
-    let (base, len, at) = element;
-    push_reads(reads, frame, exprs, at, cells, answers)?;
-    match place(exprs, base, len, at, cells, answers) {
-        Ok((cell, rest)) => read_shared(reads, cell, rest),
-        Err(_) => Ok(()),
-    }
-}
-
-/// Adds the reads of both sides of an operator.
-#[cycle(reading)]
-#[tactic(auto, using(crate::proofs::Readings::reading))]
-fn push_both(
-    reads: &mut Seq<Access>,
-    frame: u8,
-    exprs: &[Expr],
-    operands: (u32, u32),
-    cells: &[i64],
-    answers: &[i64],
-) -> Result<(), Memory>
-    requires children { EachAt AreChildrenBelow exprs.now }
-    requires first_in { operands.0 < length exprs.now }
-    requires second_in { operands.1 < length exprs.now }
-    requires first_within { IsWithin (length cells.now) (term exprs.now operands.0) }
-    requires second_within { IsWithin (length cells.now) (term exprs.now operands.1) }
-    requires limit { length cells.now < 2 ^ 16 }
-    ensures { OnOk result
-        (reads.new ≡ reads.old ++ reads_of frame (term exprs.now operands.0) cells.now answers.now
-        ++ once (ask_of (term exprs.now operands.0) cells.now answers.now)
-        (λ x left. reads_of frame (term exprs.now operands.1) cells.now left)) }
-{
-    let (a, b) = operands;
-    push_reads(reads, frame, exprs, a, cells, answers)?;
-    match ask(exprs, a, cells, answers) {
-        Ok((_, rest)) => push_reads(reads, frame, exprs, b, cells, rest),
-        Err(_) => Ok(()),
-    }
-}
-
-/// Adds the reads of `a && b`.
-#[cycle(reading)]
-#[tactic(auto, using(crate::proofs::Readings::reading))]
-fn push_while_true(
-    reads: &mut Seq<Access>,
-    frame: u8,
-    exprs: &[Expr],
-    operands: (u32, u32),
-    cells: &[i64],
-    answers: &[i64],
-) -> Result<(), Memory>
-    requires children { EachAt AreChildrenBelow exprs.now }
-    requires first_in { operands.0 < length exprs.now }
-    requires second_in { operands.1 < length exprs.now }
-    requires first_within { IsWithin (length cells.now) (term exprs.now operands.0) }
-    requires second_within { IsWithin (length cells.now) (term exprs.now operands.1) }
-    requires limit { length cells.now < 2 ^ 16 }
-    ensures { OnOk result
-        (reads.new ≡ reads.old
-        ++ reads_of frame (and (term exprs.now operands.0) (term exprs.now operands.1)) cells.now answers.now) }
-{
-    let (a, b) = operands;
-    push_reads(reads, frame, exprs, a, cells, answers)?;
-    match ask(exprs, a, cells, answers) {
-        Ok((x, rest)) if !is_zero(x) => push_reads(reads, frame, exprs, b, cells, rest),
-        _ => Ok(()),
-    }
-}
-
-/// Adds the reads of `a || b`.
-#[cycle(reading)]
-#[tactic(auto, using(crate::proofs::Readings::reading))]
-fn push_while_false(
-    reads: &mut Seq<Access>,
-    frame: u8,
-    exprs: &[Expr],
-    operands: (u32, u32),
-    cells: &[i64],
-    answers: &[i64],
-) -> Result<(), Memory>
-    requires children { EachAt AreChildrenBelow exprs.now }
-    requires first_in { operands.0 < length exprs.now }
-    requires second_in { operands.1 < length exprs.now }
-    requires first_within { IsWithin (length cells.now) (term exprs.now operands.0) }
-    requires second_within { IsWithin (length cells.now) (term exprs.now operands.1) }
-    requires limit { length cells.now < 2 ^ 16 }
-    ensures { OnOk result
-        (reads.new ≡ reads.old
-        ++ reads_of frame (or (term exprs.now operands.0) (term exprs.now operands.1)) cells.now answers.now) }
-{
-    let (a, b) = operands;
-    push_reads(reads, frame, exprs, a, cells, answers)?;
-    match ask(exprs, a, cells, answers) {
-        Ok((x, rest)) if is_zero(x) => push_reads(reads, frame, exprs, b, cells, rest),
-        _ => Ok(()),
+        Expr::Two(_, a, b) => {
+            push_reads(reads, frame, exprs, a, cells, answers)?;
+            match ask(exprs, a, cells, answers) {
+                Ok((_, rest)) => push_reads(reads, frame, exprs, b, cells, rest),
+                Err(_) => Ok(()),
+            }
+        }
+        Expr::And(a, b) => {
+            push_reads(reads, frame, exprs, a, cells, answers)?;
+            match ask(exprs, a, cells, answers) {
+                Ok((x, rest)) if !is_zero(x) => push_reads(reads, frame, exprs, b, cells, rest),
+                _ => Ok(()),
+            }
+        }
+        Expr::Or(a, b) => {
+            push_reads(reads, frame, exprs, a, cells, answers)?;
+            match ask(exprs, a, cells, answers) {
+                Ok((x, rest)) if is_zero(x) => push_reads(reads, frame, exprs, b, cells, rest),
+                _ => Ok(()),
+            }
+        }
     }
 }
 

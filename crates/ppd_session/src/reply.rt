@@ -13,10 +13,10 @@ pub struct Reply {
 #[derive(Clone, Copy, Debug, Error)]
 pub enum SessionError {
     /// The replay of the interval that holds this entry cannot go on with it.
-    #[error("process {}: the replay cannot go on with entry {}", .0.process, .0.entry)]
+    #[error("the replay cannot go on with this entry")]
     Diverged(At),
     /// The write set of this entry has a cell that the replays of its internal edge write nowhere.
-    #[error("process {}: what entry {} ends does not write a cell of its write set", .0.process, .0.entry)]
+    #[error("what this entry ends does not write a cell of its write set")]
     Sets(At),
     /// Want of memory.
     #[error("want of memory")]

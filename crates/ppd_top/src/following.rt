@@ -33,7 +33,7 @@ pub enum FollowError {
     #[error(transparent)]
     Refused(SourceError),
     /// This number of the schedule, from 0, is the first that names no process that can take a step.
-    #[error("number {0} of the schedule names no process that can take a step")]
+    #[error("this number of the schedule names no process that can take a step")]
     NotEnabled(u32),
     /// Every number could be taken, and some process can take a step afterwards.
     #[error("a process can take a step after the schedule")]

@@ -5,7 +5,7 @@ use thiserror::Error;
 #[derive(Clone, Copy, Debug, Error)]
 pub enum WholeError {
     /// The replay of an interval of this process fails, at this entry.
-    #[error("the replay of process {process} cannot go on with entry {entry}")]
+    #[error("the replay cannot go on with this entry")]
     Diverged { process: u8, entry: u32 },
     /// Want of memory.
     #[error("want of memory")]
