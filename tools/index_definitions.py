@@ -79,10 +79,12 @@ HEADLINE = [
         [
             ("ppd_model/specs/Logs.antt", "closed_logs", "World::close"),
             ("ppd_emul_model/specs/Replay.antt", "replay", "emulate"),
+            ("law_rules/specs/Replays.antt", "Turns", "replays_follow_the_rules"),
             ("law_replay/specs/Theorem/Laws.antt", "ReplaysGiveIntervals", "replays_give_intervals"),
             ("ppd_flow/specs/Runs.antt", "GivesEdges", "edges"),
             ("ppd_flow/specs/Runs.antt", "CostsEdges", "edges"),
             ("ppd_model/specs/NearIntervals.antt", "near_intervals", "edges"),
+            ("law_rules/specs/Near.antt", "IsNear", "near_intervals_follow_the_rules"),
         ],
     ),
     (

@@ -1,0 +1,5 @@
+-- The rules, and the definitions that follow them.
+pub mod Starting
+pub mod Turning
+pub mod Nearing
+pub mod Spelling

@@ -1,0 +1,4 @@
+-- Rules, one constructor each.
+pub mod Replays
+pub mod Near
+pub mod Bytes
