@@ -3,3 +3,4 @@ pub mod Starting
 pub mod Turning
 pub mod Nearing
 pub mod Spelling
+pub mod Lacking

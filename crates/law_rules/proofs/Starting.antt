@@ -1,15 +1,14 @@
 -- The start of a unit, and the end of a process, by their rules.
-use Rattle.std.proofs.Common.{◌≡◌, ◌≢◌, ℕ, nat_eq, ℤ, Bool, true, false, List, zip, slice_get, Option, Some, None, unwrap_or, refl, ap, sym, ◌∙◌, subst, if◌then◌else◌}
+use Rattle.std.proofs.Common.{◌≡◌, ◌≢◌, ℕ, nat_eq, ℤ, Bool, true, false, List, Option, Some, None, unwrap_or, refl, ap, sym, ◌∙◌, subst, if◌then◌else◌}
 use Rattle.std.proofs.lemmas.Bool.{eq-eqb, eqb-false, eqb-true}
 use Rattle.ppd_ast.specs.declared.plan.Plan.{Plan}
 use Rattle.ppd_ast.specs.declared.status.Status.{Status}
 use Rattle.ppd_ast.specs.declared.status.SyncKind.{SyncKind}
 use Rattle.ppd_ast.specs.declared.status.SyncKind.TheVariants as sync_kind
 use Rattle.ppd_entry.specs.Pieces.{Piece, unit, sync, nested, unfinished, postlog, finish}
-use Rattle.ppd_model.specs.Story.{cells_of_unit}
 use Rattle.ppd_emul_model.specs.declared.wanted.Wanted.TheVariants as wanted
 use Rattle.ppd_emul_model.specs.Fits.{found_of, fits}
-use Rattle.ppd_emul_model.specs.Replay.{Replaying, Turn, more, done, end_here, fail, next_piece, past_piece, take_unit, take_unit_if, unit_taken}
+use Rattle.ppd_emul_model.specs.Replay.{Replaying, Turn, more, end_here, fail, next_piece, take_unit, take_unit_if, unit_taken}
 use Rattle.law_rules.specs.Replays.{EndsHere, EndsLater, Starts, no_unit, other_is_next, unit_is_next}
 
 -- ---- the start of a unit

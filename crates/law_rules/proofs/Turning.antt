@@ -1,5 +1,5 @@
 -- Turns of a replay, and replays, by their rules.
-use Rattle.std.proofs.Common.{◌≡◌, ◌≢◌, ℕ, zero, suc, ℤ, Bool, true, false, List, [], ◌∷◌, Option, Some, None, is_some, unwrap_or, refl, ap, sym, ◌∙◌, subst, if◌then◌else◌}
+use Rattle.std.proofs.Common.{◌≡◌, ◌≢◌, ℕ, Bool, true, false, Option, Some, None, is_some, unwrap_or, refl, ap, sym, ◌∙◌, subst, if◌then◌else◌}
 use Rattle.ppd_ast.specs.declared.plan.Plan.{Plan}
 use Rattle.ppd_ast.specs.declared.program.Program.{Program}
 use Rattle.ppd_ast.specs.declared.status.Status.{Status}
@@ -7,27 +7,24 @@ use Rattle.ppd_ast.specs.declared.status.Status.TheVariants as status
 use Rattle.ppd_ast.specs.declared.status.SyncKind.{SyncKind}
 use Rattle.ppd_ast.specs.declared.status.Trap.{Trap as TrapOf}
 use Rattle.ppd_ast.specs.declared.status.Trap.TheVariants as trap
-use Rattle.ppd_entry.specs.IntervalLogs.{IntervalLog}
 use Rattle.ppd_entry.specs.Pieces.{Piece, unit, sync, nested, unfinished, postlog, finish}
-use Rattle.ppd_sem.specs.declared.proc.Answer.TheVariants.{Value, Go}
+use Rattle.ppd_sem.specs.declared.proc.Answer.TheVariants.{Go}
 use Rattle.ppd_sem.specs.declared.proc.Need.{Need}
 use Rattle.ppd_sem.specs.declared.proc.Need.TheVariants.{Read, Write, Plain, Enter, Leave, Invoke, Back, P, V, Send, Offer, Done, Recv, End, Trap, Budget, Stopped}
-use Rattle.ppd_sem.specs.Blocks.{block_kind, block_unit, skipped, unit_past}
+use Rattle.ppd_sem.specs.Blocks.{block_kind, block_unit, unit_past}
 use Rattle.ppd_sem.specs.Described.{trap_of}
 use Rattle.ppd_sem.specs.Process.{need_of}
-use Rattle.ppd_model.specs.declared.flow.Item.TheVariants as item
 use Rattle.ppd_model.specs.Story.{unit_started}
 use Rattle.ppd_model.specs.Synchronizations.{kind_of_sync}
-use Rattle.ppd_emul_model.specs.declared.wanted.Found.{Found}
 use Rattle.ppd_emul_model.specs.declared.wanted.Found.TheVariants as found
 use Rattle.ppd_emul_model.specs.declared.wanted.Wanted.{Wanted}
 use Rattle.ppd_emul_model.specs.declared.wanted.Wanted.TheVariants as wanted
 use Rattle.ppd_emul_model.specs.Ending.{IsEndedBy, now, later, IsOverBy}
 use Rattle.ppd_emul_model.specs.Fits.{found_of, wanted_of, same_trap, fits}
-use Rattle.ppd_emul_model.specs.Replay.{Replaying, Replayed, Turn, more, done, begun_replay, counted, end_here, fail, finished, goes_on as another_step, is_budget, next_piece, past_piece, received, replay, skip_nested, step_with, step_without, stepped, synchronize, take_unit, take_unit_if, turn, turn_at_end, turn_at_trap, turn_by_end, turn_by_wanted, turn_within, value_in_force, with_call, with_event, with_item, with_write}
+use Rattle.ppd_emul_model.specs.Replay.{Replaying, Replayed, Turn, more, done, begun_replay, counted, end_here, fail, finished, goes_on as another_step, is_budget, next_piece, replay, step_with, step_without, stepped, take_unit, take_unit_if, turn_at_end, turn_at_trap, turn_by_end, turn_by_wanted, turn_within, with_event, with_write}
 use Rattle.ppd_emul_model.proofs.Ending.{replays_end}
-use Rattle.law_rules.specs.Replays.{ComesTo, EndsHere, EndsLater, Fits, IsNotAt, IsReplay, Needs, Replays, ReplaysFollowTheRules, Starts, Turns, TurnsFollowTheRules, ends, ends_too_early, enters, goes_on, is_over, leaves, needs_none, other_piece, reads, skips, stopped, synchronizes, too_dear, traps, traps_otherwise, waits}
-use Rattle.law_rules.proofs.Starting.{ends_here, ends_later, ends_once, end_of, none_here, start_by_rule, start_is, unit_by_rule}
+use Rattle.law_rules.specs.Replays.{ComesTo, EndsHere, EndsLater, Fits, IsNotAt, Needs, Replays, ReplaysFollowTheRules, Turns, TurnsFollowTheRules, ends, ends_too_early, enters, goes_on, is_over, leaves, needs_none, other_piece, reads, skips, stopped, synchronizes, too_dear, traps, traps_otherwise, waits}
+use Rattle.law_rules.proofs.Starting.{ends_here, ends_later, end_of, none_here, start_by_rule, start_is, unit_by_rule}
 
 -- ---- needs
 

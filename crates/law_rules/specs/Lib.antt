@@ -2,3 +2,4 @@
 pub mod Replays
 pub mod Near
 pub mod Bytes
+pub mod Missing

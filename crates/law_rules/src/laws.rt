@@ -1,4 +1,5 @@
 ghost use Rattle.law_rules.specs.Bytes.{RecordingsAreSpelledSo};
+ghost use Rattle.law_rules.specs.Missing.{MissingFollowsTheRules};
 ghost use Rattle.law_rules.specs.Near.{NearIntervalsFollowTheRules};
 ghost use Rattle.law_rules.specs.Replays.{ReplaysFollowTheRules, TurnsFollowTheRules};
 
@@ -16,4 +17,9 @@ pub fn near_intervals_follow_the_rules()
 /// Law: a recording has these bytes, field after field.
 pub fn recordings_are_spelled_so()
     ensures { RecordingsAreSpelledSo }
+{}
+
+/// Law: of the synchronizations of logs is missing what one of the rules says.
+pub fn missing_follows_the_rules()
+    ensures { MissingFollowsTheRules }
 {}
