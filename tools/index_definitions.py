@@ -33,6 +33,7 @@ HEADLINE = [
         "every interleaving that the threads take",
         [
             ("ppd_sem/specs/Process.antt", "need_of", "look"),
+            ("law_rules/specs/Needs.antt", "Needs", "needs_follow_the_rules"),
             ("ppd_sem/specs/Process.antt", "act", "feed"),
             ("ppd_model/specs/World.antt", "enabled", "World::enabled"),
             ("ppd_model/specs/World.antt", "step", "World::step"),

@@ -4,3 +4,4 @@ pub mod Turning
 pub mod Nearing
 pub mod Spelling
 pub mod Lacking
+pub mod Needing

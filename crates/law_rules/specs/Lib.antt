@@ -1,4 +1,5 @@
 -- Rules, one constructor each.
+pub mod Needs
 pub mod Replays
 pub mod Near
 pub mod Bytes

@@ -1,7 +1,13 @@
 ghost use Rattle.law_rules.specs.Bytes.{RecordingsAreSpelledSo};
 ghost use Rattle.law_rules.specs.Missing.{MissingFollowsTheRules};
 ghost use Rattle.law_rules.specs.Near.{NearIntervalsFollowTheRules};
+ghost use Rattle.law_rules.specs.Needs.{NeedsFollowTheRules};
 ghost use Rattle.law_rules.specs.Replays.{ReplaysFollowTheRules, TurnsFollowTheRules};
+
+/// Law: what the next step of a process needs is what one of the rules says.
+pub fn needs_follow_the_rules()
+    ensures { NeedsFollowTheRules }
+{}
 
 /// Law: a turn of a replay is what one of the rules says, and a replay what turns by the rules come to.
 pub fn replays_follow_the_rules()
