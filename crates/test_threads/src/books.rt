@@ -1,19 +1,17 @@
-// Turns by hand, without and with the lock.
-ghost use Rattle.std.specs.Prelude.{◌≡◌};
+// Turns and commits by hand, without and with the lock.
+ghost use Rattle.std.specs.Prelude.{◌≡◌, []};
 ghost use Rattle.ppd_ast.specs.Valid.{IsValid};
 ghost use Rattle.ppd_ast.specs.ValidPlan.{IsValidPlan};
 
 use Turn::{Over, Stepped};
-use ppd_ast::{Bytes, Memory, Plan, Policy, Program};
+use ppd_ast::{Plan, Policy, Program};
 use ppd_blocks::partition;
-use ppd_book::{Book, Commit, Job, Kept, Ran, Turn, View};
+use ppd_book::{Book, Commit, Job, Kept, Turn, View};
 use ppd_check::read_source;
 use ppd_world::World;
 use std::alloc::Global;
 use std::marker::Brand;
-use std::process::Abort;
 use std::sync::Wait;
-use std::test::Fail;
 use std::thread;
 use std::thread::Threads;
 
@@ -21,109 +19,127 @@ const TWO_WRITES: &str = "process a { int i; i = 1; i = 2; } process b { }";
 
 const SOURCE: &str = "sem s; process a { P(s); print(1); } process b { V(s); print(2); }";
 
-/// What these workers' turns do one after the other.
-fn take_turns<J: Job>(
-    alloc: Global,
-    kept: &mut Kept<'_, J>,
-    workers: &[u8],
-) -> Result<Vec<Turn>, Memory> {
-    let mut turns = Vec::new(alloc);
-    for worker in workers {
-        let turn = kept.turn(*worker)?;
-        if turns.push(turn).is_err() {
-            return Err(Memory);
+/// Workers, and what their turns do one after the other.
+type Turns = &'static [(u8, Turn)];
+
+/// What is done by hand before the close.
+enum Done {
+    Turns(Turns),
+    /// A view of worker 0, which goes on while it can if that is set; then turns, whether the commit takes the view's
+    /// steps, and the schedule so far.
+    View(bool, Turns, bool, &'static [u8]),
+    /// Two turns of this worker in a thread of its own, under the lock.
+    Lent(u8),
+}
+
+/// A source, what is done by hand, and the schedule after the close.
+struct Row {
+    source: &'static str,
+    done: Done,
+    schedule: &'static [u8],
+}
+
+const ROWS: [Row; 5] = [
+    // the worker's own process where that can take a step, else the lowest that can; process a waits for b
+    Row {
+        source: SOURCE,
+        done: Done::Turns(&[
+            (0, Stepped(1)),
+            (1, Stepped(1)),
+            (0, Stepped(0)),
+            (1, Stepped(1)),
+            (9, Stepped(0)),
+            (1, Stepped(0)),
+            (0, Over),
+        ]),
+        schedule: &[1, 1, 0, 1, 0, 0],
+    },
+    // a close takes what is left, here all
+    Row {
+        source: SOURCE,
+        done: Done::Turns(&[]),
+        schedule: &[1, 0, 0, 0, 1, 1],
+    },
+    // where the process was stepped after it was copied, nothing is committed
+    Row {
+        source: TWO_WRITES,
+        done: Done::View(false, &[(1, Stepped(1)), (1, Stepped(0))], false, &[1, 0]),
+        schedule: &[1, 0, 0, 0, 0],
+    },
+    // else three steps of the copy are, while another process ends
+    Row {
+        source: TWO_WRITES,
+        done: Done::View(true, &[(1, Stepped(1))], true, &[1, 0, 0, 0]),
+        schedule: &[1, 0, 0, 0, 0],
+    },
+    // a book that is lent to one thread, and closed by the caller
+    Row {
+        source: SOURCE,
+        done: Done::Lent(1),
+        schedule: &[1, 1, 0, 0, 0, 1],
+    },
+];
+
+/// Whether these turns do what is said.
+fn are_taken<J: Job>(kept: &mut Kept<'_, J>, turns: Turns) -> bool {
+    for (worker, told) in turns {
+        match kept.turn(*worker) {
+            Ok(turn) if turn == *told => {}
+            _ => return false,
         }
     }
-    Ok(turns)
+    true
 }
 
-/// What these workers' turns do one after the other, and the run after them.
-fn keep<J: Job>(
-    alloc: Global,
-    program: &Program,
-    plan: &Plan,
-    workers: &[u8],
-) -> Result<(Vec<Turn>, Ran), Memory>
-    requires program { IsValid program.now }
-    requires plan { IsValidPlan program.now plan.now }
-    requires of_program { program.now ≡ J.program }
-    requires of_plan { plan.now ≡ J.plan }
-    requires of_budget { 1000 ≡ J.budget }
-{
-    let world = World::new(alloc, program, plan, 1_000)?;
-    let mut kept: Kept<'_, J> = Kept::new(alloc, world);
-    let turns = take_turns(alloc, &mut kept, workers)?;
-    let ran = kept.close()?;
-    Ok((turns, ran))
-}
-
-/// A view of worker 0, which goes on while it can if `goes` is set; then what these workers' turns do, the
-/// commit, and the schedule so far.
-fn look_and_commit<J: Job>(
-    alloc: Global,
-    program: &Program,
-    plan: &Plan,
-    goes: bool,
-    workers: &[u8],
-) -> Result<(Vec<Turn>, Commit, Bytes), Memory>
-    requires program { IsValid program.now }
-    requires plan { IsValidPlan program.now plan.now }
-    requires of_program { program.now ≡ J.program }
-    requires of_plan { plan.now ≡ J.plan }
-    requires of_budget { 1000 ≡ J.budget }
-{
-    let world = World::new(alloc, program, plan, 1_000)?;
-    let mut kept: Kept<'_, J> = Kept::new(alloc, world);
-    let Some(view) = kept.view(0)? else {
-        return Ok((Vec::new(alloc), Commit::Stale, Bytes::new(alloc)));
-    };
-    let (turns, commit) = commit_after(alloc, &mut kept, view, goes, workers)?;
-    Ok((turns, commit, kept.schedule))
-}
-
-/// What these workers' turns do after a view, which goes on before them if `goes` is set, and its commit.
-fn commit_after<'a, J: Job>(
-    alloc: Global,
-    kept: &mut Kept<'a, J>,
-    mut view: View<'a, J>,
-    goes: bool,
-    workers: &[u8],
-) -> Result<(Vec<Turn>, Commit), Memory> {
-    if goes {
-        go_on(&mut view)?;
-    }
-    let turns = take_turns(alloc, kept, workers)?;
-    let commit = kept.commit(view)?;
-    Ok((turns, commit))
-}
-
-fn go_on<J: Job>(view: &mut View<'_, J>) -> Result<(), Memory> {
+/// Takes steps of a view while it can go on.
+fn go_on<J: Job>(view: &mut View<'_, J>) -> bool {
     for _ in 0..100 {
-        if view.more() {
-            view.advance()?;
+        if view.more() && view.advance().is_err() {
+            return false;
         }
     }
-    Ok(())
+    true
 }
 
-/// Two turns of a worker in a thread of its own, and the run after them.
-fn lend<J: Job + Send + Sync, R: Threads + Wait + Sync>(
-    rt: &R,
-    alloc: Global,
-    program: &Program,
-    plan: &Plan,
-    worker: u8,
-) -> Result<Ran, Memory>
-    requires program { IsValid program.now }
-    requires plan { IsValidPlan program.now plan.now }
-    requires of_program { program.now ≡ J.program }
-    requires of_plan { plan.now ≡ J.plan }
-    requires of_budget { 1000 ≡ J.budget }
-{
-    let world = World::new(alloc, program, plan, 1_000)?;
-    let book: Book<'_, J> = Book::new(alloc, world);
-    take_two(rt, &book, worker);
-    book.close()
+/// Whether a view of worker 0 is committed after these turns, where its steps and they are taken.
+fn commit_after<J: Job>(kept: &mut Kept<'_, J>, goes: bool, turns: Turns) -> Option<Commit> {
+    let mut view = kept.view(0).ok()??;
+    let is_ready = (!goes || go_on(&mut view)) && are_taken(kept, turns);
+    let commit = kept.commit(view).ok()?;
+    if is_ready { Some(commit) } else { None }
+}
+
+/// Whether the commit of a view takes its steps, or takes none, as is said.
+fn is_committed<J: Job>(kept: &mut Kept<'_, J>, goes: bool, turns: Turns, told: bool) -> bool {
+    match commit_after(kept, goes, turns) {
+        Some(Commit::Done) => told,
+        Some(Commit::Stale) => !told,
+        None => false,
+    }
+}
+
+/// Whether this is the schedule so far.
+fn has_schedule<J: Job>(kept: &mut Kept<'_, J>, schedule: &[u8]) -> bool {
+    kept.schedule.as_slice() == schedule
+}
+
+/// Whether what is done by hand does what is said.
+fn is_done<J: Job>(kept: &mut Kept<'_, J>, done: &Done) -> bool {
+    match done {
+        Done::Turns(turns) => are_taken(kept, *turns),
+        Done::View(goes, turns, told, schedule) => {
+            is_committed(kept, *goes, *turns, *told) && has_schedule(kept, *schedule)
+        }
+        Done::Lent(_) => false,
+    }
+}
+
+fn is_kept<J: Job>(mut kept: Kept<'_, J>, row: &Row) -> bool {
+    let is_done = is_done(&mut kept, &row.done);
+    match kept.close() {
+        Ok(ran) => is_done && ran.schedule.as_slice() == row.schedule,
+        Err(_) => false,
+    }
 }
 
 fn take_two<'x, 'a, J: Job + Send + Sync, R: Threads + Wait + Sync>(
@@ -140,152 +156,75 @@ fn take_two<'x, 'a, J: Job + Send + Sync, R: Threads + Wait + Sync>(
     });
 }
 
-/// The same in a run whose job is named by `Brand`.
-fn kept(
-    alloc: Global,
-    program: &Program,
-    plan: &Plan,
-    workers: &[u8],
-) -> Result<(Vec<Turn>, Ran), Memory>
-    requires program { IsValid program.now }
-    requires plan { IsValidPlan program.now plan.now }
-{
-    keep::<Brand>(alloc, program, plan, workers)
-}
-
-fn committed(
-    alloc: Global,
-    program: &Program,
-    plan: &Plan,
-    goes: bool,
-    workers: &[u8],
-) -> Result<(Vec<Turn>, Commit, Bytes), Memory>
-    requires program { IsValid program.now }
-    requires plan { IsValidPlan program.now plan.now }
-{
-    look_and_commit::<Brand>(alloc, program, plan, goes, workers)
-}
-
-fn lent<R: Threads + Wait + Sync>(
+fn is_lent<J: Job + Send + Sync, R: Threads + Wait + Sync>(
     rt: &R,
-    alloc: Global,
-    program: &Program,
-    plan: &Plan,
+    book: Book<'_, J>,
     worker: u8,
-) -> Result<Ran, Memory>
-    requires program { IsValid program.now }
-    requires plan { IsValidPlan program.now plan.now }
-{
-    lend::<Brand, R>(rt, alloc, program, plan, worker)
-}
-
-/// The same of a source.
-fn kept_of(alloc: Global, source: &str, workers: &[u8]) -> Result<(Vec<Turn>, Ran), Fail> {
-    let program = read_source(alloc, source.as_bytes())?;
-    let plan = partition(alloc, &program, &Policy { leaf: 0, loops: 0 })?;
-    Ok(kept(alloc, &program, &plan, workers)?)
-}
-
-fn committed_of(
-    alloc: Global,
-    source: &str,
-    goes: bool,
-    workers: &[u8],
-) -> Result<(Vec<Turn>, Commit, Bytes), Fail> {
-    let program = read_source(alloc, source.as_bytes())?;
-    let plan = partition(alloc, &program, &Policy { leaf: 0, loops: 0 })?;
-    Ok(committed(alloc, &program, &plan, goes, workers)?)
-}
-
-fn lent_of<R: Threads + Wait + Sync>(
-    rt: &R,
-    alloc: Global,
-    source: &str,
-    worker: u8,
-) -> Result<Ran, Fail> {
-    let program = read_source(alloc, source.as_bytes())?;
-    let plan = partition(alloc, &program, &Policy { leaf: 0, loops: 0 })?;
-    Ok(lent(rt, alloc, &program, &plan, worker)?)
-}
-
-/// Workers, what their turns do one after the other, and the schedule after the close.
-const TURNS: [(&[u8], &[Turn], &[u8]); 2] = [
-    (
-        &[0, 1, 0, 1, 9, 1, 0],
-        &[
-            Stepped(1),
-            Stepped(1),
-            Stepped(0),
-            Stepped(1),
-            Stepped(0),
-            Stepped(0),
-            Over,
-        ],
-        &[1, 1, 0, 1, 0, 0],
-    ),
-    (&[], &[], &[1, 0, 0, 0, 1, 1]),
-];
-
-fn check_turns(
-    rt: &impl Abort,
-    alloc: Global,
-    workers: &[u8],
-    told: &[Turn],
     schedule: &[u8],
-) -> Result<(), Fail> {
-    let (turns, ran) = kept_of(alloc, SOURCE, workers)?;
-    assert_eq!(rt; turns.as_slice(), told);
-    assert_eq!(rt; ran.schedule.as_slice(), schedule);
-    Ok(())
-}
-
-// The worker's own process where that can take a step, else the lowest that can; process a waits for b. A close
-// takes what is left, here all.
-#[test]
-fn turns_and_a_close(rt: HostRuntime) -> Result<(), Fail> {
-    for (workers, told, schedule) in TURNS {
-        check_turns(&rt, rt.alloc(), workers, told, schedule)?;
+) -> bool {
+    take_two(rt, &book, worker);
+    match book.close() {
+        Ok(ran) => ran.schedule.as_slice() == schedule,
+        Err(_) => false,
     }
-    Ok(())
 }
 
-/// Whether the view goes on, workers, what their turns do, the commit, and the schedule after it.
-type Look = (bool, &'static [u8], &'static [Turn], Commit, &'static [u8]);
-
-const LOOKS: [Look; 2] = [
-    (
-        false,
-        &[1, 1],
-        &[Stepped(1), Stepped(0)],
-        Commit::Stale,
-        &[1, 0],
-    ),
-    (true, &[1], &[Stepped(1)], Commit::Done, &[1, 0, 0, 0]),
-];
-
-fn check_look(rt: &impl Abort, alloc: Global, look: Look) -> Result<(), Fail> {
-    let (goes, workers, told, end, schedule) = look;
-    let (turns, commit, taken) = committed_of(alloc, TWO_WRITES, goes, workers)?;
-    assert_eq!(rt; turns.as_slice(), told);
-    assert_eq!(rt; commit, end);
-    assert_eq!(rt; taken.as_slice(), schedule);
-    Ok(())
-}
-
-// Where the process was stepped after it was copied, nothing is committed; else three steps of the copy are,
-// while another process ends.
-#[test]
-fn a_commit_compares(rt: HostRuntime) -> Result<(), Fail> {
-    for look in LOOKS {
-        check_look(&rt, rt.alloc(), look)?;
+/// Whether a row holds over the run that `J` names.
+fn holds_as<J: Job + Send + Sync, R: Threads + Wait + Sync>(
+    rt: &R,
+    alloc: Global,
+    program: &Program,
+    plan: &Plan,
+    row: &Row,
+) -> bool
+    requires program { IsValid program.now }
+    requires plan { IsValidPlan program.now plan.now }
+    requires of_program { program.now ≡ J.program }
+    requires of_plan { plan.now ≡ J.plan }
+    requires of_budget { 1000 ≡ J.budget }
+{
+    let Ok(world) = World::new(alloc, program, plan, 1_000) else {
+        return false;
+    };
+    match row.done {
+        Done::Lent(worker) => {
+            let book: Book<'_, J> = Book::new(alloc, world);
+            is_lent(rt, book, worker, row.schedule)
+        }
+        _ => {
+            let kept: Kept<'_, J> = Kept::new(alloc, world);
+            is_kept(kept, row)
+        }
     }
-    Ok(())
 }
 
-// A book that is lent to one thread, and closed by the caller.
+/// The same in a run whose job is named by `Brand`.
+fn holds_of<R: Threads + Wait + Sync>(
+    rt: &R,
+    alloc: Global,
+    program: &Program,
+    plan: &Plan,
+    row: &Row,
+) -> bool
+    requires program { IsValid program.now }
+    requires plan { IsValidPlan program.now plan.now }
+{
+    holds_as::<Brand, R>(rt, alloc, program, plan, row)
+}
+
+fn holds<R: Threads + Wait + Sync>(rt: &R, alloc: Global, row: &Row) -> bool {
+    let Ok(program) = read_source(alloc, row.source.as_bytes()) else {
+        return false;
+    };
+    match partition(alloc, &program, &Policy { leaf: 0, loops: 0 }) {
+        Ok(plan) => holds_of(rt, alloc, &program, &plan, row),
+        Err(_) => false,
+    }
+}
+
 #[test]
-fn a_thread_takes_turns(rt: HostRuntime) -> Result<(), Fail> {
-    let ran = lent_of(&rt, rt.alloc(), SOURCE, 1)?;
-    assert_eq!(rt; ran.schedule.as_slice(), [1, 1, 0, 0, 0, 1].as_slice());
-    Ok(())
+fn turns_commits_and_a_close(rt: HostRuntime) {
+    for (number, row) in ROWS.iter().enumerate() {
+        assert!(rt; holds(&rt, rt.alloc(), row), "{number}");
+    }
 }

@@ -4,8 +4,6 @@
 #[cfg(test)]
 mod books;
 #[cfg(test)]
-mod called;
-#[cfg(test)]
 mod gates;
 #[cfg(test)]
 mod held;
