@@ -3,18 +3,18 @@
 #![tactic(auto)]
 
 mod asking;
-mod conversing;
 mod options;
 mod outcome;
+mod recorded;
 mod run;
 mod summary;
 mod telling;
 mod text;
 
 pub use asking::{refuse_replay, talk};
-pub use conversing::converse;
 pub use options::Options;
 pub use outcome::{Outcome, ended};
 pub use ppd_top_output::finish;
+pub use recorded::converse;
 pub use run::{ClosedRun, Means, RunByThreads, Task, run_task};
 pub use telling::{summarize, tell};

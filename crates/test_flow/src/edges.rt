@@ -1,11 +1,11 @@
-ghost use Rattle.test_pasts.specs.Runs.{IsRan};
+ghost use Rattle.test_pasts.specs.Runs.{IsRan, IsRead};
 
 use crate::kept::{Asked, all_answer};
 use crate::traced::{Told, stand_so};
 use ppd_ast::Policy;
 use std::alloc::Global;
 use std::thread::Threads;
-use test_pasts::{Ran, Row, read_row, run};
+use test_pasts::{Ran, Read, Row, read_row, run};
 
 const FUNCTIONS: Policy = Policy { leaf: 0, loops: 0 };
 
@@ -32,12 +32,25 @@ fn is_so(rt: &(impl Threads + Sync), alloc: Global, ran: &Ran<'_>, claim: &Claim
     }
 }
 
-fn holds(rt: &(impl Threads + Sync), alloc: Global, (row, claim): &Claimed) -> bool {
-    let Some(read) = read_row(alloc, row) else {
-        return false;
-    };
-    match run(alloc, &read, row.schedule) {
+/// Whether a claim is so of the run by this schedule.
+fn holds_of(
+    rt: &(impl Threads + Sync),
+    alloc: Global,
+    read: &Read,
+    schedule: &[u8],
+    claim: &Claim,
+) -> bool
+    requires { IsRead read.now }
+{
+    match run(alloc, read, schedule) {
         Some(ran) => is_so(rt, alloc, &ran, claim),
+        None => false,
+    }
+}
+
+fn holds(rt: &(impl Threads + Sync), alloc: Global, (row, claim): &Claimed) -> bool {
+    match read_row(alloc, row) {
+        Some(read) => holds_of(rt, alloc, &read, row.schedule, claim),
         None => false,
     }
 }

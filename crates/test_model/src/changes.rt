@@ -140,11 +140,19 @@ fn apply(alloc: Global, program: &mut Program, change: Change) -> Result<(), Mem
     Ok(())
 }
 
-/// Whether the source's program is valid after a change. None where memory is wanting.
+/// Whether the program is valid after a change. None where memory is wanting.
+fn is_valid_after(alloc: Global, program: &mut Program, change: Change) -> Option<bool> {
+    match apply(alloc, program, change) {
+        Ok(()) => Some(program.valid()),
+        Err(Memory) => None,
+    }
+}
+
 fn is_valid_with(alloc: Global, source: &str, change: Change) -> Option<bool> {
-    let mut program = read_source(alloc, source.as_bytes()).ok()?;
-    apply(alloc, &mut program, change).ok()?;
-    Some(program.valid())
+    match read_source(alloc, source.as_bytes()) {
+        Ok(mut program) => is_valid_after(alloc, &mut program, change),
+        Err(_) => None,
+    }
 }
 
 const ASSIGNMENT: &str = "shared int x; process a { x = 2; print(x + 3); }";

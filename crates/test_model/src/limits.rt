@@ -92,11 +92,19 @@ fn set(alloc: Global, program: &mut Program, limit: Limit) -> Result<(), Memory>
     }
 }
 
-/// Whether a program with so many of them is valid. None where memory is wanting.
+/// Whether the program is valid with so many of them. None where memory is wanting.
+fn is_valid_with(alloc: Global, program: &mut Program, limit: Limit) -> Option<bool> {
+    match set(alloc, program, limit) {
+        Ok(()) => Some(program.valid()),
+        Err(Memory) => None,
+    }
+}
+
 fn is_valid(alloc: Global, limit: Limit) -> Option<bool> {
-    let mut program = read_source(alloc, PRINTING.as_bytes()).ok()?;
-    set(alloc, &mut program, limit).ok()?;
-    Some(program.valid())
+    match read_source(alloc, PRINTING.as_bytes()) {
+        Ok(mut program) => is_valid_with(alloc, &mut program, limit),
+        Err(_) => None,
+    }
 }
 
 // Operators, nodes and nesting at their limits and one past them.

@@ -1,7 +1,7 @@
 //! Logs of what a graph looks at, which need be no run's.
 
 use ppd_ast::limits::MOST_NAMED;
-use ppd_ast::{Cells, Memory, Seq, SyncKind};
+use ppd_ast::{Cells, Memory, Program, Seq, SyncKind};
 use ppd_check::read_source;
 use ppd_entry::{Boxed, BoxedCells, Entry, Logs, Status};
 use ppd_graph::{SyncGraph, graph};
@@ -58,15 +58,22 @@ fn lists(alloc: Global, first: Seq<Entry>, second: Seq<Entry>) -> Result<Logs, M
 }
 
 /// The graph of logs, of a program of which only the objects count. None where they have none, or memory is wanting.
-fn graph_of(alloc: Global, source: &str, logs: &Logs) -> Option<SyncGraph> {
-    let program = read_source(alloc, source.as_bytes()).ok()?;
+fn graph_among(alloc: Global, program: &Program, logs: &Logs) -> Option<SyncGraph> {
     if program.sems.len() > MOST_NAMED || program.chans.len() > MOST_NAMED {
         return None;
     }
     if logs.lists.len() > MOST_NAMED {
         return None;
     }
-    graph(alloc, &program, logs).ok()
+    graph(alloc, program, logs).ok()
+}
+
+/// The same of a source.
+fn graph_of(alloc: Global, source: &str, logs: &Logs) -> Option<SyncGraph> {
+    match read_source(alloc, source.as_bytes()) {
+        Ok(program) => graph_among(alloc, &program, logs),
+        Err(_) => None,
+    }
 }
 
 /// The graph of what two processes wrote.

@@ -1,6 +1,7 @@
 // What the steps of a process need, one after the other, under the plan of a policy whose lists of cells are empty.
 
 ghost use Rattle.std.specs.Prelude.{◌≤◌, ◌+◌, ◌<◌, ◌^◌, length};
+ghost use Rattle.ppd_ast.specs.Valid.{IsValid};
 ghost use Rattle.ppd_sem.specs.Runs.{IsNumbered, IsRunnable, IsRunning};
 
 use ppd_ast::limits::MOST_POLICY;
@@ -114,21 +115,33 @@ fn runs(alloc: Global, program: &Program, plan: &Plan, row: &Row) -> Option<bool
         return None;
     }
     valid_can_run();
-    let mut proc = Proc::start(alloc, program, plan, 0, row.budget).ok()?;
-    have_needs(program, plan, &mut proc, row.given, row.needs).ok()
+    match Proc::start(alloc, program, plan, 0, row.budget) {
+        Ok(mut proc) => have_needs(program, plan, &mut proc, row.given, row.needs).ok(),
+        Err(_) => None,
+    }
 }
 
-fn holds(alloc: Global, row: &Row) -> Option<bool> {
+fn holds_of(alloc: Global, program: &Program, row: &Row) -> Option<bool>
+    requires { IsValid program.now }
+{
     if row.loops > MOST_POLICY {
         return None;
     }
-    let program = read_source(alloc, row.source.as_bytes()).ok()?;
     let policy = Policy {
         leaf: 0,
         loops: row.loops,
     };
-    let plan = Plan::bare(alloc, &program, &policy).ok()?;
-    runs(alloc, &program, &plan, row)
+    match Plan::bare(alloc, program, &policy) {
+        Ok(plan) => runs(alloc, program, &plan, row),
+        Err(_) => None,
+    }
+}
+
+fn holds(alloc: Global, row: &Row) -> Option<bool> {
+    match read_source(alloc, row.source.as_bytes()) {
+        Ok(program) => holds_of(alloc, &program, row),
+        Err(_) => None,
+    }
 }
 
 const ROWS: [Row; 6] = [

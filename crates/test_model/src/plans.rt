@@ -168,6 +168,11 @@ fn add_units(alloc: Global, plan: &mut Plan, starts: &[Start]) -> Result<(), Mem
     Ok(())
 }
 
+fn fill(alloc: Global, plan: &mut Plan, parts: &[Part], starts: &[Start]) -> Result<(), Memory> {
+    add_blocks(alloc, plan, parts)?;
+    add_units(alloc, plan, starts)
+}
+
 /// Whether a program and these parts are a valid plan. None where memory is wanting.
 fn is_plan(alloc: Global, program: &Program, planned: Planned) -> Option<bool> {
     let (_, (leaf, loops), parts, starts, _) = planned;
@@ -176,14 +181,17 @@ fn is_plan(alloc: Global, program: &Program, planned: Planned) -> Option<bool> {
         blocks: Seq::new(alloc),
         units: Seq::new(alloc),
     };
-    add_blocks(alloc, &mut plan, parts).ok()?;
-    add_units(alloc, &mut plan, starts).ok()?;
-    Some(plan.valid(program))
+    match fill(alloc, &mut plan, parts, starts) {
+        Ok(()) => Some(plan.valid(program)),
+        Err(Memory) => None,
+    }
 }
 
 fn is_planned(alloc: Global, planned: Planned) -> Option<bool> {
-    let program = read_source(alloc, planned.0.as_bytes()).ok()?;
-    is_plan(alloc, &program, planned)
+    match read_source(alloc, planned.0.as_bytes()) {
+        Ok(program) => is_plan(alloc, &program, planned),
+        Err(_) => None,
+    }
 }
 
 fn are_planned(alloc: Global, rows: &[Planned]) -> bool {
@@ -249,11 +257,23 @@ fn has_bare(alloc: Global, program: &Program, plan: &Plan) -> bool
     }
 }
 
-/// Whether the buffer is valid, its plan so under the policies that are, and the plan without cells with it.
-fn holds_of_buffer(alloc: Global) -> Option<bool> {
-    let program = read_source(alloc, BUFFER.as_bytes()).ok()?;
-    let mut plan = partition(alloc, &program, &FUNCTIONS).ok()?;
-    Some(program.valid() && has_bare(alloc, &program, &plan) && has_policies(&program, &mut plan))
+/// Whether the program is valid, its plan so under the policies that are, and the plan without cells with it.
+fn is_valid_by_policies(alloc: Global, program: &Program) -> bool
+    requires { IsValid program.now }
+{
+    match partition(alloc, program, &FUNCTIONS) {
+        Ok(mut plan) => {
+            program.valid() && has_bare(alloc, program, &plan) && has_policies(program, &mut plan)
+        }
+        Err(_) => false,
+    }
+}
+
+fn holds_of_buffer(alloc: Global) -> bool {
+    match read_source(alloc, BUFFER.as_bytes()) {
+        Ok(program) => is_valid_by_policies(alloc, &program),
+        Err(_) => false,
+    }
 }
 
 #[test]
@@ -261,5 +281,5 @@ fn plans_of_worked_programs(rt: HostRuntime) {
     assert!(rt; are_planned(rt.alloc(), &CALLS));
     assert!(rt; are_planned(rt.alloc(), &RECURSIONS));
     assert!(rt; are_planned(rt.alloc(), &LOOPS));
-    assert!(rt; holds_of_buffer(rt.alloc()) == Some(true));
+    assert!(rt; holds_of_buffer(rt.alloc()));
 }

@@ -22,10 +22,18 @@ fn traced(alloc: Global, program: &Program, schedule: &[u8]) -> Option<Trace> {
 /// A source, a schedule, and the first events of each process.
 type Told<'a> = (&'a str, &'a [u8], &'a [&'a [Row]]);
 
-fn holds(alloc: Global, (source, schedule, all): Told) -> Option<bool> {
-    let program = read_source(alloc, source.as_bytes()).ok()?;
-    let trace = traced(alloc, &program, schedule)?;
-    Some(begin_so(&trace, all))
+fn holds_of(alloc: Global, program: &Program, schedule: &[u8], all: &[&[Row]]) -> bool {
+    match traced(alloc, program, schedule) {
+        Some(trace) => begin_so(&trace, all),
+        None => false,
+    }
+}
+
+fn holds(alloc: Global, (source, schedule, all): Told) -> bool {
+    match read_source(alloc, source.as_bytes()) {
+        Ok(program) => holds_of(alloc, &program, schedule, all),
+        Err(_) => false,
+    }
 }
 
 const X: Spot = Spot::Shared(0);
@@ -127,6 +135,6 @@ const TOLD: [Told; 3] = [
 #[test]
 fn schedules_have_their_traces(rt: HostRuntime) {
     for (number, row) in TOLD.iter().enumerate() {
-        assert!(rt; holds(rt.alloc(), *row) == Some(true), "{number}");
+        assert!(rt; holds(rt.alloc(), *row), "{number}");
     }
 }

@@ -68,6 +68,16 @@ fn are_answered(session: &mut Session<'_>, lines: &[Asked]) -> bool {
     true
 }
 
+/// Whether a session over a run answers so to these lines.
+fn answers_on(rt: &(impl Threads + Sync), alloc: Global, ran: &Ran<'_>, lines: &[Asked]) -> bool
+    requires { IsRan ran.now }
+{
+    match session_of(rt, alloc, ran) {
+        Some(mut session) => are_answered(&mut session, lines),
+        None => false,
+    }
+}
+
 fn answers_of(
     rt: &(impl Threads + Sync),
     alloc: Global,
@@ -77,11 +87,8 @@ fn answers_of(
 ) -> bool
     requires { IsRead read.now }
 {
-    let Some(ran) = ran_of(alloc, read, schedule) else {
-        return false;
-    };
-    match session_of(rt, alloc, &ran) {
-        Some(mut session) => are_answered(&mut session, lines),
+    match ran_of(alloc, read, schedule) {
+        Some(ran) => answers_on(rt, alloc, &ran, lines),
         None => false,
     }
 }

@@ -1,5 +1,5 @@
 use Rattle.ppd_top_runs.proofs.Conversing.{nothing_yet}
-use Rattle.ppd_top_runs.proofs.conversing.converse.Goals as goal
+use Rattle.ppd_top_runs.proofs.recorded.converse.Goals as goal
 
 pub returns-in_default : goal.returns-in_default
 returns-in_default g c = nothing_yet _ _ _
