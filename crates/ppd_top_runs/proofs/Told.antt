@@ -1,5 +1,5 @@
 -- What is told of a run by its logs is what belongs to its schedule.
-use Rattle.std.proofs.Common.{◌≡◌, ℕ, List, [], subst, ◌∙◌, ap}
+use Rattle.std.proofs.Common.{◌≡◌, ℕ, List, subst, ◌∙◌, ap}
 use Rattle.ppd_ast.specs.Valid.{IsValid}
 use Rattle.ppd_ast.specs.declared.plan.Plan.{Plan}
 use Rattle.ppd_ast.specs.declared.program.Program.{Program}
