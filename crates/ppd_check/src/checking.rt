@@ -1,16 +1,20 @@
 // The table of a tree, or the first rule that its source breaks.
-ghost use Rattle.std.specs.Prelude.{◌≡◌, ◌<◌, ◌≤◌, ◌*◌, true, false, [], ◌∷◌, ◌++◌, length, Some, IfOk, OnOk, map, ◌+◌};
+ghost use Rattle.std.specs.Prelude.{◌≡◌, ◌<◌, ◌≤◌, ◌*◌, true, false, [], ◌∷◌, ◌++◌, length, None, Some, IfOk, OnOk, map, nat_lt, ◌+◌};
 ghost use Rattle.ppd_check.specs.Answer.{IsCheckOf};
 ghost use Rattle.std.specs.List.{All};
 ghost use Rattle.ppd_parse.specs.Grammar.{Shape};
 ghost use Rattle.ppd_parse.specs.Tree.{tree_of, IsTable};
 ghost use Rattle.ppd_check_bodies.specs.Bodies.{WroteHeads};
-ghost use Rattle.ppd_check_names.specs.Holding.{head_at, IsHeadAt};
+ghost use Rattle.ppd_check_names.specs.declared.fault.Cause.TheVariants.{NoProcess};
+ghost use Rattle.ppd_check_names.specs.Faults.{first, first_of_both, unless};
+ghost use Rattle.ppd_check_names.specs.Globals.{globals as declared_by, no_globals, items_faults, count_faults};
+ghost use Rattle.ppd_check_names.specs.Holding.{head_at, Holds, IsHeadAt};
 ghost use Rattle.ppd_check_names.specs.Names.{innermost};
 ghost use Rattle.ppd_check_bodies.specs.Sources.{Accepted, core, first_fault, vars};
 ghost use Rattle.ppd_check_names.specs.Fitted.{as_short};
 ghost use Rattle.ppd_check.specs.Refused.{IsRefused};
-ghost use Rattle.ppd_check_names.specs.Cost.{nodes_at, total};
+ghost use Rattle.ppd_check_names.specs.Cost.{heads_nodes, nodes_at, total};
+ghost use Rattle.ppd_check_names.specs.Reading.{source_of};
 
 use crate::error::CheckError;
 use crate::places::note_statements;
@@ -159,6 +163,62 @@ fn checked_of(globals: Globals, lists: Lists) -> Checked
     }
 }
 
+// The lists of a table without rows, with what was found so far.
+fn no_lists(alloc: Global, found: Option<Fault>) -> Lists
+    ensures { result.out.table ≡ record { exprs = []; stmts = []; found = found } }
+{
+    let table = Writer {
+        exprs: Seq::new(alloc),
+        stmts: Seq::new(alloc),
+        found,
+    };
+    let row = Seq::new(alloc);
+    Lists {
+        out: Output { table, row },
+        bodies: Seq::new(alloc),
+        shared: Seq::new(alloc),
+    }
+}
+
+// All lists of a table, and the first rule that its source breaks after those of its declarations, which the lists
+// begin with.
+fn write_table<L: Ledger>(
+    alloc: Global,
+    source: Source<'_>,
+    globals: &mut Globals,
+    lists: &mut Lists,
+    steps: &mut Steps<L>,
+) -> Result<(), Memory>
+    requires holds { Holds source.nodes.now globals.old (declared_by (source_of (tree_of source.nodes.now))) }
+    requires begun { let s = source_of (tree_of source.nodes.now) in
+        lists.old.out.table ≡ record {
+          exprs = [];
+          stmts = [];
+          found = first_of_both
+            (first_of_both None (first (items_faults s.items no_globals ++ count_faults (declared_by s))))
+            (first (unless (nat_lt 0 (length (declared_by s).processes)) s.end NoProcess));
+        } }
+    requires heads { heads_nodes source.nodes.now globals.old ≤ nodes_at source.nodes.now 0 }
+    ensures program { OnOk result
+        (Accepted (tree_of source.entry.nodes.now)
+        → record {
+          exprs = lists.new.out.table.exprs;
+          stmts = lists.new.out.table.stmts;
+          bodies = lists.new.bodies;
+          functions = as_short (length globals.new.functions);
+          shared = lists.new.shared;
+          starts = globals.new.starts;
+          sems = globals.new.sems;
+          chans = globals.new.chans;
+        } ≡ core (tree_of source.entry.nodes.now)) }
+    ensures found { OnOk result (lists.new.out.table.found ≡ first_fault (tree_of source.entry.nodes.now)) }
+    ensures cost { steps.new ≤ steps.old + 140 * length source.entry.nodes.now + 1 }
+{
+    write_lists(alloc, source, globals, lists, steps)?;
+    let table = &mut lists.out.table;
+    note_statements(alloc, table.stmts.as_slice(), &mut table.found, steps)
+}
+
 // The table of a tree's nodes, and the first rule that it breaks; where it breaks one, the table says nothing.
 fn check_nodes<L: Ledger>(
     alloc: Global,
@@ -173,21 +233,9 @@ fn check_nodes<L: Ledger>(
     let mut found = None;
     let mut globals = globals_of(alloc, source, &mut found, steps)?;
     note_no_process(source, &globals, &mut found);
-    let table = Writer {
-        exprs: Seq::new(alloc),
-        stmts: Seq::new(alloc),
-        found,
-    };
-    let row = Seq::new(alloc);
-    let mut lists = Lists {
-        out: Output { table, row },
-        bodies: Seq::new(alloc),
-        shared: Seq::new(alloc),
-    };
-    write_lists(alloc, source, &mut globals, &mut lists, steps)?;
-    let table = &mut lists.out.table;
-    note_statements(alloc, table.stmts.as_slice(), &mut table.found, steps)?;
-    Ok(checked_of(globals, lists))
+    let mut lists = no_lists(alloc, found);
+    let done = write_table(alloc, source, &mut globals, &mut lists, steps);
+    done.and(Ok(checked_of(globals, lists)))
 }
 
 /// The table of a tree, as `check` answers it, in at most 150 steps for each node of the tree and 2,048 more for the
