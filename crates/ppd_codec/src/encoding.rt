@@ -1,7 +1,10 @@
 ghost use Rattle.std.specs.Prelude.{◌≡◌, ◌+◌, ◌<◌, ◌≤◌, ◌++◌, length, IfOk, OnOk};
 ghost use Rattle.ppd_ast.specs.declared.limits.TheConstants.{MOST_SOURCE_BYTES};
-ghost use Rattle.ppd_codec.specs.Format.{front as front_form, source as source_form};
-ghost use Rattle.ppd_codec.specs.Recordings.{AreLawful, IsRecordingOf, front_of};
+ghost use Rattle.ppd_ast.specs.declared.program.Program.{Program};
+ghost use Rattle.ppd_check.specs.Read.{IsRead};
+ghost use Rattle.ppd_codec.specs.declared.facts.Facts.{Facts};
+ghost use Rattle.ppd_codec.specs.Format.{front as front_form, logs as logs_form, source as source_form};
+ghost use Rattle.ppd_codec.specs.Recordings.{AreLawful, IsRecordingOf, front_of, version_of};
 
 use crate::facts::facts_of;
 use crate::recording::Header;
@@ -45,6 +48,36 @@ impl Writer {
         self.number_2(header.policy.loops, steps)?;
         self.source(source, steps)
     }
+
+    // All of the recording of these three.
+    fn recording<L: Ledger>(
+        &mut self,
+        version: u8,
+        header: &Header,
+        source: &[u8],
+        logs: &Logs,
+        steps: &mut Steps<L>,
+    ) -> Result<(), Memory>
+        requires lawful { AreLawful source.now header.now logs.now }
+        ensures ok { OnOk result
+            ((f : Facts) → self.new.out.items
+            ≡ (self.old.out.items ++ front_form.bytes (front_of version header.now source.now))
+            ++ (logs_form f).bytes logs.now.lists) }
+        ensures cost { steps.new + length self.old.out.items ≤ steps.old + length self.new.out.items }
+    {
+        self.front(version, header, source, steps)?;
+        self.logs(logs.lists.as_slice(), steps)
+    }
+}
+
+// The version of the recordings of a source. An accepted source has one but for want of memory.
+fn version_for(alloc: Global, source: &[u8]) -> Result<u8, Memory>
+    ensures { IfOk result (λ version. (p : Program) × IsRead source.now p × (version ≡ version_of p.chans)) }
+{
+    match read_source(alloc, source) {
+        Ok(program) => Ok(facts_of(&program).version),
+        Err(_) => Err(Memory),
+    }
 }
 
 /// The recording of these three, as `encode` answers it, in at most one step for each byte of it. A step is
@@ -60,13 +93,10 @@ pub fn encode_in<L: Ledger>(
     ensures rec { IfOk result (IsRecordingOf source.now header.now logs.now) }
     ensures cost { IfOk result (λ bytes. steps.new ≤ steps.old + length bytes) }
 {
-    let Ok(program) = read_source(alloc, source) else {
-        return Err(Memory);
-    };
+    let version = version_for(alloc, source)?;
     let mut writer = Writer::new(alloc);
-    writer.front(facts_of(&program).version, header, source, steps)?;
-    writer.logs(logs.lists.as_slice(), steps)?;
-    Ok(Bytes::from_vec(writer.out))
+    let done = writer.recording(version, header, source, logs, steps);
+    done.and(Ok(Bytes::from_vec(writer.out)))
 }
 
 // The same, with steps that nobody reads.
