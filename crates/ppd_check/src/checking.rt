@@ -195,8 +195,8 @@ fn write_table<L: Ledger>(
           exprs = [];
           stmts = [];
           found = first_of_both
-            (first_of_both None (first (items_faults s.items no_globals ++ count_faults (declared_by s))))
-            (first (unless (nat_lt 0 (length (declared_by s).processes)) s.end NoProcess));
+              (first_of_both None (first (items_faults s.items no_globals ++ count_faults (declared_by s))))
+              (first (unless (nat_lt 0 (length (declared_by s).processes)) s.end NoProcess));
         } }
     requires heads { heads_nodes source.nodes.now globals.old ≤ nodes_at source.nodes.now 0 }
     ensures program { OnOk result
