@@ -89,6 +89,32 @@ fn graphed(alloc: Global, bytes: &[u8], recording: &Recording) -> Result<SyncGra
     }
 }
 
+/// The index and the graph of the logs of a recording.
+fn linked(
+    alloc: Global,
+    bytes: &[u8],
+    recording: &Recording,
+) -> Result<(LogIndex, SyncGraph), NoRecall>
+    requires decoded { IsDecoded bytes.now recording.now }
+    requires program { IsValid recording.now.program }
+    ensures index { IfOk result (λ r. IsIndexOf recording.now.plan recording.now.logs r.0.tables) }
+    ensures fitting { OnOk result (AreFittingLogs recording.now.plan recording.now.logs) }
+    ensures passed { OnOk result
+        (first_in_lists recording.now.program recording.now.plan 0 recording.now.logs.lists ≡ None) }
+    ensures graph { IfOk result (λ r. IsGraphOf recording.now.program recording.now.logs r.1) }
+    ensures ordered { OnOk result (AreOrdered recording.now.program recording.now.logs) }
+    ensures err { IfErr result (IsNotRecalled bytes.now) }
+{
+    let index = indexed(alloc, bytes, recording)?;
+    match graphed(alloc, bytes, recording) {
+        Ok(graph) => Ok((index, graph)),
+        Err(error) => {
+            drop(index);
+            Err(error)
+        }
+    }
+}
+
 /// What the bytes of a recording hold, with the index and the graph of its logs. `Refused` comes exactly where the
 /// bytes are no recording, else its logs have no index, else they have no graph, with the line of the first test that
 /// fails; `Memory` is want of memory.
@@ -98,11 +124,15 @@ pub fn recall(alloc: Global, bytes: &[u8]) -> Result<Recalled, NoRecall>
     ensures err { IfErr result (IsNotRecalled bytes.now) }
 {
     let recording = decoded(alloc, bytes)?;
-    let index = indexed(alloc, bytes, &recording)?;
-    let graph = graphed(alloc, bytes, &recording)?;
-    Ok(Recalled {
-        recording,
-        index,
-        graph,
-    })
+    match linked(alloc, bytes, &recording) {
+        Ok((index, graph)) => Ok(Recalled {
+            recording,
+            index,
+            graph,
+        }),
+        Err(error) => {
+            drop(recording);
+            Err(error)
+        }
+    }
 }
