@@ -5,11 +5,12 @@ ghost use Rattle.ppd_ast.specs.Valid.{IsValid};
 ghost use Rattle.ppd_ast.specs.Lookups.{body_of, locals_of};
 ghost use Rattle.ppd_deps.specs.Edges.{edges_of};
 ghost use Rattle.ppd_deps.specs.Tables.{IsDepGraph};
+ghost use Rattle.ppd_sets.specs.SetsOf.{AreSetsOf};
 ghost use Rattle.ppd_session.specs.Texts.{deps_text, edge_line, variables_at as variables_in};
 
 use ppd_ast::{Memory, Program, Var};
 use ppd_deps::{DepGraph, StaticEdge, static_graph};
-use ppd_sets::sets;
+use ppd_sets::{VarSets, sets};
 use ppd_text::{put, put_number, put_stmt_at, var_name};
 use std::alloc::Global;
 
@@ -91,6 +92,38 @@ fn put_edges_into(
     put_edges(text, program, stmt, graph.edges_into(stmt))
 }
 
+// The line of a statement that is there, then the static edges into it.
+fn put_stmt_edges(
+    text: &mut Vec<u8>,
+    program: &Program,
+    graph: &DepGraph,
+    stmt: u32,
+) -> Result<(), Memory>
+    requires graph { IsDepGraph program.now graph.now }
+    requires there { stmt < length program.now.stmts }
+    ensures { OnOk result (text.new.items ≡ text.old.items ++ deps_text program.now stmt) }
+{
+    put_stmt_at(text, program, stmt)?;
+    put_edges_into(text, program, graph, stmt)
+}
+
+// The same by the sets of the program's variables.
+fn put_deps_by(
+    alloc: Global,
+    text: &mut Vec<u8>,
+    program: &Program,
+    sets: &VarSets,
+    stmt: u32,
+) -> Result<(), Memory>
+    requires valid { IsValid program.now }
+    requires sets { AreSetsOf program.now sets.now }
+    requires there { stmt < length program.now.stmts }
+    ensures { OnOk result (text.new.items ≡ text.old.items ++ deps_text program.now stmt) }
+{
+    let graph = static_graph(alloc, program, sets)?;
+    put_stmt_edges(text, program, &graph, stmt)
+}
+
 /// Appends a statement's line, then the static edges into it.
 pub(crate) fn put_deps(
     alloc: Global,
@@ -103,7 +136,5 @@ pub(crate) fn put_deps(
     ensures { OnOk result (text.new.items ≡ text.old.items ++ deps_text program.now stmt) }
 {
     let sets = sets(alloc, program)?;
-    let graph = static_graph(alloc, program, &sets)?;
-    put_stmt_at(text, program, stmt)?;
-    put_edges_into(text, program, &graph, stmt)
+    put_deps_by(alloc, text, program, &sets, stmt)
 }

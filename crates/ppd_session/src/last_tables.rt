@@ -11,6 +11,7 @@ use ppd_flow::{BlockTables, block_tables};
 use ppd_flow_past::Past;
 use ppd_model::Item;
 use std::alloc::Global;
+use std::mem::replace;
 
 /// The block that was asked for last, and the tables of its items once it was asked for twice in turn.
 #[derive(Drop)]
@@ -64,7 +65,7 @@ impl LastTables {
         }
         let tables = self.made(alloc, past, place, items);
         self.place = Some(place);
-        self.tables = tables;
+        drop(replace(&mut self.tables, tables));
     }
 
     /// The tables of this block, if they were made.

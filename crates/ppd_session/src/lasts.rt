@@ -256,6 +256,31 @@ fn put_cell_line(
     put_line(text, past, cell, found)
 }
 
+/// Appends a line for each shared cell, with the tables of the block that was asked for last.
+fn put_cell_lines(
+    alloc: Global,
+    text: &mut Vec<u8>,
+    past: &Past,
+    kept: &mut Kept,
+    tables: &mut LastTables,
+) -> Result<(), SessionError>
+    requires past { IsPast past.now }
+    requires uncut { past.now.cut.now ≡ past.now.logs.now }
+    requires kept { AreTold (known_by past.now []) kept.old.blocks }
+    requires tables { AreOfLast past.now tables.old }
+    ensures text { OnOk result
+        (text.new.items ≡ text.old.items ++ lasts_text past.now.program.now 0 (known_by past.now []).lasts) }
+    ensures told { OnOk result (first_unfound (known_by past.now []).lasts ≡ None) }
+    ensures error { IfErr result (IsWhy (first_unfound (known_by past.now []).lasts)) }
+    ensures kept { OnOk result (AreAsked (known_by past.now []) (last_blocks past.now) kept.old kept.new) }
+    ensures part { OnErr result (AreAskedInPart (known_by past.now []) (last_blocks past.now) kept.old kept.new) }
+{
+    for cell in 0..past.program.starts.len() {
+        put_cell_line(alloc, text, past, kept, tables, cell as u16)?;
+    }
+    Ok(())
+}
+
 /// Appends a line for each shared cell of a past without races.
 fn put_lines(
     alloc: Global,
@@ -274,10 +299,7 @@ fn put_lines(
     ensures part { OnErr result (AreAskedInPart (known_by past.now []) (last_blocks past.now) kept.old kept.new) }
 {
     let mut tables = LastTables::new();
-    for cell in 0..past.program.starts.len() {
-        put_cell_line(alloc, text, past, kept, &mut tables, cell as u16)?;
-    }
-    Ok(())
+    put_cell_lines(alloc, text, past, kept, &mut tables)
 }
 
 /// Appends the last value of each shared cell with the write of it, or how many races there are.
