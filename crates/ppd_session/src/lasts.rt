@@ -299,7 +299,9 @@ fn put_lines(
     ensures part { OnErr result (AreAskedInPart (known_by past.now []) (last_blocks past.now) kept.old kept.new) }
 {
     let mut tables = LastTables::new();
-    put_cell_lines(alloc, text, past, kept, &mut tables)
+    let done = put_cell_lines(alloc, text, past, kept, &mut tables);
+    drop(tables);
+    done
 }
 
 /// Appends the last value of each shared cell with the write of it, or how many races there are.
