@@ -1,6 +1,7 @@
 ghost use Rattle.std.specs.Prelude.{◌≡◌, ◌++◌, ◌∷◌, [], replicate, true, IfNone, IfOk, IfSome, OnErr, OnOk};
 ghost use Rattle.ppd_model.specs.Schedule.{IsOver};
-ghost use Rattle.ppd_world.specs.Running.{IsHeld, IsLowest, IsOf, IsReached, can_step, stepped};
+ghost use Rattle.ppd_world.specs.Plain.{ComesPrinting, stepped_times};
+ghost use Rattle.ppd_world.specs.Running.{IsHeld, IsLowest, IsOf, IsReached, Takes, can_step, stepped};
 
 use crate::commit::Commit;
 use crate::going::Going;
@@ -10,7 +11,7 @@ use crate::view::View;
 use ppd_ast::{Bytes, Memory};
 use ppd_book_steps::{is_current, step_down};
 use ppd_model::schedules_are_bounded;
-use ppd_sem::Need;
+use ppd_sem::{Need, Proc};
 use ppd_world::World;
 use std::alloc::Global;
 use std::marker::{Model, PhantomData};
@@ -28,6 +29,40 @@ fn write_down(schedule: &mut Bytes, number: u8, count: u32) -> Result<(), Memory
         }
     }
     Ok(())
+}
+
+/// Puts the state that process `p` comes to by so many steps in its place, and writes its number down once for
+/// each. `Memory` is want of memory: nothing changes.
+fn put_down(
+    world: &mut World<'_>,
+    schedule: &mut Bytes,
+    p: u8,
+    after: Proc,
+    steps: u32,
+) -> Result<(), Memory>
+    requires reached { IsReached world.old }
+    requires comes { ComesPrinting world.old p steps after }
+    ensures world { OnOk result (world.new ≡ stepped_times world.old p steps) }
+    ensures schedule { OnOk result (schedule.new ≡ schedule.old ++ replicate steps p) }
+    ensures same_world { OnErr result (world.new ≡ world.old) }
+    ensures same_schedule { OnErr result (schedule.new ≡ schedule.old) }
+    ensures comes { OnOk result (Takes world.old (replicate steps p) world.new) }
+    ensures kept { IsReached world.new }
+{
+    let first = schedule.len();
+    match write_down(schedule, p, steps) {
+        Ok(()) => match world.put_printing(p, after, steps) {
+            Ok(()) => Ok(()),
+            Err(_) => {
+                schedule.truncate(first);
+                Err(Memory)
+            }
+        },
+        Err(error) => {
+            drop(after);
+            Err(error)
+        }
+    }
 }
 
 /// What lies under the lock: a world of the run that `J` names, and the schedule that led to it: the
@@ -171,16 +206,16 @@ impl<'a, J: Job> Kept<'a, J> {
             count,
             of: _,
         } = view;
-        if !is_current(&self.world, worker, &before) {
+        let current = is_current(&self.world, worker, &before);
+        drop(before);
+        if !current {
+            drop(after);
             return Ok(Commit::Stale);
         }
-        let first = self.schedule.len();
-        write_down(&mut self.schedule, worker, count)?;
-        if self.world.put_printing(worker, after, count).is_err() {
-            self.schedule.truncate(first);
-            return Err(Memory);
+        match put_down(&mut self.world, &mut self.schedule, worker, after, count) {
+            Ok(()) => Ok(Commit::Done),
+            Err(error) => Err(error),
         }
-        Ok(Commit::Done)
     }
 
     /// Takes the turns that are left, lowest process first, and hands out the schedule with its closed
