@@ -1,8 +1,11 @@
 -- One more turn, and the last one.
-use Rattle.std.proofs.Common.{◌≡◌, ℕ, List, [], ◌∷◌, ◌++◌, ap, sym, ◌∙◌, subst}
+use Rattle.std.specs.Prelude.{IfOk}
+use Rattle.std.proofs.Common.{◌≡◌, ℕ, List, [], ◌∷◌, ◌++◌, Result, Ok, Err, ap, sym, ◌∙◌, subst}
 use Rattle.std.proofs.lemmas.List.{append_assoc, append-nil}
 use Rattle.ppd_model.specs.Schedule.{IsOver}
 use Rattle.ppd_world.specs.Running.{Running, IsLowest, stepped}
+use Rattle.ppd_book.specs.declared.turn.Ran.{Ran}
+use Rattle.ppd_book.specs.Held.{Held}
 use Rattle.ppd_book.specs.Turns.{GoesLowest}
 
 pub goes_more : (r last : Running) (h : List ℕ) (p : ℕ) → GoesLowest r h last → IsLowest last p → GoesLowest r (h ++ p ∷ []) (stepped last p)
@@ -28,3 +31,9 @@ none_left first now before after t over = nothing t.rest t.grew t.goes where
   nothing : (rest : List ℕ) → after ≡ before ++ rest → GoesLowest first rest now → after ≡ before
   nothing [] e g = e ∙ append-nil before
   nothing (p ∷ rest) e g = absurd (let can = g.0.can in let none = over.nobody p in cc)
+
+-- nor is a number that was not there handed out
+pub handed_out : {E : Type 0} (held last : Held) (rest : List ℕ) (r : Result Ran E) → last.schedule ≡ held.schedule ++ rest → GoesLowest held.world rest last.world → IfOk r (λ ran. ran.schedule ≡ last.schedule)
+    → IfOk r (λ ran. IsOver held.world.program held.world.plan held.world.world → ran.schedule ≡ held.schedule)
+handed_out held last rest (Ok ran) e g same = λ over. same ∙ none_left held.world last.world held.schedule last.schedule (record { rest = rest; grew = e; goes = g }) over
+handed_out held last rest (Err error) e g same = tt

@@ -1,4 +1,4 @@
-ghost use Rattle.std.specs.Prelude.{◌≡◌, ◌++◌, ◌∷◌, [], replicate, true, IfNone, IfOk, IfSome, OnErr, OnOk};
+ghost use Rattle.std.specs.Prelude.{◌≡◌, ℕ, ◌++◌, ◌∷◌, List, [], replicate, true, IfNone, IfOk, IfSome, OnErr, OnOk};
 ghost use Rattle.ppd_model.specs.Schedule.{IsOver};
 ghost use Rattle.ppd_world.specs.Plain.{ComesPrinting, stepped_times};
 ghost use Rattle.ppd_world.specs.Running.{IsHeld, IsLowest, IsOf, IsReached, Takes, can_step, stepped};
@@ -87,7 +87,7 @@ impl<'a, J: Job> Model for Kept<'a, J> {
 
 impl<'a, J: Job> Kept<'a, J> {
     ghost use Rattle.ppd_book.specs.Gone.{HasGone, IsOfWorker, WantsToGo};
-    ghost use Rattle.ppd_book.specs.Turns.{CanGoOn, ClosesFrom, IsOfProcess, IsTurn, KeepsBudget};
+    ghost use Rattle.ppd_book.specs.Turns.{CanGoOn, ClosesFrom, GoesLowest, IsOfProcess, IsTurn, KeepsBudget, RanToEnd};
     ghost use Rattle.ppd_book.specs.Views.{IsCommit, IsCurrent, IsViewed, need_in};
     ghost use Rattle.ppd_sem.specs.declared.proc.Need.TheVariants.{Plain};
 
@@ -218,6 +218,40 @@ impl<'a, J: Job> Kept<'a, J> {
         }
     }
 
+    /// Takes the turns that are left, lowest process first. `Memory` is want of memory: some were taken.
+    fn take_rest(&mut self) -> Result<(), Memory>
+        ensures over { OnOk result (IsOver self.new.world.program self.new.world.plan self.new.world.world) }
+        ensures taken { OnOk result ((rest : List ℕ) × (self.new.schedule ≡ self.old.schedule ++ rest)
+            × GoesLowest self.old.world rest self.new.world) }
+    {
+        while let Some(p) = self.lowest() {
+            self.take(p)?;
+        }
+        Ok(())
+    }
+
+    /// The schedule with its closed state, where nobody can take a step. `Memory` is want of memory: the value is gone.
+    fn hand_out(self) -> Result<Ran, Memory>
+        requires { IsOver self.world.program self.world.plan self.world.world }
+        ensures end { IfOk result (RanToEnd J.program J.plan J.budget) }
+        ensures schedule { IfOk result (λ ran. ran.schedule ≡ self.entry.schedule) }
+        ensures bounded { IfOk result (λ ran. KeepsBudget J.program J.budget ran.schedule) }
+    {
+        schedules_are_bounded();
+        let Kept {
+            world,
+            schedule,
+            of: _,
+        } = self;
+        match world.close() {
+            Ok(closed) => Ok(Ran { schedule, closed }),
+            Err(error) => {
+                drop(schedule);
+                Err(error)
+            }
+        }
+    }
+
     /// Takes the turns that are left, lowest process first, and hands out the schedule with its closed
     /// state. Where nobody can take a step, none are left. `Memory` is want of memory: the value is gone.
     pub fn close(mut self) -> Result<Ran, Memory>
@@ -227,16 +261,12 @@ impl<'a, J: Job> Kept<'a, J> {
             (λ ran. IsOver self.entry.world.program self.entry.world.plan self.entry.world.world
             → ran.schedule ≡ self.entry.schedule) }
     {
-        schedules_are_bounded();
-        while let Some(p) = self.lowest() {
-            self.take(p)?;
+        match self.take_rest() {
+            Ok(()) => self.hand_out(),
+            Err(error) => {
+                drop(self);
+                Err(error)
+            }
         }
-        let Kept {
-            world,
-            schedule,
-            of: _,
-        } = self;
-        let closed = world.close()?;
-        Ok(Ran { schedule, closed })
     }
 }
