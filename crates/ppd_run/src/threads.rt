@@ -133,6 +133,7 @@ fn take_view<'a, J: Job, G: Gate, R: Wait>(
     passes: &mut Passes<'_, G>,
 ) -> bool {
     if go_on(&mut view).is_err() {
+        drop(view);
         return false;
     }
     passes.pass();
