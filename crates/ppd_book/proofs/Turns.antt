@@ -32,7 +32,7 @@ none_left first now before after t over = nothing t.rest t.grew t.goes where
   nothing [] e g = e ∙ append-nil before
   nothing (p ∷ rest) e g = absurd (let can = g.0.can in let none = over.nobody p in cc)
 
--- nor is a number that was not there handed out
+-- so the schedule that is handed out is the first one
 pub handed_out : {E : Type 0} (held last : Held) (rest : List ℕ) (r : Result Ran E) → last.schedule ≡ held.schedule ++ rest → GoesLowest held.world rest last.world → IfOk r (λ ran. ran.schedule ≡ last.schedule)
     → IfOk r (λ ran. IsOver held.world.program held.world.plan held.world.world → ran.schedule ≡ held.schedule)
 handed_out held last rest (Ok ran) e g same = λ over. same ∙ none_left held.world last.world held.schedule last.schedule (record { rest = rest; grew = e; goes = g }) over

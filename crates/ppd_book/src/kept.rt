@@ -230,7 +230,8 @@ impl<'a, J: Job> Kept<'a, J> {
         Ok(())
     }
 
-    /// The schedule with its closed state, where nobody can take a step. `Memory` is want of memory: the value is gone.
+    /// The schedule with its closed state, where nobody can take a step. `Memory` is want of memory: the value is
+    /// gone.
     fn hand_out(self) -> Result<Ran, Memory>
         requires { IsOver self.world.program self.world.plan self.world.world }
         ensures end { IfOk result (RanToEnd J.program J.plan J.budget) }
