@@ -192,6 +192,21 @@ fn process_count(program: &Program) -> usize
 }
 
 impl<'a> Teller<'a> {
+    /// A world of which nothing is told, with no process yet.
+    fn of_world(alloc: Global, world: World<'a>) -> Teller<'a>
+        ensures world { result.world ≡ world.entry }
+        ensures counts { result.counts ≡ [] }
+        ensures writers { result.writers ≡ [] }
+        ensures steps { result.steps.items ≡ [] }
+    {
+        Teller {
+            world,
+            counts: Seq::new(alloc),
+            writers: Seq::new(alloc),
+            steps: Vec::new(alloc),
+        }
+    }
+
     /// Appends so many processes that took no step and so many cells that nothing wrote.
     fn fill<L: Ledger>(
         &mut self,
@@ -224,14 +239,14 @@ fn begin<'a, L: Ledger>(setting: &Setting<'a>, steps: &mut Steps<L>) -> Result<T
     let world = World::new(alloc, setting.program, setting.plan, setting.budget)?;
     let count = process_count(setting.program);
     let cells = world.cells().len();
-    let mut teller = Teller {
-        world,
-        counts: Seq::new(alloc),
-        writers: Seq::new(alloc),
-        steps: Vec::new(alloc),
-    };
-    teller.fill(alloc, count, cells, steps)?;
-    Ok(teller)
+    let mut teller = Teller::of_world(alloc, world);
+    match teller.fill(alloc, count, cells, steps) {
+        Ok(()) => Ok(teller),
+        Err(error) => {
+            drop(teller);
+            Err(error)
+        }
+    }
 }
 
 fn push_values<L: Ledger>(
