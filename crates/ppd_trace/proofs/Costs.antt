@@ -22,6 +22,13 @@ turn_on old k i before now h g =
     let one : k * 1 ≡ k = omega arith in
     omega arith
 
+pub turns_within : (old k i n now : ℕ) → i ≤ n → now ≤ old + k * i → now ≤ old + k * n
+turns_within old k i n now lt h = omega (arith, mul-le k i k n (omega arith) lt, h)
+
+-- the same of a turn after which no other is taken
+pub turn_ends : (old k i n before now : ℕ) → i < n → before ≤ old + k * i → now ≤ before + k → now ≤ old + k * n
+turn_ends old k i n before now lt h g = turns_within old k (i + 1) n now (omega (arith, lt)) (turn_on old k i before now h g)
+
 -- ---- process by process
 
 some_there : {A : Type 0} (xs : List A) (i : ℕ) → i < length xs → None ≡ slice_get xs i → ⊥

@@ -1,3 +1,4 @@
+pub mod Done
 pub mod Leading
 pub mod Following
 pub mod Keeping

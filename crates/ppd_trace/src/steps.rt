@@ -1,5 +1,6 @@
-ghost use Rattle.std.specs.Prelude.{◌≡◌, ◌+◌, ◌*◌, ◌<◌, ◌≤◌, ◌^◌, length, IfOk, OnOk};
-ghost use Rattle.ppd_model.specs.FullTrace.{begun_tracing, tracing_of};
+ghost use Rattle.std.specs.Prelude.{◌≡◌, ◌+◌, ◌*◌, ◌<◌, ◌≤◌, ◌^◌, [], fold, length, IfOk, OnOk};
+ghost use Rattle.ppd_model.specs.declared.tracing.Tracing.{Tracing};
+ghost use Rattle.ppd_model.specs.FullTrace.{begun_tracing, trace_step as step_of, tracing_of};
 ghost use Rattle.ppd_model.specs.LocalTags.{AreOwn};
 ghost use Rattle.ppd_sem.specs.Runs.{IsNumbered, IsRunnable, IsRunning};
 ghost use Rattle.ppd_trace.specs.Runs.{tracer_of};
@@ -11,9 +12,11 @@ use crate::activations::begin_body;
 use crate::events::add_event;
 use crate::subject::Subject;
 use crate::tracer::Tracer;
+use ppd_activations::Run;
 use ppd_ast::{Memory, Seq, Steps};
 use ppd_model::{EventId, Taken, TracedEvent};
-use ppd_sem::{Need, Proc, local_cells, meet};
+use ppd_sem::{Need, Proc, Stack, local_cells, meet};
+use std::alloc::Global;
 use std::sync::ledger::Ledger;
 
 /// Keeps the writer of a read for the event that it is of.
@@ -76,6 +79,18 @@ fn trace_step<L: Ledger>(
     )
 }
 
+/// A process before its first step, with the run of its body.
+fn tracer_with(alloc: Global, proc: Proc, runs: Stack<Run>) -> Tracer
+    ensures { result ≡ record { proc = proc; runs = runs; answers = []; events = [] } }
+{
+    Tracer {
+        proc,
+        runs,
+        answers: Seq::new(alloc),
+        events: Seq::new(alloc),
+    }
+}
+
 /// A process before its first step: nothing is written.
 fn begin<L: Ledger>(subject: &Subject, budget: u32, steps: &mut Steps<L>) -> Result<Tracer, Memory>
     requires program { IsRunnable subject.now.program.now }
@@ -94,13 +109,44 @@ fn begin<L: Ledger>(subject: &Subject, budget: u32, steps: &mut Steps<L>) -> Res
         subject.process,
         budget,
     )?;
-    let runs = begin_body(alloc, local_cells(&proc).len(), steps)?;
-    Ok(Tracer {
-        proc,
-        runs,
-        answers: Seq::new(alloc),
-        events: Seq::new(alloc),
-    })
+    match begin_body(alloc, local_cells(&proc).len(), steps) {
+        Ok(runs) => Ok(tracer_with(alloc, proc, runs)),
+        Err(error) => {
+            drop(proc);
+            Err(error)
+        }
+    }
+}
+
+/// Takes these steps of a process, which has no event yet, and adds them to its trace.
+fn trace_steps<L: Ledger>(
+    subject: &Subject,
+    own: &[Taken],
+    tracer: &mut Tracer,
+    steps: &mut Steps<L>,
+) -> Result<(), Memory>
+    requires program { IsRunnable subject.now.program.now }
+    requires plan { IsNumbered subject.now.plan.now }
+    requires pairs { ArePaired subject.now.program.now subject.now.told.now }
+    requires few { length own.now < 2 ^ 32 }
+    requires own { AreOwn subject.now.program.now subject.now.plan.now tracer.old.proc own.now }
+    requires running { IsRunning subject.now.program.now tracer.old.proc }
+    requires none { length tracer.old.events ≤ 0 }
+    ensures traced { OnOk result
+        ((first : Tracing)
+        → tracer.old ≡ tracer_of first
+        → tracer.new
+        ≡ tracer_of
+        (fold (step_of subject.now.program.now subject.now.plan.now subject.now.told.now.story subject.now.process) first
+        own.now)) }
+    ensures cost { steps.new
+        ≤ steps.old + (3 * most_statement_cells subject.now.program.now + 12) * length own.now }
+{
+    for taken in own {
+        steps.tick();
+        trace_step(subject, taken, tracer, steps)?;
+    }
+    Ok(())
 }
 
 /// The events of a process that took these steps.
@@ -125,9 +171,6 @@ pub(crate) fn trace_process<L: Ledger>(
         + (3 * most_statement_cells subject.now.program.now + 12) * length own.now }
 {
     let mut tracer = begin(subject, budget, steps)?;
-    for taken in own {
-        steps.tick();
-        trace_step(subject, taken, &mut tracer, steps)?;
-    }
-    Ok(tracer.events)
+    let done = trace_steps(subject, own, &mut tracer, steps);
+    done.and(Ok(tracer.events))
 }
