@@ -3,7 +3,7 @@ use Rattle.ppd_sem.proofs.Validity.{valid-numbered, valid-runnable}
 use Rattle.ppd_trace.specs.Settings.{Setup}
 use Rattle.ppd_trace.specs.Spending.{most_statement_cells}
 use Rattle.ppd_trace.specs.Traced.{IsTraceable}
-use Rattle.ppd_trace.proofs.Costs.{process_ends, process_on}
+use Rattle.ppd_trace.proofs.Costs.{process_ends, process_on, processes_within}
 use Rattle.ppd_trace.proofs.Traced.{one_traced}
 use Rattle.ppd_trace.proofs.whole.trace_all.Goals as goal
 
@@ -48,3 +48,13 @@ returns-in_err-push-clause-cost g c =
     rw (← c.setting.view_is) (process_ends p c.args.told.now.story (3 * most_statement_cells p + 12) c.args.steps.now c.loop-process.process own c.loop-process.steps c.tick-in-loop-process.new.self
     (omega (arith, ap length c.as_slice-lists.ensures)) is (omega (arith, story.processes, ap length c.as_slice-lists.ensures)) c.loop-process.invariant.spent
     (omega (arith, c.tick.ensures, c.in_ok-traced.ensures.cost, c.tick-in-loop-process.ensures)))
+
+pub loop-process-init : goal.loop-process-init
+loop-process-init g c = record { traced = search rules; spent = omega arith }
+
+pub returns-clause-cost : goal.returns-clause-cost
+returns-clause-cost g c =
+    let p = c.setting.inside.program.now in
+    let story : IsTraceable p c.setting.inside.plan.now c.setting.inside.budget c.args.told.now.story = subst (λ (v : Setup). IsTraceable v.program v.plan v.budget c.args.told.now.story) (sym c.setting.view_is) c.requires.story in
+    rw (← c.setting.view_is) (processes_within p c.args.told.now.story (3 * most_statement_cells p + 12) c.args.steps.now c.loop-process.process c.loop-process.steps
+    (omega (arith, story.processes, ap length c.as_slice-lists.ensures)) c.loop-process.invariant.spent)
