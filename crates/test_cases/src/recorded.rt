@@ -1,5 +1,7 @@
 // What a schedule of a recorded program logs.
 
+ghost use Rattle.ppd_codec.specs.Recordings.{AreLawful};
+
 use crate::logs::told_logs;
 use crate::worlds::drive;
 use ppd_codec::{Recording, decode, encode};
@@ -24,21 +26,31 @@ fn are_alike(alloc: Global, first: &Logs, second: &Logs) -> bool {
     first.as_str() == second.as_str()
 }
 
+/// Whether the schedule logs what is recorded.
+fn has_logs(alloc: Global, recording: &Recording, schedule: &[u8]) -> bool {
+    match driven(alloc, recording, schedule) {
+        Some(closed) => are_alike(alloc, &closed.logs, &recording.logs),
+        None => false,
+    }
+}
+
+/// Whether what is recorded is encoded as these bytes.
+fn is_encoded(alloc: Global, recording: &Recording, bytes: &[u8]) -> bool
+    requires { AreLawful recording.now.source recording.now.header recording.now.logs }
+{
+    let source = recording.source.as_slice();
+    match encode(alloc, source, &recording.header, &recording.logs) {
+        Ok(again) => again.as_slice() == bytes,
+        Err(_) => false,
+    }
+}
+
 /// Whether the bytes record what the schedule logs, and are what is encoded of it again.
 pub(crate) fn records(alloc: Global, bytes: &[u8], schedule: &[u8]) -> bool {
-    let Ok(recording) = decode(alloc, bytes) else {
-        return false;
-    };
-    let Some(closed) = driven(alloc, &recording, schedule) else {
-        return false;
-    };
-    let Ok(again) = encode(
-        alloc,
-        recording.source.as_slice(),
-        &recording.header,
-        &recording.logs,
-    ) else {
-        return false;
-    };
-    are_alike(alloc, &closed.logs, &recording.logs) && again.as_slice() == bytes
+    match decode(alloc, bytes) {
+        Ok(recording) => {
+            has_logs(alloc, &recording, schedule) && is_encoded(alloc, &recording, bytes)
+        }
+        Err(_) => false,
+    }
 }
