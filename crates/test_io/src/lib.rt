@@ -1,13 +1,6 @@
-//! Bytes and lines in and out, the words of a command, a file of the real shelf that is not there, forms that never
-//! fail, a terminal at which each answer comes before the next line, and the sources that drills have: tests.
+//! Bytes and lines in and out, and the words of a command: tests.
 #![tactic(auto)]
 
-#[cfg(test)]
-mod devices;
-#[cfg(test)]
-mod dialogs;
-#[cfg(test)]
-mod drills;
 #[cfg(test)]
 mod io_tests;
 #[cfg(test)]
