@@ -11,6 +11,7 @@ pub mod Feeding
 pub mod Laws
 pub mod Measure
 pub mod Offers
+pub mod Parts
 pub mod Passed
 pub mod Printed
 pub mod Process

@@ -2,12 +2,13 @@ ghost use Rattle.std.specs.Prelude.{◌≡◌, ◌<◌, ◌^◌, ◌++◌, lengt
 ghost use Rattle.std.specs.List.{All};
 ghost use Rattle.ppd_ast.specs.Table.{AreChildrenBelow, EachAt};
 ghost use Rattle.ppd_ast.specs.Term.{term};
+ghost use Rattle.ppd_sem.specs.Parts.{AreCellsBelow, element_read, leaf_read};
 ghost use Rattle.ppd_sem.specs.Reads.{local_read, reads_of, reads_of_all, reads_of_kind, shared_read};
 ghost use Rattle.ppd_sem.specs.Runs.{AreUses, IsUse};
 ghost use Rattle.ppd_sem.specs.Within.{IsWithin};
 
-use crate::asking::{ask, expr_at, place};
-use crate::eval::is_zero;
+use crate::asking::{ask, expr_at, first_operand, place, second_operand};
+use crate::eval::element;
 use crate::event::{Access, Spot};
 use ppd_ast::{Expr, Kind, Memory, Seq, Target};
 
@@ -35,6 +36,50 @@ fn read_shared(reads: &mut Seq<Access>, cell: u16, answers: &[i64]) -> Result<()
     }
 }
 
+/// Adds the read of an expression without operands.
+fn push_leaf(
+    reads: &mut Seq<Access>,
+    frame: u8,
+    expr: Expr,
+    cells: &[i64],
+    answers: &[i64],
+) -> Result<(), Memory>
+    requires { AreCellsBelow (length cells.now) expr }
+    ensures { OnOk result (reads.new ≡ reads.old ++ leaf_read frame expr cells.now answers.now) }
+{
+    match expr {
+        Expr::Local(cell) => read_local(reads, frame, cells, cell),
+        Expr::Shared(cell) => read_shared(reads, cell, answers),
+        _ => Ok(()),
+    }
+}
+
+/// Adds the read of an array's element, whose index is tested; other expressions read nothing of their own.
+fn push_element(
+    reads: &mut Seq<Access>,
+    frame: u8,
+    expr: Expr,
+    index: i64,
+    cells: &[i64],
+    answers: &[i64],
+) -> Result<(), Memory>
+    requires cells { AreCellsBelow (length cells.now) expr }
+    requires limit { length cells.now < 2 ^ 16 }
+    ensures { OnOk result (reads.new ≡ reads.old ++ element_read frame expr index cells.now answers.now) }
+{
+    match expr {
+        Expr::LocalAt { base, len, .. } => match element(base, len, index) {
+            Ok(cell) => read_local(reads, frame, cells, cell),
+            Err(_) => Ok(()),
+        },
+        Expr::SharedAt { base, len, .. } => match element(base, len, index) {
+            Ok(cell) => read_shared(reads, cell, answers),
+            Err(_) => Ok(()),
+        },
+        _ => Ok(()),
+    }
+}
+
 /// Adds the reads of expression `at` over the top frame's cells, in order of evaluation, as far
 /// as it is evaluated. `Memory` is want of memory.
 #[tactic(auto, using(crate::proofs::Readings::reading))]
@@ -52,47 +97,17 @@ pub(crate) fn push_reads(
     requires limit { length cells.now < 2 ^ 16 }
     ensures { OnOk result (reads.new ≡ reads.old ++ reads_of frame (term exprs.now at) cells.now answers.now) }
 {
-    match expr_at(exprs, at) {
-        Expr::Const(_) => Ok(()),
-        Expr::Local(cell) => read_local(reads, frame, cells, cell),
-        Expr::LocalAt { base, len, at } => {
-            push_reads(reads, frame, exprs, at, cells, answers)?;
-            match place(exprs, base, len, at, cells, answers) {
-                Ok((cell, _)) => read_local(reads, frame, cells, cell),
-                Err(_) => Ok(()),
-            }
-        }
-        Expr::Shared(cell) => read_shared(reads, cell, answers),
-        Expr::SharedAt { base, len, at } => {
-            push_reads(reads, frame, exprs, at, cells, answers)?;
-            match place(exprs, base, len, at, cells, answers) {
-                Ok((cell, rest)) => read_shared(reads, cell, rest),
-                Err(_) => Ok(()),
-            }
-        }
-        Expr::Neg(a) => push_reads(reads, frame, exprs, a, cells, answers),
-        Expr::Not(a) => push_reads(reads, frame, exprs, a, cells, answers),
-        Expr::Two(_, a, b) => {
-            push_reads(reads, frame, exprs, a, cells, answers)?;
-            match ask(exprs, a, cells, answers) {
-                Ok((_, rest)) => push_reads(reads, frame, exprs, b, cells, rest),
-                Err(_) => Ok(()),
-            }
-        }
-        Expr::And(a, b) => {
-            push_reads(reads, frame, exprs, a, cells, answers)?;
-            match ask(exprs, a, cells, answers) {
-                Ok((x, rest)) if !is_zero(x) => push_reads(reads, frame, exprs, b, cells, rest),
-                _ => Ok(()),
-            }
-        }
-        Expr::Or(a, b) => {
-            push_reads(reads, frame, exprs, a, cells, answers)?;
-            match ask(exprs, a, cells, answers) {
-                Ok((x, rest)) if is_zero(x) => push_reads(reads, frame, exprs, b, cells, rest),
-                _ => Ok(()),
-            }
-        }
+    let expr = expr_at(exprs, at);
+    let Some(first) = first_operand(expr) else {
+        return push_leaf(reads, frame, expr, cells, answers);
+    };
+    push_reads(reads, frame, exprs, first, cells, answers)?;
+    let Ok((x, rest)) = ask(exprs, first, cells, answers) else {
+        return Ok(());
+    };
+    match second_operand(expr, x) {
+        Some(second) => push_reads(reads, frame, exprs, second, cells, rest),
+        None => push_element(reads, frame, expr, x, cells, rest),
     }
 }
 
