@@ -17,5 +17,6 @@ pub mod Printed
 pub mod Process
 pub mod Reads
 pub mod Runs
+pub mod Stored
 pub mod Tables
 pub mod Within

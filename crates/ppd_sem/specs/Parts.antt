@@ -1,12 +1,15 @@
 -- The value and the reads of an expression in the order in which its operands are evaluated.
 use Rattle.std.specs.Prelude.{ℕ, ◌+◌, ◌<◌, ◌≤◌, ◌^◌, ⊤, ℤ, pos, neg_ℤ, not as negated, List, [], Option, None, Some, Result, Ok, Err, if◌then◌else◌}
 use Rattle.ppd_ast.specs.declared.program.Expr.{Expr}
+use Rattle.ppd_ast.specs.declared.program.Target.{Target}
+use Rattle.ppd_ast.specs.declared.program.Target.TheVariants as target
+use Rattle.ppd_ast.specs.Term.{term}
 use Rattle.ppd_ast.specs.declared.program.Expr.TheVariants.{Const, Local, LocalAt, Shared, SharedAt, Neg, Not, Two, And, Or}
 use Rattle.ppd_ast.specs.declared.status.Trap.{Trap}
 use Rattle.ppd_sem.specs.declared.event.Access.{Access}
 use Rattle.ppd_sem.specs.Asked.{Asked, gives, and_then, lift, once, read_shared}
 use Rattle.ppd_sem.specs.Ask.{calc, cell_of, checked, element, is_zero, truth}
-use Rattle.ppd_sem.specs.Reads.{local_read, shared_read}
+use Rattle.ppd_sem.specs.Reads.{local_read, reads_of, shared_read}
 
 -- the operand that is evaluated first
 abbrev pub first_of : Expr → Option ℕ
@@ -71,3 +74,10 @@ element_read frame (LocalAt base len i) x cells left =
 element_read frame (SharedAt base len i) x cells left =
     once (lift left (element base len x)) (λ c left. shared_read c left)
 element_read frame e x cells left = []
+
+-- the reads of a target's index
+abbrev pub index_reads : ℕ → List Expr → Target → List ℤ → List ℤ → List Access
+index_reads frame es (target.Local c) cells answers = []
+index_reads frame es (target.LocalAt base len i) cells answers = reads_of frame (term es i) cells answers
+index_reads frame es (target.Shared c) cells answers = []
+index_reads frame es (target.SharedAt base len i) cells answers = reads_of frame (term es i) cells answers

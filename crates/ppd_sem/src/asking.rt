@@ -63,11 +63,7 @@ fn next_answer(cell: u16, answers: &[i64]) -> Result<(i64, &[i64]), Pause>
 }
 
 /// The value of an expression without operands.
-fn leaf<'a>(
-    expr: Expr,
-    cells: &[i64],
-    answers: &'a [i64],
-) -> Result<(i64, &'a [i64]), Pause>
+fn leaf<'a>(expr: Expr, cells: &[i64], answers: &'a [i64]) -> Result<(i64, &'a [i64]), Pause>
     requires { AreCellsBelow (length cells.now) expr }
     ensures ok { IfOk result (λ r. leaf_of expr cells.now answers.now ≡ Ok (r.0, r.1.now)) }
     ensures err { IfErr result (λ p. leaf_of expr cells.now answers.now ≡ Err p) }
@@ -108,12 +104,7 @@ fn by_first<'a>(
 
 /// The value of an expression once its operands came to `x` and `y`.
 #[tactic(auto, using(crate::proofs::Asks::steps))]
-fn by_both<'a>(
-    expr: Expr,
-    x: i64,
-    y: i64,
-    answers: &'a [i64],
-) -> Result<(i64, &'a [i64]), Pause>
+fn by_both<'a>(expr: Expr, x: i64, y: i64, answers: &'a [i64]) -> Result<(i64, &'a [i64]), Pause>
     ensures ok { IfOk result (λ r. lift answers.now (by_both_of expr x y) ≡ Ok (r.0, r.1.now)) }
     ensures err { IfErr result (λ p. lift answers.now (by_both_of expr x y) ≡ Err p) }
 {

@@ -1,4 +1,4 @@
-ghost use Rattle.std.specs.Prelude.{◌≡◌, ◌<◌, ◌^◌, length, IfOk};
+ghost use Rattle.std.specs.Prelude.{◌≡◌, ◌<◌, ◌^◌, length, IfOk, IfErr, Ok, Err};
 ghost use Rattle.std.specs.List.{All};
 ghost use Rattle.ppd_ast.specs.Table.{AreChildrenBelow, EachAt};
 ghost use Rattle.ppd_ast.specs.declared.program.Kind.TheVariants.{Set};
@@ -6,6 +6,7 @@ ghost use Rattle.ppd_sem.specs.Asked.{outcome};
 ghost use Rattle.ppd_sem.specs.Deed.{ask_all, ask_deed};
 ghost use Rattle.ppd_sem.specs.Effects.{HasRange, deed_if, given, given_if};
 ghost use Rattle.ppd_sem.specs.Runs.{AreUses, IsTargetWithin, IsUse};
+ghost use Rattle.ppd_sem.specs.Stored.{ask_target, by_value as by_value_of, stored as stored_of, value_in as value_of, without_value as without_value_of};
 
 use crate::asking::{Pause, ask, place};
 use crate::eval::is_zero;
@@ -54,6 +55,37 @@ fn check_all(exprs: &[Expr], arguments: &[u32], cells: &[i64], answers: &[i64]) 
     }
 }
 
+/// The cell of a target, with the answers that are left after its index, which is tested.
+pub(crate) fn target_cell<'a>(
+    exprs: &[Expr],
+    target: Target,
+    cells: &[i64],
+    answers: &'a [i64],
+) -> Result<(u16, &'a [i64]), Pause>
+    requires children { EachAt AreChildrenBelow exprs.now }
+    requires limit { length cells.now < 2 ^ 16 }
+    requires target { IsTargetWithin exprs.now (length cells.now) target }
+    ensures ok { IfOk result (λ r. ask_target exprs.now target cells.now answers.now ≡ Ok (r.0, r.1.now)) }
+    ensures err { IfErr result (λ p. ask_target exprs.now target cells.now answers.now ≡ Err p) }
+{
+    match target {
+        Target::Local(cell) | Target::Shared(cell) => Ok((cell, answers)),
+        Target::LocalAt { base, len, at } | Target::SharedAt { base, len, at } => {
+            place(exprs, base, len, at, cells, answers)
+        }
+    }
+}
+
+/// The assignment of a value to a target whose cell is this.
+fn stored(target: Target, cell: u16, value: i64) -> Effect
+    ensures { result ≡ stored_of target cell value }
+{
+    match target {
+        Target::Local(_) | Target::LocalAt { .. } => Effect::SetLocal(cell, value),
+        Target::Shared(_) | Target::SharedAt { .. } => Effect::SetShared(cell, value),
+    }
+}
+
 /// What an assignment stores, and where.
 fn assigned(
     exprs: &[Expr],
@@ -70,25 +102,50 @@ fn assigned(
         ≡ deed_if exprs.now (Set target value) cells.now answers.now result }
     ensures range { IfOk result HasRange }
 {
-    match target {
-        Target::Local(cell) => {
-            let (value, _) = ask(exprs, value, cells, answers)?;
-            Ok(Effect::SetLocal(cell, value))
-        }
-        Target::LocalAt { base, len, at } => {
-            let (cell, rest) = place(exprs, base, len, at, cells, answers)?;
-            let (value, _) = ask(exprs, value, cells, rest)?;
-            Ok(Effect::SetLocal(cell, value))
-        }
-        Target::Shared(cell) => {
-            let (value, _) = ask(exprs, value, cells, answers)?;
-            Ok(Effect::SetShared(cell, value))
-        }
-        Target::SharedAt { base, len, at } => {
-            let (cell, rest) = place(exprs, base, len, at, cells, answers)?;
-            let (value, _) = ask(exprs, value, cells, rest)?;
-            Ok(Effect::SetShared(cell, value))
-        }
+    let (cell, rest) = target_cell(exprs, target, cells, answers)?;
+    let (value, _) = ask(exprs, value, cells, rest)?;
+    Ok(stored(target, cell, value))
+}
+
+/// The one expression that a statement evaluates which is no assignment and no call.
+pub(crate) fn value_in(kind: &Kind) -> Option<u32>
+    ensures { result ≡ value_of kind.now }
+{
+    match kind {
+        Kind::If(value, ..) | Kind::While(value, _) => Some(*value),
+        Kind::Return(value) => *value,
+        Kind::Send(_, value) | Kind::Print(value) | Kind::Assert(value) => Some(*value),
+        _ => None,
+    }
+}
+
+/// What such a statement does by the value, or that it traps.
+fn by_value(kind: &Kind, value: i64) -> Result<Effect, Pause>
+    ensures { result ≡ by_value_of kind.now value }
+{
+    match kind {
+        Kind::If(..) => Ok(Effect::Branch(!is_zero(value))),
+        Kind::While(..) if is_zero(value) => Ok(Effect::Leave),
+        Kind::While(..) => Ok(Effect::Turn),
+        Kind::Send(chan, _) => Ok(Effect::Send(*chan, value)),
+        Kind::Print(_) => Ok(Effect::Print(value)),
+        Kind::Assert(_) if is_zero(value) => Err(Pause::Traps(Trap::Assert)),
+        Kind::Assert(_) => Ok(Effect::Pass),
+        _ => Ok(Effect::Back(Some(value))),
+    }
+}
+
+/// What a statement does that evaluates nothing.
+fn without_value(kind: &Kind) -> Effect
+    ensures { result ≡ without_value_of kind.now }
+{
+    match kind {
+        Kind::Zero { base, len } => Effect::Clear(*base, *len),
+        Kind::P(sem) => Effect::Take(*sem),
+        Kind::V(sem) => Effect::Give(*sem),
+        Kind::Recv(chan, into) => Effect::Receive(*chan, *into),
+        Kind::Return(_) => Effect::Back(None),
+        _ => Effect::Finish,
     }
 }
 
@@ -108,19 +165,6 @@ pub(crate) fn effect_of(
 {
     match kind {
         Kind::Set(target, value) => assigned(exprs, *target, *value, cells, answers),
-        Kind::Zero { base, len } => Ok(Effect::Clear(*base, *len)),
-        Kind::If(test, _, _) => {
-            let (value, _) = ask(exprs, *test, cells, answers)?;
-            Ok(Effect::Branch(!is_zero(value)))
-        }
-        Kind::While(test, _) => {
-            let (value, _) = ask(exprs, *test, cells, answers)?;
-            Ok(if is_zero(value) {
-                Effect::Leave
-            } else {
-                Effect::Turn
-            })
-        }
         Kind::Call {
             function,
             args,
@@ -129,29 +173,12 @@ pub(crate) fn effect_of(
             check_all(exprs, args.as_slice(), cells, answers)?;
             Ok(Effect::Invoke(*function, *into))
         }
-        Kind::Return(None) => Ok(Effect::Back(None)),
-        Kind::Return(Some(value)) => {
-            let (value, _) = ask(exprs, *value, cells, answers)?;
-            Ok(Effect::Back(Some(value)))
-        }
-        Kind::P(sem) => Ok(Effect::Take(*sem)),
-        Kind::V(sem) => Ok(Effect::Give(*sem)),
-        Kind::Send(chan, value) => {
-            let (value, _) = ask(exprs, *value, cells, answers)?;
-            Ok(Effect::Send(*chan, value))
-        }
-        Kind::Recv(chan, into) => Ok(Effect::Receive(*chan, *into)),
-        Kind::Print(value) => {
-            let (value, _) = ask(exprs, *value, cells, answers)?;
-            Ok(Effect::Print(value))
-        }
-        Kind::Assert(value) => {
-            let (value, _) = ask(exprs, *value, cells, answers)?;
-            if is_zero(value) {
-                return Err(Pause::Traps(Trap::Assert));
+        _ => match value_in(kind) {
+            Some(value) => {
+                let (value, _) = ask(exprs, value, cells, answers)?;
+                by_value(kind, value)
             }
-            Ok(Effect::Pass)
-        }
-        Kind::End => Ok(Effect::Finish),
+            None => Ok(without_value(kind)),
+        },
     }
 }

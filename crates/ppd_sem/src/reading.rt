@@ -2,12 +2,13 @@ ghost use Rattle.std.specs.Prelude.{◌≡◌, ◌<◌, ◌^◌, ◌++◌, lengt
 ghost use Rattle.std.specs.List.{All};
 ghost use Rattle.ppd_ast.specs.Table.{AreChildrenBelow, EachAt};
 ghost use Rattle.ppd_ast.specs.Term.{term};
-ghost use Rattle.ppd_sem.specs.Parts.{AreCellsBelow, element_read, leaf_read};
+ghost use Rattle.ppd_sem.specs.Parts.{AreCellsBelow, element_read, index_reads, leaf_read};
 ghost use Rattle.ppd_sem.specs.Reads.{local_read, reads_of, reads_of_all, reads_of_kind, shared_read};
-ghost use Rattle.ppd_sem.specs.Runs.{AreUses, IsUse};
+ghost use Rattle.ppd_sem.specs.Runs.{AreUses, IsTargetWithin, IsUse};
 ghost use Rattle.ppd_sem.specs.Within.{IsWithin};
 
-use crate::asking::{ask, expr_at, first_operand, place, second_operand};
+use crate::asking::{ask, expr_at, first_operand, second_operand};
+use crate::effect::{target_cell, value_in};
 use crate::eval::element;
 use crate::event::{Access, Spot};
 use ppd_ast::{Expr, Kind, Memory, Seq, Target};
@@ -137,6 +138,28 @@ fn push_all(
     }
 }
 
+/// Adds the reads of a target's index.
+fn push_index(
+    reads: &mut Seq<Access>,
+    frame: u8,
+    exprs: &[Expr],
+    target: Target,
+    cells: &[i64],
+    answers: &[i64],
+) -> Result<(), Memory>
+    requires children { EachAt AreChildrenBelow exprs.now }
+    requires limit { length cells.now < 2 ^ 16 }
+    requires target { IsTargetWithin exprs.now (length cells.now) target }
+    ensures { OnOk result (reads.new ≡ reads.old ++ index_reads frame exprs.now target cells.now answers.now) }
+{
+    match target {
+        Target::LocalAt { at, .. } | Target::SharedAt { at, .. } => {
+            push_reads(reads, frame, exprs, at, cells, answers)
+        }
+        Target::Local(_) | Target::Shared(_) => Ok(()),
+    }
+}
+
 /// Adds the reads of a statement of this kind, in order of evaluation, as far as it is
 /// evaluated. `Memory` is want of memory.
 pub(crate) fn push_kind_reads(
@@ -153,29 +176,19 @@ pub(crate) fn push_kind_reads(
     ensures { OnOk result (reads.new ≡ reads.old ++ reads_of_kind frame exprs.now kind.now cells.now answers.now) }
 {
     match kind {
-        Kind::Set(Target::LocalAt { base, len, at } | Target::SharedAt { base, len, at }, value) =>
-            {
-                push_reads(reads, frame, exprs, *at, cells, answers)?;
-                match place(exprs, *base, *len, *at, cells, answers) {
-                    Ok((_, rest)) => push_reads(reads, frame, exprs, *value, cells, rest),
-                    Err(_) => Ok(()),
-                }
+        Kind::Set(target, value) => {
+            push_index(reads, frame, exprs, *target, cells, answers)?;
+            match target_cell(exprs, *target, cells, answers) {
+                Ok((_, rest)) => push_reads(reads, frame, exprs, *value, cells, rest),
+                Err(_) => Ok(()),
             }
-        Kind::Set(Target::Local(_) | Target::Shared(_), value)
-        | Kind::If(value, _, _)
-        | Kind::While(value, _)
-        | Kind::Return(Some(value))
-        | Kind::Send(_, value)
-        | Kind::Print(value)
-        | Kind::Assert(value) => push_reads(reads, frame, exprs, *value, cells, answers),
+        }
         Kind::Call { args, .. } => {
             push_all(reads, frame, exprs, args.as_slice(), cells, answers)
         }
-        Kind::Zero { .. }
-        | Kind::Return(None)
-        | Kind::P(_)
-        | Kind::V(_)
-        | Kind::Recv(..)
-        | Kind::End => Ok(()),
+        _ => match value_in(kind) {
+            Some(value) => push_reads(reads, frame, exprs, value, cells, answers),
+            None => Ok(()),
+        },
     }
 }
