@@ -7,7 +7,7 @@ ghost use Rattle.ppd_sem.specs.Reads.{reads_of_kind};
 ghost use Rattle.ppd_sem.specs.Runs.{IsHead, IsNumbered, IsRunnable, IsRunning};
 
 use crate::asking::ask;
-use crate::effect::Effect;
+use crate::effect::{Effect, valued};
 use crate::event::{Access, Event, Spot};
 use crate::feeding::argument_values;
 use crate::looking::{body_of, head, head_effect, look, top_cells};
@@ -199,27 +199,6 @@ fn head_reads(alloc: Global, head: Head) -> Result<Seq<Access>, Memory>
         head.proc.answers.as_slice(),
     )?;
     Ok(reads)
-}
-
-/// The expression whose value is the event's.
-fn valued(kind: &Kind) -> Option<u32>
-    ensures { result ≡ valued_of kind.now }
-{
-    match kind {
-        Kind::If(value, _, _) => Some(*value),
-        Kind::While(value, _) => Some(*value),
-        Kind::Return(value) => *value,
-        Kind::Send(_, value) => Some(*value),
-        Kind::Print(value) => Some(*value),
-        Kind::Assert(value) => Some(*value),
-        Kind::Set(..)
-        | Kind::Zero { .. }
-        | Kind::Call { .. }
-        | Kind::P(_)
-        | Kind::V(_)
-        | Kind::Recv(..)
-        | Kind::End => None,
-    }
 }
 
 /// The event's value, where the head statement has one and it is there.

@@ -4,9 +4,10 @@ ghost use Rattle.ppd_ast.specs.Table.{AreChildrenBelow, EachAt};
 ghost use Rattle.ppd_ast.specs.declared.program.Kind.TheVariants.{Set};
 ghost use Rattle.ppd_sem.specs.Asked.{outcome};
 ghost use Rattle.ppd_sem.specs.Deed.{ask_all, ask_deed};
+ghost use Rattle.ppd_sem.specs.Described.{valued as valued_of};
 ghost use Rattle.ppd_sem.specs.Effects.{HasRange, deed_if, given, given_if};
 ghost use Rattle.ppd_sem.specs.Runs.{AreUses, IsTargetWithin, IsUse};
-ghost use Rattle.ppd_sem.specs.Stored.{ask_target, by_value as by_value_of, stored as stored_of, value_in as value_of, without_value as without_value_of};
+ghost use Rattle.ppd_sem.specs.Stored.{ask_target, by_value as by_value_of, stored as stored_of, without_value as without_value_of};
 
 use crate::asking::{Pause, ask, place};
 use crate::eval::is_zero;
@@ -108,8 +109,8 @@ fn assigned(
 }
 
 /// The one expression that a statement evaluates which is no assignment and no call.
-pub(crate) fn value_in(kind: &Kind) -> Option<u32>
-    ensures { result ≡ value_of kind.now }
+pub(crate) fn valued(kind: &Kind) -> Option<u32>
+    ensures { result ≡ valued_of kind.now }
 {
     match kind {
         Kind::If(value, ..) | Kind::While(value, _) => Some(*value),
@@ -173,7 +174,7 @@ pub(crate) fn effect_of(
             check_all(exprs, args.as_slice(), cells, answers)?;
             Ok(Effect::Invoke(*function, *into))
         }
-        _ => match value_in(kind) {
+        _ => match valued(kind) {
             Some(value) => {
                 let (value, _) = ask(exprs, value, cells, answers)?;
                 by_value(kind, value)

@@ -6,7 +6,7 @@ use ppd_ast::{Nums, Status, Trap};
 
 /// What the next step of a process needs. A `unit` is the synchronization unit that starts
 /// after the step; a `block` is the block that the step enters or leaves.
-#[derive(Clone, Copy, PartialEq)]
+#[derive(Clone, Copy)]
 pub enum Need {
     /// The value of a shared cell.
     Read(u16),

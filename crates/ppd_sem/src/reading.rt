@@ -8,7 +8,7 @@ ghost use Rattle.ppd_sem.specs.Runs.{AreUses, IsTargetWithin, IsUse};
 ghost use Rattle.ppd_sem.specs.Within.{IsWithin};
 
 use crate::asking::{ask, expr_at, first_operand, second_operand};
-use crate::effect::{target_cell, value_in};
+use crate::effect::{target_cell, valued};
 use crate::eval::element;
 use crate::event::{Access, Spot};
 use ppd_ast::{Expr, Kind, Memory, Seq, Target};
@@ -186,7 +186,7 @@ pub(crate) fn push_kind_reads(
         Kind::Call { args, .. } => {
             push_all(reads, frame, exprs, args.as_slice(), cells, answers)
         }
-        _ => match value_in(kind) {
+        _ => match valued(kind) {
             Some(value) => push_reads(reads, frame, exprs, value, cells, answers),
             None => Ok(()),
         },
