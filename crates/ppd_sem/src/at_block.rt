@@ -10,6 +10,7 @@ use crate::blocks::{block_body, block_kind, prelog_cells, write_values};
 use crate::frame::new_frame;
 use crate::proc::{Frame, Proc, Todo};
 use crate::stack::Stack;
+use crate::starting::{begun, only_frame};
 use crate::tables::top_at;
 use crate::todos::stack_of;
 use ppd_ast::{BlockKind, Memory, Nums, Plan, Program};
@@ -77,19 +78,8 @@ impl Proc {
         let kind = block_kind(plan, block);
         let body = block_body(program, kind);
         let frame = frame_with(alloc, program, body, prelog_cells(plan, block), values)?;
-        let mut frames = Stack::new(alloc);
-        frames.push(frame)?;
+        let frames = only_frame(alloc, frame)?;
         let todo = block_todo(alloc, program, kind)?;
-        Ok(Proc {
-            frames,
-            todo,
-            answers: Nums::new(alloc),
-            below: depth,
-            budget,
-            spent: 0,
-            steps: 0,
-            prints: Nums::new(alloc),
-            status: None,
-        })
+        Ok(begun(frames, todo, depth, budget))
     }
 }

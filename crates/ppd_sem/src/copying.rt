@@ -33,16 +33,6 @@ fn copied_frames(alloc: Global, frames: &[Frame]) -> Result<Vec<Frame>, Memory>
     Ok(copies)
 }
 
-fn copied_todo(alloc: Global, todo: &[Todo]) -> Result<Vec<Todo>, Memory>
-    ensures { IfOk result (λ copies. copies.items ≡ todo.now) }
-{
-    let mut copies = Vec::new(alloc);
-    for item in todo {
-        copies.push(*item)?;
-    }
-    Ok(copies)
-}
-
 fn copy_frames(frames: &Stack<Frame>) -> Result<Stack<Frame>, Memory>
     ensures { IfOk result (λ copy. copy ≡ frames.now) }
 {
@@ -53,8 +43,7 @@ fn copy_frames(frames: &Stack<Frame>) -> Result<Stack<Frame>, Memory>
 fn copy_todo(todo: &Stack<Todo>) -> Result<Stack<Todo>, Memory>
     ensures { IfOk result (λ copy. copy ≡ todo.now) }
 {
-    let copies = copied_todo(todo.allocator(), todo.items.as_slice())?;
-    Ok(Stack::from_vec(copies))
+    Ok(Stack::from_vec(todo.items.clone()?))
 }
 
 fn is_same_status(one: Option<Status>, other: Option<Status>) -> bool

@@ -3,20 +3,56 @@ ghost use Rattle.ppd_sem.specs.Process.{new_frame as new_frame_of, started};
 ghost use Rattle.ppd_sem.specs.Runs.{IsRunnable, IsRunning};
 
 use crate::frame::new_frame;
-use crate::proc::{Frame, Proc};
+use crate::proc::{Frame, Proc, Todo};
 use crate::stack::Stack;
 use crate::tables::top_at;
 use crate::todos::stack_of;
 use ppd_ast::{Memory, Nums, Plan, Program};
 use std::alloc::Global;
 
+/// A stack of one frame.
+pub(crate) fn only_frame(alloc: Global, frame: Frame) -> Result<Stack<Frame>, Memory>
+    ensures { IfOk result (λ frames. frames ≡ frame ∷ []) }
+{
+    let mut frames = Stack::new(alloc);
+    frames.push(frame)?;
+    Ok(frames)
+}
+
+/// A process state before its first step, with these frames and statements to do.
+pub(crate) fn begun(frames: Stack<Frame>, todo: Stack<Todo>, below: u8, budget: u32) -> Proc
+    ensures { result ≡ record {
+      frames = frames;
+      todo = todo;
+      answers = [];
+      below = below;
+      budget = budget;
+      spent = 0;
+      steps = 0;
+      prints = [];
+      status = None;
+    } }
+{
+    let alloc = frames.allocator();
+    Proc {
+        frames,
+        todo,
+        answers: Nums::new(alloc),
+        below,
+        budget,
+        spent: 0,
+        steps: 0,
+        prints: Nums::new(alloc),
+        status: None,
+    }
+}
+
 /// The frame of a process's body.
 fn first_frame(alloc: Global, program: &Program, body: u16) -> Result<Stack<Frame>, Memory>
     ensures { IfOk result (λ frames. frames ≡ new_frame_of program.now body [] None ∷ []) }
 {
-    let mut frames = Stack::new(alloc);
-    frames.push(new_frame(program, body, Nums::new(alloc), None)?)?;
-    Ok(frames)
+    let frame = new_frame(program, body, Nums::new(alloc), None)?;
+    only_frame(alloc, frame)
 }
 
 impl Proc {
@@ -39,16 +75,6 @@ impl Proc {
         let body = functions + process as u16;
         let frames = first_frame(alloc, program, body)?;
         let todo = stack_of(alloc, top_at(program, body))?;
-        Ok(Proc {
-            frames,
-            todo,
-            answers: Nums::new(alloc),
-            below: 0,
-            budget,
-            spent: 0,
-            steps: 0,
-            prints: Nums::new(alloc),
-            status: None,
-        })
+        Ok(begun(frames, todo, 0, budget))
     }
 }

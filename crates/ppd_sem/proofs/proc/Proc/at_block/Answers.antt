@@ -1,5 +1,4 @@
 use Rattle.std.proofs.Common.{◌≡◌, sym, subst, arith}
-use Rattle.std.specs.Prelude.{None}
 use Rattle.ppd_sem.specs.Blocks.{at_block}
 use Rattle.ppd_sem.specs.Runs.{IsRunning}
 use Rattle.ppd_sem.specs.declared.proc.Proc.{Proc}
@@ -10,6 +9,5 @@ pub returns-clause-running : goal.returns-clause-running
 returns-clause-running c =
     let program = c.args.program.now in
     let plan = c.args.plan.now in
-    let made : Proc = record { frames = c.push.new.self; todo = c.in_ok-todo.todo; answers = c.new.result; below = c.args.depth; budget = c.args.budget; spent = 0; steps = 0; prints = c.new-2.result; status = None } in
-    let is : made ≡ at_block program plan c.args.block c.args.values.now c.args.depth c.args.budget = grind arith in
+    let is : c.begun.result ≡ at_block program plan c.args.block c.args.values.now c.args.depth c.args.budget = grind arith in
     subst (λ (s : Proc). IsRunning program s) (sym is) (at_block_runs program plan c.args.block c.args.values.now c.args.depth c.args.budget c.requires.program c.requires.plan c.requires.depth)
