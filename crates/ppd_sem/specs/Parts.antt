@@ -1,5 +1,5 @@
 -- The value and the reads of an expression in the order in which its operands are evaluated.
-use Rattle.std.specs.Prelude.{ℕ, ◌+◌, ◌<◌, ◌≤◌, ◌^◌, ⊤, ℤ, pos, neg_ℤ, not as negated, List, [], Option, None, Some, Result, Ok, Err, if◌then◌else◌}
+use Rattle.std.specs.Prelude.{ℕ, ◌+◌, ◌<◌, ◌≤◌, ◌^◌, ⊤, ℤ, pos, neg_ℤ, not as negated, List, [], Option, None, Some, Result, Ok, if◌then◌else◌}
 use Rattle.ppd_ast.specs.declared.program.Expr.{Expr}
 use Rattle.ppd_ast.specs.declared.program.Target.{Target}
 use Rattle.ppd_ast.specs.declared.program.Target.TheVariants as target

@@ -106,31 +106,24 @@ fn parameters(alloc: Global, frame: u8, values: &[i64]) -> Result<Seq<Access>, M
     Ok(writes)
 }
 
-/// A process at its head statement, with the number of the top frame.
-#[derive(Clone, Copy)]
-struct Head<'a> {
-    program: &'a Program,
-    proc: &'a Proc,
-    todo: Todo,
-    frame: u8,
-}
-
 /// What a statement whose values are there writes.
 fn effect_writes(
-    alloc: Global,
-    head: Head,
+    program: &Program,
+    proc: &Proc,
+    todo: Todo,
+    frame: u8,
     effect: Effect,
     answer: &Answer,
 ) -> Result<Seq<Access>, Memory>
-    requires head { IsHead head.program.now head.proc.now head.todo }
-    requires frame { head.frame < 2 }
+    requires head { IsHead program.now proc.now todo }
+    requires frame { frame < 2 }
     requires range { HasRange effect }
     ensures { IfOk result
         (λ writes. writes
-        ≡ writes_of_deed head.entry.frame answer.now
-        (head_deed_of head.entry.program.now head.entry.todo head.entry.proc.now effect)) }
+        ≡ writes_of_deed frame answer.now
+        (head_deed_of program.now todo proc.now effect)) }
 {
-    let frame = head.frame;
+    let alloc = proc.frames.allocator();
     match effect {
         Effect::SetLocal(cell, value) => one(alloc, local_write(frame, cell, value)),
         Effect::SetShared(cell, value) => {
@@ -139,7 +132,7 @@ fn effect_writes(
         }
         Effect::Clear(base, len) => cleared(alloc, frame, base, len),
         Effect::Invoke(..) => {
-            let values = argument_values(head.program, head.todo, head.proc)?;
+            let values = argument_values(program, todo, proc)?;
             parameters(alloc, frame + 1, values.as_slice())
         }
         Effect::Receive(_, into) => one(alloc, local_write(frame, into, answer.value_given())),
@@ -159,63 +152,71 @@ fn effect_writes(
 
 /// What the head statement's step writes: nothing where it traps.
 fn head_writes(
-    alloc: Global,
-    head: Head,
+    program: &Program,
+    proc: &Proc,
+    todo: Todo,
+    frame: u8,
     trap: Option<Trap>,
     answer: &Answer,
 ) -> Result<Seq<Access>, Memory>
-    requires head { IsHead head.program.now head.proc.now head.todo }
-    requires frame { head.frame < 2 }
+    requires head { IsHead program.now proc.now todo }
+    requires frame { frame < 2 }
     ensures { IfOk result
         (λ writes. writes
-        ≡ writes_by trap head.entry.frame answer.now
-        (head_deed head.entry.program.now head.entry.todo head.entry.proc.now)) }
+        ≡ writes_by trap frame answer.now
+        (head_deed program.now todo proc.now)) }
 {
     if trap.is_some() {
-        return Ok(Seq::new(alloc));
+        return Ok(Seq::new(proc.frames.allocator()));
     }
-    match head_effect(head.program, head.todo, head.proc) {
-        Ok(effect) => effect_writes(alloc, head, effect, answer),
-        Err(_) => Ok(Seq::new(alloc)),
+    match head_effect(program, todo, proc) {
+        Ok(effect) => effect_writes(program, proc, todo, frame, effect, answer),
+        Err(_) => Ok(Seq::new(proc.frames.allocator())),
     }
 }
 
 /// The reads of the head statement.
-fn head_reads(alloc: Global, head: Head) -> Result<Seq<Access>, Memory>
-    requires { IsHead head.program.now head.proc.now head.todo }
+fn head_reads(
+    alloc: Global,
+    program: &Program,
+    proc: &Proc,
+    todo: Todo,
+    frame: u8,
+) -> Result<Seq<Access>, Memory>
+    requires { IsHead program.now proc.now todo }
     ensures { IfOk result
         (λ reads. reads
-        ≡ reads_of_kind head.entry.frame head.entry.program.now.exprs
-        (kind_of head.entry.program.now head.entry.todo.stmt)
-        (top_cells_of head.entry.proc.now.frames) head.entry.proc.now.answers) }
+        ≡ reads_of_kind frame program.now.exprs
+        (kind_of program.now todo.stmt)
+        (top_cells_of proc.now.frames) proc.now.answers) }
 {
     let mut reads = Seq::new(alloc);
     push_kind_reads(
         &mut reads,
-        head.frame,
-        head.program.exprs.as_slice(),
-        kind_at(head.program, head.todo.stmt),
-        top_cells(&head.proc.frames),
-        head.proc.answers.as_slice(),
+        frame,
+        program.exprs.as_slice(),
+        kind_at(program, todo.stmt),
+        top_cells(&proc.frames),
+        proc.answers.as_slice(),
     )?;
     Ok(reads)
 }
 
 /// The event's value, where the head statement has one and it is there.
 #[tactic(auto, using(crate::proofs::Leads::valued_used))]
-fn head_value(head: Head) -> Option<i64>
-    requires { IsHead head.program.now head.proc.now head.todo }
+fn head_value(program: &Program, proc: &Proc, todo: Todo) -> Option<i64>
+    requires { IsHead program.now proc.now todo }
     ensures { result
-        ≡ value_at head.entry.program.now.exprs (top_cells_of head.entry.proc.now.frames)
-        head.entry.proc.now.answers (valued_of (kind_of head.entry.program.now head.entry.todo.stmt)) }
+        ≡ value_at program.now.exprs (top_cells_of proc.now.frames)
+        proc.now.answers (valued_of (kind_of program.now todo.stmt)) }
 {
-    let value = valued(kind_at(head.program, head.todo.stmt))?;
-    let exprs = head.program.exprs.as_slice();
+    let value = valued(kind_at(program, todo.stmt))?;
+    let exprs = program.exprs.as_slice();
     match ask(
         exprs,
         value,
-        top_cells(&head.proc.frames),
-        head.proc.answers.as_slice(),
+        top_cells(&proc.frames),
+        proc.answers.as_slice(),
     ) {
         Ok((value, _)) => Some(value),
         Err(_) => None,
@@ -239,32 +240,39 @@ fn evaluates(need: Need) -> bool
 }
 
 /// The reads of a step of this need.
-fn step_reads(alloc: Global, head: Head, need: Need) -> Result<Seq<Access>, Memory>
-    requires { IsHead head.program.now head.proc.now head.todo }
+fn step_reads(
+    alloc: Global,
+    program: &Program,
+    proc: &Proc,
+    todo: Todo,
+    frame: u8,
+    need: Need,
+) -> Result<Seq<Access>, Memory>
+    requires { IsHead program.now proc.now todo }
     ensures { IfOk result
         (λ reads. reads
         ≡ (if evaluates_of need
-        then reads_of_kind head.entry.frame head.entry.program.now.exprs
-        (kind_of head.entry.program.now head.entry.todo.stmt)
-        (top_cells_of head.entry.proc.now.frames) head.entry.proc.now.answers else [])) }
+        then reads_of_kind frame program.now.exprs
+        (kind_of program.now todo.stmt)
+        (top_cells_of proc.now.frames) proc.now.answers else [])) }
 {
     if evaluates(need) {
-        head_reads(alloc, head)
+        head_reads(alloc, program, proc, todo, frame)
     } else {
         Ok(Seq::new(alloc))
     }
 }
 
 /// The value of a step of this need.
-fn step_value(head: Head, need: Need) -> Option<i64>
-    requires { IsHead head.program.now head.proc.now head.todo }
+fn step_value(program: &Program, proc: &Proc, todo: Todo, need: Need) -> Option<i64>
+    requires { IsHead program.now proc.now todo }
     ensures { result
         ≡ (if evaluates_of need
-        then value_at head.entry.program.now.exprs (top_cells_of head.entry.proc.now.frames)
-        head.entry.proc.now.answers (valued_of (kind_of head.entry.program.now head.entry.todo.stmt)) else None) }
+        then value_at program.now.exprs (top_cells_of proc.now.frames)
+        proc.now.answers (valued_of (kind_of program.now todo.stmt)) else None) }
 {
     if evaluates(need) {
-        head_value(head)
+        head_value(program, proc, todo)
     } else {
         None
     }
@@ -288,19 +296,14 @@ fn event_at(
 {
     let need = look(program, plan, proc);
     let trap = trap_of(need);
-    let head = Head {
-        program,
-        proc,
-        todo,
-        frame: frame_of(program, plan, proc),
-    };
-    let reads = step_reads(alloc, head, need)?;
-    let writes = head_writes(alloc, head, trap, answer)?;
+    let frame = frame_of(program, plan, proc);
+    let reads = step_reads(alloc, program, proc, todo, frame, need)?;
+    let writes = head_writes(program, proc, todo, frame, trap, answer)?;
     Ok(Event {
         stmt: todo.stmt,
         reads,
         writes,
-        value: step_value(head, need),
+        value: step_value(program, proc, todo, need),
         number: None,
         trap,
     })
