@@ -20,6 +20,15 @@ lead_all_most [] = omega arith
 lead_all_most (Get y a b ∷ ws) = lead_most y
 lead_all_most (Close r b ∷ ws) = lead_all_most ws
 
+some_lead : (y : Symbol) → 1 ≤ lead y
+some_lead (S.Chain l) = omega arith
+some_lead _ = omega arith
+
+-- what is wanted takes a move
+pub ranked_some : (w : Want) (ws : List Want) → 1 ≤ rank (w ∷ ws)
+ranked_some (Get y a b) ws = omega (arith, some_lead y)
+ranked_some (Close r b) ws = omega arith
+
 ranked_operand : (l : Level) (a : At) (b c : ℕ) (ws : List Want) → rank (wants_in a b (operand_parts l) ++ ws) < 12 + weight_all ws
 ranked_operand L.Product a b c ws = omega arith
 ranked_operand L.Sum a b c ws = omega arith
