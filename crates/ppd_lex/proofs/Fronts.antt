@@ -4,9 +4,11 @@ use Rattle.std.specs.Prelude.{codes}
 use Rattle.std.specs.List.{starts_with, prefix_len}
 use Rattle.std.proofs.lemmas.List.Sums.{prefix_len-le-length}
 use Rattle.std.proofs.lemmas.List.Folds.{length-prefix_len}
+use Rattle.std.proofs.lemmas.Bool.{cond_below, cond_above}
 use Rattle.std.proofs.lemmas.Bool.Decides.{nat_tests}
 use Rattle.ppd_ast.specs.declared.limits.TheConstants.{MOST_NAME_BYTES}
 use Rattle.ppd_lex.specs.declared.token.Kind.{Kind}
+use Rattle.ppd_lex.specs.declared.scan.Fault.TheVariants.{LongName}
 use Rattle.ppd_lex.specs.declared.scan.Piece.{Piece}
 use Rattle.ppd_lex.specs.declared.scan.Piece.TheVariants.{Gap, Read, Bad}
 use Rattle.ppd_lex.specs.declared.token.TokenKind.TheVariants.{End}
@@ -125,3 +127,11 @@ front_proper (b ∷ bs) h =
     by_test (IsProper m) (is_digit b) _ _ (λ d. let k = passed_proper b bs (digit_passes b d) in number_proper m _ k.0 k.1) (λ d.
     by_test (IsProper m) (starts_with nat_eq (b ∷ bs) (codes "//")) _ _ (line_proper b bs) (λ n.
     by_test (IsProper m) (starts_with nat_eq (b ∷ bs) (codes "/*")) _ _ (λ e. block_proper m (drop 2 (b ∷ bs)) (block_room b bs e)) (λ e. mark_proper b bs)))))
+
+-- what a text of letters and digits is, by its length and by what the table of keywords has for it
+
+pub word_long : (text : List ℕ) → MOST_NAME_BYTES < length text → Bad LongName ≡ read_word text
+word_long text h = cond_below MOST_NAME_BYTES (length text) (Bad LongName) (Read (length text) (word_kind (kind_in keywords text) text)) h
+
+pub word_short : (text : List ℕ) (k : Option Kind) → length text ≤ MOST_NAME_BYTES → k ≡ kind_in keywords text → Read (length text) (word_kind k text) ≡ read_word text
+word_short text k h e = cond_above MOST_NAME_BYTES (length text) (Bad LongName) (Read (length text) (word_kind (kind_in keywords text) text)) (Read (length text) (word_kind k text)) h (ap (λ (o : Option Kind). Read (length text) (word_kind o text)) e)
