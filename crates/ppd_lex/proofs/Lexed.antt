@@ -1,5 +1,8 @@
 -- From one piece to the next.
-use Rattle.std.proofs.Common.{◌≡◌, ◌<◌, ◌≤◌, ℕ, ◌+◌, ◌-◌, List, [], ◌∷◌, ◌++◌, length, drop, take, refl, sym, ◌∙◌, ap, subst, arith, length-take, append_assoc, ◌^◌}
+use Rattle.std.proofs.Common.{Result, Ok, Err, true, false, ◌≡◌, ◌<◌, ◌≤◌, ℕ, ◌+◌, ◌-◌, List, [], ◌∷◌, ◌++◌, length, drop, take, refl, sym, ◌∙◌, ap, subst, arith, length-take, append_assoc, ◌^◌}
+use Rattle.std.specs.Result.{IsErr, IsErrAnd, IsErrOf, IfOk, IfErr}
+use Rattle.ppd_lex.specs.declared.token.LexError.{LexError}
+use Rattle.ppd_lex.specs.declared.token.LexError.TheVariants as E
 use Rattle.ppd_lex.specs.declared.token.Token.{Token}
 use Rattle.ppd_lex.specs.declared.token.TokenKind.{TokenKind}
 use Rattle.ppd_lex.specs.declared.token.TokenKind.TheVariants.{End}
@@ -9,7 +12,7 @@ use Rattle.ppd_ast.specs.declared.program.Place.{Place}
 use Rattle.ppd_lex.specs.declared.scan.Piece.{Piece}
 use Rattle.ppd_lex.specs.declared.scan.Piece.TheVariants.{Gap, Read, Bad}
 use Rattle.ppd_lex.specs.Front.{front}
-use Rattle.ppd_lex.specs.Tokens.{place_of, Lexes, Faults, gap, token, here, after_gap, after_token, token_at, IsTokens, IsFirstFault, IsRefused, error_of, end}
+use Rattle.ppd_lex.specs.Tokens.{origin, place_of, Lexes, Faults, gap, token, here, after_gap, after_token, token_at, IsTokens, IsFirstFault, IsRefused, error_of, end}
 use Rattle.ppd_lex.proofs.Comments.{rest_of}
 use Rattle.ppd_lex.proofs.Places.{place_bound}
 use Rattle.ppd_lex.proofs.FormedTokens.{proper_at}
@@ -73,3 +76,12 @@ ended bs i ts h tokens e us p eu ep =
     let zero : i ≡ i + 0 = omega arith in
     let last : record { kind = End; from = i; to = i; place = p } ≡ token_at bs i 0 End = ap (λ q. record { kind = End; from = i; to = i; place = q }) ep ∙ ap (λ z. record { kind = End; from = i; to = z; place = place_of bs i }) zero in
     record { short = h; lexes = subst (Lexes bs 0) (sym (eu ∙ ap (λ z. ts ++ z ∷ []) last)) (tokens (token_at bs i 0 End ∷ []) (end e)) }
+
+-- an answer for want of memory
+pub without_memory : {X : Type 0} (bs : List ℕ) (P Q : X → Type 0) (r : Result X LexError) → IsErr r → IsErrAnd r (λ e. e ≡ E.Memory) → length bs ≤ 2 ^ 18
+    → IfOk r P × IfOk r Q × IfErr r (λ e. IsRefused bs e) × (2 ^ 18 < length bs → IsErrOf r (E.TooLong origin))
+without_memory bs P Q (Ok x) f g h = absurd (apart f)
+  where
+    apart : false ≡ true → ⊥
+    apart e = cc
+without_memory bs P Q (Err e) f g h = (tt, tt, subst (IsRefused bs) (sym g) tt, λ l. absurd (omega (arith, l, h)))

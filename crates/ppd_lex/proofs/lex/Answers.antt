@@ -1,7 +1,9 @@
-use Rattle.std.proofs.Common.{◌≡◌, ◌∙◌, ap, sym, subst, ◌+◌, arith, length}
-use Rattle.ppd_lex.specs.Tokens.{error_of, IsRefused}
+use Rattle.std.proofs.Common.{◌≡◌, ◌∙◌, refl, ap, sym, subst, ◌+◌, ◌++◌, List, arith, length}
+use Rattle.ppd_lex.specs.declared.token.Token.{Token}
+use Rattle.ppd_lex.specs.Formed.{AreFormed}
+use Rattle.ppd_lex.specs.Tokens.{error_of, IsRefused, IsTokens, Lexes}
 use Rattle.ppd_lex.proofs.Places.{place_next}
-use Rattle.ppd_lex.proofs.Lexed.{gap_within, read_within, place_fits, place_column, gap_tokens, gap_faults, read_tokens, read_faults, fault_here, refused, ended}
+use Rattle.ppd_lex.proofs.Lexed.{gap_within, read_within, place_fits, place_column, gap_tokens, gap_faults, read_tokens, read_faults, fault_here, refused, ended, without_memory}
 use Rattle.ppd_lex.proofs.FormedTokens.{formed}
 use Rattle.ppd_lex.proofs.lex.Goals as goal
 
@@ -102,3 +104,29 @@ returns-clause-tokens c =
 
 pub returns-clause-formed : goal.returns-clause-formed
 returns-clause-formed c = formed c.args.bytes.now c.push-2.new.self.items (returns-clause-tokens c)
+
+pub loop-at-init : goal.loop-at-init
+loop-at-init c = record {
+  in_range = omega arith;
+  place = refl;
+  tokens = λ rest h. subst (λ (ts : List Token). Lexes c.args.bytes.now 0 (ts ++ rest)) (sym c.new-tokens.ensures.items) h;
+  faults = λ j f h. h;
+}
+
+pub returns-then-bytes-gt-MOST_SOURCE_BYTES : goal.returns-then-bytes-gt-MOST_SOURCE_BYTES
+returns-then-bytes-gt-MOST_SOURCE_BYTES c = record { tokens = tt; formed = tt; fault = (c.if-bytes-gt-MOST_SOURCE_BYTES.true, refl); long = λ h. refl }
+
+pub returns-in_err-n : goal.returns-in_err-n
+returns-in_err-n c =
+    let w = without_memory c.args.bytes.now (λ tokens. IsTokens c.args.bytes.now tokens.items) (λ tokens. AreFormed (length c.args.bytes.now) tokens.items) c.from_residual.result c.from_residual.ensures.0 c.from_residual.ensures.1 c.if-bytes-gt-MOST_SOURCE_BYTES.false in
+    record { tokens = w.0; formed = w.1; fault = w.2; long = w.3 }
+
+pub returns-in_err-push-in-Read : goal.returns-in_err-push-in-Read
+returns-in_err-push-in-Read c =
+    let w = without_memory c.args.bytes.now (λ tokens. IsTokens c.args.bytes.now tokens.items) (λ tokens. AreFormed (length c.args.bytes.now) tokens.items) c.from_residual-in_err-push-in-Read.result c.from_residual-in_err-push-in-Read.ensures.0 c.from_residual-in_err-push-in-Read.ensures.1 c.if-bytes-gt-MOST_SOURCE_BYTES.false in
+    record { tokens = w.0; formed = w.1; fault = w.2; long = w.3 }
+
+pub returns-in_err-push : goal.returns-in_err-push
+returns-in_err-push c =
+    let w = without_memory c.args.bytes.now (λ tokens. IsTokens c.args.bytes.now tokens.items) (λ tokens. AreFormed (length c.args.bytes.now) tokens.items) c.from_residual-in_err-push.result c.from_residual-in_err-push.ensures.0 c.from_residual-in_err-push.ensures.1 c.if-bytes-gt-MOST_SOURCE_BYTES.false in
+    record { tokens = w.0; formed = w.1; fault = w.2; long = w.3 }
