@@ -1,4 +1,4 @@
-use Rattle.std.proofs.Common.{◌≡◌, ◌≤◌, ◌<◌, ◌+◌, ℕ, List, ◌∷◌, sym, ◌∙◌, ap, refl, subst, reverse, length, arith}
+use Rattle.std.proofs.Common.{◌≡◌, ◌≤◌, ◌<◌, ◌+◌, ℕ, List, ◌∷◌, sym, ◌∙◌, subst, reverse, length, arith}
 use Rattle.ppd_parse.specs.declared.growth.Step.{Step}
 use Rattle.ppd_parse.specs.declared.growth.Step.TheVariants as M
 use Rattle.ppd_parse.specs.declared.symbol.Want.{Want}
