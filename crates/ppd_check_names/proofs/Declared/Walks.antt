@@ -9,7 +9,7 @@ use Rattle.ppd_check_names.specs.declared.fault.Fault.{Fault}
 use Rattle.ppd_check_names.specs.declared.globals.Globals.{Globals}
 use Rattle.ppd_check_names.specs.Faults.{first, first_of_both}
 use Rattle.ppd_check_names.specs.Syntax.{Item}
-use Rattle.ppd_check_names.specs.Reading.{as_items}
+use Rattle.ppd_check_names.specs.Reading.{Phrase, as_items}
 use Rattle.ppd_check_names.specs.Nodes.{phrase_of, phrases_of, phrases_below, children_of}
 use Rattle.ppd_check_names.specs.Declaring.{nothing}
 use Rattle.ppd_check_names.specs.Holding.{head_at, IsHeadAt, Holds, Declares}
@@ -65,3 +65,7 @@ noted_source ns is old new f f' e a = a.notes no_globals (held_first ns old e) �
 -- as many processes as nodes of them
 pub processes_held : (ns : List Node) (g : Globals) (s : S.Globals) → Holds ns g s → length g.processes ≡ length s.processes
 processes_held ns g s h = sym (length-map g.processes (head_at ns)) ∙ ap length h.processes
+
+-- what a phrase says as items was declared
+pub declares_said : (ns : List Node) (p : Phrase) (is : List Item) (old new : Globals) (f f' : Option Fault) → as_items p ≡ is → Declares ns is old new f f' → Declares ns (as_items p) old new f f'
+declares_said ns p is old new f f' e d = subst (λ (js : List Item). Declares ns js old new f f') (sym e) d

@@ -3,10 +3,11 @@ use Rattle.std.proofs.lemmas.List.{get_or_default}
 use Rattle.ppd_check_names.proofs.Declared.Costs.{left_same, heads_same, heads_function, heads_process, ok_any, phrases_few}
 use Rattle.ppd_check_names.proofs.Table.Costs.{walked_all, walked_more, walked_part, nodes_apart, nodes_step, some_nodes_at}
 use Rattle.ppd_check_names.specs.declared.globals.Globals.{Globals}
+use Rattle.ppd_check_names.specs.Reading.{as_items}
 use Rattle.ppd_check_names.specs.Nodes.{SaysBy, label_name, phrase_of, phrases_below}
 use Rattle.ppd_check_names.proofs.Found.Outcomes.{both_ok, ok_map}
 use Rattle.ppd_check_names.proofs.Declared.Parameters.{declares_process_at}
-use Rattle.ppd_check_names.proofs.Declared.Walks.{declares_next, declares_below}
+use Rattle.ppd_check_names.proofs.Declared.Walks.{declares_next, declares_below, declares_said}
 use Rattle.ppd_check_names.proofs.collecting.+declarations.Goals as goal
 
 pub declare_below-loop-child-preserved : goal.declare_below-loop-child-preserved
@@ -102,3 +103,33 @@ pub declare_below-returns-in_err-declare_node-clause-cost : goal.declare_below-r
 declare_below-returns-in_err-declare_node-clause-cost g t c =
     let part = walked_part c.args.source.nodes.now c.args.id c.children_of-child-items.result.now c.loop-child.child-index c.children_of-child-items.ensures.children (omega (arith, c.loop-child-test.true)) in
     omega (arith, c.loop-child.invariant.cost, c.tick-in-loop-child.ensures, c.declare_node.ensures.cost, nodes_apart c.args.source.nodes.now (get_or c.children_of-child-items.result.now c.loop-child.child-index 0))
+
+pub declare_node-returns-in-Source-clause-declares : goal.declare_node-returns-in-Source-clause-declares
+declare_node-returns-in-Source-clause-declares g t c =
+    let ns = c.args.source.nodes.now in
+    let says = subst (λ r. SaysBy r (phrases_below ns c.args.id) (phrase_of ns c.args.id)) c.in-Source.is c.rule_of.ensures.said in
+    ok_map c.declare_below.result _ _ (λ h. declares_said ns (phrase_of ns c.args.id) _ c.args.globals.now c.declare_below.new.globals c.args.found.now c.declare_below.new.found (ap as_items says) h) c.declare_below.ensures.declares
+
+pub declare_node-returns-in-Shared-clause-declares : goal.declare_node-returns-in-Shared-clause-declares
+declare_node-returns-in-Shared-clause-declares g t c =
+    let ns = c.args.source.nodes.now in
+    let says = subst (λ r. SaysBy r (phrases_below ns c.args.id) (phrase_of ns c.args.id)) c.in-Shared.is c.rule_of.ensures.said in
+    ok_map c.declare_below-in-Shared.result _ _ (λ h. declares_said ns (phrase_of ns c.args.id) _ c.args.globals.now c.declare_below-in-Shared.new.globals c.args.found.now c.declare_below-in-Shared.new.found (ap as_items says) h) c.declare_below-in-Shared.ensures.declares
+
+pub declare_node-returns-in-Sitem-clause-declares : goal.declare_node-returns-in-Sitem-clause-declares
+declare_node-returns-in-Sitem-clause-declares g t c =
+    let ns = c.args.source.nodes.now in
+    let says = subst (λ r. SaysBy r (phrases_below ns c.args.id) (phrase_of ns c.args.id)) c.in-Sitem.is c.rule_of.ensures.said in
+    ok_map c.declare_shared.result _ _ (λ h. declares_said ns (phrase_of ns c.args.id) _ c.args.globals.now c.declare_shared.new.globals c.args.found.now c.declare_shared.new.found (ap as_items says) (h ns)) c.declare_shared.ensures.declares
+
+pub declare_node-returns-in-Sems-clause-declares : goal.declare_node-returns-in-Sems-clause-declares
+declare_node-returns-in-Sems-clause-declares g t c =
+    let ns = c.args.source.nodes.now in
+    let says = subst (λ r. SaysBy r (phrases_below ns c.args.id) (phrase_of ns c.args.id)) c.in-Sems.is c.rule_of.ensures.said in
+    ok_map c.declare_objects.result _ _ (λ h. declares_said ns (phrase_of ns c.args.id) _ c.args.globals.now c.declare_objects.new.globals c.args.found.now c.declare_objects.new.found (ap as_items says) (h ns)) c.declare_objects.ensures.declares
+
+pub declare_node-returns-in-Chans-clause-declares : goal.declare_node-returns-in-Chans-clause-declares
+declare_node-returns-in-Chans-clause-declares g t c =
+    let ns = c.args.source.nodes.now in
+    let says = subst (λ r. SaysBy r (phrases_below ns c.args.id) (phrase_of ns c.args.id)) c.in-Chans.is c.rule_of.ensures.said in
+    ok_map c.declare_objects-in-Chans.result _ _ (λ h. declares_said ns (phrase_of ns c.args.id) _ c.args.globals.now c.declare_objects-in-Chans.new.globals c.args.found.now c.declare_objects-in-Chans.new.found (ap as_items says) (h ns)) c.declare_objects-in-Chans.ensures.declares
