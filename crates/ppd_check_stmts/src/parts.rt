@@ -58,7 +58,6 @@ pub fn semicolon_from<L: Ledger>(
 }
 
 // The number of the child after the first semicolon from one on; where none is, that of no child.
-#[tactic(auto, using(crate::proofs::Rows::Semicolons::behind_found, crate::proofs::Rows::Semicolons::behind_all))]
 pub fn past_semicolon<L: Ledger>(
     source: Source<'_>,
     id: u32,
@@ -71,7 +70,10 @@ pub fn past_semicolon<L: Ledger>(
 {
     let count = count_of(source, id);
     let at = semicolon_from(source, id, from, steps);
-    if at < count { at + 1 } else { count }
+    if at < count {
+        return at + 1;
+    }
+    count
 }
 
 // The number of the child that has this number among those from one up to another; where none has it, that of no child.

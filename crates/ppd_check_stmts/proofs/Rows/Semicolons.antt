@@ -52,10 +52,7 @@ pub record Found (ps : List Phrase) (from at : ℕ) : Type 0 where
   pub before : before (drop from ps) ≡ take (at - from) (drop from ps)
   pub beyond : beyond (drop from ps) ≡ drop (at + 1) ps
 
--- behind a semicolon, or behind all
-pub behind_found : (ps : List Phrase) (from at : ℕ) → beyond (drop from ps) ≡ drop (at + 1) ps → drop (at + 1) ps ≡ beyond (drop from ps)
-behind_found ps from at h = sym h
-
+-- behind all, where no semicolon is found
 pub behind_all : (ps : List Phrase) (from at : ℕ) → length ps ≤ at → beyond (drop from ps) ≡ drop (at + 1) ps → drop (length ps) ps ≡ beyond (drop from ps)
 behind_all ps from at h e =
     let all : drop (length ps) ps ≡ [] = drop_all (length ps) ps (omega arith) in
