@@ -1,8 +1,10 @@
 -- The lists of a block's cells.
-use Rattle.std.proofs.Common.{◌≡◌, ◌↔◌, ℕ, ◌+◌, ◌<◌, List, [], ◌∷◌, ◌++◌, Bool, false, Option, None, length, map, refl, sym, ap, ◌∙◌, arith, inl, inr, true≢false}
-use Rattle.std.specs.Prelude.{IsTrue, slice_get, if◌then◌else◌}
-use Rattle.std.specs.List.{flat_map, range_with_len}
+use Rattle.std.proofs.Common.{◌≡◌, ◌↔◌, ℕ, ◌+◌, ◌<◌, List, [], ◌∷◌, ◌++◌, Bool, false, Option, None, length, get_or, map, take, true, refl, sym, ap, ◌∙◌, arith, inl, inr, true≢false, append-nil}
+use Rattle.std.specs.Prelude.{IsTrue, slice_get, not, if◌then◌else◌}
+use Rattle.std.specs.List.{filter, flat_map, range_with_len}
 use Rattle.std.proofs.lemmas.Bool.{cases_lt}
+use Rattle.std.proofs.lemmas.List.{take_more}
+use Rattle.std.proofs.lemmas.List.Elements.{filter-append}
 use Rattle.ppd_ast.specs.declared.program.Stmt.{Stmt}
 use Rattle.ppd_ast.specs.Numbered.{is_while}
 use Rattle.ppd_sets.proofs.Gaining.{range_push}
@@ -61,3 +63,20 @@ one_more k old new before now =
 pub loops_of_kinds : (p : Program) (kinds : List BlockKind) → flat_map (λ (b : Block). loop_in b.kind) (map (bare_block p.bodies) kinds) ≡ flat_map loop_in kinds
 loops_of_kinds p [] = refl
 loops_of_kinds p (k ∷ ks) = ap (λ l. loop_in k ++ l) (loops_of_kinds p ks)
+
+-- ---- what a test leaves of a list, one number after another
+
+left_more : (test : ℕ → Bool) (ns : List ℕ) (i : ℕ) → i < length ns → filter (λ t. not (test t)) (take (i + 1) ns) ≡ filter (λ t. not (test t)) (take i ns) ++ (if not (test (get_or ns i 0)) then get_or ns i 0 ∷ [] else [])
+left_more test ns i lt =
+    ap (filter (λ t. not (test t))) (take_more ns i 0 lt) ∙ filter-append (λ t. not (test t)) (take i ns) (get_or ns i 0 ∷ [])
+
+pub left_in : (test : ℕ → Bool) (ns ids : List ℕ) (i : ℕ) (b : Bool) → i < length ns → ids ≡ filter (λ t. not (test t)) (take i ns) → b ≡ test (get_or ns i 0) → b ≡ false →
+    ids ++ get_or ns i 0 ∷ [] ≡ filter (λ t. not (test t)) (take (i + 1) ns)
+left_in test ns ids i b lt e is off =
+    ap (λ l. l ++ get_or ns i 0 ∷ []) e
+    ∙ sym (left_more test ns i lt ∙ ap (λ c. filter (λ t. not (test t)) (take i ns) ++ (if not c then get_or ns i 0 ∷ [] else [])) (sym is ∙ off))
+
+pub left_out : (test : ℕ → Bool) (ns ids : List ℕ) (i : ℕ) (b : Bool) → i < length ns → ids ≡ filter (λ t. not (test t)) (take i ns) → b ≡ test (get_or ns i 0) → b ≡ true →
+    ids ≡ filter (λ t. not (test t)) (take (i + 1) ns)
+left_out test ns ids i b lt e is on =
+    e ∙ sym (left_more test ns i lt ∙ ap (λ c. filter (λ t. not (test t)) (take i ns) ++ (if not c then get_or ns i 0 ∷ [] else [])) (sym is ∙ on) ∙ append-nil (filter (λ t. not (test t)) (take i ns)))

@@ -80,15 +80,16 @@ module _ (p : Program) (policy : Policy) (v : IsValid p) where
   filled_are [] = refl
   filled_are (k ∷ ks) = ap (λ l. block_of p k ∷ l) (filled_are ks)
 
-  pub plan_is : (plain : Plan) (first second blocks : List Block) (loops listed : List ℕ) (units : List UnitOf) → plain ≡ bare p policy →
-      first ≡ plain.blocks → loops ≡ flat_map (λ (b : Block). loop_in b.kind) first → listed ≡ loops → units ≡ units_of p listed →
-      second ≡ plain.blocks → blocks ≡ map (filled p) second → IsPlan blocks units
+  pub same_blocks : (plain : Plan) → plain ≡ bare p policy → plain.blocks ≡ (bare p policy).blocks
+  same_blocks plain is = ap (λ (q : Plan). q.blocks) is
+
+  pub plan_is : (plain blocks : List Block) (units : List UnitOf) → plain ≡ (bare p policy).blocks →
+      units ≡ units_of p (flat_map (λ (b : Block). loop_in b.kind) plain) → blocks ≡ map (filled p) plain → IsPlan blocks units
   unfolding IsPlan
-  plan_is plain first second blocks loops listed units is at_first found same made at_second filled_in =
+  plan_is plain blocks units is made filled_in =
       let kinds : List BlockKind = blocks_by p.stmts policy p.bodies in
-      let bare_blocks : plain.blocks ≡ map (bare_block p.bodies) kinds = ap (λ (q : Plan). q.blocks) is in
-      let b : blocks ≡ map (block_of p) kinds = filled_in ∙ ap (map (filled p)) (at_second ∙ bare_blocks) ∙ filled_are kinds in
-      let l : listed ≡ block_loops p policy = same ∙ found ∙ ap (flat_map (λ (c : Block). loop_in c.kind)) (at_first ∙ bare_blocks) ∙ loops_of_kinds p kinds in
+      let b : blocks ≡ map (block_of p) kinds = filled_in ∙ ap (map (filled p)) is ∙ filled_are kinds in
+      let l : flat_map (λ (c : Block). loop_in c.kind) plain ≡ block_loops p policy = ap (flat_map (λ (c : Block). loop_in c.kind)) is ∙ loops_of_kinds p kinds in
       let u : units ≡ units_of p (block_loops p policy) = made ∙ ap (units_of p) l in
       ap (λ bs. plan_with bs units) b ∙ ap (λ us. plan_with (map (block_of p) kinds) us) u
 

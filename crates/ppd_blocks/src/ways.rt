@@ -62,18 +62,23 @@ fn does_leave(program: &Program, loops: &[u32], stmt: u32, next: u32) -> bool
     contains(loops, stmt) && !does_stand_in(stmts, stmt, Some(next), MOST_NESTING)
 }
 
+// Whether it is a call or a synchronization.
+fn is_left(kind: &Kind) -> bool
+    ensures { result ≡ is_left kind.now }
+{
+    match kind {
+        Kind::Call { .. } | Kind::P(_) | Kind::V(_) | Kind::Send(_, _) | Kind::Recv(_, _) => true,
+        _ => false,
+    }
+}
+
 // Whether a unit starts after the statement: a call or a synchronization.
 pub(crate) fn is_left_at(program: &Program, stmt: u32) -> bool
     ensures { result ≡ is_left (kind_of program.now stmt) }
 {
-    match program.stmts.as_slice().get(stmt as usize) {
+    match program.stmt(stmt) {
+        Some(found) => is_left(&found.kind),
         None => false,
-        Some(found) => match &found.kind {
-            Kind::Call { .. } | Kind::P(_) | Kind::V(_) | Kind::Send(_, _) | Kind::Recv(_, _) => {
-                true
-            }
-            _ => false,
-        },
     }
 }
 

@@ -1,19 +1,6 @@
-use Rattle.ppd_blocks.proofs.Validity.{plan_is, plan_good, as_plan}
+use Rattle.std.proofs.Common.{◌∙◌}
+use Rattle.ppd_blocks.proofs.Validity.{same_blocks}
 use Rattle.ppd_blocks.proofs.plan.partition.Goals as goal
 
-pub returns-clause-plan : goal.returns-clause-plan
-returns-clause-plan c =
-    let p = c.args.program.now in
-    let policy = c.args.policy.now in
-    as_plan p policy c.requires.program c.in_ok-blocks.blocks c.in_ok-units.units
-    (plan_is p policy c.requires.program c.in_ok-bare.bare c.as_slice.result.now c.as_slice-3.result.now c.in_ok-blocks.blocks c.in_ok-loops.loops c.as_slice-2.result.now c.in_ok-units.units
-    c.in_ok-bare.ensures.bare c.as_slice.ensures c.in_ok-loops.ensures c.as_slice-2.ensures c.in_ok-units.ensures c.as_slice-3.ensures c.in_ok-blocks.ensures)
-
-pub returns-clause-valid : goal.returns-clause-valid
-returns-clause-valid c =
-    let p = c.args.program.now in
-    let policy = c.args.policy.now in
-    plan_good p policy c.requires.program c.in_ok-blocks.blocks c.in_ok-units.units
-    (plan_is p policy c.requires.program c.in_ok-bare.bare c.as_slice.result.now c.as_slice-3.result.now c.in_ok-blocks.blocks c.in_ok-loops.loops c.as_slice-2.result.now c.in_ok-units.units
-    c.in_ok-bare.ensures.bare c.as_slice.ensures c.in_ok-loops.ensures c.as_slice-2.ensures c.in_ok-units.ensures c.as_slice-3.ensures c.in_ok-blocks.ensures)
-    c.requires.policy
+pub plan_with-requires-clause-blocks : goal.plan_with-requires-clause-blocks
+plan_with-requires-clause-blocks c = c.as_slice.ensures ∙ same_blocks c.args.program.now c.args.policy.now c.requires.program c.in_ok-bare.bare c.in_ok-bare.ensures.bare

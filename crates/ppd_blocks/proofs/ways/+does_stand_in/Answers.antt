@@ -1,4 +1,4 @@
-use Rattle.std.proofs.Common.{◌∙◌, sym, ap, true, false, Some, None, ◌-◌}
+use Rattle.std.proofs.Common.{◌∙◌, sym, ap, ◌-◌}
 use Rattle.std.specs.Prelude.{◌||◌, slice_get}
 use Rattle.std.proofs.lemmas.Bool.{eq-eqb, ne_eqb}
 use Rattle.ppd_blocks.specs.Walk.{stands_at}
