@@ -44,9 +44,9 @@ impl<T: Copy> Rows<T> {
         ensures { OnOk result (Notes key.0 key.1 item value self.old self.new) }
     {
         let mut row = self.take_row(key);
-        row.note(item, value)?;
+        let noted = row.note(item, value);
         self.kept.insert(key, row)?;
-        Ok(())
+        noted
     }
 
     /// The values in a row of the items from one place to before another.
