@@ -1,16 +1,17 @@
 use crate::wanted::{Found, Wanted};
 use ppd_ast::{Memory, Seq};
 use ppd_model::Item;
+use std::fmt;
 use thiserror::Error;
 
 /// What the replay of an interval gives: its items in order.
-#[derive(Drop, PartialEq)]
+#[derive(Drop)]
 pub struct BlockTrace {
     pub items: Seq<Item>,
 }
 
 /// Why an interval could not be replayed.
-#[derive(Drop, Debug, PartialEq, Error)]
+#[derive(Drop, Error)]
 pub enum EmulError {
     /// The log is not one of a run of this interval: the entry of this number in the process's log
     /// is the first that the replay cannot go on with. `wanted` is what it needed there, and
@@ -34,5 +35,11 @@ impl From<Memory> for EmulError {
 
     fn from(_memory: Memory) -> EmulError {
         EmulError::Memory
+    }
+}
+
+impl fmt::Debug for EmulError {
+    fn fmt<W: fmt::Write>(&self, f: &mut fmt::Formatter<W>) -> fmt::Result {
+        fmt::Display::fmt(self, f)
     }
 }

@@ -2,7 +2,7 @@ use ppd_ast::{Nums, Status, SyncKind};
 
 /// What a replay needs the next piece of the log to be. The value of a synchronization is what is
 /// sent, and 0 for any but a send.
-#[derive(Drop, Debug, PartialEq)]
+#[derive(Drop)]
 pub enum Wanted {
     /// The start of this unit.
     Unit(u16),
@@ -20,7 +20,7 @@ pub enum Wanted {
 
 /// A piece of the log as a replay found it. The value of a synchronization is what was sent, and 0
 /// for any but a send; an interval that was not left is found by its block, as one that was.
-#[derive(Drop, Debug, PartialEq)]
+#[derive(Drop)]
 pub enum Found {
     /// The start of this unit.
     Unit(u16),

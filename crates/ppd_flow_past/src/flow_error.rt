@@ -1,8 +1,9 @@
 use ppd_ast::Memory;
+use std::fmt;
 use thiserror::Error;
 
 /// Why an origin is not found.
-#[derive(Clone, Copy, PartialEq, Debug, Error)]
+#[derive(Clone, Copy, Error)]
 pub enum FlowError {
     /// The log of an interval of this process is not one of a run: its replay cannot go on with this entry.
     #[error("the replay cannot go on with this entry")]
@@ -27,5 +28,11 @@ impl From<Memory> for FlowError {
 
     fn from(_memory: Memory) -> FlowError {
         FlowError::Memory
+    }
+}
+
+impl fmt::Debug for FlowError {
+    fn fmt<W: fmt::Write>(&self, f: &mut fmt::Formatter<W>) -> fmt::Result {
+        fmt::Display::fmt(self, f)
     }
 }

@@ -1,8 +1,9 @@
 use ppd_ast::Memory;
+use std::fmt;
 use thiserror::Error;
 
 /// Why there is no text.
-#[derive(Clone, Copy, Debug, Error)]
+#[derive(Clone, Copy, Error)]
 pub enum WholeError {
     /// The replay of an interval of this process fails, at this entry.
     #[error("the replay cannot go on with this entry")]
@@ -20,5 +21,11 @@ impl From<Memory> for WholeError {
 
     fn from(_memory: Memory) -> WholeError {
         WholeError::Memory
+    }
+}
+
+impl fmt::Debug for WholeError {
+    fn fmt<W: fmt::Write>(&self, f: &mut fmt::Formatter<W>) -> fmt::Result {
+        fmt::Display::fmt(self, f)
     }
 }
