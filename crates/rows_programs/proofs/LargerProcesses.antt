@@ -20,7 +20,7 @@ use Rattle.ppd_sem.specs.declared.proc.Proc.{Proc}
 use Rattle.rows_programs.proofs.Example.{stmt}
 use Rattle.ppd_sem.specs.Process.{act, need_of, started}
 
-abbrev needs : Program → Plan → Proc → List Answer → List Need
+abbrev pub needs : Program → Plan → Proc → List Answer → List Need
 needs program plan s [] = need_of program plan s ∷ []
 needs program plan s (a ∷ answers) = need_of program plan s ∷ needs program plan (act program plan s a) answers
 

@@ -3,7 +3,10 @@ pub mod CoreForm
 pub mod Example
 pub mod Processes
 pub mod LargerProcesses
+pub mod Needs
+pub mod Flows
 pub mod Runs
+pub mod Indexes
 pub mod Replays
 pub mod Agreements
 pub mod Refusals

@@ -58,6 +58,11 @@ no_unit = refl
 
 -- ---- shared int x; sem m = 1; process a { P(m); x = x + 1; V(m); } and b likewise
 
+-- where the first unit is wanted, no unit
+pub no_first_unit : replays_of lock.program lock.plan 100000 (entry.Prelog 0 [] ∷ entry.End status.Blocked 0 [] [] ∷ []) ≡ failed 0 1 (wanted.Unit 0) (found.End status.Blocked) ∷ []
+unfolding terms
+no_first_unit = refl
+
 -- the log of a, with this first synchronization and this unit after it
 abbrev pub locked : SyncKind → ℕ → ℕ → ℕ → List Entry
 locked kind object number u =
