@@ -2,18 +2,24 @@
 
 use crate::content::{block, first_word};
 use crate::fault::Fault;
+use crate::gates::HoldingGate;
 use crate::logs::{ended, logged};
 use crate::recorded::records;
-use crate::said::{number_said, numbers_said, schedule_of};
+use crate::said::{number_said, numbers_said, said, schedule_of};
 use crate::sources::told_source;
+use crate::terminals::{Keys, Screen};
 use crate::tokens::{told_fields, told_tokens};
+use crate::traces::traced;
 use crate::trees::{told_nodes, told_tree};
 use ppd_ast::Policy;
 use ppd_ast::limits::{MOST_BUDGET, MOST_POLICY};
-use ppd_io::{CHUNK_BYTES, FreeGate, MemoryShelf, MemorySink, MemorySource, Shelf};
+use ppd_io::{
+    CHUNK_BYTES, FreeGate, MemoryShelf, MemorySink, MemorySource, Shelf, StdSink, StdSource,
+};
 use ppd_top::{Options, Outcome, follow, ppd};
 use std::alloc::Global;
 use std::sync::Wait;
+use std::sync::atomic::AtomicU64;
 use std::thread::Threads;
 
 /// The room of an output where a case says none, in bytes.
@@ -75,20 +81,13 @@ fn output_of(alloc: Global, under: &str) -> Result<MemorySink, Fault> {
     Ok(sink)
 }
 
-/// How the program ends that is called with these words.
-fn outcome_of<R: Threads + Wait + Sync>(
-    rt: &R,
+/// The answer of a call that ended so, wrote these bytes, and did not keep to this part of its case, if any is said.
+fn answered(
     alloc: Global,
-    words: &[&str],
-    shelf: &mut MemoryShelf,
-    input: &mut MemorySource,
-    output: &mut MemorySink,
-) -> Outcome {
-    ppd(rt, alloc, words, shelf, input, output, &FreeGate)
-}
-
-/// The answer of a call that ended so, and wrote these bytes.
-fn answered(alloc: Global, outcome: Outcome, written: &[u8]) -> Result<Answer, Fault> {
+    outcome: Outcome,
+    written: &[u8],
+    broken: &str,
+) -> Result<Answer, Fault> {
     let status = outcome.status;
     let taken = outcome.schedule.into_vec();
     let text = Vec::from_slice(alloc, written)?;
@@ -96,11 +95,11 @@ fn answered(alloc: Global, outcome: Outcome, written: &[u8]) -> Result<Answer, F
         status,
         text,
         taken,
-        refused: String::new(alloc),
+        refused: String::from_str(alloc, broken)?,
     })
 }
 
-/// What the program answers to these words.
+/// What the program answers to these words over devices in memory, its workers held as the call says.
 fn called<R: Threads + Wait + Sync>(
     rt: &R,
     alloc: Global,
@@ -111,8 +110,52 @@ fn called<R: Threads + Wait + Sync>(
 ) -> Result<Answer, Fault> {
     let mut input = input_of(alloc, texts, under)?;
     let mut output = output_of(alloc, under)?;
-    let outcome = outcome_of(rt, alloc, words, shelf, &mut input, &mut output);
-    answered(alloc, outcome, output.bytes())
+    let gate = HoldingGate::new(alloc, under)?;
+    let outcome = ppd(rt, alloc, words, shelf, &mut input, &mut output, &gate);
+    let broken = if gate.is_kept() { "" } else { "holds" };
+    answered(alloc, outcome, output.bytes(), broken)
+}
+
+/// What the program answers to these words at a terminal, where so much must be shown before each line is typed.
+fn called_at_terminal<R: Threads + Wait + Sync>(
+    rt: &R,
+    alloc: Global,
+    words: &[&str],
+    typed: &[u8],
+    waits: &[u32],
+    shelf: &mut MemoryShelf,
+) -> Result<Answer, Fault> {
+    let shown = AtomicU64::new(0);
+    let mut keys = Keys::new(typed, waits, &shown);
+    let mut screen = Screen::new(alloc, &shown);
+    let outcome = ppd(
+        rt,
+        alloc,
+        words,
+        shelf,
+        &mut StdSource::new(&mut keys),
+        &mut StdSink::new(&mut screen),
+        &FreeGate,
+    );
+    let broken = if keys.are_typed() { "" } else { "waits" };
+    answered(alloc, outcome, &screen.bytes, broken)
+}
+
+/// What the program answers to these words, at a terminal where the call says what the lines wait for.
+fn called_so<R: Threads + Wait + Sync>(
+    rt: &R,
+    alloc: Global,
+    texts: &str,
+    words: &[&str],
+    under: &str,
+    shelf: &mut MemoryShelf,
+) -> Result<Answer, Fault> {
+    if said(under, "waits").is_none() {
+        return called(rt, alloc, texts, words, under, shelf);
+    }
+    let typed = block(alloc, texts, under, "input")?;
+    let waits = numbers_said(alloc, under, "waits")?;
+    called_at_terminal(rt, alloc, words, &typed, &waits, shelf)
 }
 
 /// A number of two bytes that stands behind this word; 0 where no line begins with it.
@@ -211,7 +254,7 @@ fn read_as(alloc: Global, kind: &str, source: &[u8]) -> Result<String, Fault> {
     Ok(told?)
 }
 
-/// What a source is read to, what it logs, or how it ends.
+/// What a source is read to, what it logs, how it ends, or its full trace in short.
 fn text_of(
     alloc: Global,
     kind: &str,
@@ -223,6 +266,7 @@ fn text_of(
     match kind {
         "log" => logged(alloc, source, &options, rest),
         "ends" => ended(alloc, source, &options, rest),
+        "trace" => traced(alloc, source, &options, rest),
         _ => read_as(alloc, kind, source),
     }
 }
@@ -277,7 +321,7 @@ pub(crate) fn answer_of<R: Threads + Wait + Sync>(
     match call.strip_prefix("ppd") {
         Some(rest) => {
             let words = words_of(alloc, rest)?;
-            called(rt, alloc, texts, &words, under, shelf)
+            called_so(rt, alloc, texts, &words, under, shelf)
         }
         None => {
             let bytes = file_of(alloc, call, shelf)?;

@@ -5,12 +5,15 @@
 mod asking;
 mod content;
 mod fault;
+mod gates;
 mod judging;
 mod logs;
 mod recorded;
 mod said;
 mod sources;
+mod terminals;
 mod tokens;
+mod traces;
 mod trees;
 mod worlds;
 

@@ -32,6 +32,8 @@ fn is_under(key: &str) -> bool {
         "input"
             | "chunk"
             | "input-fails"
+            | "waits"
+            | "holds"
             | "room"
             | "output-fails"
             | "budget"
