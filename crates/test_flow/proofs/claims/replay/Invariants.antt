@@ -1,4 +1,0 @@
-use Rattle.test_flow.proofs.claims.replay.Given as goal
-
-abbrev pub ghosts-replay_by : goal.ghosts-replay_by
-ghosts-replay_by a = record { name = a.blank.name; parts = a.blank.parts }
