@@ -1,8 +1,7 @@
 #!/usr/bin/env bash
 # Three worked runs and their questions, `flow`, `run` and `debug`, with each allocation failing in turn, up to the first
-# number at which none fails: each call gives its usual answer, or status 5 with a prefix of it. Then the tests of
-# crates/test_refused the same way, which ask again after each refusal and must all pass. It proves nothing, builds anew
-# for each number, which takes a minute, and stands outside the gate.
+# number at which none fails: each call gives its usual answer, or status 5 with a prefix of it. It proves nothing,
+# builds anew for each number, which takes a minute, and stands outside the gate.
 #
 #     tools/failing_allocations.sh [FIRST [LAST]]     the numbers of allocations to try, 1 to 200 where none are given
 top="$(cd "$(dirname "$0")/.." && pwd)" || exit 2
@@ -79,14 +78,4 @@ try_each loop.c $'why a 0 1\nwhy a 1 0\n' "$looped" flow --loops 1 loop.c
 try_each smallest.c '' "$smallest" run smallest.c smallest.rec
 try_each smallest.rec $'final\nwhy a 0 1\n' "$answered" debug smallest.rec
 
-for number in $(seq "$first" "$last"); do
-    said="$(cd "$top/crates/test_refused" && rt try --test --fail-alloc "$number" 2>&1)"
-    if [ $? = 0 ]; then
-        answer="all pass"
-    else
-        answer="WRONG: $(printf '%s' "$said" | grep -m 1 'FAILED\|failed' | head -c 100)"
-        wrong=1
-    fi
-    echo "test_refused: allocation $number fails: $answer"
-done
 exit $wrong

@@ -1,2 +1,0 @@
--- What is kept of runs that tests make.
-pub mod Runs

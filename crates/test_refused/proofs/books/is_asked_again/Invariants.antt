@@ -1,4 +1,0 @@
-use Rattle.test_refused.proofs.books.is_asked_again.Given as goal
-
-abbrev pub ghosts-keep : goal.ghosts-keep
-ghosts-keep a = record { program = a.program.now; plan = a.plan.now; budget = 1000 }

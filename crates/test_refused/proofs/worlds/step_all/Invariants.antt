@@ -1,5 +1,0 @@
-use Rattle.ppd_world.specs.Running.{IsReached}
-use Rattle.test_refused.proofs.worlds.step_all.Given as goal
-
-abbrev pub invariant-loop : goal.invariant-loop
-invariant-loop l = IsReached l.world
