@@ -9,7 +9,7 @@ use std::ops::Index;
 use std::slice::Iter;
 
 /// Want of memory.
-#[derive(Clone, Copy, Debug)]
+#[derive(Clone, Copy)]
 pub struct Memory;
 
 impl From<AllocError> for Memory {
@@ -25,7 +25,7 @@ impl<T: Drop> From<AllocFailed<T>> for Memory {
 }
 
 /// A list of items, which contracts see as that list.
-#[derive(Drop, Debug, Clone)]
+#[derive(Drop, Clone)]
 pub struct Seq<T: Drop> {
     items: Vec<T>,
 }

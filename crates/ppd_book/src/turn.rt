@@ -2,7 +2,7 @@ use ppd_ast::Bytes;
 use ppd_model::Closed;
 
 /// What a turn did: this process took its step, or nobody can take one.
-#[derive(Clone, Copy, Debug, PartialEq)]
+#[derive(Clone, Copy)]
 pub enum Turn {
     Stepped(u8),
     Over,

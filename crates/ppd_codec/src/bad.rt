@@ -1,9 +1,10 @@
 use ppd_ast::Memory;
 use ppd_check::SourceError;
+use std::fmt;
 use thiserror::Error;
 
 /// The field of a recording that has no lawful value.
-#[derive(Clone, Copy, Debug, Drop)]
+#[derive(Clone, Copy, Drop)]
 pub enum Field {
     Budget,
     Leaf,
@@ -21,7 +22,7 @@ pub enum Field {
 
 /// Why bytes are no recording: the first field, in their order, that is not whole or not lawful. A number is an
 /// offset in bytes, from 0, mostly that of the field.
-#[derive(Clone, Copy, Debug, Drop, Error)]
+#[derive(Clone, Copy, Drop, Error)]
 pub enum BadBytes {
     /// The first four bytes are not `PPDR`.
     #[error("these bytes are no recording")]
@@ -57,5 +58,11 @@ impl From<Memory> for BadBytes {
 
     fn from(_memory: Memory) -> BadBytes {
         BadBytes::Memory
+    }
+}
+
+impl fmt::Debug for BadBytes {
+    fn fmt<W: fmt::Write>(&self, f: &mut fmt::Formatter<W>) -> fmt::Result {
+        fmt::Display::fmt(self, f)
     }
 }

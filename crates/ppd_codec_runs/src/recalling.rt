@@ -16,6 +16,7 @@ use ppd_graph::{SyncGraph, graph};
 use ppd_index::{LogIndex, index};
 use ppd_text_refusals::{bytes_line, log_line, sync_line};
 use std::alloc::Global;
+use std::fmt;
 use thiserror::Error;
 
 /// A recording that was accepted, with the index and the graph of its logs.
@@ -27,7 +28,7 @@ pub struct Recalled {
 }
 
 /// Why nothing is taken from bytes.
-#[derive(Drop, Debug, Error)]
+#[derive(Drop, Error)]
 pub enum NoRecall {
     /// They are refused; the line that says why.
     #[error("the recording is refused")]
@@ -134,5 +135,11 @@ pub fn recall(alloc: Global, bytes: &[u8]) -> Result<Recalled, NoRecall>
             drop(recording);
             Err(error)
         }
+    }
+}
+
+impl fmt::Debug for NoRecall {
+    fn fmt<W: fmt::Write>(&self, f: &mut fmt::Formatter<W>) -> fmt::Result {
+        fmt::Display::fmt(self, f)
     }
 }

@@ -4,7 +4,7 @@ ghost use Rattle.ppd_deps.specs.Rows.{row_at};
 use ppd_ast::Seq;
 
 /// A static edge into a statement.
-#[derive(Clone, Copy, PartialEq)]
+#[derive(Clone, Copy)]
 pub enum StaticEdge {
     /// A value of the variable, by its number among the shared ones or those of the statement's
     /// body, may come from what this statement writes.

@@ -53,7 +53,7 @@ pub struct Logs {
 }
 
 /// An entry by its process and its number in that process's log, both from 0.
-#[derive(Clone, Copy, PartialEq, Debug)]
+#[derive(Clone, Copy)]
 pub struct At {
     pub process: u8,
     pub entry: u32,

@@ -1,7 +1,7 @@
 use ppd_model::NodeId;
 
 /// What led to a synchronization by its number.
-#[derive(Clone, Copy, PartialEq)]
+#[derive(Clone, Copy)]
 pub enum Paired {
     /// It needs nothing: a `V`, a send whose place was free from the start, or the first send on a channel of
     /// capacity 0.

@@ -1,10 +1,11 @@
 use ppd_ast::{Memory, Seq, SyncKind};
 use ppd_entry::At;
 use ppd_model::NodeId;
+use std::fmt;
 use thiserror::Error;
 
 /// Why logs have no graph.
-#[derive(Drop, Debug, Error)]
+#[derive(Drop, Error)]
 pub enum BadSync {
     /// The number of this synchronization stood before, or is one that a semaphore has from the start.
     #[error("the number of this synchronization stood before")]
@@ -31,5 +32,11 @@ impl From<Memory> for BadSync {
 
     fn from(_memory: Memory) -> BadSync {
         BadSync::Memory
+    }
+}
+
+impl fmt::Debug for BadSync {
+    fn fmt<W: fmt::Write>(&self, f: &mut fmt::Formatter<W>) -> fmt::Result {
+        fmt::Display::fmt(self, f)
     }
 }

@@ -1,5 +1,5 @@
 /// An interval of a process.
-#[derive(Clone, Copy, PartialEq)]
+#[derive(Clone, Copy)]
 pub struct Interval {
     /// The block that it runs.
     pub block: u16,

@@ -1,10 +1,11 @@
 use ppd_ast::Memory;
 use ppd_entry::At;
+use std::fmt;
 use thiserror::Error;
 
 /// Why logs have no index. The tests go through the processes and their entries in order, and of each entry
 /// AfterEnd comes first, then Unpaired, then WrongValues.
-#[derive(Clone, Copy, PartialEq, Debug, Error)]
+#[derive(Clone, Copy, Error)]
 pub enum BadLog {
     /// The entry stands where it cannot: entry 0 is no prelog of the process's own block, a later prelog names a
     /// process's block or is a function's while 64 intervals of functions run, a postlog names another block
@@ -34,5 +35,11 @@ impl From<Memory> for BadLog {
 
     fn from(_memory: Memory) -> BadLog {
         BadLog::Memory
+    }
+}
+
+impl fmt::Debug for BadLog {
+    fn fmt<W: fmt::Write>(&self, f: &mut fmt::Formatter<W>) -> fmt::Result {
+        fmt::Display::fmt(self, f)
     }
 }

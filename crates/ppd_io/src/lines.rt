@@ -9,11 +9,12 @@ use crate::source::Source;
 use ppd_ast::Memory;
 use ppd_ast::limits::MOST_LINE_BYTES;
 use std::alloc::Global;
+use std::fmt;
 use std::marker::Model;
 use thiserror::Error;
 
 /// Why there is no next line.
-#[derive(Clone, Copy, Debug, Error)]
+#[derive(Clone, Copy, Error)]
 pub enum LineError {
     /// A read failed.
     #[error("a read failed")]
@@ -136,5 +137,11 @@ impl LineReader {
         ensures { result.now ≡ self.now.line }
     {
         &self.line
+    }
+}
+
+impl fmt::Debug for LineError {
+    fn fmt<W: fmt::Write>(&self, f: &mut fmt::Formatter<W>) -> fmt::Result {
+        fmt::Display::fmt(self, f)
     }
 }

@@ -4,10 +4,11 @@ ghost use Rattle.ppd_io.specs.Causes.{Rose};
 ghost use Rattle.ppd_io.specs.Content.{Loads, Stores, StoreFails};
 
 use std::alloc::{AllocError, Global};
+use std::fmt;
 use thiserror::Error;
 
 /// Why a load or a store was not done.
-#[derive(Clone, Copy, Debug, PartialEq, Error)]
+#[derive(Clone, Copy, Error)]
 pub enum ShelfError {
     /// The shelf failed, or has no such name.
     #[error("the shelf failed, or has no such name")]
@@ -68,4 +69,10 @@ pub trait Shelf {
         ensures failed { IsErrOf result ShelfError.Failed → Rose (failed_stores self.old name.now) (failed_stores self.new name.now) }
         ensures later { (n : List ℕ) → failed_stores self.old n ≤ failed_stores self.new n }
         ensures loads { (n : List ℕ) → failed_loads self.new n ≡ failed_loads self.old n };
+}
+
+impl fmt::Debug for ShelfError {
+    fn fmt<W: fmt::Write>(&self, f: &mut fmt::Formatter<W>) -> fmt::Result {
+        fmt::Display::fmt(self, f)
+    }
 }

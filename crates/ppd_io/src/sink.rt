@@ -3,10 +3,11 @@ ghost use Rattle.std.specs.declared.option.Option.{Option};
 ghost use Rattle.ppd_io.specs.Causes.{HasCause};
 ghost use Rattle.ppd_io.specs.Content.{Writes};
 
+use std::fmt;
 use thiserror::Error;
 
 /// A read or a write failed.
-#[derive(Clone, Copy, Debug, PartialEq, Error)]
+#[derive(Clone, Copy, Error)]
 #[error("a read or a write failed")]
 pub struct Failed;
 
@@ -25,4 +26,10 @@ pub trait Sink {
         ensures some { IfOk result (λ n. 0 < length piece.now → 0 < n) }
         ensures bytes { Writes (written self.old) (written self.new) result piece.now }
         ensures cause { HasCause (faults self.old) (faults self.new) result };
+}
+
+impl fmt::Debug for Failed {
+    fn fmt<W: fmt::Write>(&self, f: &mut fmt::Formatter<W>) -> fmt::Result {
+        fmt::Display::fmt(self, f)
+    }
 }

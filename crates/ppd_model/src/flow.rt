@@ -3,7 +3,7 @@ use ppd_sem::{Event, Spot};
 
 /// An item of a log interval: an event of its own, or an interval directly inside it with its
 /// number in the process, its block and the values of its postlog, none where it is not closed.
-#[derive(Drop, PartialEq)]
+#[derive(Drop)]
 pub enum Item {
     Own(Event),
     Nested {
@@ -15,7 +15,7 @@ pub enum Item {
 }
 
 /// Where a value or the control came from.
-#[derive(Clone, Copy, PartialEq, Debug)]
+#[derive(Clone, Copy)]
 pub enum Origin {
     /// The value that was there at the start.
     Initial,
@@ -30,7 +30,7 @@ pub enum Origin {
 }
 
 /// What a flowback edge stands for.
-#[derive(Clone, Copy, PartialEq)]
+#[derive(Clone, Copy)]
 pub enum EdgeKind {
     /// A read of the item.
     Read,
@@ -46,7 +46,7 @@ pub enum EdgeKind {
 
 /// A flowback edge into an item. `spot` and `value` are there for a read and for what a loop left,
 /// the value alone for what a function returned.
-#[derive(Clone, Copy, PartialEq)]
+#[derive(Clone, Copy)]
 pub struct FlowEdge {
     pub kind: EdgeKind,
     pub spot: Option<Spot>,

@@ -1,5 +1,5 @@
 /// Synchronization number `sync` of a process, from 0 in the order in which it did them.
-#[derive(Clone, Copy, PartialEq, Debug)]
+#[derive(Clone, Copy)]
 pub struct NodeId {
     pub process: u8,
     pub sync: u32,
@@ -14,7 +14,7 @@ pub struct EdgeId {
 }
 
 /// How two edges of a race contend for a cell, the first process first.
-#[derive(Clone, Copy, PartialEq)]
+#[derive(Clone, Copy)]
 pub enum RaceKind {
     ReadWrite,
     WriteRead,
@@ -23,7 +23,7 @@ pub enum RaceKind {
 
 /// A race: edge `i` of process `p` and edge `j` of a later process `q`, neither before the other,
 /// and a cell that both access and one of them writes.
-#[derive(Clone, Copy, PartialEq)]
+#[derive(Clone, Copy)]
 pub struct Race {
     pub p: u8,
     pub i: u32,

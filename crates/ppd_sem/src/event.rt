@@ -9,14 +9,14 @@ pub enum Spot {
 }
 
 /// A cell with the value that was read from it or written to it.
-#[derive(Clone, Copy, PartialEq)]
+#[derive(Clone, Copy)]
 pub struct Access {
     pub spot: Spot,
     pub value: i64,
 }
 
 /// A statement that finished or trapped. `number` is the number of its synchronization.
-#[derive(Drop, PartialEq)]
+#[derive(Drop)]
 pub struct Event {
     pub stmt: u32,
     pub reads: Seq<Access>,

@@ -1,5 +1,6 @@
 use ppd_ast::{Bytes, Memory};
 use ppd_entry::At;
+use std::fmt;
 use thiserror::Error;
 
 /// The answer to a line, and whether the line ends the session.
@@ -10,7 +11,7 @@ pub struct Reply {
 }
 
 /// Why a line has no answer.
-#[derive(Clone, Copy, Debug, Error)]
+#[derive(Clone, Copy, Error)]
 pub enum SessionError {
     /// The replay of the interval that holds this entry cannot go on with it.
     #[error("the replay cannot go on with this entry")]
@@ -31,5 +32,11 @@ impl From<Memory> for SessionError {
 
     fn from(_memory: Memory) -> SessionError {
         SessionError::Memory
+    }
+}
+
+impl fmt::Debug for SessionError {
+    fn fmt<W: fmt::Write>(&self, f: &mut fmt::Formatter<W>) -> fmt::Result {
+        fmt::Display::fmt(self, f)
     }
 }

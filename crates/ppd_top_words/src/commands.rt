@@ -10,7 +10,7 @@ use ppd_ast::Memory;
 use std::alloc::Global;
 
 /// What the first word asks for.
-#[derive(Clone, Copy, Debug)]
+#[derive(Clone, Copy)]
 pub enum Command {
     /// A source is run, its summary written, and the lines of the input are answered.
     Flow,
