@@ -1,6 +1,6 @@
 -- What is taken from a source in several reads, and how lines come out of bytes.
-use Rattle.std.specs.Prelude.{◌⊎◌, None, Some, Option, Bool, true, false, if◌then◌else◌, ◌==◌, Result, Ok, Err}
-use Rattle.std.proofs.Common.{◌≡◌, ◌≢◌, ◌<◌, ◌≤◌, ℕ, List, [], ◌∷◌, ◌++◌, length, ap, sym, ◌∙◌, refl, append_assoc, append-nil, subst, arith, inl, inr}
+use Rattle.std.specs.Prelude.{◌⊎◌, None, Some, Option, Bool, true, false, if◌then◌else◌, ◌==◌, Result, Ok, Err, IfOk, IsErr, OnErr}
+use Rattle.std.proofs.Common.{◌≡◌, ◌≢◌, ◌<◌, ◌≤◌, ℕ, List, [], ◌∷◌, ◌++◌, length, ap, sym, ◌∙◌, refl, append_assoc, append-nil, subst, arith, inl, inr, true≢false}
 use Rattle.std.proofs.lemmas.Bool.{eqb-true, false_from_ne_true}
 use Rattle.ppd_ast.specs.declared.limits.TheConstants.{MOST_LINE_BYTES}
 use Rattle.ppd_io.specs.Content.{Takes}
@@ -21,6 +21,28 @@ took_twice a b c was line held more h k = record {
   takes = takes_twice a b c h.read k.read h.takes k.takes;
   whole = sym (append_assoc was h.read k.read) ∙ (ap (λ w. w ++ k.read) h.whole ∙ (append_assoc line held k.read ∙ ap (λ w. line ++ w) k.whole));
 }
+
+-- what was taken at first, and nothing came for the bytes still held
+pub took_end : (a b c : Option (List ℕ)) (was line held : List ℕ) → Took a b was (line ++ held) → Took b c held [] → Took a c was line
+took_end a b c was line held h k = rw (append-nil line) at (took_twice a b c was line held [] h k)
+
+-- where nothing is read, nothing is taken
+pub takes_none : (a : Option (List ℕ)) → Takes a a []
+takes_none None = tt
+takes_none (Some xs) = refl
+
+pub took_none : (a b : Option (List ℕ)) (held all : List ℕ) → b ≡ a → held ≡ all → Took a b held all
+took_none a b held all same e =
+    record { read = []; takes = subst (λ (o : Option (List ℕ)). Takes a o []) (sym same) (takes_none a); whole = append-nil held ∙ e }
+
+-- of an error nothing is said that holds of values
+pub of_error : {T E : Type 0} (r : Result T E) (P : T → Type 0) → IsErr r → IfOk r P
+of_error (Ok x) P h = absurd (true≢false (sym h))
+of_error (Err e) P h = tt
+
+pub on_error : {T E P : Type 0} (r : Result T E) → P → OnErr r P
+on_error (Ok x) p = tt
+on_error (Err e) p = p
 
 -- one byte more
 pub took_byte : (a b c : Option (List ℕ)) (was line held later : List ℕ) (byte : ℕ) → Took a b was (line ++ held) → Took b c held (byte ∷ later) → Took a c was ((line ++ byte ∷ []) ++ later)
