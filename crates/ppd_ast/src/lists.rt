@@ -9,7 +9,7 @@ use std::ops::Index;
 use std::slice::Iter;
 
 /// Want of memory.
-#[derive(Clone, Copy)]
+#[derive(Clone, Copy, Debug)]
 pub struct Memory;
 
 impl From<AllocError> for Memory {

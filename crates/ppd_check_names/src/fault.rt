@@ -5,7 +5,7 @@ ghost use Rattle.ppd_check_names.specs.Faults.{is_before, first, first_of_both, 
 use ppd_ast::Place;
 
 /// What a source can have too many of, in the order in which they are answered at one place.
-#[derive(Clone, Copy, PartialEq, Eq, PartialOrd, Ord)]
+#[derive(Clone, Copy, PartialEq, Eq, PartialOrd, Ord, Debug)]
 pub enum Limit {
     /// More than 4,096 core statements.
     Statements,

@@ -1,6 +1,5 @@
 use ppd_ast::{Memory, Seq};
 use ppd_sem::Event;
-use std::fmt;
 use thiserror::Error;
 
 /// An event of a run by its process and its number among that process's events, both from 0.
@@ -29,7 +28,7 @@ pub struct Trace {
 }
 
 /// Why a schedule could not be taken.
-#[derive(Clone, Copy, Error)]
+#[derive(Clone, Copy, Debug, Error)]
 pub enum DriveError {
     /// The number at this place of the schedule, from 0, names no enabled process, and it is the
     /// first such.
@@ -48,11 +47,5 @@ impl From<Memory> for DriveError {
 
     fn from(_memory: Memory) -> DriveError {
         DriveError::Memory
-    }
-}
-
-impl fmt::Debug for DriveError {
-    fn fmt<W: fmt::Write>(&self, f: &mut fmt::Formatter<W>) -> fmt::Result {
-        fmt::Display::fmt(self, f)
     }
 }

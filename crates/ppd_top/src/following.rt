@@ -23,12 +23,11 @@ use ppd_model::{Closed, DriveError};
 use ppd_top_runs::{ClosedRun, Options, tell};
 use ppd_world::World;
 use std::alloc::Global;
-use std::fmt;
 use std::thread::Threads;
 use thiserror::Error;
 
 /// Why there is no text for a source and a schedule.
-#[derive(Clone, Copy, Drop, Error)]
+#[derive(Clone, Copy, Debug, Drop, Error)]
 pub enum FollowError {
     /// The source has no program: its first fault, which is never want of memory.
     #[error(transparent)]
@@ -206,11 +205,5 @@ pub fn follow(
         Err(SourceError::Memory) => Err(FollowError::Memory),
         Err(error) => Err(FollowError::Refused(error)),
         Ok(program) => follow_program(rt, alloc, &program, options, commands, schedule),
-    }
-}
-
-impl fmt::Debug for FollowError {
-    fn fmt<W: fmt::Write>(&self, f: &mut fmt::Formatter<W>) -> fmt::Result {
-        fmt::Display::fmt(self, f)
     }
 }
