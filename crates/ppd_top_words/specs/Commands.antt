@@ -1,5 +1,5 @@
 -- The commands: the word of each, its options and its names.
-use Rattle.std.specs.Prelude.{List, [], ◌∷◌, Option, Some, None, if◌then◌else◌, codes, option_map}
+use Rattle.std.specs.Prelude.{List, [], ◌∷◌, Option, Some, None, if◌then◌else◌, codes, option_and_then, option_map}
 use Rattle.std.specs.Str.{bytes_eq}
 use Rattle.ppd_top_words.specs.declared.commands.Command.{Command}
 use Rattle.ppd_top_words.specs.declared.commands.Command.TheVariants.{Flow, Run, Debug, Show, Drill, Slice, Rerun, Clean, Whole}
@@ -46,12 +46,9 @@ names_of Rerun = codes "recording" ∷ []
 names_of Clean = item_names
 names_of Whole = codes "recording" ∷ []
 
-abbrev pub given_to : Option Command → List Text → Option (Command × Uses)
-given_to None words = None
-given_to (Some c) words = option_map (λ uses. (c, uses)) (words_give (longs_of c) (names_of c) words)
-
 -- what the words after the program's name give: a command, and what the words after it give to its options and
 -- its names
 abbrev pub command_gives : List Text → Option (Command × Uses)
 command_gives [] = None
-command_gives (w ∷ ws) = given_to (command_of w) ws
+command_gives (w ∷ ws) =
+    option_and_then (λ c. option_map (λ uses. (c, uses)) (words_give (longs_of c) (names_of c) ws)) (command_of w)

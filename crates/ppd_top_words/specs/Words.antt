@@ -1,6 +1,6 @@
 -- What words give to options that take a value each and to names, where it is known how a word is spelled.
 use Rattle.std.specs.Prelude.{ℕ, ◌+◌, Bool, true, false, ◌&&◌, List, [], ◌∷◌, ◌++◌, Option, Some, None, is_none}
-use Rattle.std.specs.Prelude.{if◌then◌else◌, option_map, slice_get}
+use Rattle.std.specs.Prelude.{if◌then◌else◌, option_and_then, option_map, slice_get}
 use Rattle.std.specs.List.{find, list_any, list_all}
 use Rattle.std.specs.Str.{bytes_eq}
 
@@ -43,42 +43,27 @@ abbrev pub with_use : Text → Text → Given → Option Given
 with_use id value g = if was_used id g.uses then None else Some (record g { uses = g.uses ++ (id, value) ∷ [] })
 
 -- the next of the names
-abbrev pub with_name_at : Option Text → Text → Given → Option Given
-with_name_at None w g = None
-with_name_at (Some id) w g = with_use id w (record g { count = g.count + 1 })
-
 abbrev pub with_name : List Text → Text → Given → Option Given
-with_name names w g = with_name_at (slice_get names g.count) w g
+with_name names w g =
+    option_and_then (λ id. with_use id w (record g { count = g.count + 1 })) (slice_get names g.count)
 
-abbrev pub with_kind : List Text → Kind → Text → Given → Option Given
-with_kind names ends w g = Some (record g { ended = true })
-with_kind names (waits id) w g = Some (record g { waiting = Some id })
-with_kind names (sets id value) w g = with_use id value g
-with_kind names other w g = None
-with_kind names name w g = with_name names w g
-
--- the value of an option that waits: a word that could be a name
-abbrev pub with_value : Text → Kind → Text → Given → Option Given
-with_value id name w g = with_use id w (record g { waiting = None })
-with_value id _ w g = None
-
-abbrev pub with_word : List Text → Kind → Option Text → Text → Given → Option Given
-with_word names kind (Some id) w g = with_value id kind w g
-with_word names kind None w g = with_kind names kind w g
+-- a word of this kind: the value of the option that waits, which is a word that could be a name; where none waits, what
+-- its kind says
+abbrev pub with_word : List Text → Option Text → Kind → Text → Given → Option Given
+with_word names (Some id) name w g = with_use id w (record g { waiting = None })
+with_word names (Some id) _ w g = None
+with_word names None ends w g = Some (record g { ended = true })
+with_word names None (waits id) w g = Some (record g { waiting = Some id })
+with_word names None (sets id value) w g = with_use id value g
+with_word names None other w g = None
+with_word names None name w g = with_name names w g
 
 -- one more word: after the end of the options it is a name
 abbrev pub after_word : (Text → Kind) → List Text → Given → Text → Option Given
-after_word spell names g w = if g.ended then with_name names w g else with_word names (spell w) g.waiting w g
+after_word spell names g w = if g.ended then with_name names w g else with_word names g.waiting (spell w) w g
 
--- no option waits, and each name is there
-abbrev pub complete : List Text → Given → Option Uses
-complete names g = if is_none g.waiting && list_all (λ id. was_used id g.uses) names then Some g.uses else None
-
-abbrev pub and_words : Option Given → (Given → Option Uses) → Option Uses
-and_words None next = None
-and_words (Some g) next = next g
-
--- all words
+-- all words: after the last no option waits, and each name is there
 abbrev pub given_from : (Text → Kind) → List Text → Given → List Text → Option Uses
-given_from spell names g [] = complete names g
-given_from spell names g (w ∷ ws) = and_words (after_word spell names g w) (λ h. given_from spell names h ws)
+given_from spell names g [] =
+    if is_none g.waiting && list_all (λ id. was_used id g.uses) names then Some g.uses else None
+given_from spell names g (w ∷ ws) = option_and_then (λ h. given_from spell names h ws) (after_word spell names g w)

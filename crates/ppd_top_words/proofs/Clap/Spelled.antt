@@ -12,7 +12,7 @@ use Rattle.clap.proofs.LexerLemmas.{name_and_value-at, name_and_value-without}
 use Rattle.ppd_top_words.proofs.Clap.Kinds.{clap_gives, clap_spelled, is_among, long_kind}
 use Rattle.ppd_top_words.proofs.Clap.Lookups.{same-equal, same-refl}
 use Rattle.ppd_top_words.specs.Spelling.{HaveNoEquals, by_beginning, is_dashed, spelled, words_give}
-use Rattle.ppd_top_words.specs.Words.{Given, Kind, Text, after_word, and_words, ends, given_from, name, nothing_given, other, sets, waits, with_name, with_word}
+use Rattle.ppd_top_words.specs.Words.{Given, Kind, Text, after_word, ends, given_from, name, nothing_given, other, sets, waits, with_name, with_word}
 
 is_false : (t : Bool) → (t ≡ true → ⊥) → t ≡ false
 is_false true h = absurd (h refl)
@@ -179,10 +179,10 @@ spelled_alike longs (b ∷ c ∷ bs) all = go (b == 45) refl
 given_alike_from : (longs ids : List Text) (g : Given) (words : List Text) → HaveNoEquals longs → given_from (clap_spelled longs) ids g words ≡ given_from (spelled longs) ids g words
 given_alike_from longs ids g [] all = refl
 given_alike_from longs ids g (w ∷ ws) all =
-    ap (λ (k : Kind). and_words (if g.ended then with_name ids w g else with_word ids k g.waiting w g) (λ h. given_from (clap_spelled longs) ids h ws)) (spelled_alike longs w all)
+    ap (λ (k : Kind). option_and_then (λ h. given_from (clap_spelled longs) ids h ws) (if g.ended then with_name ids w g else with_word ids g.waiting k w g)) (spelled_alike longs w all)
     ∙ go (after_word (spelled longs) ids g w) (λ h. given_alike_from longs ids h ws all)
   where
-    go : (o : Option Given) → ((h : Given) → given_from (clap_spelled longs) ids h ws ≡ given_from (spelled longs) ids h ws) → and_words o (λ h. given_from (clap_spelled longs) ids h ws) ≡ and_words o (λ h. given_from (spelled longs) ids h ws)
+    go : (o : Option Given) → ((h : Given) → given_from (clap_spelled longs) ids h ws ≡ given_from (spelled longs) ids h ws) → option_and_then (λ h. given_from (clap_spelled longs) ids h ws) o ≡ option_and_then (λ h. given_from (spelled longs) ids h ws) o
     go None next = refl
     go (Some h) next = next h
 

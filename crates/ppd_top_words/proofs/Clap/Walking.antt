@@ -1,5 +1,5 @@
 -- The walk of clap over the words of a command, and what the words give.
-use Rattle.std.proofs.Common.{◌≡◌, ◌∙◌, ◌<◌, ◌+◌, ◌&&◌, ◌||◌, ℕ, Bool, cond, true, false, refl, sym, ap, subst, arith, List, [], ◌∷◌, ◌++◌, length, Option, Some, None, min, option_map}
+use Rattle.std.proofs.Common.{◌≡◌, ◌∙◌, ◌<◌, ◌+◌, ◌&&◌, ◌||◌, ℕ, Bool, cond, true, false, refl, sym, ap, subst, arith, List, [], ◌∷◌, ◌++◌, length, Option, Some, None, min, option_map, option_and_then}
 use Rattle.std.specs.Prelude.{⊤, drop, encode_utf8, slice_get, not, fold, nat_lt, if◌then◌else◌}
 use Rattle.std.specs.List.{list_any, list_all}
 use Rattle.std.specs.Option.{option_map_or}
@@ -18,7 +18,7 @@ use Rattle.ppd_top_words.proofs.Clap.Kinds.{clap_spelled, is_among, kind_by, opt
 use Rattle.ppd_top_words.proofs.Clap.Lookups.{IsPlain, got_below, got_is_among, name_at, name_found, option_at, plain_rule, same-refl}
 use Rattle.ppd_top_words.proofs.Clap.Rows.{fresh, has_row-for}
 use Rattle.ppd_top_words.proofs.Clap.Taken.{rows_for, unless}
-use Rattle.ppd_top_words.specs.Words.{Given, Uses, and_words, given_from, was_used, other, with_kind, with_name, with_name_at, with_use, with_value}
+use Rattle.ppd_top_words.specs.Words.{Given, Uses, given_from, was_used, other, with_name, with_use, with_word}
 
 -- ---- faults
 
@@ -196,7 +196,7 @@ module _ (title : Text) (c : List Rule) where
     wanted_of g ws = option_map rows_for (given_from (clap_spelled longs) ids g ws)
 
     abbrev wanted_after : Option Given → List Text → Option (List Row)
-    wanted_after g ws = option_map rows_for (and_words g (λ h. given_from (clap_spelled longs) ids h ws))
+    wanted_after g ws = option_map rows_for (option_and_then (λ h. given_from (clap_spelled longs) ids h ws) g)
 
     pub record Gives (ws : List Text) : Type 0 where
       pub on_idle : (u : Uses) (k : ℕ) (t : Bool) (rows : List Row) (p : Option (Text × List Text)) → settle_fault c false (held_at rows p) ≡ [] → settled_rows c p rows ≡ rows_for u
@@ -257,7 +257,7 @@ module _ (title : Text) (c : List Rule) where
       where
         go : (o : Option Text) → slice_get ids k ≡ o
             → unless (option_map_or (λ a. positional_fault c false a (held_at rows p)) (name_found (k + 1) o) (stray_fault (shape_with title c))) (total (to_positional c (name_found (k + 1) o) word (walk_at rows p idle k t) (held_at rows p)) ws)
-            ≡ wanted_after (with_name_at o word (so_far None t k u)) ws
+            ≡ wanted_after (option_and_then (λ id. with_use id word (so_far None t (k + 1) u)) o) ws
         go None e = refl
         go (Some id) e =
             let below : k < length ids = got_below ids k id e in
@@ -270,7 +270,7 @@ module _ (title : Text) (c : List Rule) where
 
     idle_by : (xs : List Text) → AllRead xs → Gives xs → (x : Text) (u : Uses) (k : ℕ) (rows : List Row) (p : Option (Text × List Text)) → settle_fault c false (held_at rows p) ≡ [] → settled_rows c p rows ≡ rows_for u
         → (b : Bool) (o : Option (Text × Option Text)) (f : Option Text) → ((flags : Text) → f ≡ Some flags → HasFirst flags)
-        → outcome_by (walk_at rows p idle k false) x b o f xs ≡ wanted_after (with_kind ids (kind_by longs b o f) x (so_far None false k u)) xs
+        → outcome_by (walk_at rows p idle k false) x b o f xs ≡ wanted_after (with_word ids None (kind_by longs b o f) x (so_far None false k u)) xs
     idle_by xs r next x u k rows p ok rows_is true o f first = next.on_idle u k true rows p ok rows_is
     idle_by xs r next x u k rows p ok rows_is false (Some q) f first =
         ap (λ (found : Option Rule). outcome (walk_at rows p idle k false) x (long_fault c false found q.1 (held_at rows p)) (after_flag c idle x (long_met c found q.1 (held_at rows p)).0 (long_met c found q.1 (held_at rows p)).1) xs) (serves.long q.0)
@@ -283,7 +283,7 @@ module _ (title : Text) (c : List Rule) where
 
         go : (b : Bool) → is_among longs q.0 ≡ b → (v : Option Text)
             → outcome (walk_at rows p idle k false) x (long_fault c false (cond b (Some (option_at q.0)) None) v (held_at rows p)) (after_flag c idle x (long_met c (cond b (Some (option_at q.0)) None) v (held_at rows p)).0 (long_met c (cond b (Some (option_at q.0)) None) v (held_at rows p)).1) xs
-            ≡ wanted_after (with_kind ids (if b then option_kind q.0 v else other) x (so_far None false k u)) xs
+            ≡ wanted_after (with_word ids None (if b then option_kind q.0 v else other) x (so_far None false k u)) xs
         go false e v = refl
         go true e None =
             ap (λ (f : Kinds). unless (or_else f []) (total (walk_at (settled_rows c p rows) (Some (q.0, [])) (option q.0) k false) xs)) ok
@@ -300,13 +300,13 @@ module _ (title : Text) (c : List Rule) where
     wait_fails id u is = subst (λ (o : Option Rule). Fails (option_map_or (λ a. use_fault false a [] (rows_for u)) o [])) (sym is.found) tt
 
     wait_by : (xs : List Text) → AllRead xs → Gives xs → (x : Text) (u : Uses) (k : ℕ) (id : Text) → IsPlain c id → (b : Bool) (o : Option (Text × Option Text)) (f : Option Text) → ((flags : Text) → f ≡ Some flags → HasFirst flags)
-        → outcome_by (walk_at (rows_for u) (Some (id, [])) (option id) k false) x b o f xs ≡ wanted_after (with_value id (kind_by longs b o f) x (so_far (Some id) false k u)) xs
+        → outcome_by (walk_at (rows_for u) (Some (id, [])) (option id) k false) x b o f xs ≡ wanted_after (with_word ids (Some id) (kind_by longs b o f) x (so_far (Some id) false k u)) xs
     wait_by xs r next x u k id is true o f first = doomed_trailing (rows_for u) (Some (id, [])) (option id) k xs (wait_fails id u is)
     wait_by xs r next x u k id is false (Some q) f first =
         unless_fails (long_fault c false (arg_by_long c q.0) q.1 (held_at (rows_for u) (Some (id, [])))) _ _ (long_fails (held_at (rows_for u) (Some (id, []))) q.0 q.1 (wait_fails id u is))
         ∙ sym (none (is_among longs q.0) q.1)
       where
-        none : (b : Bool) (v : Option Text) → wanted_after (with_value id (if b then option_kind q.0 v else other) x (so_far (Some id) false k u)) xs ≡ None
+        none : (b : Bool) (v : Option Text) → wanted_after (with_word ids (Some id) (if b then option_kind q.0 v else other) x (so_far (Some id) false k u)) xs ≡ None
         none false v = refl
         none true None = refl
         none true (Some v) = refl

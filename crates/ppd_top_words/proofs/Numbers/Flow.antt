@@ -15,7 +15,7 @@ use Rattle.ppd_top_words.proofs.Numbers.Words.{flow_longs, spelled_is, word_of}
 use Rattle.ppd_top_words.specs.Numbers.{Asked, Choice, NumbersGiven, Word, after_one, after_wait, all_given, allows, and_more, asked_for, asked_of, budget, choice_of, given_in, good, leaf, loops, named_of, no_numbers, numbers_from, with_number, with_option, with_source, with_spelled}
 use Rattle.ppd_top_words.specs.Reads.{texts_in}
 use Rattle.ppd_top_words.specs.Tested.{are_good, if_good, only_good, tested_from}
-use Rattle.ppd_top_words.specs.Words.{Given, Kind, Text, Uses, after_word, and_words, complete, ends, was_used, name, nothing_given, other, sets, value_of, waits, with_kind, with_name, with_name_at, with_use, with_value, with_word}
+use Rattle.ppd_top_words.specs.Words.{Given, Kind, Text, Uses, after_word, ends, was_used, name, nothing_given, other, sets, value_of, waits, with_name, with_use, with_word}
 
 abbrev asked_with : Option ℕ → Option ℕ → Option ℕ → Text → Asked
 asked_with b f o s = record { budget_is = b; leaf_is = f; loops_is = o; source = s }
@@ -126,16 +126,16 @@ module _ (allowed : Choice → ℕ → Bool) where
       go : (o : Option (Bor Text)) → l.source ≡ o → Both (with_source w l) (if_good (good allowed) (with_name (source_id ∷ []) w.now g))
       go (Some b) is =
           subst (λ (o : Option (Bor Text)). Both (if is_none o && nat_le 1 (length w.now) then Some (record l { source = Some w }) else None) (if_good (good allowed) (with_name (source_id ∷ []) w.now g))) (sym is)
-          (subst (λ (k : ℕ). Both None (if_good (good allowed) (with_name_at (slice_get (source_id ∷ []) k) w.now g))) (sym (a.count ∙ ap (λ (o : Option (Bor Text)). if is_some o then 1 else 0) is)) tt)
+          (subst (λ (k : ℕ). Both None (if_good (good allowed) (option_and_then (λ id. with_use id w.now (record g { count = g.count + 1 })) (slice_get (source_id ∷ []) k)))) (sym (a.count ∙ ap (λ (o : Option (Bor Text)). if is_some o then 1 else 0) is)) tt)
       go None is =
           subst (λ (o : Option (Bor Text)). Both (if is_none o && nat_le 1 (length w.now) then Some (record l { source = Some w }) else None) (if_good (good allowed) (with_name (source_id ∷ []) w.now g))) (sym is)
-          (subst (λ (k : ℕ). Both (if nat_le 1 (length w.now) then Some (record l { source = Some w }) else None) (if_good (good allowed) (with_name_at (slice_get (source_id ∷ []) k) w.now g))) (sym (a.count ∙ ap (λ (o : Option (Bor Text)). if is_some o then 1 else 0) is))
+          (subst (λ (k : ℕ). Both (if nat_le 1 (length w.now) then Some (record l { source = Some w }) else None) (if_good (good allowed) (option_and_then (λ id. with_use id w.now (record g { count = g.count + 1 })) (slice_get (source_id ∷ []) k)))) (sym (a.count ∙ ap (λ (o : Option (Bor Text)). if is_some o then 1 else 0) is))
           (subst (λ (h : Bool). Both (if nat_le 1 (length w.now) then Some (record l { source = Some w }) else None) (if_good (good allowed) (if h then None else Some (record g { count = g.count + 1; uses = g.uses ++ (source_id, w.now) ∷ [] })))) (sym (a.named ∙ ap is_some is))
           (subst (λ (b : Bool). Both (if nat_le 1 (length w.now) then Some (record l { source = Some w }) else None) (if b then Some (record g { count = g.count + 1; uses = g.uses ++ (source_id, w.now) ∷ [] }) else None)) (sym (good_push g.uses (source_id, w.now) a.fine))
           (inner is (nat_le 1 (length w.now)) refl))))
 
   on_kind : (k : Kind) → ((id : Text) → k ≡ waits id → id_of (choice_of id) ≡ id) → ((id v : Text) → k ≡ sets id v → id_of (choice_of id) ≡ id) → (w : Bor Text) (l : NumbersGiven) (g : Given) → Along l g → g.waiting ≡ None → l.asks ≡ None
-      → Both (with_spelled allowed (word_of k) w l) (if_good (good allowed) (with_kind (source_id ∷ []) k w.now g))
+      → Both (with_spelled allowed (word_of k) w l) (if_good (good allowed) (with_word (source_id ∷ []) None k w.now g))
   on_kind ends known sets_at w l g a waits_is asks_is =
       subst (λ (b : Bool). Both (Some (record l { ended = true })) (if b then Some (record g { ended = true }) else None)) (sym a.fine)
       (record { waiting = waits_is ∙ sym (ap (option_map id_of) asks_is); along = record { ended = refl; numbers = λ c. a.numbers c ∙ sym (given_ended c l); used = λ c. a.used c ∙ sym (ap is_some (given_ended c l)); source = a.source; named = a.named; count = a.count; fine = a.fine } })
@@ -149,7 +149,7 @@ module _ (allowed : Choice → ℕ → Bool) where
 
   -- the word that an option waits for
   on_value : (c : Choice) (k : Kind) (w : Text) (l : NumbersGiven) (g : Given) → ((k ≡ name → ⊥) → number_in w ≡ None) → Along l g
-      → Both (with_number allowed c (number_in w) l) (if_good (good allowed) (with_value (id_of c) k w g))
+      → Both (with_number allowed c (number_in w) l) (if_good (good allowed) (with_word (source_id ∷ []) (Some (id_of c)) k w g))
   on_value c name w l g no_number a = on_number c w l (record g { waiting = None }) (record { ended = a.ended; numbers = a.numbers; used = a.used; source = a.source; named = a.named; count = a.count; fine = a.fine }) refl
   on_value c ends w l g no_number a = subst (λ (o : Option ℕ). Both (with_number allowed c o l) None) (sym (no_number (λ e. cc))) tt
   on_value c (waits x) w l g no_number a = subst (λ (o : Option ℕ). Both (with_number allowed c o l) None) (sym (no_number (λ e. cc))) tt
@@ -158,25 +158,25 @@ module _ (allowed : Choice → ℕ → Bool) where
 
   on_after : (w : Bor Text) (l : NumbersGiven) (g : Given) → Full l g → Both (after_one allowed l w) (if_good (good allowed) (after_word (clap_spelled flow_longs) (source_id ∷ []) g w.now))
   on_after w l g full =
-      subst (λ (b : Bool). Both (after_one allowed l w) (if_good (good allowed) (if b then with_name (source_id ∷ []) w.now g else with_word (source_id ∷ []) (clap_spelled flow_longs w.now) g.waiting w.now g))) (sym full.along.ended)
+      subst (λ (b : Bool). Both (after_one allowed l w) (if_good (good allowed) (if b then with_name (source_id ∷ []) w.now g else with_word (source_id ∷ []) g.waiting (clap_spelled flow_longs w.now) w.now g))) (sym full.along.ended)
       (by_end l.ended)
     where
-      by_wait : (o : Option Choice) → l.asks ≡ o → Both (after_wait allowed o w l) (if_good (good allowed) (with_word (source_id ∷ []) (clap_spelled flow_longs w.now) (option_map id_of o) w.now g))
+      by_wait : (o : Option Choice) → l.asks ≡ o → Both (after_wait allowed o w l) (if_good (good allowed) (with_word (source_id ∷ []) (option_map id_of o) (clap_spelled flow_longs w.now) w.now g))
       by_wait None is =
-          subst (λ (x : Word). Both (with_spelled allowed x w l) (if_good (good allowed) (with_kind (source_id ∷ []) (clap_spelled flow_longs w.now) w.now g))) (sym (spelled_is w.now))
+          subst (λ (x : Word). Both (with_spelled allowed x w l) (if_good (good allowed) (with_word (source_id ∷ []) None (clap_spelled flow_longs w.now) w.now g))) (sym (spelled_is w.now))
           (on_kind (clap_spelled flow_longs w.now)
           (λ id e. among_back id (waits_known (bytes_eq w.now (45 ∷ 45 ∷ [])) (long_of w.now) (short_of w.now) id e))
           (λ id v e. among_back id (sets_known (bytes_eq w.now (45 ∷ 45 ∷ [])) (long_of w.now) (short_of w.now) id v e))
           w l g full.along (full.waiting ∙ ap (option_map id_of) is) is)
       by_wait (Some c) is = on_value c (clap_spelled flow_longs w.now) w.now l g (no_number w.now) full.along
 
-      by_end : (b : Bool) → Both (if b then with_source w l else after_wait allowed l.asks w l) (if_good (good allowed) (if b then with_name (source_id ∷ []) w.now g else with_word (source_id ∷ []) (clap_spelled flow_longs w.now) g.waiting w.now g))
+      by_end : (b : Bool) → Both (if b then with_source w l else after_wait allowed l.asks w l) (if_good (good allowed) (if b then with_name (source_id ∷ []) w.now g else with_word (source_id ∷ []) g.waiting (clap_spelled flow_longs w.now) w.now g))
       by_end true = on_name w l g full.along full.waiting
       by_end false =
-          subst (λ (o : Option Text). Both (after_wait allowed l.asks w l) (if_good (good allowed) (with_word (source_id ∷ []) (clap_spelled flow_longs w.now) o w.now g))) (sym full.waiting)
+          subst (λ (o : Option Text). Both (after_wait allowed l.asks w l) (if_good (good allowed) (with_word (source_id ∷ []) o (clap_spelled flow_longs w.now) w.now g))) (sym full.waiting)
           (by_wait l.asks refl)
 
-  at_end : (l : NumbersGiven) (g : Given) → Full l g → all_given l ≡ asked_of (complete (source_id ∷ []) g)
+  at_end : (l : NumbersGiven) (g : Given) → Full l g → all_given l ≡ asked_of (if is_none g.waiting && (was_used source_id g.uses && true) then Some g.uses else None)
   at_end l g full =
       by_wait l.asks refl
       ∙ sym (ap (λ (o : Option Text). asked_of (if is_none o && (was_used source_id g.uses && true) then Some g.uses else None)) full.waiting)
@@ -204,7 +204,7 @@ module _ (allowed : Choice → ℕ → Bool) where
   along_all (w ∷ ws) l g full = go (after_one allowed l w) (if_good (good allowed) (after_word (clap_spelled flow_longs) (source_id ∷ []) g w.now)) (on_after w l g full) (along_all ws)
     where
       go : (o : Option NumbersGiven) (p : Option Given) → Both o p → ((l : NumbersGiven) (g : Given) → Full l g → numbers_from allowed l ws ≡ asked_of (tested_from (good allowed) (clap_spelled flow_longs) (source_id ∷ []) g (texts_in ws)))
-          → and_more o (λ h. numbers_from allowed h ws) ≡ asked_of (and_words p (λ h. tested_from (good allowed) (clap_spelled flow_longs) (source_id ∷ []) h (texts_in ws)))
+          → and_more o (λ h. numbers_from allowed h ws) ≡ asked_of (option_and_then (λ h. tested_from (good allowed) (clap_spelled flow_longs) (source_id ∷ []) h (texts_in ws)) p)
       go None None both next = refl
       go None (Some x) both next = absurd both
       go (Some x) None both next = absurd both
