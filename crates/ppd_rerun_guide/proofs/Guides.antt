@@ -1,7 +1,8 @@
 -- What is left of the records in code, and the steps of the guided run.
+use Rattle.std.specs.Option.{option_map_or}
 use Rattle.std.proofs.Common.{◌≡◌, ◌==◌, ℕ, zero, suc, ◌+◌, ◌-◌, ◌<◌, ◌≤◌, Bool, true, false, List, [], ◌∷◌, ◌++◌, Option, Some, None, Result, Ok, Err, OnOk, refl, ap, sym, ◌∙◌, arith, length, map, drop, take, get_or, slice_set, if◌then◌else◌}
-use Rattle.std.specs.List.{cons_option}
-use Rattle.std.specs.Prelude.{filter_map, is_some, option_map, option_to_list, slice_get}
+use Rattle.std.specs.List.{cons_option, range_with_len}
+use Rattle.std.specs.Prelude.{filter_map, is_some, option_map, option_to_list, slice_get, find}
 use Rattle.std.proofs.lemmas.Bool.{true≢false}
 use Rattle.std.proofs.lemmas.Bool.Decides.{Decides-eqb}
 use Rattle.std.proofs.lemmas.List.{drop_all, get_or-map, length-map, take_more}
@@ -11,7 +12,6 @@ use Rattle.ppd_model.specs.RecordedSets.{sync_in}
 use Rattle.std.proofs.lemmas.Option.{slice_get-map}
 use Rattle.ppd_model.specs.Synchronizations.{Sync}
 use Rattle.ppd_model.specs.World.{change}
-use Rattle.ppd_rerun_model.specs.Guided.{first_from, left_after, next_left}
 use Rattle.ppd_rerun_model.proofs.Taking.{drop_one, first_left}
 use Rattle.ppd_rerun_guide.specs.declared.synced.Due.{Due}
 use Rattle.ppd_rerun_guide.specs.declared.synced.Synced.{Synced}
@@ -47,13 +47,13 @@ abbrev next_of : Option Due → Option Sync
 next_of None = None
 next_of (Some d) = slice_get (left_of d) 0
 
-pub next_at : (dues : List Due) (p : ℕ) → next_left (map left_of dues) p ≡ next_of (slice_get dues p)
+pub next_at : (dues : List Due) (p : ℕ) → slice_get (get_or (map left_of dues) p []) 0 ≡ next_of (slice_get dues p)
 next_at [] p = refl
 next_at (d ∷ ds) zero = refl
 next_at (d ∷ ds) (suc p) = next_at ds p
 
 -- what is left after a step that is or is no synchronization
-pub passed_is : (o : Option Sync) (p : ℕ) (left : List (List Sync)) → passed (is_some o) p left ≡ left_after o p left
+pub passed_is : (o : Option Sync) (p : ℕ) (left : List (List Sync)) → passed (is_some o) p left ≡ option_map_or (λ taken. change (drop 1) p left) o left
 passed_is None p left = refl
 passed_is (Some s) p left = refl
 
@@ -73,17 +73,15 @@ left_at dues i d lt e = get_or-map left_of dues i d [] lt ∙ ap left_of (sym e)
 
 -- ---- the lowest
 
-pub first_here : (test : ℕ → Bool) (p n : ℕ) → p < n → test p ≡ true → first_from test p (n - p) ≡ Some p
+pub first_here : (test : ℕ → Bool) (p n : ℕ) → p < n → test p ≡ true → find test (range_with_len p (n - p)) ≡ Some p
 first_here test p n lt e =
     let more : n - p ≡ suc (n - (p + 1)) = omega arith in
-    ap (first_from test p) more ∙ ap (λ (b : Bool). if b then Some p else first_from test (suc p) (n - (p + 1))) e
+    ap (λ (k : ℕ). find test (range_with_len p k)) more ∙ ap (λ (b : Bool). if b then Some p else find test (range_with_len (p + 1) (n - (p + 1)))) e
 
-pub first_on : (test : ℕ → Bool) (p n : ℕ) → p < n → test p ≡ false → first_from test p (n - p) ≡ first_from test (p + 1) (n - (p + 1))
+pub first_on : (test : ℕ → Bool) (p n : ℕ) → p < n → test p ≡ false → find test (range_with_len p (n - p)) ≡ find test (range_with_len (p + 1) (n - (p + 1)))
 first_on test p n lt e =
     let more : n - p ≡ suc (n - (p + 1)) = omega arith in
-    let next : suc p ≡ p + 1 = omega arith in
-    ap (first_from test p) more ∙ ap (λ (b : Bool). if b then Some p else first_from test (suc p) (n - (p + 1))) e
-    ∙ ap (λ (q : ℕ). first_from test q (n - (p + 1))) next
+    ap (λ (k : ℕ). find test (range_with_len p k)) more ∙ ap (λ (b : Bool). if b then Some p else find test (range_with_len (p + 1) (n - (p + 1)))) e
 
 -- ---- lists that go on
 

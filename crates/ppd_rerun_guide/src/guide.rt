@@ -1,10 +1,10 @@
 // The guided run: the world that it came to, and what is left of the record.
-ghost use Rattle.std.specs.Prelude.{◌≡◌, ◌≤◌, ◌<◌, ◌-◌, ◌∷◌, [], Some, drop, length, map, slice_get, IfOk, OnOk};
+ghost use Rattle.std.specs.Prelude.{◌≡◌, ◌≤◌, ◌<◌, ◌-◌, ◌∷◌, [], Some, drop, get_or, length, map, slice_get, IfOk, OnOk};
 ghost use Rattle.std.specs.Bool.{Decides};
 ghost use Rattle.ppd_ast.specs.Valid.{IsValid};
 ghost use Rattle.ppd_ast.specs.ValidPlan.{IsValidPlan};
 ghost use Rattle.ppd_ast.specs.declared.limits.TheConstants.{MOST_BUDGET};
-ghost use Rattle.ppd_rerun_model.specs.Guided.{chosen as chosen_of, guide, guiding, may_step as may_step_of, next_left};
+ghost use Rattle.ppd_rerun_model.specs.Guided.{chosen as chosen_of, guide, guiding, may_step as may_step_of};
 ghost use Rattle.ppd_model.specs.Laws.{logged_moment};
 ghost use Rattle.ppd_model.specs.RecordedSets.{record_in};
 ghost use Rattle.ppd_model.specs.Schedule.{IsOver};
@@ -89,7 +89,7 @@ impl<'a> Guide<'a> {
 
     /// What is next of the record of process `p`, if something is left.
     fn due(&self, p: u8) -> Option<Synced>
-        ensures { plain_if result ≡ next_left (map left_of self.now.dues.items) p }
+        ensures { plain_if result ≡ slice_get (get_or (map left_of self.now.dues.items) p []) 0 }
     {
         match self.dues.get(p as usize) {
             Some(due) => due.next(),

@@ -1,6 +1,8 @@
 -- The guided schedule can be taken, and where it ends nobody may step.
+use Rattle.std.specs.Option.{option_map_or}
+use Rattle.std.specs.List.{range_with_len}
 use Rattle.std.proofs.Common.{◌≡◌, ℕ, zero, suc, ◌+◌, ◌*◌, ◌<◌, ◌≤◌, ◌-◌, ◌&&◌, List, [], ◌∷◌, Option, Some, None, Bool, true, false, cond, refl, ap, sym, subst, ◌∙◌, arith, length, get_or, take, inl, inr}
-use Rattle.std.specs.Prelude.{fold, slice_get}
+use Rattle.std.specs.Prelude.{fold, slice_get, find}
 use Rattle.std.proofs.lemmas.Bool.{and_parts, cases_eq, cases_lt, cond-true}
 use Rattle.std.proofs.lemmas.Option.{none-some}
 use Rattle.ppd_ast.specs.declared.plan.Plan.{Plan}
@@ -12,25 +14,25 @@ use Rattle.ppd_model.specs.Synchronizations.{Sync}
 use Rattle.ppd_model.specs.World.{World, answer, can, enabled, need, need_at, step}
 use Rattle.ppd_model.proofs.Bounded.{ArePaid, all_falls, paid_change, started_all, started_paid}
 use Rattle.ppd_model.proofs.Changes.{some}
-use Rattle.ppd_rerun_model.specs.Guided.{Guiding, chosen, first_from, goes_on, guide, guided_from, guiding, is_let, may_step, most_steps, next_left, sync_of_next}
+use Rattle.ppd_rerun_model.specs.Guided.{Guiding, chosen, guide, guided_from, guiding, is_let, may_step, most_steps, sync_of_next}
 use Rattle.ppd_rerun_model.specs.Laws.{EndsGuided, GuidedSchedulesEnd, guided_end}
 
 -- ---- the first
 
-found_from : (test : ℕ → Bool) (p n q : ℕ) → first_from test p n ≡ Some q → test q ≡ true
+found_from : (test : ℕ → Bool) (p n q : ℕ) → find test (range_with_len p n) ≡ Some q → test q ≡ true
 found_from test p zero q e = absurd (none-some q e)
-found_from test p (suc n) q e = by (test p) refl e (found_from test (suc p) n q)
+found_from test p (suc n) q e = by (test p) refl e (found_from test (p + 1) n q)
   where
-    by : (b : Bool) → test p ≡ b → cond b (Some p) (first_from test (suc p) n) ≡ Some q → (first_from test (suc p) n ≡ Some q → test q ≡ true) → test q ≡ true
+    by : (b : Bool) → test p ≡ b → cond b (Some p) (find test (range_with_len (p + 1) n)) ≡ Some q → (find test (range_with_len (p + 1) n) ≡ Some q → test q ≡ true) → test q ≡ true
     by true is e rest = sym (ap test (some e)) ∙ is
     by false is e rest = rest e
 
-none_from : (test : ℕ → Bool) (p n : ℕ) → first_from test p n ≡ None → (i : ℕ) → p ≤ i → i < p + n → test i ≡ false
+none_from : (test : ℕ → Bool) (p n : ℕ) → find test (range_with_len p n) ≡ None → (i : ℕ) → p ≤ i → i < p + n → test i ≡ false
 none_from test p zero e i lo hi = absurd (omega (arith, lo, hi))
-none_from test p (suc n) e i lo hi = by (test p) refl e (none_from test (suc p) n)
+none_from test p (suc n) e i lo hi = by (test p) refl e (none_from test (p + 1) n)
   where
-    by : (b : Bool) → test p ≡ b → cond b (Some p) (first_from test (suc p) n) ≡ None
-        → (first_from test (suc p) n ≡ None → (j : ℕ) → suc p ≤ j → j < suc p + n → test j ≡ false) → test i ≡ false
+    by : (b : Bool) → test p ≡ b → cond b (Some p) (find test (range_with_len (p + 1) n)) ≡ None
+        → (find test (range_with_len (p + 1) n) ≡ None → (j : ℕ) → p + 1 ≤ j → j < p + 1 + n → test j ≡ false) → test i ≡ false
     by true is e rest = absurd (none-some p (sym e))
     by false is e rest = elim (cases_eq i p) [
       | inl same ↦ ap test same ∙ is
@@ -52,15 +54,15 @@ module _ (program : Program) (plan : Plan) where
   chosen_may g p e = found_from (may_step program plan g) 0 (length g.world.procs) p e
 
   pub chosen_can : (g : Guiding) (p : ℕ) → chosen program plan g ≡ Some p → enabled program plan g.world p ≡ true
-  chosen_can g p e = (and_parts (enabled program plan g.world p) (is_let (sync_of_next program plan g.world p) (next_left g.left p)) (chosen_may g p e)).0
+  chosen_can g p e = (and_parts (enabled program plan g.world p) (is_let (sync_of_next program plan g.world p) (slice_get (get_or g.left p []) 0)) (chosen_may g p e)).0
 
-  pub chosen_let : (g : Guiding) (p : ℕ) → chosen program plan g ≡ Some p → is_let (sync_of_next program plan g.world p) (next_left g.left p) ≡ true
-  chosen_let g p e = (and_parts (enabled program plan g.world p) (is_let (sync_of_next program plan g.world p) (next_left g.left p)) (chosen_may g p e)).1
+  pub chosen_let : (g : Guiding) (p : ℕ) → chosen program plan g ≡ Some p → is_let (sync_of_next program plan g.world p) (slice_get (get_or g.left p []) 0) ≡ true
+  chosen_let g p e = (and_parts (enabled program plan g.world p) (is_let (sync_of_next program plan g.world p) (slice_get (get_or g.left p []) 0)) (chosen_may g p e)).1
 
   nobody_may : (g : Guiding) → chosen program plan g ≡ None → (p : ℕ) → may_step program plan g p ≡ false
   nobody_may g e p = elim (cases_lt p (length g.world.procs)) [
     | inl lt ↦ none_from (may_step program plan g) 0 (length g.world.procs) e p (omega arith) (omega (arith, lt))
-    | inr ge ↦ ap (λ (o : Option Proc). can g.world (need_at program plan o) && is_let (sync_of_next program plan g.world p) (next_left g.left p)) (past g.world.procs p ge)
+    | inr ge ↦ ap (λ (o : Option Proc). can g.world (need_at program plan o) && is_let (sync_of_next program plan g.world p) (slice_get (get_or g.left p []) 0)) (past g.world.procs p ge)
   ]
 
   -- ---- the schedule
@@ -71,7 +73,7 @@ module _ (program : Program) (plan : Plan) where
     where
       by : (o : Option ℕ) → chosen program plan g ≡ o
           → ((p : ℕ) → run_from program plan (step program plan g.world p) (guided_from program plan n (guide program plan g p)) ≡ Some (fold (guide program plan) (guide program plan g p) (guided_from program plan n (guide program plan g p))).world)
-          → run_from program plan g.world (goes_on o (λ p. guided_from program plan n (guide program plan g p))) ≡ Some (fold (guide program plan) g (goes_on o (λ p. guided_from program plan n (guide program plan g p)))).world
+          → run_from program plan g.world (option_map_or (λ p. p ∷ guided_from program plan n (guide program plan g p)) o []) ≡ Some (fold (guide program plan) g (option_map_or (λ p. p ∷ guided_from program plan n (guide program plan g p)) o [])).world
       by None is rest = refl
       by (Some p) is rest =
           cond-true (enabled program plan g.world p) (run_from program plan (step program plan g.world p) (guided_from program plan n (guide program plan g p))) None (chosen_can g p is)
@@ -84,7 +86,7 @@ module _ (program : Program) (plan : Plan) where
     where
       by : (o : Option ℕ) → chosen program plan g ≡ o
           → ((p j : ℕ) → j < length (guided_from program plan n (guide program plan g p)) → chosen program plan (fold (guide program plan) (guide program plan g p) (take j (guided_from program plan n (guide program plan g p)))) ≡ Some (get_or (guided_from program plan n (guide program plan g p)) j 0))
-          → (i : ℕ) → i < length (goes_on o (λ p. guided_from program plan n (guide program plan g p))) → chosen program plan (fold (guide program plan) g (take i (goes_on o (λ p. guided_from program plan n (guide program plan g p))))) ≡ Some (get_or (goes_on o (λ p. guided_from program plan n (guide program plan g p))) i 0)
+          → (i : ℕ) → i < length (option_map_or (λ p. p ∷ guided_from program plan n (guide program plan g p)) o []) → chosen program plan (fold (guide program plan) g (take i (option_map_or (λ p. p ∷ guided_from program plan n (guide program plan g p)) o []))) ≡ Some (get_or (option_map_or (λ p. p ∷ guided_from program plan n (guide program plan g p)) o []) i 0)
       by None is rest i lt = absurd (omega (arith, lt))
       by (Some p) is rest zero lt = is
       by (Some p) is rest (suc i) lt = rest p i (omega (arith, lt))
@@ -99,7 +101,7 @@ module _ (program : Program) (plan : Plan) where
     where
       by : (o : Option ℕ) → chosen program plan g ≡ o
           → ((p : ℕ) → ArePaid (guide program plan g p).world.procs → steps_left (guide program plan g p).world.procs ≤ n → chosen program plan (fold (guide program plan) (guide program plan g p) (guided_from program plan n (guide program plan g p))) ≡ None)
-          → chosen program plan (fold (guide program plan) g (goes_on o (λ p. guided_from program plan n (guide program plan g p)))) ≡ None
+          → chosen program plan (fold (guide program plan) g (option_map_or (λ p. p ∷ guided_from program plan n (guide program plan g p)) o [])) ≡ None
       by None is rest = is
       by (Some p) is rest =
           rest p (paid_change program plan (answer g.world (need program plan g.world p)) p g.world.procs paid)

@@ -1,4 +1,5 @@
 -- The guided schedule of a record takes the record's synchronizations in order.
+use Rattle.std.specs.Option.{option_map_or}
 use Rattle.std.proofs.Common.{◌≡◌, ℕ, zero, suc, ◌+◌, ◌<◌, ◌≤◌, ◌&&◌, List, [], ◌∷◌, ◌++◌, Option, Some, None, Bool, true, false, refl, ap, ap₂, sym, subst, ◌∙◌, arith, length, get_or, take, take_all, drop, true≢false, inl, inr}
 use Rattle.std.specs.Prelude.{fold, option_to_list, slice_get}
 use Rattle.std.proofs.lemmas.Bool.{cases_eq}
@@ -25,7 +26,7 @@ use Rattle.law_agreement.proofs.Instance.Lawful.{lawful, one_more, sync_made}
 use Rattle.law_agreement.proofs.Schedules.Records.{line_in, number_at, sheet}
 use Rattle.law_agreement.proofs.Schedules.Steps.{is_step, run_of, want_is}
 use Rattle.law_agreement.proofs.Agreeing.{fresh}
-use Rattle.ppd_rerun_model.specs.Guided.{Guiding, chosen, guide, guided, guided_from, guiding, is_let, left_after, may_step, most_steps, next_left, sync_of_next}
+use Rattle.ppd_rerun_model.specs.Guided.{Guiding, chosen, guide, guided, guided_from, guiding, is_let, may_step, most_steps, sync_of_next}
 use Rattle.ppd_rerun_model.specs.Laws.{EndsGuided, guided_end}
 use Rattle.ppd_rerun_model.proofs.Ending.{chosen_at, chosen_can, chosen_let, ends_guided, fold_at}
 use Rattle.ppd_rerun_model.proofs.Following.{IsGuided, Takes, Waits}
@@ -109,36 +110,36 @@ module _ (program : Program) (plan : Plan) (budget : ℕ) where
   synced_after t p g can = ap synced_in (is_step program plan budget t p g can).hist_own ∙ (lawful program plan budget).counted p ((view t).hist p) _ _
 
   left_own : (syncs : List (List s.Sync)) (t : Telling) (p : ℕ) (left : List (List s.Sync)) → Good program plan budget t → enabled program plan t.world p ≡ true → AreLeft syncs t left
-      → get_or (left_after (sync_of_next program plan t.world p) p left) p [] ≡ drop (synced_in ((view (tell program plan t p)).hist p)) (own_syncs syncs p)
+      → get_or (option_map_or (λ taken. change (drop 1) p left) (sync_of_next program plan t.world p) left) p [] ≡ drop (synced_in ((view (tell program plan t p)).hist p)) (own_syncs syncs p)
   left_own syncs t p left g can hyp = of_want (wants_of (machine program plan budget) (view t) p) refl (sync_of_next program plan t.world p) (now_is t p g can)
     where
       ticked : (w : Want Line Tagged) → wants_of (machine program plan budget) (view t) p ≡ w → drop (tick w (synced_in ((view t).hist p))) (own_syncs syncs p) ≡ drop (synced_in ((view (tell program plan t p)).hist p)) (own_syncs syncs p)
       ticked w is = ap (λ (n : ℕ). drop n (own_syncs syncs p)) (sym (synced_after t p g can ∙ ap (λ (x : Want Line Tagged). tick x (synced_in ((view t).hist p))) is))
 
-      stays : (o : Option s.Sync) → o ≡ None → get_or (left_after o p left) p [] ≡ drop (synced_in ((view t).hist p)) (own_syncs syncs p)
-      stays o now = ap (λ (x : Option s.Sync). get_or (left_after x p left) p []) now ∙ hyp p
+      stays : (o : Option s.Sync) → o ≡ None → get_or (option_map_or (λ taken. change (drop 1) p left) o left) p [] ≡ drop (synced_in ((view t).hist p)) (own_syncs syncs p)
+      stays o now = ap (λ (x : Option s.Sync). get_or (option_map_or (λ taken. change (drop 1) p left) x left) p []) now ∙ hyp p
 
-      of_want : (w : Want Line Tagged) → wants_of (machine program plan budget) (view t) p ≡ w → (o : Option s.Sync) → IsNow t w o → get_or (left_after o p left) p [] ≡ drop (synced_in ((view (tell program plan t p)).hist p)) (own_syncs syncs p)
+      of_want : (w : Want Line Tagged) → wants_of (machine program plan budget) (view t) p ≡ w → (o : Option s.Sync) → IsNow t w o → get_or (option_map_or (λ taken. change (drop 1) p left) o left) p [] ≡ drop (synced_in ((view (tell program plan t p)).hist p)) (own_syncs syncs p)
       of_want Stop is o now = stays o now ∙ ticked Stop is
       of_want Local is o now = stays o now ∙ ticked Local is
       of_want (Read x) is o now = stays o now ∙ ticked (Read x) is
       of_want (Write x v) is o now = stays o now ∙ ticked (Write x v) is
       of_want (Sync l v) is o now =
-          ap (λ (x : Option s.Sync). get_or (left_after x p left) p []) now
+          ap (λ (x : Option s.Sync). get_or (option_map_or (λ taken. change (drop 1) p left) x left) p []) now
           ∙ one_off p left
           ∙ ap (λ (xs : List s.Sync). drop 1 xs) (hyp p)
           ∙ drop_one (synced_in ((view t).hist p)) (own_syncs syncs p)
           ∙ ticked (Sync l v) is
 
-  left_else : (o : Option s.Sync) (p q : ℕ) (left : List (List s.Sync)) → (q ≡ p → ⊥) → get_or (left_after o p left) q [] ≡ get_or left q []
+  left_else : (o : Option s.Sync) (p q : ℕ) (left : List (List s.Sync)) → (q ≡ p → ⊥) → get_or (option_map_or (λ taken. change (drop 1) p left) o left) q [] ≡ get_or left q []
   left_else None p q left d = refl
   left_else (Some x) p q left d = own-else (drop 1) p q [] left d
 
   left_more : (syncs : List (List s.Sync)) (t : Telling) (p : ℕ) (left : List (List s.Sync)) → Good program plan budget t → enabled program plan t.world p ≡ true → AreLeft syncs t left
-      → AreLeft syncs (tell program plan t p) (left_after (sync_of_next program plan t.world p) p left)
+      → AreLeft syncs (tell program plan t p) (option_map_or (λ taken. change (drop 1) p left) (sync_of_next program plan t.world p) left)
   left_more syncs t p left g can hyp q = elim (cases_eq q p) [
     | inl is ↦
-        subst (λ (x : ℕ). get_or (left_after (sync_of_next program plan t.world p) p left) x [] ≡ drop (synced_in ((view (tell program plan t p)).hist x)) (own_syncs syncs x)) (sym is)
+        subst (λ (x : ℕ). get_or (option_map_or (λ taken. change (drop 1) p left) (sync_of_next program plan t.world p) left) x [] ≡ drop (synced_in ((view (tell program plan t p)).hist x)) (own_syncs syncs x)) (sym is)
         (left_own syncs t p left g can hyp)
     | inr d ↦
         left_else (sync_of_next program plan t.world p) p q left d
@@ -179,13 +180,13 @@ module _ (program : Program) (plan : Plan) (budget : ℕ) where
           world = ap (λ (x : Telling). x.world) tells ∙ ap (λ (w : World). step program plan w p) here.world ∙ sym (ap (λ (x : Guiding). x.world) guides);
           left = λ q.
               ap (λ (x : Guiding). get_or x.left q []) guides
-              ∙ ap (λ (w : World). get_or (left_after (sync_of_next program plan w p) p (state i).left) q []) (sym here.world)
+              ∙ ap (λ (w : World). get_or (option_map_or (λ taken. change (drop 1) p (state i).left) (sync_of_next program plan w p) (state i).left) q []) (sym here.world)
               ∙ left_more syncs t p (state i).left (good_to program plan budget schedule i) can here.left q
               ∙ ap (λ (x : Telling). drop (synced_in ((view x).hist q)) (own_syncs syncs q)) (sym tells);
         }
 
     -- what is next of the record
-    next_is : (i : ℕ) → IsAt i → (p : ℕ) → next_left (state i).left p ≡ slice_get (own_syncs syncs p) (synced_in ((view (told_to program plan budget schedule i)).hist p))
+    next_is : (i : ℕ) → IsAt i → (p : ℕ) → slice_get (get_or (state i).left p []) 0 ≡ slice_get (own_syncs syncs p) (synced_in ((view (told_to program plan budget schedule i)).hist p))
     next_is i here p =
         ap (λ (xs : List s.Sync). slice_get xs 0) (here.left p)
         ∙ first_left (synced_in ((view (told_to program plan budget schedule i)).hist p)) (own_syncs syncs p)
@@ -202,11 +203,11 @@ module _ (program : Program) (plan : Plan) (budget : ℕ) where
         let can : enabled program plan t.world p ≡ true = enabled_at program plan budget (begins program plan budget) schedule i last ends.runs lt in
         let now : sync_of_next program plan t.world p ≡ Some (sync l.0 l.1 (suc (count_of t.world l.0 l.1))) =
         subst (λ (w : Want Line Tagged). IsNow t w (sync_of_next program plan t.world p)) is (now_is t p (good_to program plan budget schedule i) can) in
-        let lets : is_let (sync_of_next program plan (state i).world p) (next_left (state i).left p) ≡ true =
+        let lets : is_let (sync_of_next program plan (state i).world p) (slice_get (get_or (state i).left p []) 0) ≡ true =
         chosen_let program plan (state i) p (chosen_at program plan (most_steps program budget) (guiding program plan budget syncs) i lt) in
-        let lets2 : is_let (Some (sync l.0 l.1 (suc (count_of t.world l.0 l.1)))) (next_left (state i).left p) ≡ true =
-        ap (λ (o : Option s.Sync). is_let o (next_left (state i).left p)) (sym now ∙ ap (λ (w : World). sync_of_next program plan w p) here.world) ∙ lets in
-        sym (next_is i here p) ∙ let_is (sync l.0 l.1 (suc (count_of t.world l.0 l.1))) (next_left (state i).left p) lets2
+        let lets2 : is_let (Some (sync l.0 l.1 (suc (count_of t.world l.0 l.1)))) (slice_get (get_or (state i).left p []) 0) ≡ true =
+        ap (λ (o : Option s.Sync). is_let o (slice_get (get_or (state i).left p []) 0)) (sym now ∙ ap (λ (w : World). sync_of_next program plan w p) here.world) ∙ lets in
+        sym (next_is i here p) ∙ let_is (sync l.0 l.1 (suc (count_of t.world l.0 l.1))) (slice_get (get_or (state i).left p []) 0) lets2
 
     -- ---- the end
 

@@ -1,13 +1,11 @@
 -- What a controlled re-execution answers of logs: the program runs under the recorded synchronization, and each interval
 -- of the logs is replayed and compared with the run.
-use Rattle.std.specs.Prelude.{◌≡◌, ℕ, ◌<◌, List, [], length, get_or, Option, Some, None, Result, Ok, ⊤}
+use Rattle.std.specs.Prelude.{◌≡◌, ℕ, ◌<◌, List, [], length, get_or, Option, Some, None, Ok, ⊤}
 use Rattle.ppd_ast.specs.declared.plan.Plan.{Plan}
 use Rattle.ppd_ast.specs.declared.program.Program.{Program}
 use Rattle.ppd_entry.specs.IntervalLogs.{interval_log}
 use Rattle.ppd_entry.specs.declared.entry.Logs.{Logs}
 use Rattle.ppd_emul_model.specs.Replay.{Replayed}
-use Rattle.ppd_emul_model.specs.declared.trace.BlockTrace.{BlockTrace}
-use Rattle.ppd_emul_model.specs.declared.trace.EmulError.{EmulError}
 use Rattle.ppd_model.specs.declared.flow.Item.{Item}
 use Rattle.ppd_model.specs.Intervals.{items as items_of_interval}
 use Rattle.ppd_model.specs.Record.{sync_record}
@@ -29,14 +27,10 @@ pub record HasRecordOf (program : Program) (plan : Plan) (budget : ℕ) (logs : 
   pub whole : IsWhole program plan budget h
   pub record_is : sync_record program plan budget h ≡ record_in logs
 
--- the answer of a replay that gives these items
-abbrev pub giving : List Item → Result BlockTrace EmulError
-giving items = Ok (record { items = items })
-
 -- a replay and an interval's items: both are there, and these are the items that the replay gives; or neither is
 abbrev pub Matches : Option Replayed → Option (List Item) → Type 0
 Matches None None = ⊤
-Matches (Some r) (Some items) = r.answer ≡ giving items
+Matches (Some r) (Some items) = r.answer ≡ Ok (record { items = items })
 Matches r items = ⊥
 
 -- the replay of interval k of process p, from its log in these logs, if it is there

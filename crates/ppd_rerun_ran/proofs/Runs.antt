@@ -1,4 +1,5 @@
 -- The steps of a guided run: what was taken of the record, and what is held of the processes.
+use Rattle.std.specs.Option.{option_map_or}
 use Rattle.std.proofs.Common.{◌≡◌, ℕ, zero, suc, ◌+◌, ◌-◌, ◌<◌, true, List, [], ◌∷◌, ◌++◌, Option, Some, None, Result, Ok, Err, OnOk, refl, ap, ap₂, sym, subst, ◌∙◌, arith, length, map, drop, get_or, inl, inr, length-append}
 use Rattle.std.specs.List.{range_with_len}
 use Rattle.std.specs.Prelude.{fold, option_map, option_to_list, slice_get, unwrap_or}
@@ -37,7 +38,7 @@ use Rattle.ppd_model.proofs.States.{states_told}
 use Rattle.ppd_model.proofs.Stories.{stories_are_of_runs, stories_grow}
 use Rattle.ppd_world.specs.Running.{IsHeld, IsReached, Running, Takes}
 use Rattle.ppd_world.proofs.Sound.{IsSoundLogging, reached_sound}
-use Rattle.ppd_rerun_model.specs.Guided.{Guiding, chosen, goes_on, guide, guided_from, is_let, left_after, next_left, sync_of_next}
+use Rattle.ppd_rerun_model.specs.Guided.{Guiding, chosen, guide, guided_from, is_let, sync_of_next}
 use Rattle.ppd_rerun_model.specs.Verdicts.{HasRecordOf}
 use Rattle.ppd_rerun_model.proofs.Ending.{chosen_can, chosen_let}
 use Rattle.ppd_rerun_model.proofs.Lines.{let_is}
@@ -193,35 +194,35 @@ module _ (program : Program) (plan : Plan) (budget : ℕ) where
       ap (λ lists. map syncs_of lists) (stories_grow program plan budget h p).steps_are
       ∙ map_change syncs_of (λ xs. xs ++ x ∷ []) (λ ss. ss ++ option_to_list (sync_of x)) p (story program plan budget h).steps (λ xs. syncs-append xs x)
 
-  taken_own : (record' left : List (List Sync)) (p : ℕ) (o : Option Sync) → p < length record' → is_let o (next_left left p) ≡ true
-      → get_or (change (λ ss. ss ++ option_to_list o) p record') p [] ++ get_or (left_after o p left) p [] ≡ get_or record' p [] ++ get_or left p []
+  taken_own : (record' left : List (List Sync)) (p : ℕ) (o : Option Sync) → p < length record' → is_let o (slice_get (get_or left p []) 0) ≡ true
+      → get_or (change (λ ss. ss ++ option_to_list o) p record') p [] ++ get_or (option_map_or (λ taken. change (drop 1) p left) o left) p [] ≡ get_or record' p [] ++ get_or left p []
   taken_own record' left p None lt e =
       ap (λ (xs : List Sync). xs ++ get_or left p []) (own-at (λ ss. ss ++ []) p [] record' lt ∙ append-nil (get_or record' p []))
   taken_own record' left p (Some s) lt e =
       ap₂ (λ (xs ys : List Sync). xs ++ ys) (own-at (λ ss. ss ++ s ∷ []) p [] record' lt) (one_off p left)
       ∙ append_assoc (get_or record' p []) (s ∷ []) (drop 1 (get_or left p []))
-      ∙ ap (λ (xs : List Sync). get_or record' p [] ++ xs) (sym (first_of_list (get_or left p []) s (let_is s (next_left left p) e)))
+      ∙ ap (λ (xs : List Sync). get_or record' p [] ++ xs) (sym (first_of_list (get_or left p []) s (let_is s (slice_get (get_or left p []) 0) e)))
 
-  left_else : (o : Option Sync) (p q : ℕ) (left : List (List Sync)) → (q ≡ p → ⊥) → get_or (left_after o p left) q [] ≡ get_or left q []
+  left_else : (o : Option Sync) (p q : ℕ) (left : List (List Sync)) → (q ≡ p → ⊥) → get_or (option_map_or (λ taken. change (drop 1) p left) o left) q [] ≡ get_or left q []
   left_else None p q left d = refl
   left_else (Some s) p q left d = own-else (drop 1) p q [] left d
 
-  left_count : (o : Option Sync) (p : ℕ) (left : List (List Sync)) → length (left_after o p left) ≡ length left
+  left_count : (o : Option Sync) (p : ℕ) (left : List (List Sync)) → length (option_map_or (λ taken. change (drop 1) p left) o left) ≡ length left
   left_count None p left = refl
   left_count (Some s) p left = length-change (drop 1) p left
 
   taken_more : (h : List ℕ) (p : ℕ) (left : List (List Sync)) (q : ℕ) → p < length (told program plan budget h).world.procs
-      → is_let (sync_of_next program plan (told program plan budget h).world p) (next_left left p) ≡ true
-      → own_syncs (sync_record program plan budget (h ++ p ∷ [])) q ++ own_syncs (left_after (sync_of_next program plan (told program plan budget h).world p) p left) q
+      → is_let (sync_of_next program plan (told program plan budget h).world p) (slice_get (get_or left p []) 0) ≡ true
+      → own_syncs (sync_record program plan budget (h ++ p ∷ [])) q ++ own_syncs (option_map_or (λ taken. change (drop 1) p left) (sync_of_next program plan (told program plan budget h).world p) left) q
       ≡ own_syncs (sync_record program plan budget h) q ++ own_syncs left q
   taken_more h p left q lt e =
       let o : Option Sync = sync_of_next program plan (told program plan budget h).world p in
       let old : List (List Sync) = sync_record program plan budget h in
       let there : p < length old = let n : length old ≡ length (told program plan budget h).world.procs = record_count h in omega arith in
-      ap (λ (xs : List (List Sync)). own_syncs xs q ++ own_syncs (left_after o p left) q) (record_more h p)
+      ap (λ (xs : List (List Sync)). own_syncs xs q ++ own_syncs (option_map_or (λ taken. change (drop 1) p left) o left) q) (record_more h p)
       ∙ elim (cases_eq q p) [
         | inl is ↦
-            subst (λ (x : ℕ). get_or (change (λ ss. ss ++ option_to_list o) p old) x [] ++ get_or (left_after o p left) x [] ≡ get_or old x [] ++ get_or left x []) (sym is)
+            subst (λ (x : ℕ). get_or (change (λ ss. ss ++ option_to_list o) p old) x [] ++ get_or (option_map_or (λ taken. change (drop 1) p left) o left) x [] ≡ get_or old x [] ++ get_or left x []) (sym is)
             (taken_own old left p o there e)
         | inr d ↦ ap₂ (λ (xs ys : List Sync). xs ++ ys) (own-else (λ ss. ss ++ option_to_list o) p q [] old d) (left_else o p q left d)
       ]
@@ -252,7 +253,7 @@ module _ (program : Program) (plan : Plan) (budget : ℕ) where
     lists = ap (λ (g : Guiding). length g.left) goes ∙ left_count (sync_of_next r.program r.plan r.world p) p left ∙ come.lists;
     taken = λ q.
         ap (λ (g : Guiding). own_syncs (sync_record program plan budget (h ++ p ∷ [])) q ++ own_syncs g.left q) goes
-        ∙ ap (λ (o : Option Sync). own_syncs (sync_record program plan budget (h ++ p ∷ [])) q ++ own_syncs (left_after o p left) q) next_is
+        ∙ ap (λ (o : Option Sync). own_syncs (sync_record program plan budget (h ++ p ∷ [])) q ++ own_syncs (option_map_or (λ taken. change (drop 1) p left) o left) q) next_is
         ∙ taken_more h p left q there lets
         ∙ come.taken q;
     held_is =
@@ -286,8 +287,8 @@ module _ (program : Program) (plan : Plan) (budget : ℕ) where
       next_is : sync_of_next r.program r.plan r.world p ≡ sync_of_next program plan (told program plan budget h).world p
       next_is = ap (λ (x : Running). sync_of_next x.program x.plan r.world p) same ∙ ap (λ (w : World). sync_of_next program plan w p) (sym told_is)
 
-      lets : is_let (sync_of_next program plan (told program plan budget h).world p) (next_left left p) ≡ true
-      lets = ap (λ (o : Option Sync). is_let o (next_left left p)) (sym next_is) ∙ chosen_let r.program r.plan (state r left) p may
+      lets : is_let (sync_of_next program plan (told program plan budget h).world p) (slice_get (get_or left p []) 0) ≡ true
+      lets = ap (λ (o : Option Sync). is_let o (slice_get (get_or left p []) 0)) (sym next_is) ∙ chosen_let r.program r.plan (state r left) p may
 
   none_taken : (procs : List Proc) (q : ℕ) → get_or (map syncs_of (map steps_of (map (λ _. []) procs))) q [] ≡ []
   none_taken [] q = refl
@@ -351,9 +352,9 @@ module _ (program : Program) (plan : Plan) where
       ap₂ (λ (xs : List ℕ) (y : Guiding). xs ++ guided_from program plan m y) more goes
       ∙ append_assoc h (p ∷ []) (guided_from program plan m (guide program plan g p))
       ∙ sym (ap (λ (k : ℕ). h ++ guided_from program plan k g) count
-      ∙ ap (λ (o : Option ℕ). h ++ goes_on o (λ q. guided_from program plan m (guide program plan g q))) may)
+      ∙ ap (λ (o : Option ℕ). h ++ option_map_or (λ q. q ∷ guided_from program plan m (guide program plan g q)) o []) may)
       ∙ rest
 
   pub rest_none : (n : ℕ) (g : Guiding) → chosen program plan g ≡ None → guided_from program plan n g ≡ []
   rest_none zero g e = refl
-  rest_none (suc n) g e = ap (λ (o : Option ℕ). goes_on o (λ q. guided_from program plan n (guide program plan g q))) e
+  rest_none (suc n) g e = ap (λ (o : Option ℕ). option_map_or (λ q. q ∷ guided_from program plan n (guide program plan g q)) o []) e
