@@ -1,4 +1,5 @@
 -- Logs that the index accepts are accepted when they are cut.
+use Rattle.std.specs.Option.{option_map_or}
 use Rattle.std.proofs.Common.{◌≡◌, ℕ, zero, suc, ◌+◌, Bool, true, false, List, [], ◌∷◌, ◌++◌, Option, Some, None, refl, ap, sym, subst, ◌∙◌, append_assoc, arith, ◌||◌, true≢false}
 use Rattle.std.proofs.lemmas.Option.{none-some}
 use Rattle.std.specs.Prelude.{slice_get, take, if◌then◌else◌}
@@ -10,8 +11,8 @@ use Rattle.ppd_entry.specs.Entries.{is_end}
 use Rattle.ppd_entry.specs.IntervalLogs.{Indexing, begun_indexing, index_step}
 use Rattle.ppd_model.specs.FullTrace.{or_else}
 use Rattle.ppd_index.specs.Refusals.{first_bad, is_paired, first_from, first_in_lists, refusal, standing}
-use Rattle.ppd_flow_model.specs.Ends.{ending}
-use Rattle.law_clean.specs.Cuts.{cut, cut_at, cut_from, is_sync_there, is_unit, stop}
+use Rattle.ppd_flow_model.specs.Ends.{ending, is_sync}
+use Rattle.law_clean.specs.Cuts.{cut, cut_at, cut_from, is_unit, stop}
 use Rattle.law_clean.proofs.Accepted.{CanStop, both_none, stops, sync_stops, unit_stops, unrefused}
 
 -- ---- an element of a list
@@ -98,7 +99,7 @@ module _ (plan : Plan) (body p : ℕ) where
   tail_ok x ended (entry.End s m rs ws ∷ es) c ok = stops plan body p x ended c
 
   -- a cut after a synchronization
-  sync_ok : (entries : List Entry) (n : ℕ) (o : Option Entry) → slice_get entries n ≡ o → is_sync_there o ≡ true → OK begun_indexing false entries → OK begun_indexing false (cut_at entries (n + 1))
+  sync_ok : (entries : List Entry) (n : ℕ) (o : Option Entry) → slice_get entries n ≡ o → option_map_or is_sync o false ≡ true → OK begun_indexing false entries → OK begun_indexing false (cut_at entries (n + 1))
   sync_ok entries n None is sync ok = absurd (true≢false (sym sync))
   sync_ok entries n (Some e) is sync ok =
       let a : IsAt entries n e = is_at entries n e is in
@@ -126,9 +127,9 @@ module _ (plan : Plan) (body p : ℕ) where
 
   pub cut_ok : (o : Option ℕ) (entries : List Entry) → OK begun_indexing false entries → OK begun_indexing false (cut o entries)
   cut_ok None entries ok = start_ok entries ok
-  cut_ok (Some i) entries ok = by (is_sync_there (slice_get entries (ending i entries))) refl
+  cut_ok (Some i) entries ok = by (option_map_or is_sync (slice_get entries (ending i entries)) false) refl
     where
-      by : (b : Bool) → is_sync_there (slice_get entries (ending i entries)) ≡ b → OK begun_indexing false (if b then cut_at entries (ending i entries + 1) else entries)
+      by : (b : Bool) → option_map_or is_sync (slice_get entries (ending i entries)) false ≡ b → OK begun_indexing false (if b then cut_at entries (ending i entries + 1) else entries)
       by true sync = sync_ok entries (ending i entries) (slice_get entries (ending i entries)) refl sync ok
       by false sync = ok
 

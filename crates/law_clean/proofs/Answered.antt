@@ -1,8 +1,9 @@
 -- What is found of an item by logs, their races and replays of cut logs is what is to be answered.
+use Rattle.std.specs.Option.{option_map_or}
 use Rattle.std.proofs.Common.{◌≡◌, ℕ, zero, suc, ◌+◌, ◌<◌, ◌≤◌, Bool, true, false, List, [], ◌∷◌, ◌++◌, length, Option, Some, None, Ok, refl, ap, ap₂, sym, subst, ◌∙◌, arith, inl, inr, ◌⊎◌, eqb-true, true≢false, if◌then◌else◌, ◌&&◌, ◌||◌}
 use Rattle.std.proofs.lemmas.Bool.{cases_eq, cases_lt, false_from_ne_true, le-leb, leb-false, leb-true, or_left, or_right}
 use Rattle.std.proofs.lemmas.Option.{none-some}
-use Rattle.std.specs.Prelude.{filter_map, find, is_some, nat_le, option_map, option_to_list, slice_get}
+use Rattle.std.specs.Prelude.{filter_map, find, is_some, nat_le, option_map, option_to_list, slice_get, option_and_then, unwrap_or}
 use Rattle.ppd_ast.specs.declared.plan.Plan.{Plan}
 use Rattle.ppd_ast.specs.declared.plan.Policy.{Policy}
 use Rattle.ppd_ast.specs.declared.program.Program.{Program}
@@ -55,9 +56,9 @@ use Rattle.law_flow_shared.proofs.Edges.Spans.Told.{IsPlaced}
 use Rattle.law_flow_shared.proofs.Edges.StepEvents.Processes.{Facts, facts}
 use Rattle.law_flow_shared.proofs.Edges.StepEvents.Timeline.{none_did}
 use Rattle.law_flow_shared.proofs.Edges.StepEvents.Writers.{edge_is_count}
-use Rattle.law_clean.specs.Answers.{CleanOr, answer_of, by_part, by_span, by_split, clean, edges_there, first_item, no_item, unclean, unclean_or}
-use Rattle.law_clean.specs.Pasts.{Lies, are_raced, edges_between, first_unclean, is_clean, is_same_edge, is_sync_event, left_edge, lies, past_of}
-use Rattle.law_clean.specs.Search.{by_first, by_item, clean_by, edge_of_item, first_raced, from_first, has_race, is_in_past, is_unclean, leads_from_race, reached, seens, unclean_at, with_edges}
+use Rattle.law_clean.specs.Answers.{CleanOr, answer_of, by_part, clean, first_item, no_item, unclean, unclean_or}
+use Rattle.law_clean.specs.Pasts.{Lies, are_raced, edges_between, first_unclean, is_clean, is_same_edge, left_edge, lies, past_of, is_past}
+use Rattle.law_clean.specs.Search.{by_first, by_item, clean_by, edge_of_item, first_raced, from_first, has_race, is_unclean, leads_from_race, reached, seens, with_edges}
 use Rattle.law_clean.proofs.CleanItems.{IsIn, IsOwn, at', event_found, event_placed, inside_found, inside_placed, left_own, own_state}
 use Rattle.law_clean.proofs.EdgeEnds.{EndsEdge, edge_ends, edge_own}
 use Rattle.law_clean.proofs.FullEdges.{clean_edges_found}
@@ -209,19 +210,22 @@ module _ (program : Program) (policy : Policy) (budget : ℕ) (h : List ℕ) (p 
   abbrev wanted : CleanOr
   wanted = by_part program plan budget h p k j y (slice_get i0.parts j)
 
+  abbrev by_spans : Split → Option Span → CleanOr
+  by_spans x o = option_map_or (λ i. by_part program plan budget h p k j x (slice_get i.parts j)) o no_item
+
   answer_is : answer_of program plan budget h p k j ≡ by_part program plan budget h p k j y (slice_get i0.parts j)
-  answer_is = ap (by_split program plan budget h p k j) at ∙ ap (by_span program plan budget h p k j y) at_k
+  answer_is = ap (λ (o : Option Split). option_map_or (λ x. by_spans x (slice_get x.spans k)) o no_item) at ∙ ap (by_spans y) at_k
 
   abbrev here : Part → Lies
   here q = lies (entries_at logs p) y q
 
   not_clean : (q : Part) → is_clean program s p (here q) ≡ false → by_part program plan budget h p k j y (Some q) ≡ unclean_or p (first_to far) no_item
   not_clean q e =
-      ap (λ b. if b then first_item (item_of y q) (edges_there (edges program plan budget s p k j)) else unclean_or p (first_to far) no_item) e
+      ap (λ b. if b then first_item (item_of y q) (unwrap_or (edges program plan budget s p k j) []) else unclean_or p (first_to far) no_item) e
 
-  is_so : (q : Part) → is_clean program s p (here q) ≡ true → by_part program plan budget h p k j y (Some q) ≡ first_item (item_of y q) (edges_there (edges program plan budget s p k j))
+  is_so : (q : Part) → is_clean program s p (here q) ≡ true → by_part program plan budget h p k j y (Some q) ≡ first_item (item_of y q) (unwrap_or (edges program plan budget s p k j) [])
   is_so q e =
-      ap (λ b. if b then first_item (item_of y q) (edges_there (edges program plan budget s p k j)) else unclean_or p (first_to far) no_item) e
+      ap (λ b. if b then first_item (item_of y q) (unwrap_or (edges program plan budget s p k j) []) else unclean_or p (first_to far) no_item) e
 
   raced_part : (q : Part) (e : ℕ) → (here q).edge ≡ e → e ≤ far → Has e ≡ true → is_clean program s p (here q) ≡ false
   raced_part q e is le h' =
@@ -233,7 +237,7 @@ module _ (program : Program) (policy : Policy) (budget : ℕ) (h : List ℕ) (p 
   leads_next e lt leads =
       let f = edge_of_race (λ a. is_before program Rec (node a.process a.edge) (node p e)) Rs leads in
       let b : Before program Rec (node f.0.process f.0.edge) (node p e) = (tests_before program Rec (node f.0.process f.0.edge) (node p e)).0 f.2 in
-      race_of_edge (is_in_past program Rec Rs (edge p (e + 1))) Rs f.0 f.1
+      race_of_edge (is_past program Rec (edge p (e + 1))) Rs f.0 f.1
       (or_right (is_same_edge f.0 (edge p (e + 1))) (is_edge_before program Rec f.0 (edge p (e + 1))) ((tests_edges program Rec f.0 (edge p (e + 1))).1 (next f.0.process f.0.edge b)))
     where
       next : (q i : ℕ) → Before program Rec (node q i) (node p e) → EdgeBefore program Rec (edge q i) (edge p (e + 1))
@@ -389,7 +393,7 @@ module _ (program : Program) (policy : Policy) (budget : ℕ) (h : List ℕ) (p 
     ends_before q place ends = elim (part_of q place) [
       | inl event ↦
           let f = get_there y.trace.events event.0 event.2 in
-          subst (λ z. (here z).edge < far) (sym event.1) (sync_le event.0 f.0 f.1 (sym (ap is_sync_event f.1) ∙ ap (λ z. (here z).ends) (sym event.1) ∙ ends))
+          subst (λ z. (here z).edge < far) (sym event.1) (sync_le event.0 f.0 f.1 (sym (ap (λ (o : Option TracedEvent). is_some (option_and_then (λ e. e.event.number) o)) f.1) ∙ ap (λ z. (here z).ends) (sym event.1) ∙ ends))
       | inr span ↦ absurd (true≢false (sym ends ∙ ap (λ z. (here z).ends) span.2))
     ]
 
@@ -416,7 +420,7 @@ module _ (program : Program) (policy : Policy) (budget : ℕ) (h : List ℕ) (p 
             ∙ event_at n (slice_get_below y.trace.events n l.0 l.1) (kept (own n) place) in
             record {
               edge_is = ap (edge_of_item program plan budget logs Rec Rs p k j xs) (sym same) ∙ edge;
-              sync_is = ap is_sync_item (sym same) ∙ ap (λ (w : Event). is_some w.number) (sym event) ∙ sym (ap is_sync_event l.1);
+              sync_is = ap is_sync_item (sym same) ∙ ap (λ (w : Event). is_some w.number) (sym event) ∙ sym (ap (λ (o : Option TracedEvent). is_some (option_and_then (λ e. e.event.number) o)) l.1);
               item_is = λ inn. ap item_of_event l.1 ∙ ap (λ (w : Event). item.Own w ∷ []) event ∙ ap (λ z. z ∷ []) same;
             }
     is_here (nested m) t place it = by (slice_get x.spans m) refl it
@@ -463,7 +467,7 @@ module _ (program : Program) (policy : Policy) (budget : ℕ) (h : List ℕ) (p 
       same_edges = elim (part_of q place) [
         | inl event ↦
             event_found program policy budget h p k j y v whole at there o inside clear own_is event.0 (place ∙ ap (λ z. Some z) event.1) event.2 (subst (λ z. IsIn far o (here z).edge) event.1 inn) (event_le event.0)
-            (λ f is number. (sync_le event.0 f is number, subst (λ z. leads_from_race program Rec Rs (edge p (here z).edge) ≡ false) event.1 (no (ap (λ z. (here z).ends) event.1 ∙ ap is_sync_event is ∙ number))))
+            (λ f is number. (sync_le event.0 f is number, subst (λ z. leads_from_race program Rec Rs (edge p (here z).edge) ≡ false) event.1 (no (ap (λ z. (here z).ends) event.1 ∙ ap (λ (o : Option TracedEvent). is_some (option_and_then (λ e. e.event.number) o)) is ∙ number))))
         | inr span ↦
             inside_found program policy budget h p k j y v whole at there o inside clear own_is span.0 span.1 (place ∙ ap (λ z. Some z) span.2) span.3 (subst (λ z. IsIn far o (here z).edge) span.2 inn)
       ]
@@ -484,10 +488,10 @@ module _ (program : Program) (policy : Policy) (budget : ℕ) (h : List ℕ) (p 
       clean_answer t it =
           let es = some_edges in
           ap (with_edges program plan budget logs Rec Rs p k j t) (edges_are ∙ ap (option_map (λ fs. Ok fs)) es.1)
-          ∙ sym (ap₂ (λ ts fs. first_item ts (edges_there fs)) it es.1) ∙ sym (is_so q is_clean_so)
+          ∙ sym (ap₂ (λ ts fs. first_item ts (unwrap_or fs [])) it es.1) ∙ sym (is_so q is_clean_so)
 
     decide : (q : Part) (t : Item) → part_at y k j ≡ Some q → IsHere q t → (z : Option ℕ) → o ≡ z
-        → (if is_unclean program plan budget logs Rec Rs p k j xs z t then unclean_at program plan budget logs Rec Rs p k j z else with_edges program plan budget logs Rec Rs p k j t (found_edges program plan logs xs p k j))
+        → (if is_unclean program plan budget logs Rec Rs p k j xs z t then unclean_or p z no_item else with_edges program plan budget logs Rec Rs p k j t (found_edges program plan logs xs p k j))
         ≡ by_part program plan budget h p k j y (Some q)
     decide q t place here_is None e =
         let le : (here q).edge ≤ far = (edge_between q place).1 in

@@ -51,8 +51,8 @@ use Rattle.law_flow_shared.specs.Edges.SharedEdges.{all_seen}
 use Rattle.law_flow_shared.proofs.Edges.Spans.Facts.{count_to}
 use Rattle.law_clean.specs.Cuts.{cut}
 use Rattle.law_clean.specs.Ordered.{IsUnracedIn}
-use Rattle.law_clean.specs.Pasts.{is_clean, is_raced, is_same_edge, is_sync_event, left_edge, lies}
-use Rattle.law_clean.specs.Search.{has_race, is_in_past, is_raced_to, is_wanted, last_of, last_wanted, leads_from_race, other_last, own_last, seens}
+use Rattle.law_clean.specs.Pasts.{is_clean, is_raced, is_same_edge, left_edge, lies, is_past}
+use Rattle.law_clean.specs.Search.{has_race, is_raced_to, is_wanted, last_wanted, leads_from_race, other_last, own_last, seens}
 use Rattle.law_clean.proofs.CleanCuts.{before_back}
 use Rattle.law_clean.proofs.CutEvents.{event_edges_same}
 use Rattle.law_clean.proofs.CutShared.{HasEnded, HasPlace, IsBegun, event_there, here_in}
@@ -114,9 +114,9 @@ module _ (program : Program) (policy : Policy) (budget : ℕ) (h : List ℕ) (p 
 
   unraced : (e : ℕ) → e ≤ far → IsIn far o e → IsUnracedIn program plan budget h p e
   unraced e le is = false_from_ne_true (is_raced Rs (edge p e)) (λ raced.
-      true≢false (sym (race_of_edge (is_in_past program Rec Rs (edge p e)) Rs (edge p e) raced self) ∙ clear e le is))
+      true≢false (sym (race_of_edge (is_past program Rec (edge p e)) Rs (edge p e) raced self) ∙ clear e le is))
     where
-      self : is_in_past program Rec Rs (edge p e) (edge p e) ≡ true
+      self : is_past program Rec (edge p e) (edge p e) ≡ true
       self = or_left (nat_eq p p && nat_eq e e) (is_edge_before program Rec (edge p e) (edge p e)) (and_from (nat_eq p p) (nat_eq e e) (eq-eqb p p refl) (eq-eqb e e refl))
 
   -- ---- the process itself
@@ -207,7 +207,7 @@ module _ (program : Program) (policy : Policy) (budget : ℕ) (h : List ℕ) (p 
   clear_edge : (q i e : ℕ) → EdgeBefore program Rec (edge q i) (edge p e) → has_race program Rec Rs (edge p e) ≡ false → is_raced_to program Rec Rs q i ≡ false
   clear_edge q i e b none = false_from_ne_true (is_raced_to program Rec Rs q i) (λ raced.
       let r = raced_from program Rec Rs q i raced in
-      true≢false (sym (race_of_edge (is_in_past program Rec Rs (edge p e)) Rs (edge q r.0) r.2
+      true≢false (sym (race_of_edge (is_past program Rec (edge p e)) Rs (edge q r.0) r.2
       (or_right (is_same_edge (edge q r.0) (edge p e)) (is_edge_before program Rec (edge q r.0) (edge p e)) ((tests_edges program Rec (edge q r.0) (edge p e)).1 (edge_back q i e b r.0 r.1)))) ∙ none))
 
   clear_node : (q i e : ℕ) → Before program Rec (node q i) (node p e) → leads_from_race program Rec Rs (edge p e) ≡ false → is_raced_to program Rec Rs q i ≡ false

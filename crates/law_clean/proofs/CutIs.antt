@@ -1,5 +1,6 @@
 -- The log of a process in a whole schedule, cut as the definition says, is the log after the synchronization that ends
 -- the edge, and the end of a cut log.
+use Rattle.std.specs.Option.{option_map_or}
 use Rattle.std.proofs.Common.{◌≡◌, ℕ, suc, ◌+◌, ℤ, true, false, List, [], ◌∷◌, ◌++◌, length, Option, Some, None, refl, ap, ap₂, sym, ◌∙◌, arith, append_assoc, append-nil, length-append, true≢false, inl, inr, ◌⊎◌, ◌||◌}
 use Rattle.std.proofs.lemmas.Bool.{cond-true}
 use Rattle.std.proofs.lemmas.List.Elements.{filter_map-append}
@@ -26,7 +27,7 @@ use Rattle.ppd_entry.specs.Entries.{is_end}
 use Rattle.law_flow_shared.proofs.Edges.LogPlaces.EdgeEnds.{ending_is}
 use Rattle.law_flow_shared.proofs.Edges.Spans.Facts.{syncs}
 use Rattle.law_clean.proofs.EdgeEnds.{sync_need}
-use Rattle.law_clean.specs.Cuts.{cut, cut_at, is_sync_there, is_unit, past_unit, stop}
+use Rattle.law_clean.specs.Cuts.{cut, cut_at, is_unit, stop}
 
 -- ---- lists
 
@@ -56,7 +57,7 @@ pub cut_there : (before : List Entry) (e : Entry) (us after : List Entry) (i : �
     → (((u : ℕ) × (values : List ℤ) × (us ≡ entry.Unit u values ∷ [])) ⊎ ((us ≡ []) × (is_unit (slice_get after 0) ≡ false)))
     → cut (Some i) (before ++ e ∷ (us ++ after)) ≡ (before ++ e ∷ us) ++ stop ∷ []
 cut_there before e us after i sync ends count none shape =
-    cond-true (is_sync_there (slice_get all (ending i all))) (cut_at all (ending i all + 1)) all found
+    cond-true (option_map_or is_sync (slice_get all (ending i all)) false) (cut_at all (ending i all + 1)) all found
     ∙ ap (λ n. cut_at all (n + 1)) at
     ∙ ap (λ xs. xs ++ stop ∷ []) (by shape)
   where
@@ -66,15 +67,15 @@ cut_there before e us after i sync ends count none shape =
     at : ending i all ≡ length before
     at = ap (λ k. ending k all) (sym count) ∙ ending_is before e (us ++ after) ends none
 
-    found : is_sync_there (slice_get all (ending i all)) ≡ true
-    found = ap (λ n. is_sync_there (slice_get all n)) at ∙ ap is_sync_there (get_past before (e ∷ (us ++ after))) ∙ sync
+    found : option_map_or is_sync (slice_get all (ending i all)) false ≡ true
+    found = ap (λ n. option_map_or is_sync (slice_get all n) false) at ∙ ap (λ (o : Option Entry). option_map_or is_sync o false) (get_past before (e ∷ (us ++ after))) ∙ sync
 
     next : slice_get all (length before + 1) ≡ slice_get (us ++ after) 0
     next =
         ap (λ n. slice_get all n) (let z : length before + 1 ≡ length (before ++ e ∷ []) = sym (length-append before (e ∷ [])) in z)
         ∙ ap (λ xs. slice_get xs (length (before ++ e ∷ []))) (sym (append_assoc before (e ∷ []) (us ++ after))) ∙ get_past (before ++ e ∷ []) (us ++ after)
 
-    by : (((u : ℕ) × (values : List ℤ) × (us ≡ entry.Unit u values ∷ [])) ⊎ ((us ≡ []) × (is_unit (slice_get after 0) ≡ false))) → take (past_unit all (length before + 1)) all ≡ before ++ e ∷ us
+    by : (((u : ℕ) × (values : List ℤ) × (us ≡ entry.Unit u values ∷ [])) ⊎ ((us ≡ []) × (is_unit (slice_get after 0) ≡ false))) → take (if is_unit (slice_get all (length before + 1)) then length before + 1 + 1 else length before + 1) all ≡ before ++ e ∷ us
     by (inl w) =
         let unit : is_unit (slice_get all (length before + 1)) ≡ true = ap is_unit (next ∙ ap (λ xs. slice_get (xs ++ after) 0) w.2) in
         ap (λ b. take (if b then (length before + 1) + 1 else length before + 1) all) unit

@@ -2,12 +2,12 @@
 use Rattle.std.proofs.Common.{◌≡◌, ℕ, zero, suc, ◌+◌, ◌<◌, ◌≤◌, true, not, List, [], ◌∷◌, length, map, get_or, refl, ap, sym, subst, ◌∙◌, arith, eq-eqb, true≢false, ◌&&◌}
 use Rattle.std.proofs.lemmas.Bool.{and_from, false_from_ne_true, or_left, or_right}
 use Rattle.std.specs.List.{range_with_len}
-use Rattle.std.specs.Prelude.{IsTrue, is_some, nat_eq, slice_get}
+use Rattle.std.specs.Prelude.{IsTrue, is_some, nat_eq, slice_get, filter}
 use Rattle.ppd_ast.specs.declared.program.Program.{Program}
 use Rattle.ppd_model.specs.declared.graph.EdgeId.{EdgeId}
 use Rattle.ppd_model.specs.declared.tracing.Story.{Story}
 use Rattle.ppd_model.specs.declared.tracing.Taken.{Taken}
-use Rattle.ppd_model.specs.HappenedBefore.{Before, EdgeBefore, across, earlier, edge, is_edge_before, node, own_syncs, sync_at}
+use Rattle.ppd_model.specs.HappenedBefore.{Before, EdgeBefore, across, earlier, edge, is_edge_before, node, own_syncs, sync_at, is_before}
 use Rattle.ppd_model.specs.Races.{races_of}
 use Rattle.ppd_model.specs.Record.{record_of}
 use Rattle.ppd_model.specs.RecordedSets.{last_edge}
@@ -18,7 +18,7 @@ use Rattle.ppd_model.proofs.LastEdges.{before_from}
 use Rattle.ppd_model.proofs.Tested.{In, from_zero, in_map, tests_before, tests_edges}
 use Rattle.law_flow_shared.proofs.Edges.Sources.Members.{filter_in}
 use Rattle.law_clean.proofs.Vocabulary.{IsUnraced}
-use Rattle.law_clean.specs.Pasts.{Lies, all_edges, is_clean, is_item_past, is_past, is_raced, is_same_edge, item_past, leads_to_end}
+use Rattle.law_clean.specs.Pasts.{Lies, all_edges, is_clean, is_item_past, is_past, is_raced, is_same_edge}
 use Rattle.law_clean.proofs.Ordered.{any_in, in_flat_map}
 
 pub some_there : {A : Type 0} (xs : List A) (i : ℕ) → is_some (slice_get xs i) ≡ true → i < length xs
@@ -47,10 +47,10 @@ module _ (program : Program) (s : Story) where
   module _ (p : ℕ) (l : Lies) (clean : is_clean program s p l ≡ true) where
     clear_past : (a : EdgeId) → In a (all_edges s) → is_item_past program s p l a ≡ true → IsUnraced program s a
     clear_past a there past = false_from_ne_true (is_raced (races_of program s) a) (λ raced.
-        true≢false (sym clean ∙ ap not (any_in (is_raced (races_of program s)) a (item_past program s p l) (filter_in (is_item_past program s p l) a (all_edges s) there past) raced)))
+        true≢false (sym clean ∙ ap not (any_in (is_raced (races_of program s)) a (filter (is_item_past program s p l) (all_edges s)) (filter_in (is_item_past program s p l) a (all_edges s) there past) raced)))
 
-    in_past : (a : EdgeId) → is_past program s (edge p l.edge) a ≡ true → is_item_past program s p l a ≡ true
-    in_past a e = or_left (is_past program s (edge p l.edge) a) (l.ends && leads_to_end program s (edge p l.edge) a) e
+    in_past : (a : EdgeId) → is_past program (record_of s) (edge p l.edge) a ≡ true → is_item_past program s p l a ≡ true
+    in_past a e = or_left (is_past program (record_of s) (edge p l.edge) a) (l.ends && is_before program (record_of s) (node a.process a.edge) (node p l.edge)) e
 
     -- its own edge
     pub clear_own : p < length s.steps → l.edge ≤ length (syncs_of (own_steps s p)) → IsUnraced program s (edge p l.edge)
@@ -76,5 +76,5 @@ module _ (program : Program) (s : Story) where
     pub clear_ending : l.ends ≡ true → (q i : ℕ) → Before program (record_of s) (node q i) (node p l.edge) → IsUnraced program s (edge q i)
     clear_ending ends q i b =
         clear_past (edge q i) (ended_there q i (before_from program (record_of s) (node q i) (node p l.edge) b))
-        (or_right (is_past program s (edge p l.edge) (edge q i)) (l.ends && leads_to_end program s (edge p l.edge) (edge q i))
-        (and_from l.ends (leads_to_end program s (edge p l.edge) (edge q i)) ends ((tests_before program (record_of s) (node q i) (node p l.edge)).1 b)))
+        (or_right (is_past program (record_of s) (edge p l.edge) (edge q i)) (l.ends && is_before program (record_of s) (node q i) (node p l.edge))
+        (and_from l.ends (is_before program (record_of s) (node q i) (node p l.edge)) ends ((tests_before program (record_of s) (node q i) (node p l.edge)).1 b)))

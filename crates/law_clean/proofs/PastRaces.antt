@@ -2,7 +2,7 @@
 use Rattle.std.proofs.Common.{◌≡◌, ℕ, zero, suc, ◌+◌, ◌-◌, ◌<◌, ◌≤◌, Bool, true, false, List, [], ◌∷◌, length, refl, ap, sym, subst, ◌∙◌, arith, inl, inr, ◌⊎◌, eq-eqb, eqb-true, true≢false, ◌&&◌, ◌||◌}
 use Rattle.std.proofs.lemmas.Bool.{and_from, false_from_ne_true, le-leb, leb-true, or_left, or_right}
 use Rattle.std.specs.List.{list_any}
-use Rattle.std.specs.Prelude.{nat_eq, nat_le, not}
+use Rattle.std.specs.Prelude.{nat_eq, nat_le, not, filter}
 use Rattle.ppd_ast.specs.declared.program.Program.{Program}
 use Rattle.ppd_model.specs.declared.graph.EdgeId.{EdgeId}
 use Rattle.ppd_model.specs.declared.graph.NodeId.{NodeId}
@@ -17,8 +17,8 @@ use Rattle.ppd_model.proofs.Accesses.{record_at}
 use Rattle.ppd_model.proofs.LastEdges.{before_from}
 use Rattle.ppd_model.proofs.Tested.{In, tests_before, tests_edges}
 use Rattle.law_flow_shared.proofs.Edges.Sources.Members.{filter_in, in_filter}
-use Rattle.law_clean.specs.Pasts.{Lies, all_edges, are_raced, is_clean, is_item_past, is_of_race, is_past, is_raced, is_same_edge, item_past, leads_to_end, past_of}
-use Rattle.law_clean.specs.Search.{has_race, is_in_past, is_raced_to, leads_from_race}
+use Rattle.law_clean.specs.Pasts.{Lies, all_edges, are_raced, is_clean, is_item_past, is_of_race, is_past, is_raced, is_same_edge, past_of}
+use Rattle.law_clean.specs.Search.{has_race, is_raced_to, leads_from_race}
 use Rattle.law_clean.proofs.Ordered.{any_in}
 use Rattle.law_clean.proofs.PastClear.{edge_there, ended_there, some_there}
 use Rattle.law_clean.proofs.PastsGrow.{any_found, pasts_grow}
@@ -105,7 +105,7 @@ module _ (program : Program) (s : Story) where
 
   -- an edge of the past is there
   module _ (p e : ℕ) (there : p < length s.steps) (within : e ≤ length (syncs_of (own_steps s p))) where
-    past_there : (a : EdgeId) → is_past program s (edge p e) a ≡ true → In a (all_edges s)
+    past_there : (a : EdgeId) → is_past program (record_of s) (edge p e) a ≡ true → In a (all_edges s)
     past_there a h = elim (either (is_same_edge a (edge p e)) (is_edge_before program Rec a (edge p e)) h) [
       | inl same ↦ subst (λ z. In z (all_edges s)) (sym (same_is a (edge p e) same)) (edge_there program s p e there within)
       | inr before ↦ by_edge a ((tests_edges program Rec a (edge p e)).0 before)
@@ -121,13 +121,13 @@ module _ (program : Program) (s : Story) where
     -- by the races, and by the edges
     pub has_raced : Has (edge p e) ≡ true → are_raced program s (past_of program s (edge p e)) ≡ true
     has_raced h =
-        let f = edge_of_race (is_in_past program Rec (races_of program s) (edge p e)) (races_of program s) h in
-        any_in (is_raced (races_of program s)) f.0 (past_of program s (edge p e)) (filter_in (is_past program s (edge p e)) f.0 (all_edges s) (past_there f.0 f.2) f.2) f.1
+        let f = edge_of_race (is_past program Rec (edge p e)) (races_of program s) h in
+        any_in (is_raced (races_of program s)) f.0 (past_of program s (edge p e)) (filter_in (is_past program (record_of s) (edge p e)) f.0 (all_edges s) (past_there f.0 f.2) f.2) f.1
 
   pub raced_has : (p e : ℕ) → are_raced program s (past_of program s (edge p e)) ≡ true → Has (edge p e) ≡ true
   raced_has p e h =
       let f = any_found (is_raced (races_of program s)) (past_of program s (edge p e)) h in
-      race_of_edge (is_in_past program Rec (races_of program s) (edge p e)) (races_of program s) f.0 f.2 (in_filter (is_past program s (edge p e)) f.0 (all_edges s) f.1).1
+      race_of_edge (is_past program Rec (edge p e)) (races_of program s) f.0 f.2 (in_filter (is_past program (record_of s) (edge p e)) f.0 (all_edges s) f.1).1
 
   -- ---- growing pasts
 
@@ -155,13 +155,13 @@ module _ (program : Program) (s : Story) where
       -- its last edge has a race in its past, or one leads to the synchronization that it is
       pub unclean_has : is_clean program s p l ≡ false → (Has (edge p l.edge) ≡ true) ⊎ ((l.ends ≡ true) × (leads_from_race program Rec (races_of program s) (edge p l.edge) ≡ true))
       unclean_has h =
-          let raced : are_raced program s (item_past program s p l) ≡ true = not_false (are_raced program s (item_past program s p l)) h in
-          let f = any_found (is_raced (races_of program s)) (item_past program s p l) raced in
+          let raced : are_raced program s (filter (is_item_past program s p l) (all_edges s)) ≡ true = not_false (are_raced program s (filter (is_item_past program s p l) (all_edges s))) h in
+          let f = any_found (is_raced (races_of program s)) (filter (is_item_past program s p l) (all_edges s)) raced in
           let m = in_filter (is_item_past program s p l) f.0 (all_edges s) f.1 in
-          elim (either (is_past program s (edge p l.edge) f.0) (l.ends && leads_to_end program s (edge p l.edge) f.0) m.1) [
-            | inl past ↦ inl (race_of_edge (is_in_past program Rec (races_of program s) (edge p l.edge)) (races_of program s) f.0 f.2 past)
+          elim (either (is_past program (record_of s) (edge p l.edge) f.0) (l.ends && is_before program (record_of s) (node f.0.process f.0.edge) (node p l.edge)) m.1) [
+            | inl past ↦ inl (race_of_edge (is_past program Rec (edge p l.edge)) (races_of program s) f.0 f.2 past)
             | inr leads ↦
-                let b = both l.ends (leads_to_end program s (edge p l.edge) f.0) leads in
+                let b = both l.ends (is_before program (record_of s) (node f.0.process f.0.edge) (node p l.edge)) leads in
                 inr (b.0, race_of_edge (λ a. is_before program Rec (node a.process a.edge) (node p l.edge)) (races_of program s) f.0 f.2 b.1)
           ]
         where
@@ -171,14 +171,14 @@ module _ (program : Program) (s : Story) where
 
       pub has_unclean : Has (edge p l.edge) ≡ true → is_clean program s p l ≡ false
       has_unclean h =
-          let f = edge_of_race (is_in_past program Rec (races_of program s) (edge p l.edge)) (races_of program s) h in
-          ap not (any_in (is_raced (races_of program s)) f.0 (item_past program s p l)
-          (filter_in (is_item_past program s p l) f.0 (all_edges s) (past_there p l.edge there within f.0 f.2) (or_left (is_past program s (edge p l.edge) f.0) (l.ends && leads_to_end program s (edge p l.edge) f.0) f.2)) f.1)
+          let f = edge_of_race (is_past program Rec (edge p l.edge)) (races_of program s) h in
+          ap not (any_in (is_raced (races_of program s)) f.0 (filter (is_item_past program s p l) (all_edges s))
+          (filter_in (is_item_past program s p l) f.0 (all_edges s) (past_there p l.edge there within f.0 f.2) (or_left (is_past program (record_of s) (edge p l.edge) f.0) (l.ends && is_before program (record_of s) (node f.0.process f.0.edge) (node p l.edge)) f.2)) f.1)
 
       pub leads_unclean : l.ends ≡ true → leads_from_race program Rec (races_of program s) (edge p l.edge) ≡ true → is_clean program s p l ≡ false
       leads_unclean ends h =
           let f = edge_of_race (λ a. is_before program Rec (node a.process a.edge) (node p l.edge)) (races_of program s) h in
           let b : Before program Rec (node f.0.process f.0.edge) (node p l.edge) = (tests_before program Rec (node f.0.process f.0.edge) (node p l.edge)).0 f.2 in
-          ap not (any_in (is_raced (races_of program s)) f.0 (item_past program s p l)
+          ap not (any_in (is_raced (races_of program s)) f.0 (filter (is_item_past program s p l) (all_edges s))
           (filter_in (is_item_past program s p l) f.0 (all_edges s) (ended_there program s f.0.process f.0.edge (before_from program Rec (node f.0.process f.0.edge) (node p l.edge) b))
-          (or_right (is_past program s (edge p l.edge) f.0) (l.ends && leads_to_end program s (edge p l.edge) f.0) (and_from l.ends (leads_to_end program s (edge p l.edge) f.0) ends f.2))) f.1)
+          (or_right (is_past program (record_of s) (edge p l.edge) f.0) (l.ends && is_before program (record_of s) (node f.0.process f.0.edge) (node p l.edge)) (and_from l.ends (is_before program (record_of s) (node f.0.process f.0.edge) (node p l.edge)) ends f.2))) f.1)

@@ -40,7 +40,7 @@ module _ (program : Program) (s : Story) where
       across apart i refl
       (through b (subst (λ z. Before program Rec (node p j) (node p z)) (sym same) (next_before program Rec p j (subst (λ z. IsTrue (is_some (sync_at Rec (node p z)))) same (sync_there p i lt)))))
 
-  past_next : (p i : ℕ) (a : EdgeId) → is_past program s (edge p i) a ≡ true → i < length (own_syncs Rec p) → EdgeBefore program Rec a (edge p (i + 1))
+  past_next : (p i : ℕ) (a : EdgeId) → is_past program (record_of s) (edge p i) a ≡ true → i < length (own_syncs Rec p) → EdgeBefore program Rec a (edge p (i + 1))
   past_next p i a e lt = by (is_same_edge a (edge p i)) refl e
     where
       by : (b : Bool) → is_same_edge a (edge p i) ≡ b → (b || is_edge_before program Rec a (edge p i)) ≡ true → EdgeBefore program Rec a (edge p (i + 1))
@@ -55,8 +55,8 @@ module _ (program : Program) (s : Story) where
   pub pasts_grow : (p i : ℕ) → i < length (own_syncs Rec p) → are_raced program s (past_of program s (edge p i)) ≡ true → are_raced program s (past_of program s (edge p (i + 1))) ≡ true
   pasts_grow p i lt raced =
       let f = any_found (is_raced (races_of program s)) (past_of program s (edge p i)) raced in
-      let m = in_filter (is_past program s (edge p i)) f.0 (all_edges s) f.1 in
+      let m = in_filter (is_past program (record_of s) (edge p i)) f.0 (all_edges s) f.1 in
       let was : EdgeBefore program Rec f.0 (edge p (i + 1)) = past_next p i f.0 m.1 lt in
       any_in (is_raced (races_of program s)) f.0 (past_of program s (edge p (i + 1)))
-      (filter_in (is_past program s (edge p (i + 1))) f.0 (all_edges s) m.0
+      (filter_in (is_past program (record_of s) (edge p (i + 1))) f.0 (all_edges s) m.0
       (or_right (is_same_edge f.0 (edge p (i + 1))) (is_edge_before program Rec f.0 (edge p (i + 1))) ((tests_edges program Rec f.0 (edge p (i + 1))).1 was))) f.2

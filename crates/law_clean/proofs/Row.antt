@@ -1,4 +1,5 @@
 -- shared int x, y; sem s; process a { y = 3; print(y); V(s); x = 1; } process b { x = 2; }
+use Rattle.law_clean.specs.Cuts.{cut_logs}
 use Rattle.std.proofs.Common.{◌≡◌, refl}
 use Rattle.std.specs.Prelude.{ℕ, pos, true, false, List, [], ◌∷◌, Some, None}
 use Rattle.ppd_ast.specs.Term.{terms}
@@ -25,7 +26,7 @@ use Rattle.ppd_model.specs.Logs.{closed_logs}
 use Rattle.ppd_model.specs.Races.{race, races}
 use Rattle.ppd_model.specs.RecordedSets.{record_in}
 use Rattle.law_clean.specs.Answers.{CleanOr, answer_of, clean, unclean}
-use Rattle.law_clean.specs.Search.{clean_by, cut_by}
+use Rattle.law_clean.specs.Search.{clean_by, last_wanted}
 
 abbrev program : Program
 program = record {
@@ -119,7 +120,7 @@ pub other_found : found 1 0 0 ≡ unclean (edge 1 0)
 unfolding terms
 other_found = refl
 
-pub cut_lists : (cut_by program plan 100000 logs (record_in logs) (race 0 1 1 0 0 WriteWrite ∷ []) 0 0 1 (Some 1)).lists ≡
+pub cut_lists : (cut_logs (last_wanted program (record_in logs) (race 0 1 1 0 0 WriteWrite ∷ []) 0 (Some 1)) logs).lists ≡
     (entry.Prelog 0 [] ∷ entry.Unit 0 (pos 0 ∷ []) ∷ entry.Sync sync.V 0 1 (pos 0) (1 ∷ []) (1 ∷ []) ∷ entry.Unit 1 [] ∷ entry.End status.Budget 0 [] [] ∷ [])
     ∷ (entry.Prelog 1 [] ∷ entry.Unit 2 [] ∷ entry.End status.Budget 0 [] [] ∷ []) ∷ []
 unfolding terms

@@ -1,5 +1,6 @@
 -- What replays of cut logs give of each process: what it has after a beginning of the schedule, if no race has an edge
 -- of it up to there.
+use Rattle.std.specs.Option.{option_map_or}
 use Rattle.std.proofs.Common.{◌≡◌, ℕ, zero, suc, ◌+◌, ◌<◌, ◌≤◌, Bool, true, false, List, [], ◌∷◌, ◌++◌, length, map, Option, Some, None, refl, ap, ap₂, sym, subst, ◌∙◌, arith, append-nil, true≢false, if◌then◌else◌}
 use Rattle.std.proofs.lemmas.Option.{get_or_from_slice_get, none-some, slice_get-map}
 use Rattle.std.specs.Prelude.{filter_map, is_some, option_map, option_to_list, slice_get}
@@ -44,7 +45,7 @@ use Rattle.law_flow_shared.proofs.Edges.PairPlaces.Leading.{IsSyncStep, sync_ste
 use Rattle.law_flow_shared.proofs.Edges.Sources.LastOrigins.{below_moments, split_there}
 use Rattle.law_flow_shared.proofs.Edges.StepEvents.Timeline.{did, none_did}
 use Rattle.law_flow_shared.proofs.Edges.StepEvents.Writers.{edge_is_count}
-use Rattle.law_clean.specs.Cuts.{cut, cut_at, cut_from, cut_logs, is_sync_there}
+use Rattle.law_clean.specs.Cuts.{cut, cut_at, cut_from, cut_logs}
 use Rattle.law_clean.specs.Ordered.{AreUnracedReads, IsUnracedIn}
 use Rattle.law_clean.proofs.CutLogs.{cut_of_log}
 use Rattle.law_clean.proofs.CutSeen.{cut_seen, items_same, logging_at, rounds_same, same_blocks, same_parents}
@@ -65,7 +66,7 @@ cut_from_at last (x ∷ xs) p (suc q) es e =
     cut_from_at last xs (p + 1) q es e ∙ ap (λ k. Some (cut (last k) es)) z
 
 -- past all synchronizations no synchronization ends an edge
-past_syncs : (i : ℕ) (es : List Entry) → length (filter_map sync_in es) ≤ i → is_sync_there (slice_get es (ending i es)) ≡ false
+past_syncs : (i : ℕ) (es : List Entry) → length (filter_map sync_in es) ≤ i → option_map_or is_sync (slice_get es (ending i es)) false ≡ false
 past_syncs i [] le = refl
 past_syncs zero (entry.Sync k o m z rs ws ∷ es) le = absurd (omega (arith, le))
 past_syncs zero (entry.End s m rs ws ∷ es) le = refl

@@ -1,17 +1,16 @@
 -- What is answered of an item in a run with races.
-use Rattle.std.specs.Prelude.{ℕ, List, [], ◌∷◌, slice_get, Option, Some, None, if◌then◌else◌}
+use Rattle.std.specs.Prelude.{ℕ, List, [], ◌∷◌, slice_get, Option, Some, None, if◌then◌else◌, unwrap_or}
+use Rattle.std.specs.Option.{option_map_or}
 use Rattle.ppd_ast.specs.declared.plan.Plan.{Plan}
 use Rattle.ppd_ast.specs.declared.program.Program.{Program}
-use Rattle.ppd_entry.specs.declared.entry.Entry.{Entry}
 use Rattle.ppd_entry.specs.Entries.{entries_at}
 use Rattle.ppd_model.specs.declared.flow.FlowEdge.{FlowEdge}
 use Rattle.ppd_model.specs.declared.flow.Item.{Item}
 use Rattle.ppd_model.specs.declared.graph.EdgeId.{EdgeId}
-use Rattle.ppd_model.specs.declared.tracing.Story.{Story}
 use Rattle.ppd_model.specs.FlowbackEdges.{edges}
 use Rattle.ppd_model.specs.Forward.{edge_in}
 use Rattle.ppd_model.specs.HappenedBefore.{edge}
-use Rattle.ppd_model.specs.Intervals.{Part, Span, Split, item_of, splits}
+use Rattle.ppd_model.specs.Intervals.{Part, Split, item_of, splits}
 use Rattle.ppd_model.specs.Logs.{closed_logs}
 use Rattle.ppd_model.specs.Story.{story}
 use Rattle.ppd_flow_model.specs.Ends.{first_edge}
@@ -34,38 +33,24 @@ abbrev pub first_item : List Item → List FlowEdge → CleanOr
 first_item [] es = no_item
 first_item (t ∷ ts) es = clean t es
 
-abbrev pub edges_there : Option (List FlowEdge) → List FlowEdge
-edges_there None = []
-edges_there (Some es) = es
-
 module _ (program : Program) (plan : Plan) (budget : ℕ) (h : List ℕ) (p k j : ℕ) where
-  abbrev run_story : Story
-  run_story = story program plan budget h
-
-  -- the log of process p
-  abbrev own_log : List Entry
-  own_log = entries_at (closed_logs program plan budget h) p
-
   -- the least edge of p whose past has a race, of those from the one in which interval k begins through another
   abbrev unclean_to : ℕ → Option ℕ
-  unclean_to last = first_unclean program run_story p (edges_between (first_edge own_log k) last)
+  unclean_to last =
+      first_unclean program (story program plan budget h) p
+      (edges_between (first_edge (entries_at (closed_logs program plan budget h) p) k) last)
 
   -- interval k of process p, in its split: of an item that is not there, the edges that the interval reaches
   abbrev pub by_part : Split → Option Part → CleanOr
-  by_part x None = unclean_or p (unclean_to (left_edge own_log k)) no_item
+  by_part x None = unclean_or p (unclean_to (left_edge (entries_at (closed_logs program plan budget h) p) k)) no_item
   by_part x (Some part) =
-      if is_clean program run_story p (lies own_log x part) then
-      first_item (item_of x part) (edges_there (edges program plan budget run_story p k j))
+      if is_clean program (story program plan budget h) p
+      (lies (entries_at (closed_logs program plan budget h) p) x part) then
+      first_item (item_of x part) (unwrap_or (edges program plan budget (story program plan budget h) p k j) [])
       else unclean_or p (unclean_to (edge_in program plan budget h p)) no_item
-
-  abbrev pub by_span : Split → Option Span → CleanOr
-  by_span x None = no_item
-  by_span x (Some i) = by_part x (slice_get i.parts j)
-
-  abbrev pub by_split : Option Split → CleanOr
-  by_split None = no_item
-  by_split (Some x) = by_span x (slice_get x.spans k)
 
   -- what is to be answered of item j of interval k of process p
   abbrev pub answer_of : CleanOr
-  answer_of = by_split (slice_get (splits program plan budget (story program plan budget h)) p)
+  answer_of =
+      option_map_or (λ x. option_map_or (λ i. by_part x (slice_get i.parts j)) (slice_get x.spans k) no_item)
+      (slice_get (splits program plan budget (story program plan budget h)) p) no_item

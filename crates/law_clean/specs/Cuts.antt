@@ -1,5 +1,6 @@
 -- Logs that are cut after the last wanted edge of each process.
 use Rattle.std.specs.Prelude.{ℕ, ◌+◌, Bool, true, false, List, [], ◌∷◌, ◌++◌, slice_get, take, Option, Some, None, if◌then◌else◌}
+use Rattle.std.specs.Option.{option_map_or}
 use Rattle.ppd_ast.specs.declared.status.Status.TheVariants as status
 use Rattle.ppd_entry.specs.declared.entry.Entry.{Entry}
 use Rattle.ppd_entry.specs.declared.entry.Entry.TheVariants as entry
@@ -16,24 +17,17 @@ abbrev pub is_unit : Option Entry → Bool
 is_unit (Some (entry.Unit u values)) = true
 is_unit e = false
 
-abbrev pub is_sync_there : Option Entry → Bool
-is_sync_there None = false
-is_sync_there (Some e) = is_sync e
-
--- past entry n too where it is a unit
-abbrev pub past_unit : List Entry → ℕ → ℕ
-past_unit entries n = if is_unit (slice_get entries n) then n + 1 else n
-
 -- the first n entries, with a unit that follows, and the end
 abbrev pub cut_at : List Entry → ℕ → List Entry
-cut_at entries n = take (past_unit entries n) entries ++ stop ∷ []
+cut_at entries n = take (if is_unit (slice_get entries n) then n + 1 else n) entries ++ stop ∷ []
 
 -- the log of a process whose last wanted edge is this one: through the synchronization that ends it, whole where none
 -- does, and the start entries alone where no edge is wanted
 abbrev pub cut : Option ℕ → List Entry → List Entry
 cut None entries = cut_at entries 1
 cut (Some i) entries =
-    if is_sync_there (slice_get entries (ending i entries)) then cut_at entries (ending i entries + 1) else entries
+    if option_map_or is_sync (slice_get entries (ending i entries)) false then cut_at entries (ending i entries + 1)
+    else entries
 
 -- ---- all logs
 

@@ -1,11 +1,10 @@
 -- The past of an item, and whether a race touches it.
-use Rattle.std.specs.Prelude.{ℕ, ◌+◌, ◌-◌, nat_eq, Bool, false, ◌&&◌, ◌||◌, not, List, map, filter, filter_map, find, length, slice_get, Option, Some, None, is_some, unwrap_or, if◌then◌else◌}
+use Rattle.std.specs.Prelude.{ℕ, ◌+◌, ◌-◌, nat_eq, Bool, false, ◌&&◌, ◌||◌, not, List, map, filter, filter_map, find, length, slice_get, Option, Some, None, is_some, option_and_then, unwrap_or, if◌then◌else◌}
 use Rattle.std.specs.List.{flat_map, list_any, range_with_len}
 use Rattle.ppd_ast.specs.declared.program.Program.{Program}
 use Rattle.ppd_entry.specs.declared.entry.Entry.{Entry}
 use Rattle.ppd_model.specs.declared.graph.EdgeId.{EdgeId}
 use Rattle.ppd_model.specs.declared.graph.Race.{Race}
-use Rattle.ppd_model.specs.declared.trace.TracedEvent.{TracedEvent}
 use Rattle.ppd_model.specs.declared.tracing.Story.{Story}
 use Rattle.ppd_model.specs.HappenedBefore.{edge, is_before, is_edge_before, node}
 use Rattle.ppd_model.specs.Extents.{Extent, extents}
@@ -14,6 +13,7 @@ use Rattle.ppd_model.specs.NearIntervals.{edge_of_event}
 use Rattle.ppd_model.specs.Races.{races_of}
 use Rattle.ppd_model.specs.Record.{record_of}
 use Rattle.ppd_model.specs.RecordedSets.{last_edge, sync_in}
+use Rattle.ppd_model.specs.Synchronizations.{Sync}
 use Rattle.ppd_flow_model.specs.Ends.{syncs_before}
 
 -- ---- races that have an edge
@@ -35,12 +35,12 @@ all_edges s = flat_map (λ p. map (edge p) (range_with_len 0 (last_edge s p + 1)
 abbrev pub is_same_edge : EdgeId → EdgeId → Bool
 is_same_edge a b = nat_eq a.process b.process && nat_eq a.edge b.edge
 
--- edge a is edge e, or is before it
-abbrev pub is_past : Program → Story → EdgeId → EdgeId → Bool
-is_past program s e a = is_same_edge a e || is_edge_before program (record_of s) a e
+-- edge a is edge e, or is before it by this record of synchronizations
+abbrev pub is_past : Program → List (List Sync) → EdgeId → EdgeId → Bool
+is_past program rec e a = is_same_edge a e || is_edge_before program rec a e
 
 abbrev pub past_of : Program → Story → EdgeId → List EdgeId
-past_of program s e = filter (is_past program s e) (all_edges s)
+past_of program s e = filter (is_past program (record_of s) e) (all_edges s)
 
 -- some race has an edge of these
 abbrev pub are_raced : Program → Story → List EdgeId → Bool
@@ -54,10 +54,6 @@ pub record Lies : Type 0 where
   pub edge : ℕ
   pub ends : Bool
 
-abbrev pub is_sync_event : Option TracedEvent → Bool
-is_sync_event None = false
-is_sync_event (Some e) = is_some e.event.number
-
 -- the edge in which an interval of these entries is left: that of its postlog, and the last edge where it has none
 abbrev pub left_in : List Entry → Option Extent → ℕ
 left_in entries None = 0
@@ -69,25 +65,22 @@ left_edge entries m = left_in entries (slice_get (extents entries) m)
 
 -- of a process with these entries
 abbrev pub lies : List Entry → Split → Part → Lies
-lies entries x (own n) = record { edge = edge_of_event x n; ends = is_sync_event (slice_get x.trace.events n) }
+lies entries x (own n) = record {
+  edge = edge_of_event x n;
+  ends = is_some (option_and_then (λ e. e.event.number) (slice_get x.trace.events n));
+}
 lies entries x (nested m) = record { edge = left_edge entries m; ends = false }
-
--- edge a ends in a synchronization that is before the one that ends edge e
-abbrev pub leads_to_end : Program → Story → EdgeId → EdgeId → Bool
-leads_to_end program s e a = is_before program (record_of s) (node a.process a.edge) (node e.process e.edge)
 
 -- the past of an item of process p that lies so: that of its last edge, and for a synchronization also every edge that
 -- ends in a synchronization before it
 abbrev pub is_item_past : Program → Story → ℕ → Lies → EdgeId → Bool
 is_item_past program s p l a =
-    is_past program s (edge p l.edge) a || (l.ends && leads_to_end program s (edge p l.edge) a)
-
-abbrev pub item_past : Program → Story → ℕ → Lies → List EdgeId
-item_past program s p l = filter (is_item_past program s p l) (all_edges s)
+    is_past program (record_of s) (edge p l.edge) a
+    || (l.ends && is_before program (record_of s) (node a.process a.edge) (node p l.edge))
 
 -- no race has an edge of it
 abbrev pub is_clean : Program → Story → ℕ → Lies → Bool
-is_clean program s p l = not (are_raced program s (item_past program s p l))
+is_clean program s p l = not (are_raced program s (filter (is_item_past program s p l) (all_edges s)))
 
 -- ---- where there is no clean item
 

@@ -19,20 +19,16 @@ use Rattle.ppd_flow_model.specs.Ends.{edge_at, first_edge, is_sync_item}
 use Rattle.ppd_flow_model.specs.Found.{found_edges}
 use Rattle.ppd_flow_model.specs.Seen.{Seen, items_at}
 use Rattle.ppd_flow_model.specs.Shared.{Missing, seen_at}
-use Rattle.law_clean.specs.Answers.{CleanOr, clean, no_item, unclean, unwritten}
+use Rattle.law_clean.specs.Answers.{CleanOr, clean, no_item, unclean, unclean_or, unwritten}
 use Rattle.law_clean.specs.Cuts.{cut_logs}
-use Rattle.law_clean.specs.Pasts.{edges_between, is_same_edge, left_edge}
+use Rattle.law_clean.specs.Pasts.{edges_between, is_past, left_edge}
 
 -- ---- by a record of synchronizations and races
 
 module _ (program : Program) (rec : List (List Sync)) (races : List Race) where
-  -- edge a is edge e, or is before it
-  abbrev pub is_in_past : EdgeId → EdgeId → Bool
-  is_in_past e a = is_same_edge a e || is_edge_before program rec a e
-
   -- the past of edge e has an edge of a race
   abbrev pub has_race : EdgeId → Bool
-  has_race e = list_any (λ r. is_in_past e (edge r.p r.i) || is_in_past e (edge r.q r.j)) races
+  has_race e = list_any (λ r. is_past program rec e (edge r.p r.i) || is_past program rec e (edge r.q r.j)) races
 
   -- an edge of a race ends before the synchronization that ends edge e
   abbrev pub leads_from_race : EdgeId → Bool
@@ -44,14 +40,11 @@ module _ (program : Program) (rec : List (List Sync)) (races : List Race) where
   abbrev pub is_raced_to : ℕ → ℕ → Bool
   is_raced_to q i = list_any (λ r. (nat_eq r.p q && nat_le r.i i) || (nat_eq r.q q && nat_le r.j i)) races
 
-  abbrev pub last_edge : ℕ → ℕ
-  last_edge q = length (own_syncs rec q)
-
   -- ---- the edges that are wanted, where o is the first edge of process p whose past has a race, if there is one
 
   -- of p the edges before it, all where there is none
   abbrev pub own_last : ℕ → Option ℕ → Option ℕ
-  own_last p None = Some (last_edge p)
+  own_last p None = Some (length (own_syncs rec p))
   own_last p (Some zero) = None
   own_last p (Some (suc i)) = Some i
 
@@ -59,15 +52,15 @@ module _ (program : Program) (rec : List (List Sync)) (races : List Race) where
   abbrev pub is_wanted : ℕ → ℕ → ℕ → ℕ → Bool
   is_wanted p top q i = is_edge_before program rec (edge q i) (edge p top) && not (is_raced_to q i)
 
-  abbrev pub last_of : (ℕ → Bool) → List ℕ → Option ℕ
-  last_of test is = fold (λ found i. if test i then Some i else found) None is
-
+  -- the last of these
   abbrev pub other_last : ℕ → ℕ → ℕ → Option ℕ
-  other_last p top q = last_of (is_wanted p top q) (range_with_len 0 (last_edge q))
+  other_last p top q =
+      fold (λ found i. if is_wanted p top q i then Some i else found) None (range_with_len 0 (length (own_syncs rec q)))
 
   -- the last edge that is wanted of process q
   abbrev pub last_wanted : ℕ → Option ℕ → ℕ → Option ℕ
-  last_wanted p o q = if nat_eq q p then own_last p o else other_last p (unwrap_or o (last_edge p)) q
+  last_wanted p o q =
+      if nat_eq q p then own_last p o else other_last p (unwrap_or o (length (own_syncs rec p))) q
 
 -- ---- by logs, of which this is the record
 
@@ -78,12 +71,9 @@ module _ (program : Program) (plan : Plan) (budget : ℕ) (logs : Logs) (rec : L
       find (λ i. has_race program rec races (edge p i))
       (edges_between (first_edge (entries_at logs p) k) (length (own_syncs rec p)))
 
-  -- the logs that are replayed, and what the replays give
-  abbrev pub cut_by : Option ℕ → Logs
-  cut_by o = cut_logs (last_wanted program rec races p o) logs
-
+  -- what the replays of the cut logs give
   abbrev pub seens : Option ℕ → List Seen
-  seens o = map (λ es. seen_by program plan budget es) (cut_by o).lists
+  seens o = map (λ es. seen_by program plan budget es) (cut_logs (last_wanted program rec races p o) logs).lists
 
   -- the edge of an item at place j
   abbrev pub edge_of_item : List Seen → Item → ℕ
@@ -107,14 +97,10 @@ module _ (program : Program) (plan : Plan) (budget : ℕ) (logs : Logs) (rec : L
   reached None = no_item
   reached (Some u) = if nat_le u (left_edge (entries_at logs p) k) then unclean (edge p u) else no_item
 
-  abbrev pub unclean_at : Option ℕ → CleanOr
-  unclean_at None = no_item
-  unclean_at (Some u) = unclean (edge p u)
-
   abbrev pub by_item : Option ℕ → List Seen → Option Item → CleanOr
   by_item o xs None = reached o
   by_item o xs (Some t) =
-      if is_unclean xs o t then unclean_at o else with_edges t (found_edges program plan logs xs p k j)
+      if is_unclean xs o t then unclean_or p o no_item else with_edges t (found_edges program plan logs xs p k j)
 
   abbrev pub by_first : Option ℕ → CleanOr
   by_first o = by_item o (seens o) (slice_get (items_at (seen_at (seens o) p) k) j)

@@ -73,7 +73,7 @@ module _ (past : Past) (is : IsPast past) (races : List Race) (races_are : races
     reached_is (Some u) = refl
 
     none_is : (w : Option ℕ) → unclean_or a.process w no_item
-        ≡ sought.unclean_at past.program.now past.plan.now past.budget past.logs.now (record_in past.logs.now) races a.process a.interval a.item w
+        ≡ unclean_or a.process w no_item
     none_is None = refl
     none_is (Some u) = refl
 
@@ -90,7 +90,7 @@ module _ (past : Past) (is : IsPast past) (races : List Race) (races_are : races
         ap₂ (λ b (x : CleanOr). if b then x else with_edges t (found_edges past.program.now past.plan.now past.logs.now xs a.process a.interval a.item))
         (ap (is_unclean_at past a t (edge_of_item past a (seen_at xs a.process) t)) e ∙ unclean_is z t) (ap (λ w. unclean_or a.process w no_item) e ∙ none_is z)
         ∙ ap (λ (x : CleanOr). if sought.is_unclean past.program.now past.plan.now past.budget past.logs.now (record_in past.logs.now) races a.process a.interval a.item xs z t
-        then sought.unclean_at past.program.now past.plan.now past.budget past.logs.now (record_in past.logs.now) races a.process a.interval a.item z else x)
+        then unclean_or a.process z no_item else x)
         (edges_are t (found_edges past.program.now past.plan.now past.logs.now xs a.process a.interval a.item))
 
   -- ---- the logs that are cut

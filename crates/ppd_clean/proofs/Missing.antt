@@ -1,7 +1,7 @@
 -- The write that the search by cut logs misses is missing.
 use Rattle.std.proofs.Common.{◌≡◌, ℕ, Bool, true, false, List, Option, Some, None, Result, Ok, Err, refl, ap, ◌∙◌, if◌then◌else◌}
 use Rattle.std.specs.Prelude.{nat_le, slice_get}
-use Rattle.law_clean.specs.Answers.{no_item, unclean, unwritten}
+use Rattle.law_clean.specs.Answers.{no_item, unclean, unwritten, unclean_or}
 use Rattle.law_clean.specs.Search as sought
 use Rattle.law_flow_missing.specs.Missing.{AreIndexed, IsMissingWrite, write_at}
 use Rattle.law_flow_missing.proofs.MissingWrites.{missing_writes_are_told}
@@ -49,7 +49,7 @@ module _ (program : Program) (plan : Plan) (budget : ℕ) (logs : Logs) (races :
       by true f = cc f
       by false f = cc f
 
-  never_unclean : (o : Option ℕ) → sought.unclean_at program plan budget logs (record_in logs) races p k j o ≡ unwritten m → ⊥
+  never_unclean : (o : Option ℕ) → unclean_or p o no_item ≡ unwritten m → ⊥
   never_unclean None f = cc f
   never_unclean (Some u) f = cc f
 
@@ -61,7 +61,7 @@ module _ (program : Program) (plan : Plan) (budget : ℕ) (logs : Logs) (races :
       by (sought.is_unclean program plan budget logs (record_in logs) races p k j (seens o) o t) f
     where
       by : (b : Bool)
-          → (if b then sought.unclean_at program plan budget logs (record_in logs) races p k j o
+          → (if b then unclean_or p o no_item
           else sought.with_edges program plan budget logs (record_in logs) races p k j t
           (found_edges program plan logs (seens o) p k j)) ≡ unwritten m
           → IsMissingWrite logs (seens o) m

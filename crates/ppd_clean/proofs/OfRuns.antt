@@ -1,13 +1,15 @@
 -- What is answered of what is kept of a whole run is what is to be answered of the run.
+use Rattle.law_clean.specs.Cuts.{cut_logs}
+use Rattle.std.specs.Option.{option_map_or}
 use Rattle.std.proofs.Common.{◌≡◌, ℕ, zero, suc, ◌+◌, ◌<◌, ◌≤◌, Bool, true, false, not, List, [], ◌∷◌, length, Option, Some, None, Result, Ok, Err, inl, inr, ◌⊎◌, refl, ap, sym, subst, ◌∙◌, arith, eq-eqb, eqb-true, true≢false, if◌then◌else◌}
 use Rattle.std.proofs.lemmas.Bool.{and_from, cases_lt, false_from_ne_true, leb-false, or_left}
 use Rattle.std.proofs.lemmas.Option.{none-some}
 use Rattle.std.specs.List.{range_with_len}
 use Rattle.std.specs.Prelude.{find, fold, nat_eq, slice_get, unwrap_or, ⊤}
-use Rattle.law_clean.specs.Answers.{answer_of, by_part, by_span, by_split, edges_there, first_item, no_item, unclean_or, unwritten}
+use Rattle.law_clean.specs.Answers.{CleanOr, answer_of, by_part, first_item, no_item, unclean_or, unwritten}
 use Rattle.law_clean.specs.Laws.{AnswersAreOfRuns}
 use Rattle.law_clean.specs.Ordered.{IsUnracedIn}
-use Rattle.law_clean.specs.Pasts.{edges_between, first_unclean, is_clean, is_raced, is_same_edge, left_edge, lies}
+use Rattle.law_clean.specs.Pasts.{edges_between, first_unclean, is_clean, is_raced, is_same_edge, left_edge, lies, is_past}
 use Rattle.law_clean.specs.Search as sought
 use Rattle.law_clean.proofs.PastRaces.{both, grows_to, not_raced, race_of_edge}
 use Rattle.law_clean.proofs.Places.{begun_left, left_all}
@@ -94,15 +96,18 @@ module _ (program : Program) (plan : Plan) (budget : ℕ) (h : List ℕ) (p k j 
   part_unwritten x None e = or_unwritten (unclean_to (left_edge (entries_at (closed_logs program plan budget h) p) k)) e
   part_unwritten x (Some part) e = by (is_clean program (story program plan budget h) p (lies (entries_at (closed_logs program plan budget h) p) x part)) e
     where
-      by : (b : Bool) → (if b then first_item (item_of x part) (edges_there (edges program plan budget (story program plan budget h) p k j)) else unclean_or p (unclean_to (edge_in program plan budget h p)) no_item) ≡ unwritten m → ⊥
-      by true f = first_unwritten (item_of x part) (edges_there (edges program plan budget (story program plan budget h) p k j)) f
+      by : (b : Bool) → (if b then first_item (item_of x part) (unwrap_or (edges program plan budget (story program plan budget h) p k j) []) else unclean_or p (unclean_to (edge_in program plan budget h p)) no_item) ≡ unwritten m → ⊥
+      by true f = first_unwritten (item_of x part) (unwrap_or (edges program plan budget (story program plan budget h) p k j) []) f
       by false f = or_unwritten (unclean_to (edge_in program plan budget h p)) f
 
-  span_unwritten : (x : Split) (o : Option Span) → by_span program plan budget h p k j x o ≡ unwritten m → ⊥
+  abbrev by_spans : Split → Option Span → CleanOr
+  by_spans x o = option_map_or (λ i. by_part program plan budget h p k j x (slice_get i.parts j)) o no_item
+
+  span_unwritten : (x : Split) (o : Option Span) → by_spans x o ≡ unwritten m → ⊥
   span_unwritten x None e = cc e
   span_unwritten x (Some i) e = part_unwritten x (slice_get i.parts j) e
 
-  split_unwritten : (o : Option Split) → by_split program plan budget h p k j o ≡ unwritten m → ⊥
+  split_unwritten : (o : Option Split) → option_map_or (λ x. by_spans x (slice_get x.spans k)) o no_item ≡ unwritten m → ⊥
   split_unwritten None e = cc e
   split_unwritten (Some x) e = span_unwritten x (slice_get x.spans k) e
 
@@ -162,7 +167,7 @@ module _ (program : Program) (policy : Policy) (budget : ℕ) (h : List ℕ) (p 
 
   unraced : (e : ℕ) → Has e ≡ false → IsUnracedIn program plan budget h p e
   unraced e none = false_from_ne_true (is_raced Rs (edge p e)) (λ raced.
-      true≢false (sym (race_of_edge (sought.is_in_past program Rec Rs (edge p e)) Rs (edge p e) raced
+      true≢false (sym (race_of_edge (is_past program Rec (edge p e)) Rs (edge p e) raced
       (or_left (is_same_edge (edge p e) (edge p e)) (is_edge_before program Rec (edge p e) (edge p e)) (and_from (nat_eq p p) (nat_eq e e) (eq-eqb p p refl) (eq-eqb e e refl)))) ∙ none))
 
   abbrev Clear : ℕ → Option ℕ → Type 0
@@ -215,7 +220,7 @@ module _ (program : Program) (policy : Policy) (budget : ℕ) (h : List ℕ) (p 
   abbrev Never : List (List Sync) → Type 0
   Never rec = (q n m : ℕ)
       → is_begun_unclean begun (sought.first_raced program plan budget logs rec Rs p k j) ≡ false
-      → failed_at program plan budget (entries_at (sought.cut_by program plan budget logs rec Rs p k j (sought.first_raced program plan budget logs rec Rs p k j)) q) m ≡ Some n → ⊥
+      → failed_at program plan budget (entries_at (cut_logs (sought.last_wanted program rec Rs p (sought.first_raced program plan budget logs rec Rs p k j)) logs) q) m ≡ Some n → ⊥
 
   by_record : Never Rec
   by_record q n m begins fails =
@@ -232,7 +237,7 @@ module _ (program : Program) (budget : ℕ) (h : List ℕ) (p k j : ℕ) where
   abbrev Cleaned : Plan → Logs → List Race → Result Clean CleanError → Type 0
   Cleaned plan logs rs result =
       IsFound (λ q n. (is_begun_unclean (first_edge (entries_at logs p) k) (sought.first_raced program plan budget logs (record_in logs) rs p k j) ≡ false)
-      × ((m : ℕ) × (failed_at program plan budget (entries_at (sought.cut_by program plan budget logs (record_in logs) rs p k j (sought.first_raced program plan budget logs (record_in logs) rs p k j)) q) m ≡ Some n)))
+      × ((m : ℕ) × (failed_at program plan budget (entries_at (cut_logs (sought.last_wanted program (record_in logs) rs p (sought.first_raced program plan budget logs (record_in logs) rs p k j)) logs) q) m ≡ Some n)))
       (sought.clean_by program plan budget logs rs p k j) result
 
   module _ (answers : AnswersAreOfRuns) (policy : Policy) (v : IsValid program) (x : Split) (i : Span) (at_k : slice_get x.spans k ≡ Some i) where

@@ -3,7 +3,7 @@ use Rattle.std.proofs.Common.{◌≡◌, ℕ, zero, suc, ◌+◌, ◌-◌, ◌<�
 use Rattle.std.proofs.lemmas.Bool.{and_from, cases_eq, cases_lt, false_from_ne_true, le-ltb, leb-false, leb-true, lt-ltb, ltb-true, or_left, or_right}
 use Rattle.std.specs.List.{list_any}
 use Rattle.std.specs.Prelude.{IsTrue, find, is_some, nat_eq, nat_le, nat_lt}
-use Rattle.law_clean.specs.Pasts.{edges_between, is_raced, is_same_edge}
+use Rattle.law_clean.specs.Pasts.{edges_between, is_raced, is_same_edge, is_past}
 use Rattle.law_clean.specs.Search as sought
 use Rattle.law_clean.proofs.CleanCuts.{before_back, next_before}
 use Rattle.law_clean.proofs.PastClear.{some_there}
@@ -45,8 +45,8 @@ module _ (program : Program) (rec : List (List Sync)) where
   edge_back a e i (across apart j is b) le = across apart j is (node_back a.process a.edge i (node e.process j) b le)
 
   -- the past of an edge has the edges before those that it has
-  pub past_back : (races : List Race) (e a : EdgeId) (i : ℕ) → i ≤ a.edge → sought.is_in_past program rec races e a ≡ true
-      → sought.is_in_past program rec races e (edge a.process i) ≡ true
+  pub past_back : (races : List Race) (e a : EdgeId) (i : ℕ) → i ≤ a.edge → is_past program rec e a ≡ true
+      → is_past program rec e (edge a.process i) ≡ true
   past_back races e a i le h = elim (either (is_same_edge a e) (is_edge_before program rec a e) h) [
     | inr before ↦
         or_right (is_same_edge (edge a.process i) e) (is_edge_before program rec (edge a.process i) e)
@@ -147,8 +147,8 @@ module _ (program : Program) (logs : Logs) (g : SyncGraph) (is : IsGraphOf progr
 
     pub has_race_is : (e : EdgeId) → IsIn e → has_race g (firsts_of races (length logs.lists)) e ≡ sought.has_race program (record_in logs) races e
     has_race_is e x =
-        any_same (is_in_past g e) (sought.is_in_past program (record_in logs) races e) firsts (λ a m. ap (λ b. is_same_edge a e || b) (before_same a e (first_is_edge a m) x))
-        ∙ any_first (sought.is_in_past program (record_in logs) races e) (past_back program (record_in logs) races e)
+        any_same (is_in_past g e) (is_past program (record_in logs) e) firsts (λ a m. ap (λ b. is_same_edge a e || b) (before_same a e (first_is_edge a m) x))
+        ∙ any_first (is_past program (record_in logs) e) (past_back program (record_in logs) races e)
 
     -- ---- the first edge whose past has a race
 

@@ -1,8 +1,9 @@
 -- What is answered for an item of a run with races.
+use Rattle.law_clean.specs.Cuts.{cut_logs}
 use Rattle.std.specs.Prelude.{◌≡◌, ℕ, nat_le, Bool, false, List, map, slice_get, Option, Some, None, Result, Ok, Err, ⊤, if◌then◌else◌}
 use Rattle.law_clean.specs.Answers.{CleanOr, clean, no_item, unclean, unclean_or, unwritten}
 use Rattle.law_clean.specs.Pasts.{left_edge}
-use Rattle.law_clean.specs.Search.{clean_by, cut_by, first_raced}
+use Rattle.law_clean.specs.Search.{clean_by, first_raced, last_wanted}
 use Rattle.ppd_clean_past.specs.declared.asked.Asked.{Asked}
 use Rattle.ppd_clean.specs.declared.clean_error.CleanError.{CleanError}
 use Rattle.ppd_clean.specs.declared.clean_error.CleanError.TheVariants as error
@@ -59,8 +60,10 @@ IsOrdered past = (a : NodeId) → Before past.program.now (record_in past.logs.n
 -- the logs of a past, cut where its races are for an item of interval k of process p
 abbrev pub cut_of : Past → List Race → (p k j : ℕ) → Logs
 cut_of past races p k j =
-    cut_by past.program.now past.plan.now past.budget past.logs.now (record_in past.logs.now) races p k j
-    (first_raced past.program.now past.plan.now past.budget past.logs.now (record_in past.logs.now) races p k j)
+    cut_logs
+    (last_wanted past.program.now (record_in past.logs.now) races p
+    (first_raced past.program.now past.plan.now past.budget past.logs.now (record_in past.logs.now) races p k j))
+    past.logs.now
 
 -- an interval that begins in this edge begins in one whose past has a race, the first of them being this
 abbrev pub is_begun_unclean : ℕ → Option ℕ → Bool

@@ -1,6 +1,8 @@
 // Logs that are cut off after the last wanted edge of each process.
-ghost use Rattle.std.specs.Prelude.{◌≡◌, ◌≤◌, IfOk, length, slice_get};
-ghost use Rattle.law_clean.specs.Cuts.{cut as cut_of, cut_at as cut_at_of, cut_logs as cut_logs_of, is_sync_there, stop as stop_of};
+ghost use Rattle.std.specs.Prelude.{◌≡◌, ◌≤◌, IfOk, false, length, slice_get};
+ghost use Rattle.std.specs.Option.{option_map_or};
+ghost use Rattle.ppd_flow_model.specs.Ends.{is_sync};
+ghost use Rattle.law_clean.specs.Cuts.{cut as cut_of, cut_at as cut_at_of, cut_logs as cut_logs_of, stop as stop_of};
 ghost use Rattle.ppd_ast.specs.declared.limits.TheConstants.{MOST_NAMED};
 ghost use Rattle.ppd_clean.specs.ByOrder.{last_wanted as last_wanted_of};
 ghost use Rattle.ppd_flow_past.specs.Pasts.{IsPast};
@@ -14,7 +16,7 @@ use ppd_flow_past::{Past, ending};
 use std::alloc::Global;
 
 fn is_sync_at(entries: &[Entry], n: usize) -> bool
-    ensures { result ≡ is_sync_there (slice_get entries.now n) }
+    ensures { result ≡ option_map_or is_sync (slice_get entries.now n) false }
 {
     match entries.get(n) {
         Some(Entry::Sync { .. }) => true,

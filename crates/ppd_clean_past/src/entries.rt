@@ -1,6 +1,6 @@
 // The first entries of a log.
-ghost use Rattle.std.specs.Prelude.{◌≡◌, take};
-ghost use Rattle.law_clean.specs.Cuts.{past_unit as past_unit_of};
+ghost use Rattle.std.specs.Prelude.{◌≡◌, ◌+◌, if◌then◌else◌, slice_get, take};
+ghost use Rattle.law_clean.specs.Cuts.{is_unit};
 
 use ppd_entry::Entry;
 
@@ -17,7 +17,7 @@ pub fn first_entries(entries: &[Entry], count: usize) -> &[Entry]
 
 /// Past entry `n` too where it is a unit.
 fn past_unit(entries: &[Entry], n: usize) -> usize
-    ensures { result ≡ past_unit_of entries.now n }
+    ensures { result ≡ (if is_unit (slice_get entries.now n) then n + 1 else n) }
 {
     match entries.get(n) {
         Some(Entry::Unit { .. }) => n + 1,
@@ -27,7 +27,7 @@ fn past_unit(entries: &[Entry], n: usize) -> usize
 
 /// The first `n` entries, with a unit that follows.
 pub fn kept_entries(entries: &[Entry], n: usize) -> &[Entry]
-    ensures { result.now ≡ take (past_unit_of entries.now n) entries.now }
+    ensures { result.now ≡ take (if is_unit (slice_get entries.now n) then n + 1 else n) entries.now }
 {
     first_entries(entries, past_unit(entries, n))
 }
