@@ -1,5 +1,5 @@
 -- What is answered for the slice of an item is what the edges of the run reach.
-use Rattle.std.specs.Prelude.{slice_get}
+use Rattle.std.specs.Prelude.{slice_get, unwrap_or}
 use Rattle.std.proofs.Common.{◌≡◌, ℕ, zero, suc, ◌+◌, List, [], ◌∷◌, map, Option, Some, None, Result, Ok, Err, refl, ap, sym, ◌∙◌}
 use Rattle.ppd_ast.specs.declared.plan.Plan.{Plan}
 use Rattle.ppd_ast.specs.declared.plan.Policy.{Policy}
@@ -28,8 +28,8 @@ use Rattle.ppd_model.specs.Intervals.{Part, Span, Split}
 use Rattle.ppd_slice_search.specs.declared.reached.ItemAt.{ItemAt}
 use Rattle.ppd_slice_search.specs.declared.reached.Reached.{Reached}
 use Rattle.ppd_slice_search.specs.Laws.{ReachesAreSlices, SlicesAreOne}
-use Rattle.ppd_slice_search.specs.OfRuns.{origins, places_if, reach}
-use Rattle.ppd_slice_search.specs.Reach.{IsReach, at, item_of}
+use Rattle.ppd_slice_search.specs.OfRuns.{origins, reach}
+use Rattle.ppd_slice_search.specs.Reach.{IsReach, at, item_of, places_of}
 use Rattle.ppd_slice_search.proofs.Levels.{reach_as}
 use Rattle.ppd_slice.specs.Slices.{IsSlice, SlicesAreOfRuns, flow_of, origins_in, places_found, slice_or_none, unless_failed}
 use Rattle.ppd_slice.proofs.Flows.{none_flow}
@@ -135,7 +135,7 @@ module _ (law : ReplaysAreSeen) (found : EdgesAreFound) (own : AllOwnPartsAreFou
     origins_are : origins past.program.now past.plan.now past.budget (story_in past h) b ≡ origins_in past b
     origins_are = by (of_run b) ∙ ap places_found (sym flow_is)
       where
-        by : (o : Option (List FlowEdge)) → places_if o ≡ places_found (edges_or_none o)
+        by : (o : Option (List FlowEdge)) → places_of (unwrap_or o []) ≡ places_found (edges_or_none o)
         by None = refl
         by (Some es) = refl
 

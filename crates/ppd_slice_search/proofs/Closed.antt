@@ -1,6 +1,6 @@
 -- What an item of a run comes from is an item of the run, so that there are no more levels than items.
 use Rattle.std.proofs.Common.{◌≡◌, ℕ, zero, suc, ◌+◌, ◌<◌, ◌≤◌, ℤ, Bool, true, false, List, [], ◌∷◌, ◌++◌, Option, Some, None, refl, ap, ap₂, sym, subst, ◌∙◌, arith, length, length-append, map, inl, inr, ◌⊎◌, cond}
-use Rattle.std.specs.Prelude.{⊤, position, slice_get, sum_by, zip, option_map}
+use Rattle.std.specs.Prelude.{⊤, position, slice_get, sum_by, zip, option_map, unwrap_or}
 use Rattle.std.specs.List.{flat_map, position_from}
 use Rattle.std.proofs.lemmas.List.Sums.{sum_by-cons}
 use Rattle.std.proofs.lemmas.Option.{none-some}
@@ -27,7 +27,7 @@ use Rattle.ppd_model.specs.Intervals.{Part, own, nested, Span, Split, is_own, it
 use Rattle.ppd_slice_search.specs.declared.reached.ItemAt.{ItemAt}
 use Rattle.ppd_slice_search.specs.Reach.{IsIn, IsReach, at, place_of, places_of}
 use Rattle.ppd_slice_search.specs.Levels.{reached}
-use Rattle.ppd_slice_search.specs.OfRuns.{count_items, items_of_process, origins, places_if, reach}
+use Rattle.ppd_slice_search.specs.OfRuns.{count_items, items_of_process, origins, reach}
 use Rattle.ppd_slice_search.proofs.Levels.{in_back, in_both, in_flat, in_front, levels_reach}
 
 -- ---- all items
@@ -235,7 +235,7 @@ module _ (xs : List Split) where
   places_good [] h c m = absurd m
   places_good (e ∷ es) h c m = elim (in_both c (place_of e.from) (places_of es) m) [ inl k ↦ h.0 c k | inr k ↦ places_good es h.1 c k ]
 
-  origins_good : (o : Option (List FlowEdge)) → AreGoodIf o → (c : ItemAt) → IsIn c (places_if o) → IsIn c (items_from 0 xs)
+  origins_good : (o : Option (List FlowEdge)) → AreGoodIf o → (c : ItemAt) → IsIn c (places_of (unwrap_or o [])) → IsIn c (items_from 0 xs)
   origins_good None h c m = absurd m
   origins_good (Some es) h c m = places_good es h c m
 

@@ -1,8 +1,7 @@
 -- The slice of an item of a run.
-use Rattle.std.specs.Prelude.{ℕ, ◌+◌, List, [], ◌∷◌, length, sum_by, Option, Some, None}
+use Rattle.std.specs.Prelude.{ℕ, ◌+◌, List, [], length, sum_by, unwrap_or}
 use Rattle.ppd_ast.specs.declared.plan.Plan.{Plan}
 use Rattle.ppd_ast.specs.declared.program.Program.{Program}
-use Rattle.ppd_model.specs.declared.flow.FlowEdge.{FlowEdge}
 use Rattle.ppd_model.specs.FlowbackEdges.{edges}
 use Rattle.ppd_model.specs.Intervals.{Split, splits}
 use Rattle.ppd_model.specs.declared.tracing.Story.{Story}
@@ -11,13 +10,10 @@ use Rattle.ppd_slice_search.specs.declared.reached.Reached.{Reached}
 use Rattle.ppd_slice_search.specs.Levels.{reached}
 use Rattle.ppd_slice_search.specs.Reach.{at, places_of}
 
-abbrev pub places_if : Option (List FlowEdge) → List ItemAt
-places_if None = []
-places_if (Some es) = places_of es
-
 -- the items that an item's flowback edges come from
 abbrev pub origins : Program → Plan → ℕ → Story → ItemAt → List ItemAt
-origins program plan budget story a = places_if (edges program plan budget story a.process a.interval a.item)
+origins program plan budget story a =
+    places_of (unwrap_or (edges program plan budget story a.process a.interval a.item) [])
 
 -- how many items a process has
 abbrev pub items_of_process : Split → ℕ
