@@ -31,7 +31,7 @@ use Rattle.ppd_session.specs.Texts.{intervals_at}
 use Rattle.ppd_session.specs.declared.reply.SessionError.{SessionError}
 use Rattle.ppd_session.specs.declared.reply.SessionError.TheVariants.{Diverged, Sets, Memory}
 use Rattle.ppd_top_query.specs.OfRuns.{IsCleanOfRun}
-use Rattle.ppd_top_query.specs.Queries.{Gives, IsCleanFailure, ItemAsked, block_refusal, clean_of, clean_refusal, clean_text, process_refusal}
+use Rattle.ppd_top_query.specs.Queries.{Gives, IsCleanFailure, ItemAsked, block_refusal, clean_of, clean_text, process_refusal, refusal}
 use Rattle.ppd_top_query.specs.Queries.IsWritten.{refuses, answers}
 use Rattle.ppd_top_query.specs.Queries.Query.{Clean}
 use Rattle.ppd_top_query.specs.Replies.{IsFoundClean}
@@ -128,13 +128,13 @@ module _ (r : Recording) (header : Header) (program : Program) (h : List ℕ)
     by_block q false e m = absurd (none_or_some m (ap (λ (b : Bool). if b then None else Some (codes "? block\n")) e))
 
     -- the interval of an item that is not refused is there
-    placed : (q : ℕ) → process_named r.program a.process ≡ Some q → clean_refusal (known_of r) a ≡ None → IsThere (splits program (plan_of program header.policy) header.budget (story program (plan_of program header.policy) header.budget h)) q a.interval
+    placed : (q : ℕ) → process_named r.program a.process ≡ Some q → refusal (known_of r) (Clean a) ≡ None → IsThere (splits program (plan_of program header.policy) header.budget (story program (plan_of program header.policy) header.budget h)) q a.interval
     placed q named m =
         let lt : a.interval < length (intervals_at (known_of r) q) = by_block q (nat_lt a.interval (length (intervals_at (known_of r) q))) refl (sym (ap refused named) ∙ m) in
         there (splits program (plan_of program header.policy) header.budget (story program (plan_of program header.policy) header.budget h)) q a.interval
         (subst (λ (x : Known). a.interval < length (intervals_at x q)) known lt)
 
-    pub never_fails : (error : SessionError) → clean_refusal (known_of r) a ≡ None → IsCleanFailure r a error → ⊥
+    pub never_fails : (error : SessionError) → refusal (known_of r) (Clean a) ≡ None → IsCleanFailure r a error → ⊥
     never_fails (Diverged failure) m (q, named, d) =
         let t = placed q named m in
         answered q a.interval a.item t.split t.span t.split_is t.span_is (Err (clean_error.Diverged failure.process failure.entry)) d
@@ -147,7 +147,7 @@ module _ (r : Recording) (header : Header) (program : Program) (h : List ℕ)
       named_here : process_named r.program a.process ≡ Some q
       named_here = ap (λ (p : Program). process_named p a.process) parts.0 ∙ named
 
-      not_refused : clean_refusal (known_of r) a ≡ None
+      not_refused : refusal (known_of r) (Clean a) ≡ None
       not_refused =
           let lt : a.interval < length (intervals_at (known_of_run program (plan_of program header.policy) header.budget h) q) = told (splits program (plan_of program header.policy) header.budget (story program (plan_of program header.policy) header.budget h)) q a.interval x i at at_k in
           let here : nat_lt a.interval (length (intervals_at (known_of r) q)) ≡ true = lt-ltb a.interval (length (intervals_at (known_of r) q)) (subst (λ (y : Known). a.interval < length (intervals_at y q)) (sym known) lt) in

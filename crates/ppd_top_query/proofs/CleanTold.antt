@@ -1,8 +1,9 @@
 -- What is answered of an item of a recording with or without races.
+use Rattle.law_clean.specs.Cuts.{cut_logs}
 use Rattle.std.specs.Prelude.{IfErr, IfOk, Vec, codes, false, nat_lt, if◌then◌else◌}
 use Rattle.std.proofs.Common.{◌≡◌, ℕ, List, [], Bool, true, Some, None, Result, Ok, Err, length, refl, ap, sym, ◌∙◌, subst}
 use Rattle.law_clean.specs.Answers.{CleanOr}
-use Rattle.law_clean.specs.Search.{clean_by, cut_by, first_raced}
+use Rattle.law_clean.specs.Search.{clean_by, first_raced, last_wanted}
 use Rattle.ppd_ast.specs.declared.plan.Plan.{Plan}
 use Rattle.ppd_ast.specs.declared.program.Program.{Program}
 use Rattle.ppd_clean.specs.Answers.{IsCleanBy, IsFound, IsOrdered, is_begun_unclean}
@@ -26,7 +27,7 @@ use Rattle.ppd_session.specs.Sessions.{known_by}
 use Rattle.ppd_session.specs.Texts.{intervals_at, no_process}
 use Rattle.ppd_session.specs.declared.reply.SessionError.{SessionError}
 use Rattle.ppd_session.specs.declared.reply.SessionError.TheVariants.{Diverged, Sets, Memory}
-use Rattle.ppd_top_query.specs.Queries.{Gives, ItemAsked, block_refusal, clean_of, clean_refusal, clean_text, process_refusal}
+use Rattle.ppd_top_query.specs.Queries.{Gives, ItemAsked, block_refusal, clean_of, clean_text, process_refusal, refusal}
 use Rattle.ppd_top_query.specs.Queries.IsWritten.{refuses, answers, fails}
 use Rattle.ppd_top_query.specs.Queries.Query.{Clean}
 use Rattle.ppd_top_query.specs.Replies.{IsCleanItem, IsError, IsFoundClean, IsTextReply}
@@ -36,7 +37,7 @@ use Rattle.ppd_top_query.specs.Replies.{IsCleanItem, IsError, IsFoundClean, IsTe
 abbrev pub Fails : Program → Plan → ℕ → Logs → List Race → (q k j p n : ℕ) → Type 0
 Fails program plan budget logs races q k j p n =
     (is_begun_unclean (first_edge (entries_at logs q) k) (first_raced program plan budget logs (record_in logs) races q k j) ≡ false)
-    × ((m : ℕ) × (failed_at program plan budget (entries_at (cut_by program plan budget logs (record_in logs) races q k j (first_raced program plan budget logs (record_in logs) races q k j)) p) m ≡ Some n))
+    × ((m : ℕ) × (failed_at program plan budget (entries_at (cut_logs (last_wanted program (record_in logs) races q (first_raced program plan budget logs (record_in logs) races q k j)) logs) p) m ≡ Some n))
 
 abbrev pub Found : Program → Plan → ℕ → Logs → List Race → (q k j : ℕ) → Result GivenClean CleanError → Type 0
 Found program plan budget logs races q k j res = IsFound (Fails program plan budget logs races q k j) (clean_by program plan budget logs races q k j) res
@@ -74,7 +75,7 @@ module _ (r : Recording) (q k j : ℕ) where
 -- ---- what is asked
 
 module _ (r : Recording) (a : ItemAsked) where
-  refused_text : {A : Type 0} (line : List ℕ) → clean_refusal (known_of r) a ≡ Some line → (res : Result (Vec ℕ A) SessionError) → IfOk res (λ t. t.items ≡ line) → IfErr res (λ e. e ≡ Memory) → IsTextReply r (Clean a) res
+  refused_text : {A : Type 0} (line : List ℕ) → refusal (known_of r) (Clean a) ≡ Some line → (res : Result (Vec ℕ A) SessionError) → IfOk res (λ t. t.items ≡ line) → IfErr res (λ e. e ≡ Memory) → IsTextReply r (Clean a) res
   refused_text line is (Ok t) h m = refuses t.items (is ∙ ap Some (sym h))
   refused_text line is (Err e) h m = subst (λ (s : SessionError). IsError (Gives r (Clean a)) r.program s) (sym m) tt
 
@@ -82,7 +83,7 @@ module _ (r : Recording) (a : ItemAsked) where
   no_process_told none = refused_text no_process (ap (λ o. process_refusal o (λ q. block_refusal (known_of r) q a.interval None)) none)
 
   module _ (q : ℕ) (named : process_named r.program a.process ≡ Some q) where
-    at_process : clean_refusal (known_of r) a ≡ block_refusal (known_of r) q a.interval None
+    at_process : refusal (known_of r) (Clean a) ≡ block_refusal (known_of r) q a.interval None
     at_process = ap (λ o. process_refusal o (λ q. block_refusal (known_of r) q a.interval None)) named
 
     pub no_block_told : {A : Type 0} → nat_lt a.interval (length (intervals_at (known_of r) q)) ≡ false → (res : Result (Vec ℕ A) SessionError) → IfOk res (λ t. t.items ≡ codes "? block\n") → IfErr res (λ e. e ≡ Memory) → IsTextReply r (Clean a) res

@@ -1,9 +1,9 @@
 -- What an accepted recording determines of its answers.
 use Rattle.std.specs.Prelude.{nat_le, slice_get, if◌then◌else◌}
 use Rattle.std.proofs.Common.{◌≡◌, ◌⊎◌, ℕ, Bool, true, false, List, Option, Some, None, Result, Ok, Err, refl, ap, sym, subst, ◌∙◌, inl, inr}
-use Rattle.law_clean.specs.Answers.{CleanOr, no_item, unclean, unwritten}
+use Rattle.law_clean.specs.Answers.{CleanOr, no_item, unclean, unwritten, unclean_or}
 use Rattle.law_clean.specs.Pasts.{left_edge}
-use Rattle.law_clean.specs.Search.{by_first, by_item, from_first, reached, unclean_at, with_edges}
+use Rattle.law_clean.specs.Search.{by_first, by_item, from_first, reached, with_edges}
 use Rattle.law_flow_missing.proofs.MissingWrites.{missing_writes_are_told}
 use Rattle.law_flow_missing.specs.Missing.{AreIndexed, IsMissingWrite, write_at}
 use Rattle.ppd_clean.specs.Answers.{is_begun_unclean}
@@ -25,7 +25,7 @@ use Rattle.ppd_session.specs.declared.reply.SessionError.TheVariants.{Diverged, 
 use Rattle.ppd_top_query.proofs.Firsts.{all_tell, first_told}
 use Rattle.ppd_top_query.proofs.Missing.{failures_missing}
 use Rattle.ppd_top_query.proofs.OfRuns.{no_races}
-use Rattle.ppd_top_query.specs.Determined.{AnswersAreDetermined, GivesBy, IsCleanBy, IsCleanItem, IsAnsweredBy, IsFailedBy, IsWithEdges, FailedAreMissing, cut_seens, is_item_raced, raced_edge}
+use Rattle.ppd_top_query.specs.Determined.{AnswersAreDetermined, GivesBy, IsCleanBy, IsCleanItem, IsAnsweredBy, IsFailedBy, IsWithEdges, FailedAreMissing, cut_seens, is_item_raced}
 use Rattle.ppd_top_query.specs.Missing.{IsMissingFor}
 use Rattle.ppd_top_query.specs.Queries.{Gives, IsAnswer, IsFailure, Query, clean_of, first_raced_of, refusal}
 use Rattle.ppd_top_query.specs.Queries.IsWritten.{refuses, answers, fails}
@@ -60,8 +60,8 @@ module _ (r : Recording) (q k j : ℕ) where
         edges = subst (λ o. IsWithEdges r q k j t (with_found t (found_of o))) (sym at) (some_edges t at (item_edges r.program r.plan r.logs (cut_seens r q k j) q k j t) refl)
 
         by : (b : Bool) → is_item_raced r q k j t ≡ b
-            → ((is_item_raced r q k j t ≡ true) × ((if b then raced_edge r q k j else with_found t (found_edges r.program r.plan r.logs (cut_seens r q k j) q k j)) ≡ raced_edge r q k j))
-            ⊎ ((is_item_raced r q k j t ≡ false) × IsWithEdges r q k j t (if b then raced_edge r q k j else with_found t (found_edges r.program r.plan r.logs (cut_seens r q k j) q k j)))
+            → ((is_item_raced r q k j t ≡ true) × ((if b then unclean_or q (first_raced_of r q k j) no_item else with_found t (found_edges r.program r.plan r.logs (cut_seens r q k j) q k j)) ≡ unclean_or q (first_raced_of r q k j) no_item))
+            ⊎ ((is_item_raced r q k j t ≡ false) × IsWithEdges r q k j t (if b then unclean_or q (first_raced_of r q k j) no_item else with_found t (found_edges r.program r.plan r.logs (cut_seens r q k j) q k j)))
         by true f = inl (f, refl)
         by false f = inr (f, edges)
 
@@ -79,7 +79,7 @@ module _ (r : Recording) (q k j : ℕ) where
     determined (Some u) e = by (nat_le u begun) refl
       where
         by : (b : Bool) → nat_le u begun ≡ b → IsCleanBy r q k j (if b then unclean (edge q u) else first (Some u))
-        by true f = inl (ap (is_begun_unclean begun) e ∙ f, sym (ap (λ o. unclean_at r.program r.plan r.header.budget r.logs (record_in r.logs) (races_of_logs r.program r.logs) q k j o) e))
+        by true f = inl (ap (is_begun_unclean begun) e ∙ f, sym (ap (λ o. unclean_or q o no_item) e))
         by false f = inr (ap (is_begun_unclean begun) e ∙ f, replayed (Some u) e)
 
     clean_is : IsCleanBy r q k j (clean_of r q k j)
@@ -88,7 +88,7 @@ module _ (r : Recording) (q k j : ℕ) where
   -- ---- a write that is missing
 
   module _ (m : Missing) where
-    no_edge : (o : Option ℕ) → unwritten m ≡ unclean_at r.program r.plan r.header.budget r.logs (record_in r.logs) (races_of_logs r.program r.logs) q k j o → ⊥
+    no_edge : (o : Option ℕ) → unwritten m ≡ unclean_or q o no_item → ⊥
     no_edge None e = cc e
     no_edge (Some u) e = cc e
 

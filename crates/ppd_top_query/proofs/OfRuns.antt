@@ -39,7 +39,7 @@ use Rattle.ppd_session.specs.Known.{known_of_run}
 use Rattle.law_clean.proofs.Whole.{answers_of_runs as cleans_of_runs}
 use Rattle.ppd_session.specs.declared.reply.SessionError.{SessionError}
 use Rattle.ppd_top_query.proofs.CleanOfRuns.{clean_told, never_fails}
-use Rattle.ppd_top_query.specs.Queries.{Gives, IsCleanFailure, IsRerunAnswer, IsSliceAnswer, ItemAsked, clean_refusal, first_failure, races_refusal, schedule_of, slice_refusal}
+use Rattle.ppd_top_query.specs.Queries.{Gives, IsCleanFailure, IsRerunAnswer, IsSliceAnswer, ItemAsked, first_failure, races_refusal, schedule_of, refusal}
 use Rattle.ppd_top_query.specs.SlicesOfRuns.{IsSliceOfRun}
 use Rattle.ppd_top_query.proofs.SlicesOfRuns.{slices_of_runs}
 use Rattle.ppd_top_query.specs.Queries.IsWritten.{refuses, answers}
@@ -144,8 +144,8 @@ races_none e = absurd (cc)
 
 -- the slice of a run
 module _ (whole : ItemsAreWhole) (r : Recording) (a : ItemAsked) (program : Program) (plan : Plan) (budget : ℕ) (h : List ℕ) (valid : IsValid program) (known : known_of r ≡ known_of_run program plan budget h) where
-  slice_is : (schedule text : List ℕ) → Gives r (Slice a) schedule 0 text → slice_refusal (known_of_run program plan budget h) a ≡ None → IsSliceOfRun program plan budget h a text
-  slice_is schedule text (refuses line said) m = absurd (clash (ap (λ (x : Known). slice_refusal x a) known ∙ m) said)
+  slice_is : (schedule text : List ℕ) → Gives r (Slice a) schedule 0 text → refusal (known_of_run program plan budget h) (Slice a) ≡ None → IsSliceOfRun program plan budget h a text
+  slice_is schedule text (refuses line said) m = absurd (clash (ap (λ (x : Known). refusal x (Slice a)) known ∙ m) said)
     where
       clash : {o : Option (List ℕ)} {t : List ℕ} → o ≡ None → o ≡ Some t → ⊥
       clash a b = cc (a, b)
@@ -160,7 +160,7 @@ three_parts bytes r accepted source header program h run of is =
 
 -- of a run an item is answered, with races or without
 pub clean_never_fails : (bytes : List ℕ) (r : Recording) → IsAccepted bytes r → (source : List ℕ) (header : Header) (program : Program) (h : List ℕ) → IsRunRecorded source header program h bytes
-    → (a : ItemAsked) (error : SessionError) → clean_refusal (known_of r) a ≡ None → IsCleanFailure r a error → ⊥
+    → (a : ItemAsked) (error : SessionError) → refusal (known_of r) (Clean a) ≡ None → IsCleanFailure r a error → ⊥
 clean_never_fails bytes r accepted source header program h run a error none f =
     never_fails r header program h (three_parts bytes r accepted source header program h run) (runs_are_recalled bytes r accepted source header program h run).0 (read_valid source program run.accepted) run.whole cleans_of_runs a error none f
 

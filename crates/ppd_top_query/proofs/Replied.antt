@@ -1,4 +1,5 @@
 -- From the answers of the code to what is written.
+use Rattle.ppd_top_query.specs.Queries.Query.{Slice}
 use Rattle.std.specs.Prelude.{IfErr, IfOk, Vec, codes, nat_lt, is_some, if◌then◌else◌, ◌==◌}
 use Rattle.std.specs.List.{flat_map}
 use Rattle.std.proofs.Common.{◌≡◌, ℕ, ◌<◌, Bool, true, false, true≢false, List, [], ◌∷◌, Option, Some, None, Result, Ok, Err, length, refl, ap, sym, ◌∙◌, subst, inl, inr}
@@ -16,7 +17,7 @@ use Rattle.ppd_session.specs.Texts.{intervals_at, no_event, no_process, raced, t
 use Rattle.ppd_session.specs.declared.reply.SessionError.{SessionError}
 use Rattle.ppd_session.specs.declared.reply.SessionError.TheVariants.{Diverged, Sets, Memory}
 use Rattle.ppd_slice.specs.Slices.{IsSlice, IsSliceOf}
-use Rattle.ppd_top_query.specs.Queries.{ItemAsked, block_refusal, event_refusal, process_refusal, races_refusal, reached_line, slice_refusal, Refusal}
+use Rattle.ppd_top_query.specs.Queries.{ItemAsked, block_refusal, event_refusal, process_refusal, races_refusal, reached_line, Refusal, refusal}
 use Rattle.ppd_top_query.specs.Queries.IsWritten.{refuses, answers, fails}
 use Rattle.ppd_top_query.specs.Replies.{IsError, IsItemFailed, IsItemReply, IsSliceReply, WritesSlice}
 use Rattle.ppd_top_query.proofs.OfPast.{diverges, misses, no_item, slice_known, slice_there, some_item}
@@ -52,27 +53,27 @@ module _ (past : Past) (uncut : past.cut.now ≡ past.logs.now) (q k j : ℕ) wh
 -- ---- of a slice
 
 -- one line in place of the answer
-pub refused_reply : {A : Type 0} (x : Known) (a : ItemAsked) (line : List ℕ) → slice_refusal x a ≡ Some line → (r : Result (Vec ℕ A) SessionError) → IfOk r (λ t. t.items ≡ line) → IfErr r (λ e. e ≡ Memory) → IsSliceReply x a r
+pub refused_reply : {A : Type 0} (x : Known) (a : ItemAsked) (line : List ℕ) → refusal x (Slice a) ≡ Some line → (r : Result (Vec ℕ A) SessionError) → IfOk r (λ t. t.items ≡ line) → IfErr r (λ e. e ≡ Memory) → IsSliceReply x a r
 refused_reply x a line is (Ok t) h m = refuses t.items (is ∙ ap Some (sym h))
 refused_reply x a line is (Err e) h m = subst (λ (s : SessionError). IsError (WritesSlice x a) x.program s) (sym m) tt
 
 -- of a past without races
 module _ (past : Past) (a : ItemAsked) where
-  pub no_process_refuses : process_named past.program.now a.process ≡ None → slice_refusal (known_by past []) a ≡ Some no_process
+  pub no_process_refuses : process_named past.program.now a.process ≡ None → refusal (known_by past []) (Slice a) ≡ Some no_process
   no_process_refuses e =
       ap (λ o. process_refusal o (λ q. block_refusal (known_by past []) q a.interval (event_refusal (told_at (known_by past []) q a.interval) a.item))) e
 
   module _ (q : ℕ) (named : process_named past.program.now a.process ≡ Some q) where
-    at_process : slice_refusal (known_by past []) a ≡ block_refusal (known_by past []) q a.interval (event_refusal (told_at (known_by past []) q a.interval) a.item)
+    at_process : refusal (known_by past []) (Slice a) ≡ block_refusal (known_by past []) q a.interval (event_refusal (told_at (known_by past []) q a.interval) a.item)
     at_process =
         ap (λ o. process_refusal o (λ q. block_refusal (known_by past []) q a.interval (event_refusal (told_at (known_by past []) q a.interval) a.item))) named
 
-    pub no_block_refuses : nat_lt a.interval (length (intervals_at (known_by past []) q)) ≡ false → slice_refusal (known_by past []) a ≡ Some (codes "? block\n")
+    pub no_block_refuses : nat_lt a.interval (length (intervals_at (known_by past []) q)) ≡ false → refusal (known_by past []) (Slice a) ≡ Some (codes "? block\n")
     no_block_refuses e =
         at_process ∙ ap (λ (b : Bool). if b then event_refusal (told_at (known_by past []) q a.interval) a.item else Some (codes "? block\n")) e
 
     module _ (there : nat_lt a.interval (length (intervals_at (known_by past []) q)) ≡ true) where
-      at_block : slice_refusal (known_by past []) a ≡ event_refusal (told_at (known_by past []) q a.interval) a.item
+      at_block : refusal (known_by past []) (Slice a) ≡ event_refusal (told_at (known_by past []) q a.interval) a.item
       at_block = at_process ∙ ap (λ (b : Bool). if b then event_refusal (told_at (known_by past []) q a.interval) a.item else Some (codes "? block\n")) there
 
       pub told_reply : {A : Type 0} (r : Result (Vec ℕ A) SessionError) → IsItemReply (known_by past []) q a.interval a.item r → IsSliceReply (known_by past []) a r

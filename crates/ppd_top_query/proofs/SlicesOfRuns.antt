@@ -1,5 +1,6 @@
 -- Where the items of a run are told to come from is where its flowback edges come from.
-use Rattle.std.specs.Prelude.{codes, slice_get, nat_lt, if◌then◌else◌, option_map}
+use Rattle.ppd_top_query.specs.Queries.Query.{Slice}
+use Rattle.std.specs.Prelude.{codes, slice_get, nat_lt, if◌then◌else◌, option_map, unwrap_or}
 use Rattle.std.specs.List.{flat_map}
 use Rattle.std.proofs.Common.{◌≡◌, ℕ, zero, suc, ◌+◌, ◌<◌, ◌≤◌, Bool, true, false, List, [], ◌∷◌, Option, Some, None, Ok, Err, length, map, get_or, refl, ap, sym, ◌∙◌, arith}
 use Rattle.std.proofs.lemmas.Bool.{ltb-false, ltb-true}
@@ -25,10 +26,10 @@ use Rattle.ppd_slice.specs.Slices.{places_found}
 use Rattle.ppd_slice_search.specs.declared.reached.ItemAt.{ItemAt}
 use Rattle.ppd_slice_search.specs.declared.reached.Reached.{Reached}
 use Rattle.ppd_slice_search.specs.Laws.{ReachesAreSlices, SlicesAreOne}
-use Rattle.ppd_slice_search.specs.OfRuns.{origins, places_if, reach}
-use Rattle.ppd_slice_search.specs.Reach.{IsReach, at, item_of}
+use Rattle.ppd_slice_search.specs.OfRuns.{origins, reach}
+use Rattle.ppd_slice_search.specs.Reach.{IsReach, at, item_of, places_of}
 use Rattle.ppd_slice_search.proofs.Levels.{reach_as}
-use Rattle.ppd_top_query.specs.Queries.{IsSliceAnswer, IsSliceText, ItemAsked, block_refusal, event_refusal, origins_of, origins_told, process_refusal, races_refusal, reached_line, slice_refusal}
+use Rattle.ppd_top_query.specs.Queries.{IsSliceAnswer, IsSliceText, ItemAsked, block_refusal, event_refusal, origins_of, origins_told, process_refusal, races_refusal, reached_line, refusal}
 use Rattle.ppd_top_query.specs.SlicesOfRuns.{IsSliceOfRun, SliceTextsAreOfRuns, SlicesAreOfRuns, lines_of_reach}
 
 -- ---- lists
@@ -144,9 +145,9 @@ module _ (whole : ItemsAreWhole) (program : Program) (plan : Plan) (budget : ℕ
 
     -- nothing is told, and there are no edges
     nowhere : told_here ≡ None → edges program plan budget (story program plan budget h) a.process a.interval a.item ≡ None → origins_in [] a ≡ of_run a
-    nowhere e f = ap (λ o. origins_told o a.item (flow_in [] a)) e ∙ sym (ap places_if f)
+    nowhere e f = ap (λ o. origins_told o a.item (flow_in [] a)) e ∙ sym (ap (λ (o : Option (List FlowEdge)). places_of (unwrap_or o [])) f)
 
-    places_are : (o : Option (List FlowEdge)) → places_found (edges_or_none o) ≡ places_if o
+    places_are : (o : Option (List FlowEdge)) → places_found (edges_or_none o) ≡ places_of (unwrap_or o [])
     places_are None = refl
     places_are (Some es) = refl
 
@@ -169,7 +170,7 @@ module _ (whole : ItemsAreWhole) (program : Program) (plan : Plan) (budget : ℕ
         ap (λ o. edges_in program plan xs a.interval a.item o) e
         ∙ (ap (λ o. edges_if program plan xs y (part_in o a.item)) f ∙ ap (edges_if program plan xs y) (past_end i.parts a.item long)) in
         ap (λ o. origins_told o a.item (flow_in [] a)) is
-        ∙ (ap (λ b. if b then places_found (flow_in [] a) else []) g ∙ sym (ap places_if gone))
+        ∙ (ap (λ b. if b then places_found (flow_in [] a) else []) g ∙ sym (ap (λ (o : Option (List FlowEdge)). places_of (unwrap_or o [])) gone))
 
     in_split : (y : Split) → slice_get xs a.process ≡ Some y → (o : Option Span) → slice_get y.spans a.interval ≡ o → origins_in [] a ≡ of_run a
     in_split y e (Some i) f = in_span y e i f (nat_lt a.item (length (items_of y i))) refl
@@ -257,7 +258,7 @@ module _ (whole : ItemsAreWhole) (program : Program) (plan : Plan) (budget : ℕ
       by true e f = within q k j (ltb-true k (length (intervals_at known q)) e) f
       by false e f = absurd (cc)
 
-  answer_is : (a : ItemAsked) (schedule text : List ℕ) → slice_refusal known a ≡ None → IsSliceAnswer known a schedule text → IsSliceOfRun program plan budget h a text
+  answer_is : (a : ItemAsked) (schedule text : List ℕ) → refusal known (Slice a) ≡ None → IsSliceAnswer known a schedule text → IsSliceOfRun program plan budget h a text
   answer_is a schedule text m (no_run, (q, named, t)) =
       let there : IsItemThere known q a.interval a.item =
       asked_there (races_of program (story program plan budget h)) q a.interval a.item

@@ -2,8 +2,8 @@
 -- clean edges, it is said here that they are told, and not which they are: of the recording of a run they are the run's
 -- (`IsOfRuns`).
 use Rattle.std.specs.Prelude.{◌≡◌, ◌⊎◌, ℕ, ◌<◌, ◌≤◌, Bool, true, false, List, [], slice_get, Option, Some, None, Err}
-use Rattle.law_clean.specs.Answers.{CleanOr, clean, no_item, unclean, unwritten}
-use Rattle.law_clean.specs.Search.{is_unclean, reached, unclean_at}
+use Rattle.law_clean.specs.Answers.{CleanOr, clean, no_item, unclean, unwritten, unclean_or}
+use Rattle.law_clean.specs.Search.{is_unclean, reached}
 use Rattle.law_flow_missing.specs.Missing.{IsMissingWrite, write_at}
 use Rattle.ppd_clean.specs.Answers.{is_begun_unclean}
 use Rattle.ppd_codec.specs.declared.recording.Recording.{Recording}
@@ -22,7 +22,7 @@ use Rattle.ppd_session.specs.Texts.{told_at}
 use Rattle.ppd_session.specs.declared.reply.SessionError.{SessionError}
 use Rattle.ppd_session.specs.declared.reply.SessionError.TheVariants.{Diverged, Sets, Memory}
 use Rattle.ppd_top_query.specs.Missing.{IsMissingFor}
-use Rattle.ppd_top_query.specs.Queries.{Diverges, Gives, IsRerunAnswer, IsSliceAnswer, IsSliceFailure, IsWritten, ItemAsked, Query, clean_text, cut_of, first_raced_of, refusal}
+use Rattle.ppd_top_query.specs.Queries.{Diverges, Gives, IsRerunAnswer, IsSliceAnswer, IsSliceFailure, IsWritten, Query, clean_text, cut_of, first_raced_of, refusal}
 use Rattle.ppd_top_query.specs.Queries.Query.{Slice, Whole, Rerun, Clean}
 
 -- ---- an item in a run with races: item j of interval k of process q
@@ -32,27 +32,11 @@ module _ (r : Recording) (q k j : ℕ) where
   abbrev pub cut_seens : List Seen
   cut_seens = seens r.program r.plan r.header.budget (cut_of r q k j)
 
-  -- the interval begins in an edge whose past has a race
-  abbrev pub begins_raced : Bool
-  begins_raced = is_begun_unclean (first_edge (entries_at r.logs q) k) (first_raced_of r q k j)
-
   -- the past of this item has one
   abbrev pub is_item_raced : Item → Bool
   is_item_raced t =
       is_unclean r.program r.plan r.header.budget r.logs (record_in r.logs) (races_of_logs r.program r.logs) q k j
       cut_seens (first_raced_of r q k j) t
-
-  -- the edge whose past has one
-  abbrev pub raced_edge : CleanOr
-  raced_edge =
-      unclean_at r.program r.plan r.header.budget r.logs (record_in r.logs) (races_of_logs r.program r.logs) q k j
-      (first_raced_of r q k j)
-
-  -- that edge if the interval reaches it, or no item
-  abbrev pub reached_edge : CleanOr
-  reached_edge =
-      reached r.program r.plan r.header.budget r.logs (record_in r.logs) (races_of_logs r.program r.logs) q k j
-      (first_raced_of r q k j)
 
   -- this item with some edges, or a write that is missing
   abbrev pub IsWithEdges : Item → CleanOr → Type 0
@@ -61,31 +45,24 @@ module _ (r : Recording) (q k j : ℕ) where
   IsWithEdges t no_item = ⊥
   IsWithEdges t (unwritten m) = IsMissingWrite r.logs cut_seens m
 
-  -- this is found where the replays give the item, or none
+  -- this is found where the replays give the item, or none: where its past has a race, the edge whose past has one; and
+  -- where there is none, that edge if the interval reaches it
   abbrev pub IsCleanItem : Option Item → CleanOr → Type 0
-  IsCleanItem None found = found ≡ reached_edge
+  IsCleanItem None found =
+      found
+      ≡ reached r.program r.plan r.header.budget r.logs (record_in r.logs) (races_of_logs r.program r.logs) q k j
+      (first_raced_of r q k j)
   IsCleanItem (Some t) found =
-      ((is_item_raced t ≡ true) × (found ≡ raced_edge)) ⊎ ((is_item_raced t ≡ false) × IsWithEdges t found)
+      ((is_item_raced t ≡ true) × (found ≡ unclean_or q (first_raced_of r q k j) no_item))
+      ⊎ ((is_item_raced t ≡ false) × IsWithEdges t found)
 
-  -- this is found
+  -- this is found: where the interval begins in an edge whose past has a race, the first such edge
   abbrev pub IsCleanBy : CleanOr → Type 0
   IsCleanBy found =
-      ((begins_raced ≡ true) × (found ≡ raced_edge))
-      ⊎ ((begins_raced ≡ false) × IsCleanItem (slice_get (items_at (seen_at cut_seens q) k) j) found)
-
--- the text of it
-abbrev pub IsCleanAnsweredBy : Recording → ItemAsked → (schedule text : List ℕ) → Type 0
-IsCleanAnsweredBy r a schedule text = (schedule ≡ []) × ((q : ℕ) × (process_named r.program a.process ≡ Some q)
-    × ((found : CleanOr) × IsCleanBy r q a.interval a.item found
-    × (clean_text r.program r.plan a.item found ≡ Some text)))
-
--- the replay of some interval fails at that entry, from the cut logs; or a write that the entry records is missing
-abbrev pub IsCleanFailedBy : Recording → ItemAsked → SessionError → Type 0
-IsCleanFailedBy r a (Diverged failure) = (q : ℕ) × (process_named r.program a.process ≡ Some q)
-    × Diverges r q a.interval a.item failure.process failure.entry
-IsCleanFailedBy r a (Sets failure) = (q : ℕ) × (process_named r.program a.process ≡ Some q)
-    × ((c : ℕ) × IsCleanBy r q a.interval a.item (unwritten (write_at failure.process failure.entry c)))
-IsCleanFailedBy r a Memory = ⊥
+      ((is_begun_unclean (first_edge (entries_at r.logs q) k) (first_raced_of r q k j) ≡ true)
+      × (found ≡ unclean_or q (first_raced_of r q k j) no_item))
+      ⊎ ((is_begun_unclean (first_edge (entries_at r.logs q) k) (first_raced_of r q k j) ≡ false)
+      × IsCleanItem (slice_get (items_at (seen_at cut_seens q) k) j) found)
 
 -- ---- the whole trace
 
@@ -100,11 +77,6 @@ pub record IsFirstFailure (x : Known) (failure : At) : Type 0 where
   pub first : (q k n : ℕ) → told_at x q k ≡ Some (Err n)
       → (failure.process < q) ⊎ ((failure.process ≡ q) × (interval ≤ k))
 
-abbrev pub IsWholeFailedBy : Known → SessionError → Type 0
-IsWholeFailedBy x (Diverged failure) = IsFirstFailure x failure
-IsWholeFailedBy x (Sets failure) = ⊥
-IsWholeFailedBy x Memory = ⊥
-
 -- ---- answers
 
 -- where nothing is refused: this schedule was taken, and this is the text of the answer; of the whole trace any text,
@@ -113,14 +85,23 @@ abbrev pub IsAnsweredBy : Recording → Known → Query → (schedule text : Lis
 IsAnsweredBy r x (Slice a) schedule text = IsSliceAnswer x a schedule text
 IsAnsweredBy r x (Whole workers) schedule text = (schedule ≡ []) × NoneFails x
 IsAnsweredBy r x Rerun schedule text = IsRerunAnswer r schedule text
-IsAnsweredBy r x (Clean a) schedule text = IsCleanAnsweredBy r a schedule text
+IsAnsweredBy r x (Clean a) schedule text = (schedule ≡ []) × ((q : ℕ) × (process_named r.program a.process ≡ Some q)
+    × ((found : CleanOr) × IsCleanBy r q a.interval a.item found
+    × (clean_text r.program r.plan a.item found ≡ Some text)))
 
--- or a replay that the answer needs fails
+-- or a replay that the answer needs fails; of an item in a run with races, that of some interval from the cut logs, or
+-- a write that the entry records is missing
 abbrev pub IsFailedBy : Recording → Known → Query → SessionError → Type 0
 IsFailedBy r x (Slice a) error = IsSliceFailure x error
-IsFailedBy r x (Whole workers) error = IsWholeFailedBy x error
+IsFailedBy r x (Whole workers) (Diverged failure) = IsFirstFailure x failure
+IsFailedBy r x (Whole workers) (Sets failure) = ⊥
+IsFailedBy r x (Whole workers) Memory = ⊥
 IsFailedBy r x Rerun error = ⊥
-IsFailedBy r x (Clean a) error = IsCleanFailedBy r a error
+IsFailedBy r x (Clean a) (Diverged failure) = (q : ℕ) × (process_named r.program a.process ≡ Some q)
+    × Diverges r q a.interval a.item failure.process failure.entry
+IsFailedBy r x (Clean a) (Sets failure) = (q : ℕ) × (process_named r.program a.process ≡ Some q)
+    × ((c : ℕ) × IsCleanBy r q a.interval a.item (unwritten (write_at failure.process failure.entry c)))
+IsFailedBy r x (Clean a) Memory = ⊥
 
 -- what is written in all of a recording of which this is known, with which status, and the schedule that was taken
 abbrev pub GivesBy : Recording → Known → Query → (schedule : List ℕ) → (status : ℕ) → (text : List ℕ) → Type 0

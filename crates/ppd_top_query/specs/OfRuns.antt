@@ -16,7 +16,7 @@ use Rattle.ppd_rerun_model.specs.declared.verdict.Verdict.TheVariants as verdict
 use Rattle.ppd_session.specs.Known.{known_of_run}
 use Rattle.ppd_session.specs.Questions.{process_named}
 use Rattle.ppd_top_query.specs.VerdictTexts.{verdict_text}
-use Rattle.ppd_top_query.specs.Queries.{Gives, ItemAsked, Query, clean_text, slice_refusal}
+use Rattle.ppd_top_query.specs.Queries.{Gives, ItemAsked, Query, clean_text, refusal}
 use Rattle.ppd_top_query.specs.Queries.Query.{Slice, Whole, Rerun, Clean}
 use Rattle.ppd_top_query.specs.SlicesOfRuns.{IsSliceOfRun}
 use Rattle.ppd_whole.specs.WholeText.{whole_text}
@@ -33,7 +33,7 @@ IsCleanOfRun program plan budget h a text =
 -- trace; a run again is confirmed, by a schedule that agrees with it; and clean flowback is that of the run
 abbrev pub IsOfRun : Program → Plan → ℕ → List ℕ → Query → (schedule text : List ℕ) → Type 0
 IsOfRun program plan budget h (Slice a) schedule text =
-    slice_refusal (known_of_run program plan budget h) a ≡ None → IsSliceOfRun program plan budget h a text
+    refusal (known_of_run program plan budget h) (Slice a) ≡ None → IsSliceOfRun program plan budget h a text
 IsOfRun program plan budget h (Whole workers) schedule text =
     text ≡ whole_text program (full_trace program plan budget h)
 IsOfRun program plan budget h Rerun schedule text = Agree program plan budget h schedule

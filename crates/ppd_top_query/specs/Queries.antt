@@ -1,4 +1,5 @@
 -- What is asked of a recording without an input, and what is answered.
+use Rattle.law_clean.specs.Cuts.{cut_logs}
 use Rattle.std.specs.Prelude.{◌≡◌, ℕ, ◌++◌, nat_lt, false, List, [], ◌∷◌, length, Option, Some, None, Ok, Err, codes, decimal, if◌then◌else◌}
 use Rattle.std.specs.List.{flat_map}
 use Rattle.ppd_ast.specs.declared.program.Program.{Program}
@@ -14,7 +15,7 @@ use Rattle.ppd_slice_search.specs.declared.reached.ItemAt.{ItemAt}
 use Rattle.ppd_slice_search.specs.declared.reached.Reached.{Reached}
 use Rattle.ppd_slice_search.specs.Reach.{IsReach, at}
 use Rattle.law_clean.specs.Answers.{CleanOr, clean, no_item, unclean, unwritten}
-use Rattle.law_clean.specs.Search.{clean_by, cut_by, first_raced}
+use Rattle.law_clean.specs.Search.{clean_by, first_raced, last_wanted}
 use Rattle.law_whole.specs.Linked.{joined_trace}
 use Rattle.ppd_ast.specs.declared.plan.Plan.{Plan}
 use Rattle.ppd_clean.specs.Answers.{is_begun_unclean}
@@ -113,13 +114,6 @@ pub record IsSliceText (x : Known) (q k j : ℕ) (text : List ℕ) : Type 0 wher
   pub is_slice : IsReach (origins_of x) (at q k j) slice
   pub is : text ≡ flat_map (reached_line x.program) slice
 
--- the refusal that stands in place of the slice, if one does
-abbrev pub slice_refusal : Known → ItemAsked → Refusal
-slice_refusal x a =
-    races_refusal x.races
-    (process_refusal (process_named x.program a.process)
-    (λ q. block_refusal x q a.interval (event_refusal (told_at x q a.interval) a.item)))
-
 -- what is written of the slice, without a run of its own
 abbrev pub IsSliceAnswer : Known → ItemAsked → (schedule text : List ℕ) → Type 0
 IsSliceAnswer x a schedule text = (schedule ≡ []) × ((q : ℕ) × (process_named x.program a.process ≡ Some q)
@@ -163,10 +157,6 @@ IsRerunAnswer r schedule text = (v : Verdict) × IsVerdict r.program r.plan r.he
 
 -- ---- an item in a run with races
 
--- the refusal that stands in place of the answer, if one does
-abbrev pub clean_refusal : Known → ItemAsked → Refusal
-clean_refusal x a = process_refusal (process_named x.program a.process) (λ q. block_refusal x q a.interval None)
-
 -- a race touches the past of this edge
 abbrev pub unclean_line : Program → EdgeId → List ℕ
 unclean_line p e = codes "? unclean " ++ process_name p e.process ++ codes " " ++ decimal e.edge ++ codes "\n"
@@ -190,8 +180,8 @@ first_raced_of r q k j =
 -- the logs that are cut off there
 abbrev pub cut_of : Recording → (q k j : ℕ) → Logs
 cut_of r q k j =
-    cut_by r.program r.plan r.header.budget r.logs (record_in r.logs) (races_of_logs r.program r.logs) q k j
-    (first_raced_of r q k j)
+    cut_logs
+    (last_wanted r.program (record_in r.logs) (races_of_logs r.program r.logs) q (first_raced_of r q k j)) r.logs
 
 -- the interval does not begin there or later, and the replay of some interval of process p from these logs fails at
 -- entry n
@@ -217,10 +207,13 @@ IsCleanFailure r a Memory = ⊥
 
 -- the refusal that stands in place of the answer, if one does
 abbrev pub refusal : Known → Query → Refusal
-refusal x (Slice a) = slice_refusal x a
+refusal x (Slice a) =
+    races_refusal x.races
+    (process_refusal (process_named x.program a.process)
+    (λ q. block_refusal x q a.interval (event_refusal (told_at x q a.interval) a.item)))
 refusal x (Whole workers) = races_refusal x.races None
 refusal x Rerun = None
-refusal x (Clean a) = clean_refusal x a
+refusal x (Clean a) = process_refusal (process_named x.program a.process) (λ q. block_refusal x q a.interval None)
 
 -- where nothing is refused: this schedule was taken, and this is the text of the answer
 abbrev pub IsAnswer : Recording → Query → (schedule text : List ℕ) → Type 0

@@ -1,4 +1,5 @@
 -- What may be asked, and what the code answers. Want of memory is free.
+use Rattle.ppd_top_query.specs.Queries.Query.{Slice}
 use Rattle.std.specs.Prelude.{◌≡◌, ◌≤◌, ◌⊎◌, ℕ, List, [], Some, None, Result, Ok, Err, ⊤, Vec}
 use Rattle.ppd_ast.specs.declared.limits.TheConstants.{MOST_BUDGET}
 use Rattle.ppd_ast.specs.declared.program.Program.{Program}
@@ -15,7 +16,7 @@ use Rattle.law_clean.specs.Answers.{unwritten}
 use Rattle.ppd_clean.specs.Answers.{IsFound}
 use Rattle.ppd_clean.specs.declared.clean_error.CleanError.{CleanError}
 use Rattle.ppd_clean.specs.declared.clean.Clean.{Clean as GivenClean}
-use Rattle.ppd_top_query.specs.Queries.{Diverges, Gives, clean_of, clean_text, IsSliceAnswer, IsSliceFailure, IsSliceText, IsWholeAnswer, IsWholeFailure, IsWritten, ItemAsked, Query, event_refusal, slice_refusal}
+use Rattle.ppd_top_query.specs.Queries.{Diverges, Gives, clean_of, clean_text, IsSliceAnswer, IsSliceFailure, IsSliceText, IsWholeAnswer, IsWholeFailure, IsWritten, ItemAsked, Query, event_refusal, refusal}
 
 -- a recording that was accepted, with the index and the graph of its logs, so that nothing in it happens before itself
 pub record IsAskable (r : Recalled) : Type 0 where
@@ -64,7 +65,7 @@ IsCleanItem r q k j (Err Memory) = ⊤
 
 -- what is written of a slice, by what is known
 abbrev pub WritesSlice : Known → ItemAsked → (schedule : List ℕ) → (status : ℕ) → (text : List ℕ) → Type 0
-WritesSlice x a = IsWritten (slice_refusal x a) (IsSliceAnswer x a) (IsSliceFailure x) x.program
+WritesSlice x a = IsWritten (refusal x (Slice a)) (IsSliceAnswer x a) (IsSliceFailure x) x.program
 
 abbrev pub IsSliceReply : {A : Type 0} → Known → ItemAsked → Result (Vec ℕ A) SessionError → Type 0
 IsSliceReply x a (Ok text) = WritesSlice x a [] 0 text.items

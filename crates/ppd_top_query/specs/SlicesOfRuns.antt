@@ -1,4 +1,5 @@
 -- The text of a slice, of what is known of a run, is that of what the run's flowback edges reach.
+use Rattle.ppd_top_query.specs.Queries.Query.{Slice}
 use Rattle.std.specs.Prelude.{◌≡◌, ℕ, List, Some, None}
 use Rattle.std.specs.List.{flat_map}
 use Rattle.ppd_ast.specs.Valid.{IsValid}
@@ -11,7 +12,7 @@ use Rattle.ppd_session.specs.Sessions.{IsItemThere}
 use Rattle.ppd_slice_search.specs.declared.reached.Reached.{Reached}
 use Rattle.ppd_slice_search.specs.OfRuns.{origins, reach}
 use Rattle.ppd_slice_search.specs.Reach.{IsReach, at}
-use Rattle.ppd_top_query.specs.Queries.{IsSliceAnswer, IsSliceText, ItemAsked, reached_line, slice_refusal}
+use Rattle.ppd_top_query.specs.Queries.{IsSliceAnswer, IsSliceText, ItemAsked, reached_line, refusal}
 
 -- a line for each item that the edges of the run reach from item j of interval k of process q
 abbrev pub lines_of_reach : Program → Plan → (budget : ℕ) → (h : List ℕ) → (q k j : ℕ) → List ℕ
@@ -38,5 +39,5 @@ IsSliceOfRun program plan budget h a text =
 abbrev pub SlicesAreOfRuns : Type 0
 SlicesAreOfRuns =
     (program : Program) (plan : Plan) (budget : ℕ) (h : List ℕ) (a : ItemAsked) (schedule text : List ℕ) → IsValid program
-    → slice_refusal (known_of_run program plan budget h) a ≡ None
+    → refusal (known_of_run program plan budget h) (Slice a) ≡ None
     → IsSliceAnswer (known_of_run program plan budget h) a schedule text → IsSliceOfRun program plan budget h a text
