@@ -1,5 +1,5 @@
 -- Of a run no line is left without an answer: each of its intervals has its items.
-use Rattle.std.specs.Prelude.{None, Some, slice_get, if◌then◌else◌}
+use Rattle.std.specs.Prelude.{None, Some, slice_get, if◌then◌else◌, option_and_then}
 use Rattle.std.proofs.Common.{◌≡◌, ℕ, zero, suc, ◌+◌, Bool, true, false, length, List, [], ◌∷◌, Option, Ok, Err, get_or, map, refl}
 use Rattle.ppd_ast.specs.declared.plan.Plan.{Plan}
 use Rattle.ppd_ast.specs.declared.program.Program.{Program}
@@ -16,7 +16,7 @@ use Rattle.ppd_session.specs.declared.question.Opening.{Opening}
 use Rattle.ppd_session.specs.Known.{Flow, Known, Last, Told, flow_told, known_of_run, last_told, of_cells, of_intervals, of_items, of_processes, told_of_split, unless_raced}
 use Rattle.ppd_session.specs.Laws.{RunsAreAnswered}
 use Rattle.ppd_session.specs.Questions.{question}
-use Rattle.ppd_session.specs.Texts.{failure_at, failure_if, failure_in, first_unfound, is_final, item_failure, item_failure_of, opening_failure, opening_of, told_at, told_failure, unfound_flow}
+use Rattle.ppd_session.specs.Texts.{failure_at, failure_in, first_unfound, flow_at, is_final, item_failure, opening_failure, opening_of, told_at, told_failure, unfound_flow}
 
 of_interval : (q : ℕ) (x : Split) (is : List Span) (k : ℕ) → failure_in q (slice_get (map (λ (i : Span). Ok (items_of x i)) is) k) ≡ None
 of_interval q x [] zero = refl
@@ -74,7 +74,7 @@ module _ (program : Program) (plan : Plan) (budget : ℕ) (h : List ℕ) where
   of_table zero p k j (ts ∷ rows) = of_row p k 0 j ts
   of_table (suc q) p k j (ts ∷ rows) = of_table q (p + 1) k j rows
 
-  of_item : (q k j : ℕ) (o : Option Item) → item_failure_of known q k j o ≡ None
+  of_item : (q k j : ℕ) (o : Option Item) → option_and_then (λ (i : Item). unfound_flow (flow_at known q k j)) o ≡ None
   of_item q k j None = refl
   of_item q k j (Some i) = of_table q 0 k j known.items
 
@@ -91,7 +91,7 @@ module _ (program : Program) (plan : Plan) (budget : ℕ) (h : List ℕ) where
   of_asked None k j = refl
   of_asked (Some q) k j = of_told q k j (told_at known q k) (of_name (Some q) k)
 
-  of_opening : (o : Option Opening) → failure_if known o ≡ None
+  of_opening : (o : Option Opening) → option_and_then (λ (o : Opening). opening_failure known o.process o.interval o.item) o ≡ None
   of_opening None = refl
   of_opening (Some o) = of_asked o.process o.interval o.item
 
@@ -103,7 +103,7 @@ module _ (program : Program) (plan : Plan) (budget : ℕ) (h : List ℕ) where
   of_lasts [] = all_told 0 (length program.starts)
   of_lasts (r ∷ rs) = refl
 
-  of_question : (b : Bool) (o : Option Opening) → (if b then first_unfound known.lasts else failure_if known o) ≡ None
+  of_question : (b : Bool) (o : Option Opening) → (if b then first_unfound known.lasts else option_and_then (λ (o : Opening). opening_failure known o.process o.interval o.item) o) ≡ None
   of_question true o = of_lasts (races program plan budget h)
   of_question false o = of_opening o
 

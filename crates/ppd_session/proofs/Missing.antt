@@ -1,5 +1,5 @@
 -- What a line needs and is not found for want of a write: the write is missing.
-use Rattle.std.specs.Prelude.{IfErr, None, Some, slice_get}
+use Rattle.std.specs.Prelude.{IfErr, None, Some, slice_get, option_and_then}
 use Rattle.std.proofs.Common.{◌≡◌, ℕ, zero, suc, ◌+◌, ℤ, Bool, true, false, List, [], ◌∷◌, get_or, length, Option, Result, Ok, Err, refl, ap, subst, ◌∙◌, if◌then◌else◌}
 use Rattle.ppd_ast.specs.declared.plan.Plan.{Plan}
 use Rattle.ppd_ast.specs.declared.program.Program.{Program}
@@ -21,7 +21,7 @@ use Rattle.ppd_session.specs.Known.{Flow, Known, Last, Told, flow_by, known_with
 use Rattle.ppd_session.specs.Missing.{IsCauseOfSets, MissingWritesAreTold}
 use Rattle.ppd_session.specs.Questions.{question}
 use Rattle.ppd_session.specs.Sessions.{IsWhy}
-use Rattle.ppd_session.specs.Texts.{failure, failure_if, failure_of, first_unfound, flow_at, is_final, item_failure, item_failure_of, opening_failure, opening_of, told_at, told_failure, unfound_flow}
+use Rattle.ppd_session.specs.Texts.{failure, failure_of, first_unfound, flow_at, is_final, item_failure, opening_failure, opening_of, told_at, told_failure, unfound_flow}
 use Rattle.ppd_session.specs.declared.question.Opening.{Opening}
 use Rattle.ppd_session.specs.declared.question.Question.{Question}
 use Rattle.ppd_session.specs.declared.reply.SessionError.{SessionError}
@@ -129,7 +129,7 @@ module _ (program : Program) (plan : Plan) (budget : ℕ) (logs : Logs) (races :
   of_unfound (Err (flow_error.Sets i m d)) h e =
       let same : flow_error.Sets i m d ≡ flow_error.Sets q n c = cc e in h (ap (λ (u : FlowError). Err u) same)
 
-  of_there : (p k j : ℕ) (t : Option Item) → item_failure_of known p k j t ≡ Some (flow_error.Sets q n c) → Wanted
+  of_there : (p k j : ℕ) (t : Option Item) → option_and_then (λ (i : Item). unfound_flow (flow_at known p k j)) t ≡ Some (flow_error.Sets q n c) → Wanted
   of_there p k j None e = absurd (cc e)
   of_there p k j (Some t) e = of_unfound (flow_at known p k j) (flow_missing p k j) e
 
@@ -146,14 +146,14 @@ module _ (program : Program) (plan : Plan) (budget : ℕ) (logs : Logs) (races :
   of_opening None k j e = absurd (cc e)
   of_opening (Some p) k j e = of_told p k j (told_at known p k) e
 
-  of_if : (o : Option Opening) → failure_if known o ≡ Some (flow_error.Sets q n c) → Wanted
+  of_if : (o : Option Opening) → option_and_then (λ (o : Opening). opening_failure known o.process o.interval o.item) o ≡ Some (flow_error.Sets q n c) → Wanted
   of_if None e = absurd (cc e)
   of_if (Some o) e = of_opening o.process o.interval o.item e
 
   of_question : (asked : Question) → failure known asked ≡ Some (flow_error.Sets q n c) → Wanted
   of_question asked e = by (is_final asked) e
     where
-      by : (b : Bool) → (if b then first_unfound known.lasts else failure_if known (opening_of asked))
+      by : (b : Bool) → (if b then first_unfound known.lasts else option_and_then (λ (o : Opening). opening_failure known o.process o.interval o.item) (opening_of asked))
           ≡ Some (flow_error.Sets q n c) → Wanted
       by true g =
           of_lasts (flow_error.Sets q n c) Wanted races (of_cells (last_by program plan budget logs) 0 (length program.starts))

@@ -1,37 +1,28 @@
 -- What is known of all logs that the index accepts. Last values and edges are searched for among the items that replays
 -- give: of the logs of a run they are the run's (`LogsTellRuns`); of any others it is said here that they are there or
 -- why they are not, and not which they are.
-use Rattle.std.specs.Prelude.{◌≡◌, ℕ, length, List, map, slice_get, Some, Result, Ok, Err, ⊤}
+use Rattle.std.specs.Prelude.{◌≡◌, ℕ, length, map, slice_get, Some, Result, Ok, Err, ⊤}
 use Rattle.law_flow_missing.specs.Missing.{AreIndexed, IsMissingWrite, write_at}
 use Rattle.ppd_ast.specs.declared.plan.Plan.{Plan}
 use Rattle.ppd_ast.specs.declared.program.Program.{Program}
-use Rattle.ppd_entry.specs.declared.entry.Entry.{Entry}
 use Rattle.ppd_entry.specs.declared.entry.Logs.{Logs}
 use Rattle.ppd_flow_past.specs.declared.flow_error.FlowError.{FlowError}
 use Rattle.ppd_flow_past.specs.declared.flow_error.FlowError.TheVariants.{Diverged, NoEvent, Sets, Memory}
 use Rattle.ppd_model.specs.Extents.{extents}
 use Rattle.ppd_race.specs.Races.{races_of_logs}
-use Rattle.ppd_session.specs.Known.{Interval, Known, Last, known_of_logs, of_extent, seens, told_of_entries, unless_raced}
+use Rattle.ppd_session.specs.Known.{Known, Last, known_of_logs, of_extent, seens, told_of_entries, unless_raced}
 use Rattle.ppd_session.specs.Sessions.{IsItemThere}
 use Rattle.ppd_session.specs.Texts.{flow_at, told_at}
 
--- the intervals of a process, by their entries
-abbrev pub intervals_of : List Entry → List Interval
-intervals_of entries = map of_extent (extents entries)
-
--- why something is not found: an interval of the process is told to fail at that entry; or a write of the cell is
--- missing that the entry records
-abbrev pub IsUnfound : Program → Plan → (budget : ℕ) → Logs → Known → FlowError → Type 0
-IsUnfound program plan budget logs x (Diverged q n) = (k : ℕ) × (told_at x q k ≡ Some (Err n))
-IsUnfound program plan budget logs x (Sets q n c) =
-    IsMissingWrite logs (seens program plan budget logs) (write_at q n c)
-IsUnfound program plan budget logs x NoEvent = ⊥
-IsUnfound program plan budget logs x Memory = ⊥
-
--- something is found, or there is a reason why it is not
+-- something is found, or there is a reason why it is not: an interval of the process is told to fail at that entry; or
+-- a write of the cell is missing that the entry records
 abbrev pub IsFoundOrNot : {A : Type 0} → Program → Plan → (budget : ℕ) → Logs → Known → Result A FlowError → Type 0
 IsFoundOrNot program plan budget logs x (Ok found) = ⊤
-IsFoundOrNot program plan budget logs x (Err e) = IsUnfound program plan budget logs x e
+IsFoundOrNot program plan budget logs x (Err (Diverged q n)) = (k : ℕ) × (told_at x q k ≡ Some (Err n))
+IsFoundOrNot program plan budget logs x (Err (Sets q n c)) =
+    IsMissingWrite logs (seens program plan budget logs) (write_at q n c)
+IsFoundOrNot program plan budget logs x (Err NoEvent) = ⊥
+IsFoundOrNot program plan budget logs x (Err Memory) = ⊥
 
 -- this is known of logs: their program and plan, the races of their record and sets, the intervals of their entries
 -- and, where there is no race, what the replay of each tells; and then for each shared cell whether its last value is
@@ -40,7 +31,7 @@ pub record IsKnownOfLogs (program : Program) (plan : Plan) (budget : ℕ) (logs 
   pub program_is : x.program ≡ program
   pub plan_is : x.plan ≡ plan
   pub races : x.races ≡ races_of_logs program logs
-  pub intervals : x.intervals ≡ map intervals_of logs.lists
+  pub intervals : x.intervals ≡ map (λ entries. map of_extent (extents entries)) logs.lists
   pub items : x.items ≡ unless_raced x.races (map (told_of_entries program plan budget) logs.lists)
   pub cells : length x.lasts ≡ length (unless_raced x.races program.starts)
   pub lasts : (c : ℕ) (l : Last) → slice_get x.lasts c ≡ Some l → IsFoundOrNot program plan budget logs x l

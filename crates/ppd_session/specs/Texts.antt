@@ -1,9 +1,9 @@
 -- The text with which each command line is answered.
-use Rattle.std.specs.Prelude.{ℕ, ◌+◌, nat_lt, Bool, true, false, List, [], ◌∷◌, ◌++◌, get_or, length, slice_get, Option, Some, None, Ok, Err, codes, decimal, if◌then◌else◌}
+use Rattle.std.specs.Prelude.{ℕ, ◌+◌, nat_lt, Bool, true, false, List, [], ◌∷◌, ◌++◌, get_or, length, slice_get, Option, Some, None, Ok, Err, codes, decimal, if◌then◌else◌, option_and_then}
+use Rattle.std.specs.Option.{option_map_or}
 use Rattle.std.specs.List.{flat_map}
 use Rattle.ppd_ast.specs.declared.plan.Plan.{Plan}
 use Rattle.ppd_ast.specs.declared.program.Program.{Program}
-use Rattle.ppd_ast.specs.declared.program.Var.{Var}
 use Rattle.ppd_ast.specs.Lookups.{body_of, locals_of}
 use Rattle.ppd_deps.specs.declared.edges.StaticEdge.{StaticEdge}
 use Rattle.ppd_deps.specs.declared.edges.StaticEdge.TheVariants.{Data, ControlEntry, Control}
@@ -47,18 +47,11 @@ races_text p races = codes "races " ++ decimal (length races) ++ codes "\n" ++ f
 
 -- ---- intervals
 
-abbrev pub parent_text : Option ℕ → List ℕ
-parent_text None = codes "-"
-parent_text (Some k) = decimal k
-
-abbrev pub state_text : Bool → List ℕ
-state_text true = codes "closed"
-state_text false = codes "open"
-
 abbrev pub interval_line : Program → Plan → (k : ℕ) → Interval → List ℕ
 interval_line p plan k i =
-    codes "block " ++ decimal k ++ codes " in " ++ parent_text i.parent ++ codes " "
-    ++ what_text p (slice_get plan.blocks i.block) ++ codes " " ++ state_text i.closed ++ codes "\n"
+    codes "block " ++ decimal k ++ codes " in " ++ option_map_or decimal i.parent (codes "-") ++ codes " "
+    ++ what_text p (slice_get plan.blocks i.block) ++ codes " "
+    ++ (if i.closed then codes "closed" else codes "open") ++ codes "\n"
 
 -- the intervals from number k on
 abbrev pub interval_lines : Program → Plan → (k : ℕ) → List Interval → List ℕ
@@ -71,15 +64,10 @@ intervals_at x q = get_or x.intervals q []
 
 -- ---- static edges
 
--- a shared variable, or a local one of the body in which statement s stands
-abbrev pub variables_at : Program → (s : ℕ) → Bool → List Var
-variables_at p s true = p.shared
-variables_at p s false = locals_of p (body_of p s)
-
--- an edge into statement s
+-- an edge into statement s: by a shared variable, or a local one of the body in which the statement stands
 abbrev pub edge_line : Program → (s : ℕ) → StaticEdge → List ℕ
 edge_line p s (Data from shared v) = codes "data " ++ decimal from ++ codes " "
-    ++ var_name (slice_get (variables_at p s shared) v) ++ codes "\n"
+    ++ var_name (slice_get (if shared then p.shared else locals_of p (body_of p s)) v) ++ codes "\n"
 edge_line p s ControlEntry = codes "control entry\n"
 edge_line p s (Control from) = codes "control " ++ decimal from ++ codes "\n"
 
@@ -119,15 +107,11 @@ flow_text p plan j i (Err e) = []
 abbrev pub flow_at : Known → (q k j : ℕ) → Flow
 flow_at x q k j = get_or (get_or (get_or x.flow q []) k []) j (Err flow_error.NoEvent)
 
--- item j of interval k of process q, if it is there
-abbrev pub item_text_of : Known → (q k j : ℕ) → Option Item → List ℕ
-item_text_of x q k j None = no_event
-item_text_of x q k j (Some i) = flow_text x.program x.plan j i (flow_at x q k j)
-
--- all items of an interval, or one of them with its edges
+-- all items of an interval, or one of them with its edges, if it is there
 abbrev pub items_text : Known → (q k : ℕ) → Option ℕ → List Item → List ℕ
 items_text x q k None items = open_text x.program x.plan items
-items_text x q k (Some j) items = item_text_of x q k j (slice_get items j)
+items_text x q k (Some j) items =
+    option_map_or (λ i. flow_text x.program x.plan j i (flow_at x q k j)) (slice_get items j) no_event
 
 -- what is told of these, where it is; where the replay fails there is no text
 abbrev pub told_text : Known → (q k : ℕ) → Option ℕ → Option Told → List ℕ
@@ -152,13 +136,6 @@ first_unfound [] = None
 first_unfound (Ok x ∷ xs) = first_unfound xs
 first_unfound (Err e ∷ xs) = Some e
 
-abbrev pub blocks_text : Known → Option ℕ → List ℕ
-blocks_text x None = no_process
-blocks_text x (Some q) = interval_lines x.program x.plan 0 (intervals_at x q)
-
-abbrev pub statement_text : Program → (s : ℕ) → List ℕ
-statement_text p s = if nat_lt s (length p.stmts) then deps_text p s else codes "? statement\n"
-
 -- the answer to a question that replays nothing
 abbrev pub plain_text : Known → Question → List ℕ
 plain_text x Nothing = []
@@ -166,10 +143,11 @@ plain_text x Unknown = codes "? command\n"
 plain_text x Quit = []
 plain_text x Races = races_text x.program x.races
 plain_text x Final = []
-plain_text x (Blocks q) = blocks_text x q
+plain_text x (Blocks None) = no_process
+plain_text x (Blocks (Some q)) = interval_lines x.program x.plan 0 (intervals_at x q)
 plain_text x (Open q k) = []
 plain_text x (Why q k j) = []
-plain_text x (Deps s) = statement_text x.program s
+plain_text x (Deps s) = if nat_lt s (length x.program.stmts) then deps_text x.program s else codes "? statement\n"
 
 -- what a question asks of an interval, if it does
 abbrev pub opening_of : Question → Option Opening
@@ -182,16 +160,11 @@ abbrev pub is_final : Question → Bool
 is_final Final = true
 is_final asked = false
 
--- what is asked of an interval, else this answer
-abbrev pub opened_or : Known → List ℕ → Option Opening → List ℕ
-opened_or x text None = text
-opened_or x text (Some o) = opened_text x o
-
 -- the answer to a question
 abbrev pub answer_text : Known → Question → List ℕ
 answer_text x asked =
     if is_final asked then raced x.races (lasts_text x.program 0 x.lasts)
-    else opened_or x (plain_text x asked) (opening_of asked)
+    else option_map_or (opened_text x) (opening_of asked) (plain_text x asked)
 
 -- the answer to a line
 abbrev pub text_of : Known → List ℕ → List ℕ
@@ -215,13 +188,9 @@ unfound_flow (Ok edges) = None
 unfound_flow (Err flow_error.NoEvent) = None
 unfound_flow (Err e) = Some e
 
-abbrev pub item_failure_of : Known → (q k j : ℕ) → Option Item → Option FlowError
-item_failure_of x q k j None = None
-item_failure_of x q k j (Some i) = unfound_flow (flow_at x q k j)
-
 abbrev pub item_failure : Known → (q k : ℕ) → Option ℕ → List Item → Option FlowError
 item_failure x q k None items = None
-item_failure x q k (Some j) items = item_failure_of x q k j (slice_get items j)
+item_failure x q k (Some j) items = option_and_then (λ i. unfound_flow (flow_at x q k j)) (slice_get items j)
 
 -- why there is no text of an interval's items, or of one of them
 abbrev pub told_failure : Known → (q k : ℕ) → Option ℕ → Option Told → Option FlowError
@@ -233,15 +202,11 @@ abbrev pub opening_failure : Known → Option ℕ → (k : ℕ) → Option ℕ �
 opening_failure x None k j = None
 opening_failure x (Some q) k j = told_failure x q k j (told_at x q k)
 
--- why there is no answer to what is asked of an interval
-abbrev pub failure_if : Known → Option Opening → Option FlowError
-failure_if x None = None
-failure_if x (Some o) = opening_failure x o.process o.interval o.item
-
--- the failure that leaves a question without an answer
+-- the failure that leaves a question without an answer: of a last value, or of what is asked of an interval
 abbrev pub failure : Known → Question → Option FlowError
 failure x asked =
-    if is_final asked then first_unfound x.lasts else failure_if x (opening_of asked)
+    if is_final asked then first_unfound x.lasts
+    else option_and_then (λ o. opening_failure x o.process o.interval o.item) (opening_of asked)
 
 -- the failure that leaves a line without an answer
 abbrev pub failure_of : Known → List ℕ → Option FlowError

@@ -1,9 +1,10 @@
 // The answer to each question.
-ghost use Rattle.std.specs.Prelude.{◌≡◌, ◌++◌, None, OnErr, OnOk, IfErr};
+ghost use Rattle.std.specs.Prelude.{◌≡◌, ◌++◌, None, OnErr, OnOk, IfErr, codes, if◌then◌else◌, length, nat_lt};
 ghost use Rattle.ppd_flow_past.specs.Pasts.{IsPast};
 ghost use Rattle.ppd_session.specs.Keeping.{AreAsked, AreAskedInPart};
 ghost use Rattle.ppd_session.specs.Sessions.{IsSession, IsWhy, blocks_of, known_by, state_of};
-ghost use Rattle.ppd_session.specs.Texts.{answer_text, blocks_text, failure, plain_text, statement_text};
+ghost use Rattle.ppd_session.specs.declared.question.Question.TheVariants.{Blocks};
+ghost use Rattle.ppd_session.specs.Texts.{answer_text, deps_text, failure, plain_text};
 
 use crate::blocks::put_intervals;
 use crate::deps::put_deps;
@@ -26,7 +27,8 @@ fn put_blocks(
     process: Option<u8>,
 ) -> Result<(), Memory>
     requires { IsPast past.now }
-    ensures { OnOk result (text.new.items ≡ text.old.items ++ blocks_text (known_by past.now races.now) process) }
+    ensures { OnOk result
+        (text.new.items ≡ text.old.items ++ plain_text (known_by past.now races.now) (Blocks process)) }
 {
     let Some(process) = process else {
         return put(text, b"? process\n");
@@ -41,7 +43,11 @@ fn put_statement(
     statement: u64,
 ) -> Result<(), Memory>
     requires { IsPast past.now }
-    ensures { OnOk result (text.new.items ≡ text.old.items ++ statement_text past.now.program.now statement) }
+    ensures { OnOk result
+        (text.new.items
+        ≡ text.old.items
+        ++ (if nat_lt statement (length past.now.program.now.stmts) then deps_text past.now.program.now statement
+        else codes "? statement\n")) }
 {
     if statement >= past.program.stmts.len() as u64 {
         return put(text, b"? statement\n");

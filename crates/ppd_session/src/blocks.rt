@@ -1,15 +1,16 @@
 // The intervals of a process as a text.
-ghost use Rattle.std.specs.Prelude.{◌≡◌, ◌<◌, ◌++◌, OnOk, slice_get, map};
+ghost use Rattle.std.specs.Prelude.{◌≡◌, ◌<◌, ◌++◌, OnOk, codes, decimal, if◌then◌else◌, slice_get, map};
+ghost use Rattle.std.specs.Option.{option_map_or};
 ghost use Rattle.ppd_index.specs.Indexes.{rows_at};
 ghost use Rattle.ppd_session.specs.Rows.{of_interval, of_row, shown_at};
-ghost use Rattle.ppd_session.specs.Texts.{interval_line, interval_lines, parent_text, state_text};
+ghost use Rattle.ppd_session.specs.Texts.{interval_line, interval_lines};
 
 use ppd_ast::{Memory, Plan, Program};
 use ppd_index::{Interval, LogIndex};
 use ppd_text::{put, put_number, put_what};
 
 fn put_parent(text: &mut Vec<u8>, parent: Option<u32>) -> Result<(), Memory>
-    ensures { OnOk result (text.new.items ≡ text.old.items ++ parent_text parent) }
+    ensures { OnOk result (text.new.items ≡ text.old.items ++ option_map_or decimal parent (codes "-")) }
 {
     match parent {
         Some(parent) => put_number(text, parent),
@@ -18,7 +19,7 @@ fn put_parent(text: &mut Vec<u8>, parent: Option<u32>) -> Result<(), Memory>
 }
 
 fn put_state(text: &mut Vec<u8>, closed: bool) -> Result<(), Memory>
-    ensures { OnOk result (text.new.items ≡ text.old.items ++ state_text closed) }
+    ensures { OnOk result (text.new.items ≡ text.old.items ++ (if closed then codes "closed" else codes "open")) }
 {
     if closed {
         return put(text, b"closed");

@@ -1,12 +1,12 @@
 // The static edges into a statement as a text.
-ghost use Rattle.std.specs.Prelude.{◌≡◌, ◌<◌, ◌++◌, OnOk, length};
+ghost use Rattle.std.specs.Prelude.{◌≡◌, ◌<◌, ◌++◌, OnOk, if◌then◌else◌, length};
 ghost use Rattle.std.specs.List.{flat_map};
 ghost use Rattle.ppd_ast.specs.Valid.{IsValid};
 ghost use Rattle.ppd_ast.specs.Lookups.{body_of, locals_of};
 ghost use Rattle.ppd_deps.specs.Edges.{edges_of};
 ghost use Rattle.ppd_deps.specs.Tables.{IsDepGraph};
 ghost use Rattle.ppd_sets.specs.SetsOf.{AreSetsOf};
-ghost use Rattle.ppd_session.specs.Texts.{deps_text, edge_line, variables_at as variables_in};
+ghost use Rattle.ppd_session.specs.Texts.{deps_text, edge_line};
 
 use ppd_ast::{Memory, Program, Var};
 use ppd_deps::{DepGraph, StaticEdge, static_graph};
@@ -29,7 +29,8 @@ fn locals_round(program: &Program, stmt: u32) -> &[Var]
 }
 
 fn variables_at(program: &Program, stmt: u32, shared: bool) -> &[Var]
-    ensures { result.now ≡ variables_in program.now stmt shared }
+    ensures { result.now
+        ≡ (if shared then program.now.shared else locals_of program.now (body_of program.now stmt)) }
 {
     if shared {
         return program.shared.as_slice();

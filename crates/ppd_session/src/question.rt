@@ -1,11 +1,10 @@
 // What a command line asks.
-ghost use Rattle.std.specs.Prelude.{◌≡◌, map};
+ghost use Rattle.std.specs.Prelude.{◌≡◌, [], ◌∷◌, drop, map};
+ghost use Rattle.std.specs.Option.{option_map_or, option_zip};
 ghost use Rattle.ppd_ast.specs.Valid.{IsValid};
-ghost use Rattle.ppd_session.specs.Questions.{alone as alone_of, asked as asked_of, deps_of as deps_in};
-ghost use Rattle.ppd_session.specs.Questions.{open_of as open_in, process_bodies as bodies_of};
-ghost use Rattle.ppd_session.specs.Questions.{process_named as process_by_name, quits as quits_of, why_of as why_in};
-ghost use Rattle.ppd_session.specs.Questions.{with_one as with_one_of, with_three as with_three_of};
-ghost use Rattle.ppd_session.specs.Questions.{with_two as with_two_of};
+ghost use Rattle.ppd_session.specs.Questions.{alone as alone_of, asked as asked_of};
+ghost use Rattle.ppd_session.specs.Questions.{process_named as process_by_name, quits as quits_of};
+ghost use Rattle.ppd_session.specs.declared.question.Question.TheVariants as ask;
 ghost use Rattle.ppd_session.specs.Texts.{is_final as is_final_of, opening_of as opening_in};
 
 use ppd_ast::{Body, Program};
@@ -68,7 +67,7 @@ pub(crate) fn is_final(question: Question) -> bool
 /// The bodies of the processes of a valid program.
 fn process_bodies(program: &Program) -> &[Body]
     requires { IsValid program.now }
-    ensures { result.now ≡ bodies_of program.now }
+    ensures { result.now ≡ drop program.now.functions program.now.bodies }
 {
     &program.bodies.as_slice()[program.functions as usize..]
 }
@@ -102,7 +101,7 @@ fn alone(word: &[u8]) -> Question
 }
 
 fn deps_of(statement: Option<u64>) -> Question
-    ensures { result ≡ deps_in statement }
+    ensures { result ≡ option_map_or ask.Deps statement ask.Unknown }
 {
     match statement {
         Some(statement) => Question::Deps(statement),
@@ -112,7 +111,7 @@ fn deps_of(statement: Option<u64>) -> Question
 
 fn with_one(program: &Program, word: &[u8], a: &[u8]) -> Question
     requires { IsValid program.now }
-    ensures { result ≡ with_one_of program.now word.now a.now }
+    ensures { result ≡ asked_of program.now (word.now ∷ a.now ∷ []) }
 {
     if word == b"blocks".as_slice() {
         Question::Blocks(process_named(program, a))
@@ -124,7 +123,7 @@ fn with_one(program: &Program, word: &[u8], a: &[u8]) -> Question
 }
 
 fn open_of(process: Option<u8>, interval: Option<u64>) -> Question
-    ensures { result ≡ open_in process interval }
+    ensures { result ≡ option_map_or (ask.Open process) interval ask.Unknown }
 {
     match interval {
         Some(interval) => Question::Open(process, interval),
@@ -134,7 +133,7 @@ fn open_of(process: Option<u8>, interval: Option<u64>) -> Question
 
 fn with_two(program: &Program, word: &[u8], a: &[u8], b: &[u8]) -> Question
     requires { IsValid program.now }
-    ensures { result ≡ with_two_of program.now word.now a.now b.now }
+    ensures { result ≡ asked_of program.now (word.now ∷ a.now ∷ b.now ∷ []) }
 {
     if word == b"open".as_slice() {
         open_of(process_named(program, a), number_in(b))
@@ -144,7 +143,8 @@ fn with_two(program: &Program, word: &[u8], a: &[u8], b: &[u8]) -> Question
 }
 
 fn why_of(process: Option<u8>, interval: Option<u64>, item: Option<u64>) -> Question
-    ensures { result ≡ why_in process interval item }
+    ensures { result
+        ≡ option_map_or (λ n. ask.Why process n.0 n.1) (option_zip interval item) ask.Unknown }
 {
     match interval {
         Some(interval) => match item {
@@ -157,7 +157,7 @@ fn why_of(process: Option<u8>, interval: Option<u64>, item: Option<u64>) -> Ques
 
 fn with_three(program: &Program, word: &[u8], a: &[u8], b: &[u8], c: &[u8]) -> Question
     requires { IsValid program.now }
-    ensures { result ≡ with_three_of program.now word.now a.now b.now c.now }
+    ensures { result ≡ asked_of program.now (word.now ∷ a.now ∷ b.now ∷ c.now ∷ []) }
 {
     if word == b"why".as_slice() {
         why_of(process_named(program, a), number_in(b), number_in(c))

@@ -1,9 +1,9 @@
 // An item with its flowback edges.
-ghost use Rattle.std.specs.Prelude.{◌≡◌, ◌<◌, ◌++◌, [], Some, None, Ok, IfOk, OnOk, IfErr, slice_get};
+ghost use Rattle.std.specs.Prelude.{◌≡◌, ◌<◌, ◌++◌, [], Some, None, Ok, IfOk, OnOk, IfErr};
 ghost use Rattle.ppd_flow_past.specs.Pasts.{IsPast};
 ghost use Rattle.ppd_session.specs.Known.{flow_by};
 ghost use Rattle.ppd_session.specs.Sessions.{IsItemThere, IsWhy, known_by};
-ghost use Rattle.ppd_session.specs.Texts.{flow_at, flow_text, item_failure_of, item_text_of, told_at, unfound_flow};
+ghost use Rattle.ppd_session.specs.Texts.{flow_at, flow_text, item_failure, items_text, told_at, unfound_flow};
 ghost use Rattle.ppd_session.specs.declared.reply.SessionError.TheVariants as session_error;
 ghost use Rattle.ppd_flow.specs.SharedCells.{IsMemoryOr};
 ghost use Rattle.ppd_text.specs.Edges.{why_text as why_text_of};
@@ -204,12 +204,12 @@ pub(crate) fn put_item_of(
     ensures text { OnOk result
         (text.new.items
         ≡ text.old.items
-        ++ item_text_of (known_by past.now []) place.process place.interval item (slice_get items.now item)) }
+        ++ items_text (known_by past.now []) place.process place.interval (Some item) items.now) }
     ensures told { OnOk result
-        (item_failure_of (known_by past.now []) place.process place.interval item (slice_get items.now item)
+        (item_failure (known_by past.now []) place.process place.interval (Some item) items.now
         ≡ None) }
     ensures error { IfErr result
-        (IsWhy (item_failure_of (known_by past.now []) place.process place.interval item (slice_get items.now item))) }
+        (IsWhy (item_failure (known_by past.now []) place.process place.interval (Some item) items.now)) }
 {
     let Some(shown) = items.get(item as usize) else {
         return put_refusal(text, b"? event\n");
