@@ -1,4 +1,5 @@
 -- From the lines that were read and answered to what comes of asking.
+use Rattle.std.specs.List.{flat_map}
 use Rattle.std.specs.Prelude.{◌⊎◌, None, Some, Option, option_map, IfSome, is_some, ◌||◌, true, false, Result, Ok, Err, nat_le, nat_lt, codes}
 use Rattle.std.proofs.Common.{◌≡◌, ◌<◌, ◌≤◌, ◌+◌, ℕ, suc, List, [], ◌∷◌, ◌++◌, length, take, Bool, refl, ap, sym, subst, ◌∙◌, append_assoc, append-nil, length-append, arith, inl, inr}
 use Rattle.std.proofs.lemmas.Bool.{le-leb, le-ltb, lt-leb, lt-ltb}
@@ -19,15 +20,15 @@ use Rattle.ppd_session.specs.declared.reply.SessionError.{SessionError}
 use Rattle.ppd_session.specs.declared.reply.SessionError.TheVariants as session_error
 use Rattle.ppd_top_runs.specs.Asking.{Becomes, Goes, IsAsked, IsFailed, IsReadAtNeed, IsReadTo}
 use Rattle.ppd_top_runs.specs.Asking.Becomes.{answered, quit, refused, unwritten as unwritten_line, unfinished as unfinished_line}
-use Rattle.ppd_top_runs.specs.Output.{AreAnswered, AreCommands, AreNotYetTaken, ArePlain, AppendsFront, IsReadNoFurther, Output, Standing, Talks, answers, answers_from, before, ended, output, texts, through_quit, with_line, Finished}
+use Rattle.ppd_top_runs.specs.Output.{AreAnswered, AreCommands, AreNotYetTaken, ArePlain, AppendsFront, IsReadNoFurther, Output, Standing, Talks, answers, answers_from, before, ended, output, through_quit, Finished}
 use Rattle.ppd_top_runs.specs.Output.Talks.{whole, unread, unwritten, unfinished}
 use Rattle.ppd_top_runs.proofs.Split.{Goes_on, Is_long, after_all, after_long, after_more, at_end, append_more, both_bytes, need_more, no_further, plain_more, read_more, taken_so_far}
 use Rattle.ppd_model.proofs.Changes.{some}
 use Rattle.ppd_model.proofs.Parents.{none_some}
 
-pub texts_more : (x : Known) (ls : List (List ℕ)) (l : List ℕ) → texts x (ls ++ l ∷ []) ≡ texts x ls ++ text_of x l
+pub texts_more : (x : Known) (ls : List (List ℕ)) (l : List ℕ) → flat_map (text_of x) (ls ++ l ∷ []) ≡ flat_map (text_of x) ls ++ text_of x l
 texts_more x [] l = append-nil (text_of x l)
-texts_more x (k ∷ ls) l = ap (λ w. text_of x k ++ w) (texts_more x ls l) ∙ sym (append_assoc (text_of x k) (texts x ls) (text_of x l))
+texts_more x (k ∷ ls) l = ap (λ w. text_of x k ++ w) (texts_more x ls l) ∙ sym (append_assoc (text_of x k) (flat_map (text_of x) ls) (text_of x l))
 
 pub answered_more : (x : Known) (ls : List (List ℕ)) (l : List ℕ) → AreAnswered x ls → length l ≤ MOST_LINE_BYTES → is_quit l ≡ false → failure_of x l ≡ None → AreAnswered x (ls ++ l ∷ [])
 answered_more x [] l h few goes none = (few, goes, none, tt)
@@ -42,22 +43,22 @@ one_answered x n l ls few short goes none =
     let b : nat_lt MOST_LINE_BYTES (length l) ≡ false = le-ltb MOST_LINE_BYTES (length l) short in
     rw (a, b, none, goes)
 
-pub many_answered : (x : Known) (n : ℕ) (ls rest : List (List ℕ)) → n + length ls ≤ MOST_INPUT_LINES → AreAnswered x ls → answers_from x n (ls ++ rest) ≡ before (texts x ls) (answers_from x (n + length ls) rest)
+pub many_answered : (x : Known) (n : ℕ) (ls rest : List (List ℕ)) → n + length ls ≤ MOST_INPUT_LINES → AreAnswered x ls → answers_from x n (ls ++ rest) ≡ before (flat_map (text_of x) ls) (answers_from x (n + length ls) rest)
 many_answered x n [] rest few h = ap (λ k. answers_from x k rest) (omega arith)
 many_answered x n (l ∷ ls) rest few h =
     let here : n < MOST_INPUT_LINES = omega arith in
     let count : n + 1 + length ls ≡ n + length (l ∷ ls) = omega arith in
     let later = many_answered x (n + 1) ls rest (omega arith) h.3 in
     one_answered x n l (ls ++ rest) here h.0 h.1 h.2
-    ∙ (ap (before (text_of x l)) (later ∙ ap (λ k. before (texts x ls) (answers_from x k rest)) count)
-    ∙ ap (output (answers_from x (n + length (l ∷ ls)) rest).status) (sym (append_assoc (text_of x l) (texts x ls) (answers_from x (n + length (l ∷ ls)) rest).text)))
+    ∙ (ap (before (text_of x l)) (later ∙ ap (λ k. before (flat_map (text_of x) ls) (answers_from x k rest)) count)
+    ∙ ap (output (answers_from x (n + length (l ∷ ls)) rest).status) (sym (append_assoc (text_of x l) (flat_map (text_of x) ls) (answers_from x (n + length (l ∷ ls)) rest).text)))
 
 -- all answers, where the lines that were answered go on with these
-pub all_answered : (x : Known) (a c : Option (List ℕ)) (ls rest : List (List ℕ)) (g : Goes_on a c ls rest) → length ls ≤ MOST_INPUT_LINES → AreAnswered x ls → answers x g.commands ≡ before (texts x ls) (answers_from x (length ls) rest)
+pub all_answered : (x : Known) (a c : Option (List ℕ)) (ls rest : List (List ℕ)) (g : Goes_on a c ls rest) → length ls ≤ MOST_INPUT_LINES → AreAnswered x ls → answers x g.commands ≡ before (flat_map (text_of x) ls) (answers_from x (length ls) rest)
 all_answered x a c ls rest g few h =
     let few' : 0 + length ls ≤ MOST_INPUT_LINES = omega arith in
     let zero : 0 + length ls ≡ length ls = omega arith in
-    ap (answers_from x 0) g.lines ∙ (many_answered x 0 ls rest few' h ∙ ap (λ k. before (texts x ls) (answers_from x k rest)) zero)
+    ap (answers_from x 0) g.lines ∙ (many_answered x 0 ls rest few' h ∙ ap (λ k. before (flat_map (text_of x) ls) (answers_from x k rest)) zero)
 
 -- ---- what is written
 
@@ -123,19 +124,19 @@ long_text x n l rest few long =
 -- the lines through a `quit` behind lines that were answered
 with_lines : List (List ℕ) → Option (List (List ℕ)) → Option (List (List ℕ))
 with_lines [] o = o
-with_lines (l ∷ ls) o = with_line l (with_lines ls o)
+with_lines (l ∷ ls) o = option_map (λ through. l ∷ through) (with_lines ls o)
 
 with_none : (ls : List (List ℕ)) → with_lines ls None ≡ None
 unfolding with_lines
 with_none [] = refl
-with_none (l ∷ ls) = ap (with_line l) (with_none ls)
+with_none (l ∷ ls) = ap (option_map (λ through. l ∷ through)) (with_none ls)
 
 with_some : (ls rest : List (List ℕ)) → with_lines ls (Some rest) ≡ Some (ls ++ rest)
 unfolding with_lines
 with_some [] rest = refl
-with_some (l ∷ ls) rest = ap (with_line l) (with_some ls rest)
+with_some (l ∷ ls) rest = ap (option_map (λ through. l ∷ through)) (with_some ls rest)
 
-one_through : (x : Known) (n : ℕ) (l : List ℕ) (ls : List (List ℕ)) → n < MOST_INPUT_LINES → length l ≤ MOST_LINE_BYTES → is_quit l ≡ false → failure_of x l ≡ None → through_quit x n (l ∷ ls) ≡ with_line l (through_quit x (n + 1) ls)
+one_through : (x : Known) (n : ℕ) (l : List ℕ) (ls : List (List ℕ)) → n < MOST_INPUT_LINES → length l ≤ MOST_LINE_BYTES → is_quit l ≡ false → failure_of x l ≡ None → through_quit x n (l ∷ ls) ≡ option_map (λ through. l ∷ through) (through_quit x (n + 1) ls)
 one_through x n l ls few short goes none =
     let a : nat_le MOST_INPUT_LINES n ≡ false = lt-leb MOST_INPUT_LINES n few in
     let b : nat_lt MOST_LINE_BYTES (length l) ≡ false = le-ltb MOST_LINE_BYTES (length l) short in
@@ -148,7 +149,7 @@ many_through x n (l ∷ ls) rest few h =
     let here : n < MOST_INPUT_LINES = omega arith in
     let count : n + 1 + length ls ≡ n + length (l ∷ ls) = omega arith in
     one_through x n l (ls ++ rest) here h.0 h.1 h.2
-    ∙ ap (with_line l) (many_through x (n + 1) ls rest (omega arith) h.3 ∙ ap (λ k. with_lines ls (through_quit x k rest)) count)
+    ∙ ap (option_map (λ through. l ∷ through)) (many_through x (n + 1) ls rest (omega arith) h.3 ∙ ap (λ k. with_lines ls (through_quit x k rest)) count)
 
 -- no `quit` ended the answers
 not_quit : (x : Known) (a c : Option (List ℕ)) (ls rest : List (List ℕ)) (g : Goes_on a c ls rest) (n : ℕ) → length ls ≡ n → n ≤ MOST_INPUT_LINES → AreAnswered x ls → through_quit x n rest ≡ None → (last : Option (List ℕ)) → IsReadNoFurther x g.commands c last
@@ -190,18 +191,18 @@ module _ (x : Known) (n : ℕ) (a b c : Standing) where
       count : answers_from x (length q.lines) rest ≡ output status text
       count = ap (λ k. answers_from x k rest) q.count ∙ is
 
-      all : answers x g.commands ≡ output status (texts x q.lines ++ text)
+      all : answers x g.commands ≡ output status (flat_map (text_of x) q.lines ++ text)
       all =
           let few' : length q.lines ≤ MOST_INPUT_LINES = omega (arith, q.count) in
-          all_answered x a.left c.left q.lines rest g few' q.answered ∙ ap (before (texts x q.lines)) count
+          all_answered x a.left c.left q.lines rest g few' q.answered ∙ ap (before (flat_map (text_of x) q.lines)) count
 
-      by : Finished b.written c.written b.writes c.writes result status text → answers x g.commands ≡ output status (texts x q.lines ++ text) → Talks x [] a c result
+      by : Finished b.written c.written b.writes c.writes result status text → answers x g.commands ≡ output status (flat_map (text_of x) q.lines ++ text) → Talks x [] a c result
       by (inl h) all =
-          let t : Appends a.written c.written (answers x g.commands).text = subst (λ (o : Output). Appends a.written c.written o.text) (sym all) (appends_twice a.written b.written c.written (texts x q.lines) text q.written h.1) in
+          let t : Appends a.written c.written (answers x g.commands).text = subst (λ (o : Output). Appends a.written c.written o.text) (sym all) (appends_twice a.written b.written c.written (flat_map (text_of x) q.lines) text q.written h.1) in
           subst (Talks x [] a c) (ap (λ (o : Output). o.status) all ∙ sym h.0) (whole g.commands g.told further t)
       by (inr h) all =
-          let part = part_after a.written b.written c.written (texts x q.lines) text [] q.written h.2 in
-          let e : texts x q.lines ++ (text ++ []) ≡ texts x q.lines ++ text = ap (λ w. texts x q.lines ++ w) (append-nil text) in
+          let part = part_after a.written b.written c.written (flat_map (text_of x) q.lines) text [] q.written h.2 in
+          let e : flat_map (text_of x) q.lines ++ (text ++ []) ≡ flat_map (text_of x) q.lines ++ text = ap (λ w. flat_map (text_of x) q.lines ++ w) (append-nil text) in
           let t : AppendsPart a.written c.written (answers x g.commands).text = subst (λ (o : Output). AppendsPart a.written c.written o.text) (sym all) (subst (AppendsPart a.written c.written) e part) in
           subst (Talks x [] a c) (sym h.0) (unwritten g.commands g.told (rose_before a.writes b.writes c.writes q.writes h.1) t)
 
@@ -234,10 +235,12 @@ module _ (x : Known) (n : ℕ) (a b c : Standing) where
             lines = q.lines;
             rest = now.line;
             takes = taken_so_far a.left b.left c.left q.lines was now e q.read g;
-            whole = record { is = refl; plain = q.plain; open_end = g.0 };
+            is = refl;
+            plain = q.plain;
+            open_end = g.0;
             answered = q.answered;
             few = omega (arith, q.count);
-            written = subst (λ w. Appends a.written w (texts x q.lines)) (sym same) q.written;
+            written = subst (λ w. Appends a.written w (flat_map (text_of x) q.lines)) (sym same) q.written;
           })
 
   -- there was no line
@@ -314,7 +317,7 @@ module _ (x : Known) (n : ℕ) (a b c : Standing) where
         answered = answered_more x q.lines now.line q.answered h.short goes none;
         read = h.read;
         need = h.need;
-        written = subst (Appends a.written c.written) (sym (texts_more x q.lines now.line)) (appends_twice a.written b.written c.written (texts x q.lines) (text_of x now.line) q.written w);
+        written = subst (Appends a.written c.written) (sym (texts_more x q.lines now.line)) (appends_twice a.written b.written c.written (flat_map (text_of x) q.lines) (text_of x now.line) q.written w);
         reads = omega (arith, q.reads);
         writes = omega (arith, q.writes);
       }
@@ -333,16 +336,16 @@ module _ (x : Known) (n : ℕ) (a b c : Standing) where
       let t = next_text x n now.line h.rest few h.short none in
       let few' : length q.lines ≤ MOST_INPUT_LINES = omega (arith, q.count) in
       let all = all_answered x a.left c.left q.lines (now.line ∷ h.rest) h.on few' q.answered in
-      let e : (answers x h.on.commands).text ≡ texts x q.lines ++ (text_of x now.line ++ t.0) =
-      ap (λ (o : Output). o.text) all ∙ ap (λ w. texts x q.lines ++ w) (ap (λ k. (answers_from x k (now.line ∷ h.rest)).text) q.count ∙ t.1) in
+      let e : (answers x h.on.commands).text ≡ flat_map (text_of x) q.lines ++ (text_of x now.line ++ t.0) =
+      ap (λ (o : Output). o.text) all ∙ ap (λ w. flat_map (text_of x) q.lines ++ w) (ap (λ k. (answers_from x k (now.line ∷ h.rest)).text) q.count ∙ t.1) in
       unwritten h.on.commands h.on.told (rose_before a.writes b.writes c.writes q.writes rose)
-      (subst (AppendsPart a.written c.written) (sym e) (part_after a.written b.written c.written (texts x q.lines) (text_of x now.line) t.0 q.written part))
+      (subst (AppendsPart a.written c.written) (sym e) (part_after a.written b.written c.written (flat_map (text_of x) q.lines) (text_of x now.line) t.0 q.written part))
   goes_on was now q (Some _) r few reads writes (unfinished_line same) =
       let h = has_line was now q r in
       let few' : length q.lines ≤ MOST_INPUT_LINES = omega (arith, q.count) in
       let all = all_answered x a.left c.left q.lines (now.line ∷ h.rest) h.on few' q.answered in
-      let w : Appends a.written c.written (texts x q.lines) = subst (λ v. Appends a.written v (texts x q.lines)) (sym same) q.written in
-      unfinished h.on.commands h.on.told (subst (λ (o : Output). AppendsFront a.written c.written o.text) (sym all) (front_after a.written c.written (texts x q.lines) (answers_from x (length q.lines) (now.line ∷ h.rest)).text w))
+      let w : Appends a.written c.written (flat_map (text_of x) q.lines) = subst (λ v. Appends a.written v (flat_map (text_of x) q.lines)) (sym same) q.written in
+      unfinished h.on.commands h.on.told (subst (λ (o : Output). AppendsFront a.written c.written o.text) (sym all) (front_after a.written c.written (flat_map (text_of x) q.lines) (answers_from x (length q.lines) (now.line ∷ h.rest)).text w))
 
 -- before the first line
 read_none : (o : Option (List ℕ)) → IsReadTo o o (record { line = []; held = []; ended = false }) []
@@ -424,10 +427,12 @@ module _ (x : Known) (head : List ℕ) (a m c : Standing) (left : m.left ≡ a.l
     lines = broken.lines;
     rest = broken.rest;
     takes = subst (λ o. Takes o c.left broken.taken) left broken.takes;
-    whole = broken.whole;
+    is = broken.is;
+    plain = broken.plain;
+    open_end = broken.open_end;
     answered = broken.answered;
     few = broken.few;
-    written = appends_twice a.written m.written c.written head (texts x broken.lines) first broken.written;
+    written = appends_twice a.written m.written c.written head (flat_map (text_of x) broken.lines) first broken.written;
   })
   headed status (unwritten commands told rose part) =
       let p = part_after a.written m.written c.written head (answers x commands).text [] first part in

@@ -1,4 +1,5 @@
 -- How the lines of an input are read and answered, one after another.
+use Rattle.std.specs.List.{flat_map}
 use Rattle.std.specs.Prelude.{◌≡◌, ◌≢◌, ◌⊎◌, ℕ, ◌+◌, ◌≤◌, Bool, true, false, List, [], ◌++◌, length, Option, Some, None}
 use Rattle.ppd_io.specs.Causes.{Rose}
 use Rattle.ppd_io.specs.Content.{Appends, AppendsPart}
@@ -10,7 +11,7 @@ use Rattle.ppd_session.specs.Sessions.{FlowError, error_of}
 use Rattle.ppd_session.specs.Texts.{failure_of, refused_replay, text_of}
 use Rattle.ppd_session.specs.declared.reply.SessionError.{SessionError}
 use Rattle.ppd_session.specs.declared.reply.SessionError.TheVariants.{Memory}
-use Rattle.ppd_top_runs.specs.Output.{Finished, AreAnswered, AreNotYetTaken, ArePlain, Standing, Talks, ended, texts}
+use Rattle.ppd_top_runs.specs.Output.{Finished, AreAnswered, AreNotYetTaken, ArePlain, Standing, Talks, ended}
 
 -- these lines were read of these bytes, and what is left of them: before the end was met, and after it
 abbrev pub IsSplit : Bool → (bytes : List ℕ) → (lines : List (List ℕ)) → (rest : List ℕ) → Type 0
@@ -38,7 +39,7 @@ pub record IsAsked (x : Known) (n : ℕ) (r : Lined) (a b : Standing) : Type 0 w
   pub answered : AreAnswered x lines
   pub read : IsReadTo a.left b.left r lines
   pub need : IsReadAtNeed a.left b.left b.last r lines
-  pub written : Appends a.written b.written (texts x lines)
+  pub written : Appends a.written b.written (flat_map (text_of x) lines)
   pub reads : a.reads ≤ b.reads
   pub writes : a.writes ≤ b.writes
 

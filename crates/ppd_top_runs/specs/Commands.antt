@@ -44,11 +44,6 @@ known_of program options schedule = known_of_run program (plan_of program option
 abbrev pub header_of : Options → Header
 header_of options = record { policy = options.policy; budget = options.budget }
 
--- these bytes are the recording of that run: of the source, the options and the logs
-abbrev pub IsRecordingOfRun : (source : List ℕ) → Program → Options → (schedule recording : List ℕ) → Type 0
-IsRecordingOfRun source program options schedule recording =
-    IsRunRecorded source (header_of options) program schedule recording
-
 -- ---- a command
 
 -- nothing came to its end, and nothing was read or written
@@ -99,7 +94,7 @@ pub data Keeps (IsRecording : List ℕ → Type 0) (name summary : List ℕ) (x 
 pub record WasRecorded (source : List ℕ) (program : Program) (options : Options) (name schedule : List ℕ)
     (x y : Keeping) (status : ℕ) : Type 0 where
   pub whole : IsWholeRun program options schedule
-  pub keeps : Keeps (IsRecordingOfRun source program options schedule) name
+  pub keeps : Keeps (IsRunRecorded source (header_of options) program schedule) name
       (summary_of_run program options schedule) x y status
 
 -- nothing came to its end, and nothing was stored or written

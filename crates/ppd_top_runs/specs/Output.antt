@@ -1,5 +1,5 @@
 -- What is written of a run and of the command lines that are asked about it, and with which status that ends.
-use Rattle.std.specs.Prelude.{◌≡◌, ◌||◌, is_some, ℕ, ◌+◌, ◌<◌, ◌≤◌, nat_lt, nat_le, Bool, false, List, [], ◌∷◌, ◌++◌, length, take, Option, Some, None, IfSome, codes, if◌then◌else◌}
+use Rattle.std.specs.Prelude.{◌≡◌, ◌||◌, is_some, ℕ, ◌+◌, ◌<◌, ◌≤◌, nat_lt, nat_le, Bool, false, List, [], ◌∷◌, ◌++◌, length, take, Option, Some, None, IfSome, codes, if◌then◌else◌, option_map}
 use Rattle.std.specs.List.{flat_map}
 use Rattle.ppd_ast.specs.declared.limits.TheConstants.{MOST_INPUT_LINES, MOST_LINE_BYTES}
 use Rattle.ppd_io.specs.declared.bytes.TheConstants.{CHUNK_BYTES}
@@ -48,10 +48,6 @@ answers x commands = answers_from x 0 (lines_of commands)
 abbrev pub ended : List (List ℕ) → List ℕ
 ended lines = flat_map (λ l. l ++ 10 ∷ []) lines
 
--- the answers to lines, whatever they are
-abbrev pub texts : Known → List (List ℕ) → List ℕ
-texts x lines = flat_map (text_of x) lines
-
 -- none of the lines has a newline in it
 abbrev pub ArePlain : List (List ℕ) → Type 0
 ArePlain [] = Unit {0}
@@ -67,11 +63,6 @@ abbrev pub AreFine : ℕ → List (List ℕ) → Type 0
 AreFine n [] = Unit {0}
 AreFine n (l ∷ ls) = (n < MOST_INPUT_LINES) × (length l ≤ MOST_LINE_BYTES) × (is_quit l ≡ false → AreFine (n + 1) ls)
 
--- one line before others, if there are others
-abbrev pub with_line : List ℕ → Option (List (List ℕ)) → Option (List (List ℕ))
-with_line l None = None
-with_line l (Some ls) = Some (l ∷ ls)
-
 -- of these lines, after n before them, those through the `quit` or the failed replay that ends the answers, if one does
 abbrev pub through_quit : Known → ℕ → List (List ℕ) → Option (List (List ℕ))
 through_quit x n [] = None
@@ -79,7 +70,7 @@ through_quit x n (l ∷ ls) =
     if nat_le MOST_INPUT_LINES n then None
     else if nat_lt MOST_LINE_BYTES (length l) then None
     else if is_quit l || is_some (failure_of x l) then Some (l ∷ [])
-    else with_line l (through_quit x (n + 1) ls)
+    else option_map (λ through. l ∷ through) (through_quit x (n + 1) ls)
 
 -- these lines were not yet taken whole when the last read began: fewer bytes were taken before it than the lines have
 -- with their newlines
@@ -93,12 +84,6 @@ IsReadNoFurther x commands left last =
     IfSome (through_quit x 0 (lines_of commands)) (λ lines. IfSome left
     (λ rest. (length commands < length (ended lines) + CHUNK_BYTES + length rest)
     × AreNotYetTaken commands lines last))
-
--- the whole lines among these bytes, and what stands after them
-pub record AreWholeLines (bytes : List ℕ) (lines : List (List ℕ)) (rest : List ℕ) : Type 0 where
-  pub is : bytes ≡ ended lines ++ rest
-  pub plain : ArePlain lines
-  pub open_end : HasNoNewline rest
 
 -- the source's bytes, where they are still told
 abbrev pub AreCommands : Option (List ℕ) → Option (List ℕ) → List ℕ → Type 0
@@ -131,18 +116,20 @@ pub record IsUnread (a b : Standing) : Type 0 where
   pub last : b.last ≡ a.last
   pub reads : b.reads ≡ a.reads
 
--- a read failed: the answers to the whole lines among the bytes taken were written, and none of these lines ends the
--- answers
+-- a read failed: the answers to the whole lines among the bytes taken, after which some bytes of a line stand, were
+-- written, and none of these lines ends the answers
 pub record IsBroken (x : Known) (head : List ℕ) (a b : Standing) : Type 0 where
   pub rose : Rose a.reads b.reads
   pub taken : List ℕ
   pub lines : List (List ℕ)
   pub rest : List ℕ
   pub takes : Takes a.left b.left taken
-  pub whole : AreWholeLines taken lines rest
+  pub is : taken ≡ ended lines ++ rest
+  pub plain : ArePlain lines
+  pub open_end : HasNoNewline rest
   pub answered : AreAnswered x lines
   pub few : length lines ≤ MOST_INPUT_LINES
-  pub written : Appends a.written b.written (head ++ texts x lines)
+  pub written : Appends a.written b.written (head ++ flat_map (text_of x) lines)
 
 -- from one standing to another by this status: all was written; a read failed; a write failed, after a proper prefix;
 -- or memory ran out, after some prefix

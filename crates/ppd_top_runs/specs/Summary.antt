@@ -1,8 +1,9 @@
 -- What is written of a run: how each process ended and what it printed, and the races.
-use Rattle.std.specs.Prelude.{ℕ, ◌+◌, ℤ, List, [], ◌∷◌, ◌++◌, Option, Some, None, codes, decimal, slice_get}
+use Rattle.std.specs.Prelude.{ℕ, ◌+◌, ℤ, List, [], ◌∷◌, ◌++◌, codes, decimal, slice_get}
+use Rattle.std.specs.List.{flat_map}
+use Rattle.std.specs.Option.{option_map_or}
 use Rattle.std.specs.Fmt.{signed_decimal}
 use Rattle.ppd_ast.specs.declared.program.Place.{Place}
-use Rattle.ppd_ast.specs.declared.program.Stmt.{Stmt}
 use Rattle.ppd_ast.specs.declared.program.Program.{Program}
 use Rattle.ppd_ast.specs.declared.plan.Plan.{Plan}
 use Rattle.ppd_ast.specs.declared.status.Status.{Status}
@@ -25,19 +26,13 @@ status_text status.Blocked place = codes "blocked " ++ place_text place
 abbrev pub print_text : List ℕ → ℤ → List ℕ
 print_text name value = codes "print " ++ name ++ codes " " ++ signed_decimal value ++ codes "\n"
 
-abbrev pub print_texts : List ℕ → List ℤ → List ℕ
-print_texts name [] = []
-print_texts name (v ∷ vs) = print_text name v ++ print_texts name vs
-
-abbrev pub place_at : Option Stmt → Place
-place_at None = record { line = 1; column = 1 }
-place_at (Some s) = s.place
-
 -- a process with this name that ended so
 abbrev pub end_text : Program → List ℕ → ProcEnd → List ℕ
 end_text program name e =
-    codes "process " ++ name ++ codes " " ++ status_text e.status (place_at (slice_get program.stmts e.stmt))
-    ++ codes " steps " ++ decimal e.steps ++ codes "\n" ++ print_texts name e.prints
+    codes "process " ++ name ++ codes " "
+    ++ status_text e.status
+    (option_map_or (λ s. s.place) (slice_get program.stmts e.stmt) (record { line = 1; column = 1 }))
+    ++ codes " steps " ++ decimal e.steps ++ codes "\n" ++ flat_map (print_text name) e.prints
 
 -- the processes in order; the first one's body has number b
 abbrev pub end_texts : Program → ℕ → List ProcEnd → List ℕ

@@ -1,6 +1,7 @@
 // What is written of a run.
 ghost use Rattle.std.specs.Prelude.{◌≡◌, ◌++◌, ◌+◌, ◌<◌, ◌^◌, length, OnOk, IfOk, slice_get};
-ghost use Rattle.ppd_top_runs.specs.Summary.{place_at as place_for, end_text, end_texts, summary_of};
+ghost use Rattle.std.specs.Option.{option_map_or};
+ghost use Rattle.ppd_top_runs.specs.Summary.{end_text, end_texts, summary_of};
 
 use crate::text::{put_prints, put_status};
 use ppd_ast::{Memory, Place, Program};
@@ -10,7 +11,8 @@ use ppd_text::{body_name, put, put_number};
 use std::alloc::Global;
 
 fn place_at(program: &Program, stmt: u32) -> Place
-    ensures { result ≡ place_for (slice_get program.now.stmts stmt) }
+    ensures { result
+        ≡ option_map_or (λ s. s.place) (slice_get program.now.stmts stmt) (record { line = 1; column = 1 }) }
 {
     match program.stmts.as_slice().get(stmt as usize) {
         Some(stmt) => stmt.place,

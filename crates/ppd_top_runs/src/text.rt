@@ -1,5 +1,6 @@
+ghost use Rattle.std.specs.List.{flat_map};
 ghost use Rattle.std.specs.Prelude.{◌≡◌, ◌++◌, OnOk};
-ghost use Rattle.ppd_top_runs.specs.Summary.{status_text, print_text, print_texts};
+ghost use Rattle.ppd_top_runs.specs.Summary.{status_text, print_text};
 
 use ppd_ast::{Memory, Place, Status};
 use ppd_text::{put, put_place, put_trap, put_value};
@@ -37,7 +38,7 @@ fn put_print(text: &mut Vec<u8>, name: &[u8], value: i64) -> Result<(), Memory>
 }
 
 pub(crate) fn put_prints(text: &mut Vec<u8>, name: &[u8], values: &[i64]) -> Result<(), Memory>
-    ensures { OnOk result (text.new.items ≡ text.old.items ++ print_texts name.now values.now) }
+    ensures { OnOk result (text.new.items ≡ text.old.items ++ flat_map (print_text name.now) values.now) }
 {
     for value in values {
         put_print(text, name, *value)?;

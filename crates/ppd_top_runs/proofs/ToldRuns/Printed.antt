@@ -1,20 +1,21 @@
 -- The prints and the processes, one more at a time.
+use Rattle.std.specs.List.{flat_map}
 use Rattle.std.proofs.Common.{◌≡◌, ℕ, ◌+◌, ◌<◌, ℤ, List, [], ◌∷◌, ◌++◌, length, get_or, take, refl, sym, ◌∙◌, ap, append_assoc, append-nil, arith}
 use Rattle.std.specs.Prelude.{slice_get}
 use Rattle.std.proofs.lemmas.List.{take_more, length-take-le}
 use Rattle.ppd_ast.specs.declared.program.Program.{Program}
 use Rattle.ppd_ast.specs.Lookups.{name_of_body}
 use Rattle.ppd_model.specs.declared.closed.ProcEnd.{ProcEnd}
-use Rattle.ppd_top_runs.specs.Summary.{print_text, print_texts, end_text, end_texts}
+use Rattle.ppd_top_runs.specs.Summary.{print_text, end_text, end_texts}
 
-print_texts-more : (name : List ℕ) (vs : List ℤ) (v : ℤ) → print_texts name (vs ++ v ∷ []) ≡ print_texts name vs ++ print_text name v
-print_texts-more name [] v = append-nil (print_text name v)
-print_texts-more name (w ∷ vs) v =
-    ap (λ (t : List ℕ). print_text name w ++ t) (print_texts-more name vs v)
-    ∙ sym (append_assoc (print_text name w) (print_texts name vs) (print_text name v))
+prints-more : (name : List ℕ) (vs : List ℤ) (v : ℤ) → flat_map (print_text name) (vs ++ v ∷ []) ≡ flat_map (print_text name) vs ++ print_text name v
+prints-more name [] v = append-nil (print_text name v)
+prints-more name (w ∷ vs) v =
+    ap (λ (t : List ℕ). print_text name w ++ t) (prints-more name vs v)
+    ∙ sym (append_assoc (print_text name w) (flat_map (print_text name) vs) (print_text name v))
 
-pub print_texts-taken : (name : List ℕ) (vs : List ℤ) (i : ℕ) (d : ℤ) → i < length vs → print_texts name (take (i + 1) vs) ≡ print_texts name (take i vs) ++ print_text name (get_or vs i d)
-print_texts-taken name vs i d lt = ap (print_texts name) (take_more vs i d lt) ∙ print_texts-more name (take i vs) (get_or vs i d)
+pub prints-taken : (name : List ℕ) (vs : List ℤ) (i : ℕ) (d : ℤ) → i < length vs → flat_map (print_text name) (take (i + 1) vs) ≡ flat_map (print_text name) (take i vs) ++ print_text name (get_or vs i d)
+prints-taken name vs i d lt = ap (flat_map (print_text name)) (take_more vs i d lt) ∙ prints-more name (take i vs) (get_or vs i d)
 
 pub appended : (old before now more text new : List ℕ) → now ≡ old ++ before → text ≡ before ++ more → new ≡ now ++ more → new ≡ old ++ text
 appended old before now more text new a c b = b ∙ (ap (λ (w : List ℕ). w ++ more) a ∙ (append_assoc old before more ∙ ap (λ (w : List ℕ). old ++ w) (sym c)))
