@@ -10,7 +10,8 @@ use Rattle.ppd_top.specs.Clauses.{IsOutcome, IsPromised, IsPromisedAnswers}
 use Rattle.ppd_top.specs.Output.{AreCommands, answers}
 use Rattle.ppd_top.specs.Summary.{summary_of}
 use Rattle.ppd_top.specs.Top.{most_bytes, most_recording}
-use Rattle.ppd_top.specs.Words.{Asks, AsksDebug}
+use Rattle.ppd_top.specs.Words.{Asks}
+use Rattle.ppd_top.specs.Words.Request.{on_source, on_recording}
 use Rattle.ppd_top.specs.Words.Command.{Flow, Run as RunTo}
 use Rattle.law_headline.specs.Headline.{Headline}
 use Rattle.law_headline.specs.Runs.{Run, plan_in}
@@ -30,7 +31,7 @@ HasAnswered c = (c.status ≡ 0) ⊎ ((c.status ≡ 7) ⊎ (c.status ≡ 8))
 -- ---- `flow`
 
 abbrev pub AsksFlow : Call → Type 0
-AsksFlow c = (name : List ℕ) × (options : Options) × Asks c.words Flow name options
+AsksFlow c = (name : List ℕ) × (options : Options) × Asks c.words (on_source Flow name options)
 
 -- the run is that of the loaded source with the options, by the schedule that the threads took; all that was written is
 -- its report and, by what is told of it, the answers to the lines of the input
@@ -40,7 +41,7 @@ pub record FlowTells (c : Call) : Type 0 where
   pub run : Run
   pub known : Known
   pub commands : List ℕ
-  pub asked : Asks c.words Flow name options
+  pub asked : Asks c.words (on_source Flow name options)
   pub loaded : Loads c.before.held name most_bytes run.source
   pub policy_is : run.policy ≡ options.policy
   pub budget_is : run.budget ≡ options.budget
@@ -62,7 +63,8 @@ AcceptedProgramsAreTold =
 -- ---- `run`
 
 abbrev pub AsksRun : Call → Type 0
-AsksRun c = (recording : List ℕ) × (name : List ℕ) × (options : Options) × Asks c.words (RunTo recording) name options
+AsksRun c = (recording : List ℕ) × (name : List ℕ) × (options : Options)
+    × Asks c.words (on_source (RunTo recording) name options)
 
 -- so is the run, whose report was written; and the shelf holds its recording
 pub record RunTells (c : Call) : Type 0 where
@@ -72,7 +74,7 @@ pub record RunTells (c : Call) : Type 0 where
   pub run : Run
   pub known : Known
   pub stored : List ℕ
-  pub asked : Asks c.words (RunTo recording) name options
+  pub asked : Asks c.words (on_source (RunTo recording) name options)
   pub loaded : Loads c.before.held name most_bytes run.source
   pub policy_is : run.policy ≡ options.policy
   pub budget_is : run.budget ≡ options.budget
@@ -94,7 +96,7 @@ SourcesAreRecorded =
 -- ---- `debug`
 
 abbrev pub AsksLines : Call → Type 0
-AsksLines c = (name : List ℕ) × AsksDebug c.words name
+AsksLines c = (name : List ℕ) × Asks c.words (on_recording name)
 
 -- all that was written is, by what is told of each run whose recording was loaded, the answers to the lines of the input
 pub record DebugTells (c : Call) : Type 0 where
@@ -102,7 +104,7 @@ pub record DebugTells (c : Call) : Type 0 where
   pub bytes : List ℕ
   pub known : Known
   pub commands : List ℕ
-  pub asked : AsksDebug c.words name
+  pub asked : Asks c.words (on_recording name)
   pub loaded : Loads c.before.held name most_recording bytes
   pub headline : (run : Run) → IsRecorded run bytes → Headline run known
   pub told : AreCommands c.before.io.left c.after.io.left commands

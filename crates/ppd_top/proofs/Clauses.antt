@@ -5,7 +5,7 @@ use Rattle.ppd_io.specs.Content.{StoreFails}
 use Rattle.ppd_top_query.specs.OfRuns.{AnswersAreOfRuns}
 use Rattle.ppd_top_runs.specs.declared.options.Options.{Options}
 use Rattle.ppd_top.specs.Call.{Call, HasFailedLoad, LeftShelf, Wrote}
-use Rattle.ppd_top.specs.Clauses.{AnswersCutOff, DrillCutOff, InputFailed, IsOutcome, IsPromised, IsPromisedAnswers, IsPromisedDrill, IsPromisedQuery, IsTaken, LinesFailed, LoadFailed, MemoryRanOut, QueryRefused, RanWhole, RecordingUnread, ReplayRefused, StoreFailed, StoresNothing, WasAnswered, WasCutOff, WasDrilled, WasNotAsked, WasNotRecalled, WasNotStored, WasQueried, WasRefused, WasShown, WasStored, WriteFailed}
+use Rattle.ppd_top.specs.Clauses.{AnswersCutOff, DrillCutOff, InputFailed, IsOutcome, IsPromised, IsPromisedAnswers, IsPromisedDrill, IsPromisedQuery, IsTaken, LinesFailed, LoadFailed, MemoryRanOut, QueryRefused, RanWhole, ReplayRefused, StoreFailed, StoresNothing, WasAnswered, WasCutOff, WasDrilled, WasNotAsked, WasNotRecalled, WasNotStored, WasQueried, WasRefused, WasShown, WasStored, WriteFailed}
 use Rattle.ppd_top.specs.Clauses.IsTaken.{by_drill, by_run}
 use Rattle.ppd_top.specs.Ran.{Comes}
 use Rattle.ppd_top.specs.Ran.Comes.{not_asked, no_memory, not_loaded, refusal, flow_done, show_done, run_done, recording_not_loaded, debug_done, drill_done, query_done}
@@ -14,6 +14,7 @@ use Rattle.ppd_top.specs.Top.{usage}
 use Rattle.ppd_top_runs.specs.Output.{Finished}
 use Rattle.ppd_top.specs.Top.Writes.{for_words}
 use Rattle.ppd_top.specs.Words.{Asks, Command}
+use Rattle.ppd_top.specs.Words.Request.{on_source}
 use Rattle.ppd_top.specs.Words.Command.{Flow, Run, Show}
 use Rattle.ppd_top_runs.proofs.Conversing.{same_input}
 use Rattle.ppd_top.proofs.Debugged.{debug_any, debug_broken, debug_complete, debug_out, debug_refused, debug_unwritten, debug_whole}
@@ -97,16 +98,16 @@ module _ (of_runs : AnswersAreOfRuns) (c : Call) where
   was_not_asked (drill_done number asks left same d) e = absurd (other_than 2 c.status (0 ∷ 4 ∷ 5 ∷ []) refl e (drill_any c number asks d))
   was_not_asked (query_done name query bytes asks loads left same d) e = absurd (other_than 2 c.status (0 ∷ 4 ∷ 5 ∷ 6 ∷ []) refl e (query_any c name query bytes asks loads d))
 
-  was_unread : Comes c → c.status ≡ 3 → LoadFailed c ⊎ (InputFailed c ⊎ (RecordingUnread c ⊎ LinesFailed c))
+  was_unread : Comes c → c.status ≡ 3 → LoadFailed c ⊎ (InputFailed c ⊎ LinesFailed c)
   was_unread (not_asked none left empty same f) e = absurd (other_than 3 c.status (2 ∷ 4 ∷ []) refl e (finished_in c.before.io.written c.after.io.written c.before.io.writes c.after.io.writes c.status 2 usage f))
   was_unread (no_memory is left none) e = absurd (other_than 3 c.status (5 ∷ []) refl e (inl is))
-  was_unread (not_loaded command name options asks left is rose none) e = inl (record { command = command; name = name; options = options; asked = asks; rose = rose; no_run = none.no_run; unread = none.unread; written = none.written })
+  was_unread (not_loaded command name options asks left is rose none) e = inl (record { name = name; asked = inl (command, options, asks); rose = rose; no_run = none.no_run; unread = none.unread; written = none.written })
   was_unread (refusal command name options bytes error asks loads cause left empty same r) e = absurd (other_than 3 c.status (1 ∷ 4 ∷ 5 ∷ []) refl e (refused_any error c.before.io c.after.io c.status r))
   was_unread (flow_done name options bytes program asks loads read left d) e = inr (inl (flow_broken c name options bytes loads asks program read d e))
   was_unread (show_done name options bytes program asks loads read left same d) e = absurd (other_than 3 c.status (0 ∷ 4 ∷ 5 ∷ []) refl e (show_any c name options bytes loads asks program read d))
   was_unread (run_done name recording options bytes program asks loads read same d) e = absurd (other_than 3 c.status (0 ∷ 4 ∷ 5 ∷ []) refl e (run_any c name recording options bytes program asks loads read d))
-  was_unread (recording_not_loaded name asks left is rose none) e = inr (inr (inl (record { name = name; asked = asks; rose = rose; no_run = none.no_run; unread = none.unread; written = none.written })))
-  was_unread (debug_done name bytes asks loads left empty d) e = inr (inr (inr (debug_broken c name bytes asks loads empty d e)))
+  was_unread (recording_not_loaded name asks left is rose none) e = inl (record { name = name; asked = inr asks; rose = rose; no_run = none.no_run; unread = none.unread; written = none.written })
+  was_unread (debug_done name bytes asks loads left empty d) e = inr (inr (debug_broken c name bytes asks loads empty d e))
   was_unread (drill_done number asks left same d) e = absurd (other_than 3 c.status (0 ∷ 4 ∷ 5 ∷ []) refl e (drill_any c number asks d))
   was_unread (query_done name query bytes asks loads left same d) e = absurd (other_than 3 c.status (0 ∷ 4 ∷ 5 ∷ 6 ∷ []) refl e (query_any c name query bytes asks loads d))
 
@@ -154,7 +155,7 @@ module _ (of_runs : AnswersAreOfRuns) (c : Call) where
   was_not_recalled (query_done name query bytes asks loads left same d) e = elim (query_not_told c name query bytes asks loads of_runs same d e) [ inl w ↦ inl w | inr w ↦ inr (inr w) ]
 
   -- a promise speaks of the name that was loaded
-  same_load : (command : Command) (name : List ℕ) (options : Options) → Asks c.words command name options → HasFailedLoad c name → (p : IsPromised c) → HasFailedLoad c p.name
+  same_load : (command : Command) (name : List ℕ) (options : Options) → Asks c.words (on_source command name options) → HasFailedLoad c name → (p : IsPromised c) → HasFailedLoad c p.name
   same_load command name options asks rose p = subst (HasFailedLoad c) (one_name c.words command p.command name p.name options p.options asks p.asked) rose
 
   is_complete : Comes c → IsPromised c → (c.status ≡ 0) ⊎ (c.status ≡ 5)
@@ -245,7 +246,7 @@ module _ (of_runs : AnswersAreOfRuns) (c : Call) where
   taken (query_done name query bytes asks loads left same d) = query_taken c name query bytes asks loads d
 
   -- `run` has none of these statuses
-  not_kept : (name recording : List ℕ) (options : Options) → Asks c.words (Run recording) name options → IsIn c.status (0 ∷ 4 ∷ 5 ∷ []) → StoresNothing c → ⊥
+  not_kept : (name recording : List ℕ) (options : Options) → Asks c.words (on_source (Run recording) name options) → IsIn c.status (0 ∷ 4 ∷ 5 ∷ []) → StoresNothing c → ⊥
   not_kept name recording options asks h (inl e) = other_than 1 c.status (0 ∷ 4 ∷ 5 ∷ []) refl e h
   not_kept name recording options asks h (inr (inl e)) = other_than 2 c.status (0 ∷ 4 ∷ 5 ∷ []) refl e h
   not_kept name recording options asks h (inr (inr (inl e))) = other_than 3 c.status (0 ∷ 4 ∷ 5 ∷ []) refl e h
@@ -270,7 +271,7 @@ module _ (of_runs : AnswersAreOfRuns) (c : Call) where
   keeps_stores : Comes c → StoresNothing c → (n : List ℕ) → c.after.stores n ≡ c.before.stores n
   keeps_stores how e = (leaves_shelf how e).stores
 
-  keeps_others : Comes c → (name recording : List ℕ) (options : Options) → Asks c.words (Run recording) name options → StoreFails c.before.held c.after.held recording
+  keeps_others : Comes c → (name recording : List ℕ) (options : Options) → Asks c.words (on_source (Run recording) name options) → StoreFails c.before.held c.after.held recording
   keeps_others (not_asked none left empty same f) = λ n r o asked. others_same c.before.held c.after.held r left.held
   keeps_others (no_memory is left none) = λ n r o asked. others_same c.before.held c.after.held r left.held
   keeps_others (not_loaded command name options asks left is rose none) = λ n r o asked. others_same c.before.held c.after.held r left.held

@@ -1,4 +1,6 @@
 -- What `debug` comes to, by its status.
+use Rattle.ppd_top.specs.Words.{Asks}
+use Rattle.ppd_top.specs.Words.Request.{on_recording}
 use Rattle.std.specs.Prelude.{None, ◌⊎◌}
 use Rattle.std.proofs.Common.{◌≡◌, ℕ, List, [], ◌∷◌, arith, inl, inr, refl, subst, sym, ◌∙◌}
 use Rattle.ppd_ast.specs.declared.program.Program.{Program}
@@ -29,7 +31,6 @@ use Rattle.ppd_top.specs.Clauses.{AnswersCutOff, IsPromisedAnswers, IsRecalledFr
 use Rattle.ppd_top.specs.Top.{most_recording}
 use Rattle.ppd_top.specs.Top.Recalls.{refused_recording, answered}
 use Rattle.ppd_top.specs.Top.Writes.{for_recording}
-use Rattle.ppd_top.specs.Words.{AsksDebug}
 use Rattle.ppd_top_runs.proofs.Conversing.{same_input}
 use Rattle.ppd_top.proofs.Outcomes.{loaded, one_recording_name, write_failed}
 use Rattle.ppd_top.proofs.Statuses.{IsIn, any_in, other_than}
@@ -57,7 +58,7 @@ pub debug_not_early : (bytes : List ℕ) (a b : Standing) (status : ℕ) → Deb
 debug_not_early bytes a b status d (inl e) = other_than 1 status (0 ∷ 7 ∷ 8 ∷ 3 ∷ 4 ∷ 5 ∷ 6 ∷ []) refl e (debugs_in bytes a b status d)
 debug_not_early bytes a b status d (inr e) = other_than 2 status (0 ∷ 7 ∷ 8 ∷ 3 ∷ 4 ∷ 5 ∷ 6 ∷ []) refl e (debugs_in bytes a b status d)
 
-module _ (c : Call) (name bytes : List ℕ) (asks : AsksDebug c.words name) (loads : Loads c.before.held name most_recording bytes) (no_run : c.schedule ≡ []) where
+module _ (c : Call) (name bytes : List ℕ) (asks : Asks c.words (on_recording name)) (loads : Loads c.before.held name most_recording bytes) (no_run : c.schedule ≡ []) where
   abbrev from : (r : Recording) → IsAccepted bytes r → IsRecalledFrom c r (known_of_recording r)
   from r accepted = record {
     name = name;

@@ -15,17 +15,17 @@ use Rattle.ppd_io.specs.Content.{Appends, AppendsPart}
 use Rattle.ppd_io.specs.Lines.{lines_of}
 use Rattle.ppd_top_runs.specs.Commands.{Flows, known_of, summary_of_run}
 use Rattle.ppd_top_runs.specs.declared.options.Options.{Options}
-use Rattle.ppd_top_runs.specs.Output.{AppendsFront, Standing, Talks, answers, Finished}
+use Rattle.ppd_top_runs.specs.Output.{AppendsFront, Standing, Talks, answers, Finished, IsUnread}
 use Rattle.ppd_top_runs.specs.Output.Talks.{whole, unread, unwritten, unfinished}
 use Rattle.ppd_top.specs.Ran.{Drilled, Drills, Refuses}
 use Rattle.ppd_top.specs.Ran.Drilled.{no_program, drilled}
-use Rattle.ppd_top.specs.Call.{Call, LeftInput}
+use Rattle.ppd_top.specs.Call.{Call}
 use Rattle.ppd_top.specs.Clauses.{DrillCutOff, IsPromisedDrill, MemoryRanOut, WasDrilled, WriteFailed}
-use Rattle.ppd_top.specs.Top.{drill_commands, drill_options, drill_out}
+use Rattle.ppd_top.specs.Top.{drill_commands, drill_options, out_of}
 use Rattle.ppd_top.specs.Top.Answers.{run}
 use Rattle.ppd_top.specs.Top.Writes.{for_number}
 use Rattle.ppd_top_words.specs.Reads.{texts_in}
-use Rattle.ppd_top.specs.Words.{Asks, AsksDebug, AsksDrill, Command, IsNotAsked, asked}
+use Rattle.ppd_top.specs.Words.{Asks, Command, IsNotAsked, asked}
 use Rattle.ppd_top.specs.Words.Request.{on_source, on_recording, on_number}
 use Rattle.ppd_top.proofs.Agreeing.{of_agreeing}
 use Rattle.ppd_top_runs.proofs.Conversing.{same_input}
@@ -35,15 +35,15 @@ use Rattle.ppd_top.proofs.Talked.{fine_end, same_commands}
 
 -- ---- what the words ask for
 
-pub not_source : (words : List (Bor (List ℕ))) (command : Command) (name : List ℕ) (options : Options) (number : ℕ) → Asks words command name options → AsksDrill words number → ⊥
+pub not_source : (words : List (Bor (List ℕ))) (command : Command) (name : List ℕ) (options : Options) (number : ℕ) → Asks words (on_source command name options) → Asks words (on_number number) → ⊥
 not_source words command name options number a b =
     let s : on_source command name options ≡ on_number number = one_request _ _ (asked (texts_in words)) a b in cc
 
-pub not_recording : (words : List (Bor (List ℕ))) (name : List ℕ) (number : ℕ) → AsksDebug words name → AsksDrill words number → ⊥
+pub not_recording : (words : List (Bor (List ℕ))) (name : List ℕ) (number : ℕ) → Asks words (on_recording name) → Asks words (on_number number) → ⊥
 not_recording words name number a b =
     let s : on_recording name ≡ on_number number = one_request _ _ (asked (texts_in words)) a b in cc
 
-pub not_nothing : (words : List (Bor (List ℕ))) (number : ℕ) → IsNotAsked words → AsksDrill words number → ⊥
+pub not_nothing : (words : List (Bor (List ℕ))) (number : ℕ) → IsNotAsked words → Asks words (on_number number) → ⊥
 not_nothing words number none a = none-some (on_number number) (sym none ∙ a)
 
 -- ---- one line in place of an input that does not fail
@@ -58,7 +58,7 @@ never_rose r =
 
 module _ (program : Program) (schedule : List ℕ) where
   -- all answers end well
-  drill_status : (drill_out program schedule).status ≡ 0
+  drill_status : (out_of program drill_options schedule drill_commands).status ≡ 0
   drill_status =
       let few : 0 < MOST_INPUT_LINES = omega arith in
       let short : 5 ≤ MOST_LINE_BYTES = omega arith in
@@ -66,8 +66,8 @@ module _ (program : Program) (schedule : List ℕ) where
 
   module _ (a b : Standing) (rest : List ℕ) (e : a.left ≡ Some drill_commands) (f : b.left ≡ Some rest) (none : Rose a.reads b.reads → ⊥) where
     ends_of : (status : ℕ) → Talks (known_of program drill_options schedule) (summary_of_run program drill_options schedule) a b status
-        → Finished a.written b.written a.writes b.writes status 0 (drill_out program schedule).text
-        ⊎ ((status ≡ 5) × AppendsFront a.written b.written (drill_out program schedule).text)
+        → Finished a.written b.written a.writes b.writes status 0 (out_of program drill_options schedule drill_commands).text
+        ⊎ ((status ≡ 5) × AppendsFront a.written b.written (out_of program drill_options schedule drill_commands).text)
     ends_of status (whole commands told further written) =
         let x = known_of program drill_options schedule in
         let first = summary_of_run program drill_options schedule in
@@ -100,12 +100,12 @@ never_refused number error read cause schedule old new before now status empty (
 
 -- ---- by its status
 
-module _ (c : Call) (number : ℕ) (asks : AsksDrill c.words number) where
+module _ (c : Call) (number : ℕ) (asks : Asks c.words (on_number number)) where
   -- what is written of a program
   abbrev Ends : Program → Type 0
   Ends program =
-      Finished c.before.io.written c.after.io.written c.before.io.writes c.after.io.writes c.status 0 (drill_out program c.schedule).text
-      ⊎ ((c.status ≡ 5) × AppendsFront c.before.io.written c.after.io.written (drill_out program c.schedule).text)
+      Finished c.before.io.written c.after.io.written c.before.io.writes c.after.io.writes c.status 0 (out_of program drill_options c.schedule drill_commands).text
+      ⊎ ((c.status ≡ 5) × AppendsFront c.before.io.written c.after.io.written (out_of program drill_options c.schedule drill_commands).text)
 
   ends_in : (program : Program) → Ends program → IsIn c.status (0 ∷ 4 ∷ 5 ∷ [])
   ends_in program (inl (inl h)) = inl h.0
@@ -139,7 +139,7 @@ module _ (c : Call) (number : ℕ) (asks : AsksDrill c.words number) where
   pub drill_not_refused : Drilled number c.schedule c.before.io.written c.after.io.written c.before.io.writes c.after.io.writes c.status → c.status ≡ 1 → ⊥
   drill_not_refused d e = other_than 1 c.status (0 ∷ 4 ∷ 5 ∷ []) refl e (drill_any d)
 
-  pub drill_unwritten : LeftInput c → Drilled number c.schedule c.before.io.written c.after.io.written c.before.io.writes c.after.io.writes c.status → c.status ≡ 4 → WriteFailed c
+  pub drill_unwritten : IsUnread c.before.io c.after.io → Drilled number c.schedule c.before.io.written c.after.io.written c.before.io.writes c.after.io.writes c.status → c.status ≡ 4 → WriteFailed c
   drill_unwritten same (no_program is empty kept) e = absurd (omega arith)
   drill_unwritten same (drilled program read (inl h)) e = absurd (omega (arith, h.0))
   drill_unwritten same (drilled program read (inr w)) e = by w.ends
@@ -152,8 +152,8 @@ module _ (c : Call) (number : ℕ) (asks : AsksDrill c.words number) where
             rose = h.1;
             commands = t.0;
             told = t.1;
-            out = drill_out program c.schedule;
-            writes = for_number number asks (drill_out program c.schedule) (run program c.schedule read w.whole);
+            out = out_of program drill_options c.schedule drill_commands;
+            writes = for_number number asks (out_of program drill_options c.schedule drill_commands) (run program c.schedule read w.whole);
             written = h.2;
           }
       by (inr h) = absurd (omega (arith, h.0))

@@ -13,16 +13,16 @@ use Rattle.ppd_session.specs.Texts.{failure_of}
 use Rattle.ppd_session.proofs.Answered.{run_answered}
 use Rattle.ppd_top_runs.specs.Commands.{Flows, Shows, WasTold, known_of, plan_of, summary_of_run}
 use Rattle.ppd_top_runs.specs.declared.options.Options.{Options}
-use Rattle.ppd_top_runs.specs.Output.{AreCommands, Standing, output, Finished}
+use Rattle.ppd_top_runs.specs.Output.{AreCommands, Standing, output, Finished, IsUnread}
 use Rattle.ppd_top.specs.Ran.{Refuses}
 use Rattle.ppd_text_refusals.specs.Sources.{refused}
-use Rattle.ppd_top.specs.Call.{Call, LeftInput}
+use Rattle.ppd_top.specs.Call.{Call}
 use Rattle.ppd_top.specs.Clauses.{InputFailed, IsPromised, MemoryRanOut, RanWhole, WasCutOff, WasRead, WasRefused, WasShown, WriteFailed}
 use Rattle.ppd_top.specs.Top.{Answers, most_bytes, out_of, Writes}
 use Rattle.ppd_top.specs.Top.Answers.{refusal, run, tables}
 use Rattle.ppd_top.specs.Top.Writes.{for_source}
 use Rattle.ppd_top_words.specs.Reads.{texts_in}
-use Rattle.ppd_top.specs.Words.{Asks, AsksDebug, Command, IsNotAsked, Request, asked}
+use Rattle.ppd_top.specs.Words.{Asks, Command, IsNotAsked, Request, asked}
 use Rattle.ppd_top.specs.Words.Command.{Flow, Run, Show}
 use Rattle.ppd_top.specs.Words.Request.{on_source, on_recording}
 use Rattle.ppd_top.proofs.Agreeing.{of_agreeing}
@@ -34,33 +34,33 @@ use Rattle.ppd_top.proofs.Talked.{IsEnd, talks_any, talks_broken, talks_cut_off,
 pub one_request : (a b : Request) (o : Option Request) → o ≡ Some a → o ≡ Some b → a ≡ b
 one_request a b o e f = let s : Some a ≡ Some b = sym e ∙ f in cc
 
-pub one_name : (words : List (Bor (List ℕ))) (command than : Command) (name other : List ℕ) (options others : Options) → Asks words command name options → Asks words than other others → name ≡ other
+pub one_name : (words : List (Bor (List ℕ))) (command than : Command) (name other : List ℕ) (options others : Options) → Asks words (on_source command name options) → Asks words (on_source than other others) → name ≡ other
 one_name words command than name other options others a b =
     let s : on_source command name options ≡ on_source than other others = one_request _ _ (asked (texts_in words)) a b in cc
 
-pub one_command : (words : List (Bor (List ℕ))) (command than : Command) (name other : List ℕ) (options others : Options) → Asks words command name options → Asks words than other others → command ≡ than
+pub one_command : (words : List (Bor (List ℕ))) (command than : Command) (name other : List ℕ) (options others : Options) → Asks words (on_source command name options) → Asks words (on_source than other others) → command ≡ than
 one_command words command than name other options others a b =
     let s : on_source command name options ≡ on_source than other others = one_request _ _ (asked (texts_in words)) a b in cc
 
 -- and not for both a source and a recording
-pub not_both : (words : List (Bor (List ℕ))) (command : Command) (name other : List ℕ) (options : Options) → Asks words command name options → AsksDebug words other → ⊥
+pub not_both : (words : List (Bor (List ℕ))) (command : Command) (name other : List ℕ) (options : Options) → Asks words (on_source command name options) → Asks words (on_recording other) → ⊥
 not_both words command name other options a b =
     let s : on_source command name options ≡ on_recording other = one_request _ _ (asked (texts_in words)) a b in cc
 
-pub one_recording_name : (words : List (Bor (List ℕ))) (name other : List ℕ) → AsksDebug words name → AsksDebug words other → name ≡ other
+pub one_recording_name : (words : List (Bor (List ℕ))) (name other : List ℕ) → Asks words (on_recording name) → Asks words (on_recording other) → name ≡ other
 one_recording_name words name other a b =
     let s : on_recording name ≡ on_recording other = one_request _ _ (asked (texts_in words)) a b in cc
 
 -- the recording of `run` is one
-pub one_run : (words : List (Bor (List ℕ))) (recording than : List ℕ) (name other : List ℕ) (options others : Options) → Asks words (Run recording) name options → Asks words (Run than) other others → recording ≡ than
+pub one_run : (words : List (Bor (List ℕ))) (recording than : List ℕ) (name other : List ℕ) (options others : Options) → Asks words (on_source (Run recording) name options) → Asks words (on_source (Run than) other others) → recording ≡ than
 one_run words recording than name other options others a b =
     let s : on_source (Run recording) name options ≡ on_source (Run than) other others = one_request _ _ (asked (texts_in words)) a b in cc
 
 -- words that ask for nothing do not ask for this
-pub ask_nothing : (words : List (Bor (List ℕ))) (command : Command) (name : List ℕ) (options : Options) → IsNotAsked words → Asks words command name options → ⊥
+pub ask_nothing : (words : List (Bor (List ℕ))) (command : Command) (name : List ℕ) (options : Options) → IsNotAsked words → Asks words (on_source command name options) → ⊥
 ask_nothing words command name options none a = none-some (on_source command name options) (sym none ∙ a)
 
-pub debug_nothing : (words : List (Bor (List ℕ))) (name : List ℕ) → IsNotAsked words → AsksDebug words name → ⊥
+pub debug_nothing : (words : List (Bor (List ℕ))) (name : List ℕ) → IsNotAsked words → Asks words (on_recording name) → ⊥
 debug_nothing words name none a = none-some (on_recording name) (sym none ∙ a)
 
 -- what was loaded where the shelf tells
@@ -110,11 +110,11 @@ refused_any error a b result (inr (real, inr h)) = inr (inl h.0)
 
 -- a command on a loaded source
 module _ (c : Call) (name : List ℕ) (options : Options) (bytes : List ℕ) (loads : Loads c.before.held name most_bytes bytes) where
-  abbrev pub was_read : (command : Command) → Asks c.words command name options → (program : Program) → IsRead bytes program → WasRead c command
+  abbrev pub was_read : (command : Command) → Asks c.words (on_source command name options) → (program : Program) → IsRead bytes program → WasRead c command
   was_read command asks program accepted = record { name = name; options = options; bytes = bytes; program = program; asked = asks; loaded = loads; accepted = accepted }
 
   -- a source that is promised is accepted
-  accepted_as : (command : Command) → Asks c.words command name options → (p : IsPromised c) → IsRead bytes p.program
+  accepted_as : (command : Command) → Asks c.words (on_source command name options) → (p : IsPromised c) → IsRead bytes p.program
   accepted_as command asked p =
       let same = one_name c.words command p.command name p.name options p.options asked p.asked in
       let P : List ℕ → Type 0 = λ n. Loads c.before.held n most_bytes bytes in
@@ -124,13 +124,13 @@ module _ (c : Call) (name : List ℕ) (options : Options) (bytes : List ℕ) (lo
 
   -- ---- a refused source
 
-  module _ (command : Command) (error : SourceError) (asked : Asks c.words command name options) (cause : IsRefused bytes error) (no_run : c.schedule ≡ []) where
+  module _ (command : Command) (error : SourceError) (asked : Asks c.words (on_source command name options)) (cause : IsRefused bytes error) (no_run : c.schedule ≡ []) where
     pub refused_so : Refuses error c.before.io.written c.after.io.written c.before.io.writes c.after.io.writes c.status → c.status ≡ 1 → WasRefused c
     refused_so (inl h) is = absurd (omega (arith, h.0))
     refused_so (inr (real, inl h)) is = record { command = command; name = name; options = options; bytes = bytes; error = error; asked = asked; loaded = loads; fault = real; cause = cause; no_program = λ p r. absurd (real (read_or_refused bytes p error r cause)); written = h.1 }
     refused_so (inr (real, inr h)) is = absurd (omega (arith, h.0))
 
-    pub refused_unwritten : LeftInput c → Refuses error c.before.io.written c.after.io.written c.before.io.writes c.after.io.writes c.status → c.status ≡ 4 → WriteFailed c
+    pub refused_unwritten : IsUnread c.before.io c.after.io → Refuses error c.before.io.written c.after.io.written c.before.io.writes c.after.io.writes c.status → c.status ≡ 4 → WriteFailed c
     refused_unwritten same (inl h) is = absurd (omega (arith, h.0))
     refused_unwritten same (inr (real, f)) is =
         let t = same_input c.before.io.left c.after.io.left same.left in
@@ -151,7 +151,7 @@ module _ (c : Call) (name : List ℕ) (options : Options) (bytes : List ℕ) (lo
 
   -- ---- `flow`
 
-  module _ (asked : Asks c.words Flow name options) (program : Program) (accepted : IsRead bytes program) where
+  module _ (asked : Asks c.words (on_source Flow name options)) (program : Program) (accepted : IsRead bytes program) where
     whole_as : WasTold program options c.schedule c.before.io c.after.io c.status → IsEnd c.status → RanWhole c
     whole_as t e =
         let w = talks_whole (known_of program options c.schedule) (summary_of_run program options c.schedule) c.before.io c.after.io c.status t.talks (inl e) in
@@ -204,13 +204,13 @@ module _ (c : Call) (name : List ℕ) (options : Options) (bytes : List ℕ) (lo
 
   -- ---- `show`
 
-  module _ (asked : Asks c.words Show name options) (program : Program) (accepted : IsRead bytes program) where
+  module _ (asked : Asks c.words (on_source Show name options)) (program : Program) (accepted : IsRead bytes program) where
     pub show_done : Shows program options c.schedule c.before.io c.after.io c.status → c.status ≡ 0 → WasShown c
     show_done (inl h) is = absurd (omega (arith, h.0))
     show_done (inr (none, inl h)) is = record { read = was_read Show asked program accepted; no_run = none; written = h.1 }
     show_done (inr (none, inr h)) is = absurd (omega (arith, h.0))
 
-    pub show_unwritten : LeftInput c → Shows program options c.schedule c.before.io c.after.io c.status → c.status ≡ 4 → WriteFailed c
+    pub show_unwritten : IsUnread c.before.io c.after.io → Shows program options c.schedule c.before.io c.after.io c.status → c.status ≡ 4 → WriteFailed c
     show_unwritten same (inl h) is = absurd (omega (arith, h.0))
     show_unwritten same (inr (none, f)) is =
         let t = same_input c.before.io.left c.after.io.left same.left in

@@ -29,16 +29,16 @@ use Rattle.ppd_codec_runs.proofs.Runs.{no_run_is_refused, runs_are_recalled}
 use Rattle.ppd_codec_runs.proofs.Same.{refused_or_accepted}
 use Rattle.ppd_top_words.specs.Reads.{texts_in}
 use Rattle.ppd_top_runs.specs.declared.options.Options.{Options}
-use Rattle.ppd_top_runs.specs.Output.{output, Finished}
+use Rattle.ppd_top_runs.specs.Output.{output, Finished, IsUnread}
 use Rattle.ppd_top.specs.Ran.{IsTold, Queries}
 use Rattle.ppd_top.specs.Ran.Queries.{no_query, query_refused, queried}
-use Rattle.ppd_top.specs.Call.{Call, LeftInput, Wrote}
+use Rattle.ppd_top.specs.Call.{Call, Wrote}
 use Rattle.ppd_top.specs.Clauses.{IsPromisedQuery, IsTaken, MemoryRanOut, QueryRefused, WasNotRecalled, WasQueried, WriteFailed}
 use Rattle.ppd_top.specs.Clauses.IsTaken.{by_rerun}
 use Rattle.ppd_top.specs.Top.{Tells, most_recording}
 use Rattle.ppd_top.specs.Top.Tells.{given, not_recalled}
 use Rattle.ppd_top.specs.Top.Writes.{for_query}
-use Rattle.ppd_top.specs.Words.{Asks, AsksDebug, AsksDrill, AsksQuery, AsksRecording, Command, IsNotAsked, asked}
+use Rattle.ppd_top.specs.Words.{Asks, AsksRecording, Command, IsNotAsked, asked}
 use Rattle.ppd_top.specs.Words.Request.{on_source, on_recording, on_number, on_query}
 use Rattle.ppd_top_runs.proofs.Conversing.{same_input}
 use Rattle.ppd_top.proofs.DrillEnds.{not_recording}
@@ -47,45 +47,45 @@ use Rattle.ppd_top.proofs.Statuses.{IsIn, right_true}
 
 -- ---- what the words ask for
 
-pub source_no_query : (words : List (Bor (List ℕ))) (command : Command) (name other : List ℕ) (options : Options) (query : Query) → Asks words command name options → AsksQuery words other query → ⊥
+pub source_no_query : (words : List (Bor (List ℕ))) (command : Command) (name other : List ℕ) (options : Options) (query : Query) → Asks words (on_source command name options) → Asks words (on_query other query) → ⊥
 source_no_query words command name other options query a b =
     let s : on_source command name options ≡ on_query other query = one_request _ _ (asked (texts_in words)) a b in cc
 
-pub debug_no_query : (words : List (Bor (List ℕ))) (name other : List ℕ) (query : Query) → AsksDebug words name → AsksQuery words other query → ⊥
+pub debug_no_query : (words : List (Bor (List ℕ))) (name other : List ℕ) (query : Query) → Asks words (on_recording name) → Asks words (on_query other query) → ⊥
 debug_no_query words name other query a b =
     let s : on_recording name ≡ on_query other query = one_request _ _ (asked (texts_in words)) a b in cc
 
-pub drill_no_query : (words : List (Bor (List ℕ))) (number : ℕ) (other : List ℕ) (query : Query) → AsksDrill words number → AsksQuery words other query → ⊥
+pub drill_no_query : (words : List (Bor (List ℕ))) (number : ℕ) (other : List ℕ) (query : Query) → Asks words (on_number number) → Asks words (on_query other query) → ⊥
 drill_no_query words number other query a b =
     let s : on_number number ≡ on_query other query = one_request _ _ (asked (texts_in words)) a b in cc
 
-pub query_nothing : (words : List (Bor (List ℕ))) (name : List ℕ) (query : Query) → IsNotAsked words → AsksQuery words name query → ⊥
+pub query_nothing : (words : List (Bor (List ℕ))) (name : List ℕ) (query : Query) → IsNotAsked words → Asks words (on_query name query) → ⊥
 query_nothing words name query none a = none-some (on_query name query) (sym none ∙ a)
 
-one_query_name : (words : List (Bor (List ℕ))) (name other : List ℕ) (query than : Query) → AsksQuery words name query → AsksQuery words other than → name ≡ other
+one_query_name : (words : List (Bor (List ℕ))) (name other : List ℕ) (query than : Query) → Asks words (on_query name query) → Asks words (on_query other than) → name ≡ other
 one_query_name words name other query than a b =
     let s : on_query name query ≡ on_query other than = one_request _ _ (asked (texts_in words)) a b in cc
 
 -- a recording is asked for, and no source and no number
-pub source_no_recording : (words : List (Bor (List ℕ))) (command : Command) (name other : List ℕ) (options : Options) → Asks words command name options → AsksRecording words other → ⊥
+pub source_no_recording : (words : List (Bor (List ℕ))) (command : Command) (name other : List ℕ) (options : Options) → Asks words (on_source command name options) → AsksRecording words other → ⊥
 source_no_recording words command name other options a (inl b) = not_both words command name other options a b
 source_no_recording words command name other options a (inr b) = source_no_query words command name other options b.0 a b.1
 
-pub recording_no_drill : (words : List (Bor (List ℕ))) (name : List ℕ) (number : ℕ) → AsksRecording words name → AsksDrill words number → ⊥
+pub recording_no_drill : (words : List (Bor (List ℕ))) (name : List ℕ) (number : ℕ) → AsksRecording words name → Asks words (on_number number) → ⊥
 recording_no_drill words name number (inl a) b = not_recording words name number a b
 recording_no_drill words name number (inr a) b = drill_no_query words number name a.0 b a.1
 
-pub debug_recording : (words : List (Bor (List ℕ))) (name other : List ℕ) → AsksRecording words name → AsksDebug words other → name ≡ other
+pub debug_recording : (words : List (Bor (List ℕ))) (name other : List ℕ) → AsksRecording words name → Asks words (on_recording other) → name ≡ other
 debug_recording words name other (inl a) b = one_recording_name words name other a b
 debug_recording words name other (inr a) b = absurd (debug_no_query words other name a.0 b a.1)
 
-pub query_recording : (words : List (Bor (List ℕ))) (name other : List ℕ) (query : Query) → AsksRecording words name → AsksQuery words other query → name ≡ other
+pub query_recording : (words : List (Bor (List ℕ))) (name other : List ℕ) (query : Query) → AsksRecording words name → Asks words (on_query other query) → name ≡ other
 query_recording words name other query (inl a) b = absurd (debug_no_query words name other query a b)
 query_recording words name other query (inr a) b = one_query_name words name other a.0 query a.1 b
 
 -- ---- by its status
 
-module _ (c : Call) (name : List ℕ) (query : Query) (bytes : List ℕ) (asks : AsksQuery c.words name query) (loads : Loads c.before.held name most_recording bytes) where
+module _ (c : Call) (name : List ℕ) (query : Query) (bytes : List ℕ) (asks : Asks c.words (on_query name query)) (loads : Loads c.before.held name most_recording bytes) where
   given_not : (r : Recording) (n : ℕ) (text : List ℕ) → Gives r query c.schedule n text → (m : ℕ) → n ≡ m → (m ≡ 0 → ⊥) → (m ≡ 6 → ⊥) → ⊥
   given_not r n text g m is other than = elim (queries_end r query c.schedule n text g) [ inl z ↦ other (sym is ∙ z) | inr s ↦ than (sym is ∙ s) ]
 
@@ -127,7 +127,7 @@ module _ (c : Call) (name : List ℕ) (query : Query) (bytes : List ℕ) (asks :
       (answers_are_determined bytes r query c.schedule n text accepted g)
       (λ zero. of_runs bytes r query c.schedule text accepted (subst (λ k. Gives r query c.schedule k text) zero g))
 
-  pub query_unwritten : AnswersAreOfRuns → LeftInput c → Queries bytes query c.schedule c.before.io.written c.after.io.written c.before.io.writes c.after.io.writes c.status → c.status ≡ 4 → WriteFailed c
+  pub query_unwritten : AnswersAreOfRuns → IsUnread c.before.io c.after.io → Queries bytes query c.schedule c.before.io.written c.after.io.written c.before.io.writes c.after.io.writes c.status → c.status ≡ 4 → WriteFailed c
   query_unwritten of_runs same (no_query is empty none) e = absurd (omega arith)
   query_unwritten of_runs same (query_refused line why empty f) e =
       let t = same_input c.before.io.left c.after.io.left same.left in
@@ -152,7 +152,7 @@ module _ (c : Call) (name : List ℕ) (query : Query) (bytes : List ℕ) (asks :
       let zero : n ≡ 0 = runs_are_told bytes r query c.schedule n text accepted source header program h run g in
       omega (arith, six, zero)
 
-  pub query_not_told : AnswersAreOfRuns → LeftInput c → Queries bytes query c.schedule c.before.io.written c.after.io.written c.before.io.writes c.after.io.writes c.status → c.status ≡ 6 → WasNotRecalled c ⊎ QueryRefused c
+  pub query_not_told : AnswersAreOfRuns → IsUnread c.before.io c.after.io → Queries bytes query c.schedule c.before.io.written c.after.io.written c.before.io.writes c.after.io.writes c.status → c.status ≡ 6 → WasNotRecalled c ⊎ QueryRefused c
   query_not_told of_runs same (no_query is empty none) e = absurd (omega arith)
   query_not_told of_runs same (query_refused line why empty (inl h)) e = inl (record {
     name = name;
@@ -204,7 +204,7 @@ confirms r query schedule status text (answers h t none a) = by query a
     by Rerun (Yes g, is, same, line) = inr (refl, subst (λ (k : List ℕ). IsVerdict r.program r.plan r.header.budget r.logs (Yes k)) (sym same) is)
     by Rerun (No why, is, same, line) = inl same
 
-pub query_taken : (c : Call) (name : List ℕ) (query : Query) (bytes : List ℕ) → AsksQuery c.words name query → Loads c.before.held name most_recording bytes
+pub query_taken : (c : Call) (name : List ℕ) (query : Query) (bytes : List ℕ) → Asks c.words (on_query name query) → Loads c.before.held name most_recording bytes
     → Queries bytes query c.schedule c.before.io.written c.after.io.written c.before.io.writes c.after.io.writes c.status → (c.schedule ≡ []) ⊎ IsTaken c
 query_taken c name query bytes asks loads (no_query is empty same) = inl empty
 query_taken c name query bytes asks loads (query_refused line why empty f) = inl empty
@@ -212,7 +212,7 @@ query_taken c name query bytes asks loads (queried r accepted n text g f) = by (
   where
     by : (c.schedule ≡ []) ⊎ ((query ≡ Rerun) × IsVerdict r.program r.plan r.header.budget r.logs (Yes c.schedule)) → (c.schedule ≡ []) ⊎ IsTaken c
     by (inl empty) = inl empty
-    by (inr (same, is)) = inr (by_rerun name bytes r (subst (AsksQuery c.words name) same asks) loads accepted is)
+    by (inr (same, is)) = inr (by_rerun name bytes r (subst (λ (than : Query). Asks c.words (on_query name than)) same asks) loads accepted is)
 
 -- of an accepted recording
 pub told_by : (bytes : List ℕ) (query : Query) (schedule : List ℕ) (old new : Option (List ℕ)) (before now status : ℕ) (r : Recording) → IsAccepted bytes r → IsTold r query schedule old new before now status → Queries bytes query schedule old new before now status

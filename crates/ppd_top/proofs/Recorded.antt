@@ -1,20 +1,22 @@
 -- What `run` comes to, by its status.
+use Rattle.ppd_codec_runs.specs.Recordings.{IsRunRecorded}
 use Rattle.std.specs.Prelude.{Option, Some, None, ◌⊎◌}
 use Rattle.std.proofs.Common.{◌≡◌, ℕ, List, [], ◌∷◌, arith, inl, inr, refl, subst, sym}
 use Rattle.ppd_ast.specs.declared.program.Program.{Program}
 use Rattle.ppd_check.specs.Read.{IsRead}
 use Rattle.ppd_io.specs.Content.{Loads, StoreFails}
-use Rattle.ppd_top_runs.specs.Commands.{IsRecordingOfRun, Keeps, Records, summary_of_run}
+use Rattle.ppd_top_runs.specs.Commands.{Keeps, header_of, Records, summary_of_run}
 use Rattle.ppd_top_runs.specs.declared.options.Options.{Options}
-use Rattle.ppd_top_runs.specs.Output.{output}
+use Rattle.ppd_top_runs.specs.Output.{output, IsUnread}
 use Rattle.ppd_top.specs.Ran.{kept_in}
 use Rattle.ppd_top_runs.specs.Commands.Keeps.{not_kept, store_failed, kept}
-use Rattle.ppd_top.specs.Call.{Call, LeftInput}
+use Rattle.ppd_top.specs.Call.{Call}
 use Rattle.ppd_top.specs.Clauses.{IsPromised, MemoryRanOut, StoreFailed, WasNotStored, WasRead, WasStored, WriteFailed}
 use Rattle.ppd_top.specs.Top.{most_bytes}
 use Rattle.ppd_top.specs.Top.Answers.{stored}
 use Rattle.ppd_top.specs.Top.Writes.{for_source}
 use Rattle.ppd_top.specs.Words.{Asks}
+use Rattle.ppd_top.specs.Words.Request.{on_source}
 use Rattle.ppd_top.specs.Words.Command.{Run}
 use Rattle.ppd_top_runs.proofs.Conversing.{same_input}
 use Rattle.ppd_top.proofs.Outcomes.{one_command, was_read, write_failed}
@@ -28,11 +30,11 @@ same_others (Some at) name = λ n other. refl
 pub others_same : (held now : Option (List ℕ → Option (List ℕ))) (name : List ℕ) → now ≡ held → StoreFails held now name
 others_same held now name e = subst (λ h. StoreFails held h name) (sym e) (same_others held name)
 
-module _ (c : Call) (name recording : List ℕ) (options : Options) (bytes : List ℕ) (program : Program) (asks : Asks c.words (Run recording) name options) (loads : Loads c.before.held name most_bytes bytes) (accepted : IsRead bytes program) where
+module _ (c : Call) (name recording : List ℕ) (options : Options) (bytes : List ℕ) (program : Program) (asks : Asks c.words (on_source (Run recording) name options)) (loads : Loads c.before.held name most_bytes bytes) (accepted : IsRead bytes program) where
   abbrev read : WasRead c (Run recording)
   read = was_read c name options bytes loads (Run recording) asks program accepted
 
-  keeps_any : Keeps (IsRecordingOfRun bytes program options c.schedule) recording (summary_of_run program options c.schedule) (kept_in c.before) (kept_in c.after) c.status → IsIn c.status (0 ∷ 4 ∷ 5 ∷ [])
+  keeps_any : Keeps (IsRunRecorded bytes (header_of options) program c.schedule) recording (summary_of_run program options c.schedule) (kept_in c.before) (kept_in c.after) c.status → IsIn c.status (0 ∷ 4 ∷ 5 ∷ [])
   keeps_any (not_kept is unstored written) = inr (inr (inl is))
   keeps_any (store_failed is rose others written) = inr (inl is)
   keeps_any (kept b of s others (inl h)) = inl h.0
@@ -46,7 +48,7 @@ module _ (c : Call) (name recording : List ℕ) (options : Options) (bytes : Lis
   run_others (inl h) = others_same c.before.held c.after.held recording h.1.held
   run_others (inr r) = by r.keeps
     where
-      by : Keeps (IsRecordingOfRun bytes program options c.schedule) recording (summary_of_run program options c.schedule) (kept_in c.before) (kept_in c.after) c.status → StoreFails c.before.held c.after.held recording
+      by : Keeps (IsRunRecorded bytes (header_of options) program c.schedule) recording (summary_of_run program options c.schedule) (kept_in c.before) (kept_in c.after) c.status → StoreFails c.before.held c.after.held recording
       by (not_kept is unstored written) = others_same c.before.held c.after.held recording unstored
       by (store_failed is rose others written) = others
       by (kept b of s others f) = others
@@ -55,7 +57,7 @@ module _ (c : Call) (name recording : List ℕ) (options : Options) (bytes : Lis
   run_stored (inl h) e = absurd (omega (arith, h.0))
   run_stored (inr r) e = by r.keeps
     where
-      by : Keeps (IsRecordingOfRun bytes program options c.schedule) recording (summary_of_run program options c.schedule) (kept_in c.before) (kept_in c.after) c.status → WasStored c
+      by : Keeps (IsRunRecorded bytes (header_of options) program c.schedule) recording (summary_of_run program options c.schedule) (kept_in c.before) (kept_in c.after) c.status → WasStored c
       by (not_kept is unstored written) = absurd (omega arith)
       by (store_failed is rose others written) = absurd (omega arith)
       by (kept b of s others (inl h)) = record {
@@ -70,11 +72,11 @@ module _ (c : Call) (name recording : List ℕ) (options : Options) (bytes : Lis
       }
       by (kept b of s others (inr h)) = absurd (omega (arith, h.0))
 
-  pub run_unwritten : LeftInput c → Records bytes program options recording c.schedule (kept_in c.before) (kept_in c.after) c.status → c.status ≡ 4 → WriteFailed c ⊎ StoreFailed c
+  pub run_unwritten : IsUnread c.before.io c.after.io → Records bytes program options recording c.schedule (kept_in c.before) (kept_in c.after) c.status → c.status ≡ 4 → WriteFailed c ⊎ StoreFailed c
   run_unwritten same (inl h) e = absurd (omega (arith, h.0))
   run_unwritten same (inr r) e = by r.keeps
     where
-      by : Keeps (IsRecordingOfRun bytes program options c.schedule) recording (summary_of_run program options c.schedule) (kept_in c.before) (kept_in c.after) c.status
+      by : Keeps (IsRunRecorded bytes (header_of options) program c.schedule) recording (summary_of_run program options c.schedule) (kept_in c.before) (kept_in c.after) c.status
           → WriteFailed c ⊎ StoreFailed c
       by (not_kept is unstored written) = absurd (omega arith)
       by (store_failed is rose others written) = inr (record {
@@ -95,7 +97,7 @@ module _ (c : Call) (name recording : List ℕ) (options : Options) (bytes : Lis
   run_out (inl h) e = inl (record { kept = h.1.held; no_run = h.1.no_run; written = h.1.written })
   run_out (inr r) e = by r.keeps
     where
-      by : Keeps (IsRecordingOfRun bytes program options c.schedule) recording (summary_of_run program options c.schedule) (kept_in c.before) (kept_in c.after) c.status
+      by : Keeps (IsRunRecorded bytes (header_of options) program c.schedule) recording (summary_of_run program options c.schedule) (kept_in c.before) (kept_in c.after) c.status
           → MemoryRanOut c ⊎ WasNotStored c
       by (not_kept is unstored written) = inr (record {
         recording = recording;
@@ -112,7 +114,7 @@ module _ (c : Call) (name recording : List ℕ) (options : Options) (bytes : Lis
   run_complete (inl h) p = inr h.0
   run_complete (inr r) p = by r.keeps
     where
-      by : Keeps (IsRecordingOfRun bytes program options c.schedule) recording (summary_of_run program options c.schedule) (kept_in c.before) (kept_in c.after) c.status → (c.status ≡ 0) ⊎ (c.status ≡ 5)
+      by : Keeps (IsRunRecorded bytes (header_of options) program c.schedule) recording (summary_of_run program options c.schedule) (kept_in c.before) (kept_in c.after) c.status → (c.status ≡ 0) ⊎ (c.status ≡ 5)
       by (not_kept is unstored written) = inr is
       by (store_failed is rose others written) = absurd (p.no_store_fault recording (sym (one_command c.words (Run recording) p.command name p.name options p.options asks p.asked)) rose)
       by (kept b of s others (inl h)) = inl h.0

@@ -9,9 +9,10 @@ use Rattle.ppd_top.specs.Call.{Call, HasFailedLoad, LeftShelf}
 use Rattle.ppd_top.specs.Ran.{Comes, IsUnloaded}
 use Rattle.ppd_top.specs.Ran.Comes.{no_memory, not_loaded, recording_not_loaded}
 use Rattle.ppd_top.specs.Words.{Asks, AsksRecording, Command}
+use Rattle.ppd_top.specs.Words.Request.{on_source}
 
 module _ (c : Call) (name : List ℕ) (left : LeftShelf c) (none : DidNothing c.schedule c.before.io c.after.io) where
-  pub source_unloaded : (command : Command) (options : Options) (error : ShelfError) → Asks c.words command name options → (error ≡ shelf.Failed → HasFailedLoad c name) → IsUnloaded error c.status → Comes c
+  pub source_unloaded : (command : Command) (options : Options) (error : ShelfError) → Asks c.words (on_source command name options) → (error ≡ shelf.Failed → HasFailedLoad c name) → IsUnloaded error c.status → Comes c
   source_unloaded command options shelf.Failed asks rose is = not_loaded command name options asks left is (rose refl) none
   source_unloaded command options shelf.Memory asks rose is = no_memory is left none
 

@@ -2,8 +2,8 @@
 use Rattle.std.specs.Prelude.{◌≡◌, ℕ, List, Option}
 use Rattle.std.specs.Borrow.{Bor}
 use Rattle.ppd_io.specs.Causes.{Rose}
-use Rattle.ppd_io.specs.Content.{Appends, AppendsPart}
-use Rattle.ppd_top_runs.specs.Output.{AppendsFront, IsUnread, Standing}
+use Rattle.ppd_io.specs.Content.{Appends}
+use Rattle.ppd_top_runs.specs.Output.{Standing}
 
 -- how the devices stand: what the shelf is told to hold, its counts of loads and of stores that failed, and input and
 -- output
@@ -33,22 +33,7 @@ call_of words before after schedule status =
 abbrev pub Wrote : Call → (text : List ℕ) → Type 0
 Wrote c text = Appends c.before.io.written c.after.io.written text
 
--- a proper prefix of a text
-abbrev pub WrotePart : Call → (text : List ℕ) → Type 0
-WrotePart c text = AppendsPart c.before.io.written c.after.io.written text
-
--- some prefix of a text, perhaps all
-abbrev pub WroteFront : Call → (text : List ℕ) → Type 0
-WroteFront c text = AppendsFront c.before.io.written c.after.io.written text
-
-abbrev pub WroteNothing : Call → Type 0
-WroteNothing c = c.after.io.written ≡ c.before.io.written
-
 -- ---- what it left as it was
-
--- nothing was read of the input, and no read of it failed
-abbrev pub LeftInput : Call → Type 0
-LeftInput c = IsUnread c.before.io c.after.io
 
 -- nothing was stored
 pub record LeftShelf (c : Call) : Type 0 where
@@ -59,12 +44,6 @@ pub record LeftShelf (c : Call) : Type 0 where
 
 abbrev pub HasFailedLoad : Call → (name : List ℕ) → Type 0
 HasFailedLoad c name = Rose (c.before.loads name) (c.after.loads name)
-
-abbrev pub HasFailedStore : Call → (name : List ℕ) → Type 0
-HasFailedStore c name = Rose (c.before.stores name) (c.after.stores name)
-
-abbrev pub HasFailedRead : Call → Type 0
-HasFailedRead c = Rose c.before.io.reads c.after.io.reads
 
 abbrev pub HasFailedWrite : Call → Type 0
 HasFailedWrite c = Rose c.before.io.writes c.after.io.writes

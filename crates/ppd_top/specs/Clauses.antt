@@ -1,7 +1,8 @@
 -- The clauses of the top call, each over the call: what it came to by its status, and when it succeeds.
+use Rattle.ppd_io.specs.Causes.{Rose}
 use Rattle.std.specs.Prelude.{◌≡◌, ◌≢◌, ◌⊎◌, ◌<◌, ℕ, List, [], take, Option, Some}
 use Rattle.std.specs.Borrow.{Bor}
-use Rattle.ppd_io.specs.Content.{Loads, Stores, StoreFails}
+use Rattle.ppd_io.specs.Content.{Loads, Stores, StoreFails, AppendsPart}
 use Rattle.ppd_io.specs.Lines.{lines_of}
 use Rattle.ppd_ast.specs.declared.program.Program.{Program}
 use Rattle.ppd_check.specs.declared.error.SourceError.{SourceError}
@@ -27,12 +28,13 @@ use Rattle.ppd_top_query.specs.Queries.{Query}
 use Rattle.ppd_top_query.specs.Queries.Query.{Rerun}
 use Rattle.ppd_codec_runs.specs.Laws.{IsKnownOfRuns}
 use Rattle.ppd_codec_runs.specs.Recordings.{IsAccepted, IsKnownOf, IsRefusedBy, IsRunRecorded, seens_of}
-use Rattle.ppd_top_runs.specs.Commands.{IsRecordingOfRun, IsWholeRun, known_of, plan_of, summary_of_run}
+use Rattle.ppd_top_runs.specs.Commands.{IsWholeRun, header_of, known_of, plan_of, summary_of_run}
 use Rattle.ppd_top_runs.specs.declared.options.Options.{Options}
-use Rattle.ppd_top.specs.Call.{Call, HasFailedLoad, HasFailedRead, HasFailedStore, HasFailedWrite, LeftInput, Wrote, WroteFront, WroteNothing, WrotePart}
-use Rattle.ppd_top_runs.specs.Output.{AreCommands, AreFine, IsBroken, IsReadNoFurther, Output, answers}
-use Rattle.ppd_top.specs.Top.{IsOfAgreeing, Writes, drill_commands, drill_options, drill_out, most_bytes, most_recording, out_of, usage}
-use Rattle.ppd_top.specs.Words.{Asks, AsksDebug, AsksDrill, AsksQuery, AsksRecording, Command, IsNotAsked}
+use Rattle.ppd_top.specs.Call.{Call, HasFailedLoad, HasFailedWrite, Wrote}
+use Rattle.ppd_top_runs.specs.Output.{AreCommands, AreFine, IsBroken, IsReadNoFurther, Output, answers, IsUnread, AppendsFront}
+use Rattle.ppd_top.specs.Top.{IsOfAgreeing, Writes, drill_commands, drill_options, most_bytes, most_recording, out_of, usage}
+use Rattle.ppd_top.specs.Words.{Asks, AsksRecording, Command, IsNotAsked}
+use Rattle.ppd_top.specs.Words.Request.{on_source, on_recording, on_number, on_query}
 use Rattle.ppd_top.specs.Words.Command.{Flow, Run, Show}
 
 -- ---- what a call came to
@@ -43,7 +45,7 @@ pub record WasRead (c : Call) (command : Command) : Type 0 where
   pub options : Options
   pub bytes : List ℕ
   pub program : Program
-  pub asked : Asks c.words command name options
+  pub asked : Asks c.words (on_source command name options)
   pub loaded : Loads c.before.held name most_bytes bytes
   pub accepted : IsRead bytes program
 
@@ -73,7 +75,7 @@ pub record WasStored (c : Call) : Type 0 where
   pub read : WasRead c (Run recording)
   pub stored : List ℕ
   pub whole : IsWholeRun read.program read.options c.schedule
-  pub is : IsRecordingOfRun read.bytes read.program read.options c.schedule stored
+  pub is : IsRunRecorded read.bytes (header_of read.options) read.program c.schedule stored
   pub kept : Stores c.before.held c.after.held recording stored
   pub others : StoreFails c.before.held c.after.held recording
   pub written : Wrote c (summary_of_run read.program read.options c.schedule)
@@ -83,19 +85,20 @@ pub record WasStored (c : Call) : Type 0 where
 pub record WasDrilled (c : Call) : Type 0 where
   pub number : ℕ
   pub program : Program
-  pub asked : AsksDrill c.words number
+  pub asked : Asks c.words (on_number number)
   pub accepted : IsRead (generated number) program
   pub whole : IsWholeRun program drill_options c.schedule
-  pub status_is : (drill_out program c.schedule).status ≡ 0
-  pub written : Wrote c (drill_out program c.schedule).text
-  pub agreeing : IsOfAgreeing program drill_options c.schedule drill_commands (drill_out program c.schedule)
+  pub status_is : (out_of program drill_options c.schedule drill_commands).status ≡ 0
+  pub written : Wrote c (out_of program drill_options c.schedule drill_commands).text
+  pub agreeing : IsOfAgreeing program drill_options c.schedule drill_commands
+      (out_of program drill_options c.schedule drill_commands)
 
 -- a loaded recording that was accepted, and what is known of it: what each accepted recording tells, and of the run all
 -- that is known of that, where it is the recording of a whole one
 pub record IsRecalledFrom (c : Call) (recording : Recording) (known : Known) : Type 0 where
   pub name : List ℕ
   pub bytes : List ℕ
-  pub asked : AsksDebug c.words name
+  pub asked : Asks c.words (on_recording name)
   pub loaded : Loads c.before.held name most_recording bytes
   pub accepted : IsAccepted bytes recording
   pub knows : IsKnownOf recording known
@@ -125,7 +128,7 @@ pub record WasQueried (c : Call) : Type 0 where
   pub recording : Recording
   pub known : Known
   pub text : List ℕ
-  pub asked : AsksQuery c.words name query
+  pub asked : Asks c.words (on_query name query)
   pub loaded : Loads c.before.held name most_recording bytes
   pub accepted : IsAccepted bytes recording
   pub knows : IsKnownOf recording known
@@ -147,7 +150,7 @@ pub record WasNotRecalled (c : Call) : Type 0 where
   pub of_no_run : (source : List ℕ) (header : Header) (program : Program) (h : List ℕ)
       → IsRunRecorded source header program h bytes → ⊥
   pub no_run : c.schedule ≡ []
-  pub unread : LeftInput c
+  pub unread : IsUnread c.before.io c.after.io
   pub written : Wrote c line
 
 -- or a replay failed that the answer to a line needs, or a write is missing that it asks for, and the answers before it
@@ -175,7 +178,7 @@ pub record WasRefused (c : Call) : Type 0 where
   pub options : Options
   pub bytes : List ℕ
   pub error : SourceError
-  pub asked : Asks c.words command name options
+  pub asked : Asks c.words (on_source command name options)
   pub loaded : Loads c.before.held name most_bytes bytes
   pub fault : error ≢ source.Memory
   pub cause : IsRefused bytes error
@@ -187,25 +190,16 @@ pub record WasNotAsked (c : Call) : Type 0 where
   pub none : IsNotAsked c.words
   pub written : Wrote c usage
 
--- status 3: a load of the source's name failed, nothing ran, nothing was read of the input, and nothing was written
+-- status 3: a load failed of the name of the source or of the recording that the words ask for, nothing ran, nothing
+-- was read of the input, and nothing was written
 pub record LoadFailed (c : Call) : Type 0 where
-  pub command : Command
   pub name : List ℕ
-  pub options : Options
-  pub asked : Asks c.words command name options
+  pub asked : ((command : Command) × (options : Options) × Asks c.words (on_source command name options))
+      ⊎ AsksRecording c.words name
   pub rose : HasFailedLoad c name
   pub no_run : c.schedule ≡ []
-  pub unread : LeftInput c
-  pub written : WroteNothing c
-
--- or, where the words ask for a recording, a load of its name
-pub record RecordingUnread (c : Call) : Type 0 where
-  pub name : List ℕ
-  pub asked : AsksRecording c.words name
-  pub rose : HasFailedLoad c name
-  pub no_run : c.schedule ≡ []
-  pub unread : LeftInput c
-  pub written : WroteNothing c
+  pub unread : IsUnread c.before.io c.after.io
+  pub written : c.after.io.written ≡ c.before.io.written
 
 -- or in `flow` a read of the input failed, and the summary with the answers to the whole lines among the bytes taken
 -- was written; none of these lines ends the answers
@@ -230,23 +224,23 @@ pub record WriteFailed (c : Call) : Type 0 where
   pub told : AreCommands c.before.io.left c.after.io.left commands
   pub out : Output
   pub writes : Writes c commands out
-  pub written : WrotePart c out.text
+  pub written : AppendsPart c.before.io.written c.after.io.written out.text
 
 -- or in `run` a store under the recording's name failed, after the run came to its end, and nothing was written
 pub record StoreFailed (c : Call) : Type 0 where
   pub recording : List ℕ
   pub read : WasRead c (Run recording)
   pub whole : IsWholeRun read.program read.options c.schedule
-  pub rose : HasFailedStore c recording
+  pub rose : Rose (c.before.stores recording) (c.after.stores recording)
   pub others : StoreFails c.before.held c.after.held recording
-  pub written : WroteNothing c
+  pub written : c.after.io.written ≡ c.before.io.written
 
 -- status 5: want of memory, perhaps before the words were read; nothing came to its end, and nothing was stored or
 -- written
 pub record MemoryRanOut (c : Call) : Type 0 where
   pub kept : c.after.held ≡ c.before.held
   pub no_run : c.schedule ≡ []
-  pub written : WroteNothing c
+  pub written : c.after.io.written ≡ c.before.io.written
 
 -- or in `flow` want of memory after the run, and a prefix of what the command writes went out
 pub record WasCutOff (c : Call) : Type 0 where
@@ -254,7 +248,8 @@ pub record WasCutOff (c : Call) : Type 0 where
   pub commands : List ℕ
   pub whole : IsWholeRun read.program read.options c.schedule
   pub told : AreCommands c.before.io.left c.after.io.left commands
-  pub written : WroteFront c (out_of read.program read.options c.schedule commands).text
+  pub written : AppendsFront c.before.io.written c.after.io.written
+      (out_of read.program read.options c.schedule commands).text
 
 -- or in `run` want of memory after the run: the shelf is as before, and nothing was written
 pub record WasNotStored (c : Call) : Type 0 where
@@ -262,16 +257,17 @@ pub record WasNotStored (c : Call) : Type 0 where
   pub read : WasRead c (Run recording)
   pub whole : IsWholeRun read.program read.options c.schedule
   pub kept : c.after.held ≡ c.before.held
-  pub written : WroteNothing c
+  pub written : c.after.io.written ≡ c.before.io.written
 
 -- or in `drill` want of memory after the run, and a prefix of what the command writes went out
 pub record DrillCutOff (c : Call) : Type 0 where
   pub number : ℕ
   pub program : Program
-  pub asked : AsksDrill c.words number
+  pub asked : Asks c.words (on_number number)
   pub accepted : IsRead (generated number) program
   pub whole : IsWholeRun program drill_options c.schedule
-  pub written : WroteFront c (drill_out program c.schedule).text
+  pub written : AppendsFront c.before.io.written c.after.io.written
+      (out_of program drill_options c.schedule drill_commands).text
 
 -- or in `debug` want of memory, and a prefix of what the command writes went out
 pub record AnswersCutOff (c : Call) : Type 0 where
@@ -281,7 +277,7 @@ pub record AnswersCutOff (c : Call) : Type 0 where
   pub recalled : IsRecalledFrom c recording known
   pub no_run : c.schedule ≡ []
   pub told : AreCommands c.before.io.left c.after.io.left commands
-  pub written : WroteFront c (answers known commands).text
+  pub written : AppendsFront c.before.io.written c.after.io.written (answers known commands).text
 
 -- an input whose bytes are told, with at most 65,536 lines of at most 4,096 bytes through the first `quit`, or else to
 -- the end, and with no read that failed
@@ -291,7 +287,7 @@ pub record IsFineInput (c : Call) : Type 0 where
   pub told : c.before.io.left ≡ Some commands
   pub told_still : c.after.io.left ≡ Some rest
   pub fine : AreFine 0 (lines_of commands)
-  pub no_read_fault : HasFailedRead c → ⊥
+  pub no_read_fault : Rose c.before.io.reads c.after.io.reads → ⊥
 
 -- A told source of the language succeeds, but for want of memory, where no load of its name and no write failed, in
 -- `flow` the input is fine, and in `run` no store of the recording's name failed.
@@ -302,7 +298,7 @@ pub record IsPromised (c : Call) : Type 0 where
   pub at : List ℕ → Option (List ℕ)
   pub all : List ℕ
   pub program : Program
-  pub asked : Asks c.words command name options
+  pub asked : Asks c.words (on_source command name options)
   pub told : c.before.held ≡ Some at
   pub there : at name ≡ Some all
   pub accepted : IsRead (take most_bytes all) program
@@ -310,7 +306,7 @@ pub record IsPromised (c : Call) : Type 0 where
   pub no_write_fault : HasFailedWrite c → ⊥
   pub fine : command ≡ Flow → IsFineInput c
   pub no_store_fault : (recording : List ℕ) → command ≡ Run recording
-      → HasFailedStore c recording → ⊥
+      → Rose (c.before.stores recording) (c.after.stores recording) → ⊥
 
 -- The told recording of a whole run succeeds, but for want of memory, where no load of its name and no write failed,
 -- and the input is fine.
@@ -322,7 +318,7 @@ pub record IsPromisedAnswers (c : Call) : Type 0 where
   pub header : Header
   pub program : Program
   pub schedule : List ℕ
-  pub asked : AsksDebug c.words name
+  pub asked : Asks c.words (on_recording name)
   pub told : c.before.held ≡ Some at
   pub there : at name ≡ Some all
   pub of_run : IsRunRecorded source header program schedule (take most_recording all)
@@ -341,7 +337,7 @@ pub record IsPromisedQuery (c : Call) : Type 0 where
   pub header : Header
   pub program : Program
   pub schedule : List ℕ
-  pub asked : AsksQuery c.words name query
+  pub asked : Asks c.words (on_query name query)
   pub told : c.before.held ≡ Some at
   pub there : at name ≡ Some all
   pub of_run : IsRunRecorded source header program schedule (take most_recording all)
@@ -351,16 +347,16 @@ pub record IsPromisedQuery (c : Call) : Type 0 where
 -- A drill succeeds, but for want of memory, where no write failed.
 pub record IsPromisedDrill (c : Call) : Type 0 where
   pub number : ℕ
-  pub asked : AsksDrill c.words number
+  pub asked : Asks c.words (on_number number)
   pub no_write_fault : HasFailedWrite c → ⊥
 
 -- the schedule is that of a run of the loaded source, or of a drill's, that came to its close, or that of the run again
 -- by which `rerun` answers yes
 pub data IsTaken (c : Call) : Type 0 where
   by_run : (command : Command) (read : WasRead c command) → IsWholeRun read.program read.options c.schedule → IsTaken c
-  by_drill : (number : ℕ) (program : Program) → AsksDrill c.words number → IsRead (generated number) program
+  by_drill : (number : ℕ) (program : Program) → Asks c.words (on_number number) → IsRead (generated number) program
       → IsWholeRun program drill_options c.schedule → IsTaken c
-  by_rerun : (name bytes : List ℕ) (r : Recording) → AsksQuery c.words name Rerun
+  by_rerun : (name bytes : List ℕ) (r : Recording) → Asks c.words (on_query name Rerun)
       → Loads c.before.held name most_recording bytes → IsAccepted bytes r
       → IsVerdict r.program r.plan r.header.budget r.logs (Yes c.schedule) → IsTaken c
 
@@ -370,14 +366,14 @@ pub data IsTaken (c : Call) : Type 0 where
 abbrev pub StoresNothing : Call → Type 0
 StoresNothing c =
     (c.status ≡ 1) ⊎ ((c.status ≡ 2) ⊎ ((c.status ≡ 3)
-    ⊎ ((name recording : List ℕ) (options : Options) → Asks c.words (Run recording) name options → ⊥)))
+    ⊎ ((name recording : List ℕ) (options : Options) → Asks c.words (on_source (Run recording) name options) → ⊥)))
 
 pub record IsOutcome (c : Call) : Type 0 where
   pub range : c.status < 9
   pub run : c.status ≡ 0 → RanWhole c ⊎ (WasShown c ⊎ (WasStored c ⊎ (WasAnswered c ⊎ (WasDrilled c ⊎ WasQueried c))))
   pub refused : c.status ≡ 1 → WasRefused c
   pub usage : c.status ≡ 2 → WasNotAsked c
-  pub read : c.status ≡ 3 → LoadFailed c ⊎ (InputFailed c ⊎ (RecordingUnread c ⊎ LinesFailed c))
+  pub read : c.status ≡ 3 → LoadFailed c ⊎ (InputFailed c ⊎ LinesFailed c)
   pub write : c.status ≡ 4 → WriteFailed c ⊎ StoreFailed c
   pub memory : c.status ≡ 5 → MemoryRanOut c ⊎ (WasCutOff c ⊎ (WasNotStored c ⊎ (AnswersCutOff c ⊎ DrillCutOff c)))
   pub recording : c.status ≡ 6 → WasNotRecalled c ⊎ (ReplayRefused c ⊎ QueryRefused c)
@@ -390,11 +386,11 @@ pub record IsOutcome (c : Call) : Type 0 where
   pub no_run : (c.status ≡ 1) ⊎ (c.status ≡ 2) → c.schedule ≡ []
   pub shelf : StoresNothing c → c.after.held ≡ c.before.held
   pub stores : StoresNothing c → (n : List ℕ) → c.after.stores n ≡ c.before.stores n
-  pub others : (name recording : List ℕ) (options : Options) → Asks c.words (Run recording) name options
+  pub others : (name recording : List ℕ) (options : Options) → Asks c.words (on_source (Run recording) name options)
       → StoreFails c.before.held c.after.held recording
 
 -- a status before any read of the input, or words that ask for no line of it
 abbrev pub ReadsNothing : List (Bor (List ℕ)) → (status : ℕ) → Type 0
 ReadsNothing words status =
-    (status ≡ 1) ⊎ ((status ≡ 2) ⊎ (((name : List ℕ) (options : Options) → Asks words Flow name options → ⊥)
-    × ((name : List ℕ) → AsksDebug words name → ⊥)))
+    (status ≡ 1) ⊎ ((status ≡ 2) ⊎ (((name : List ℕ) (options : Options) → Asks words (on_source Flow name options) → ⊥)
+    × ((name : List ℕ) → Asks words (on_recording name) → ⊥)))

@@ -16,12 +16,13 @@ use Rattle.ppd_top_runs.specs.Commands.{DidNothing, Flows, IsWholeRun, Keeping, 
 pub use Rattle.ppd_top_runs.specs.declared.options.Options.{Options}
 use Rattle.ppd_top.specs.declared.following.FollowError.{FollowError}
 use Rattle.ppd_top.specs.declared.following.FollowError.TheVariants.{Refused, NotEnabled, NotWhole, LongLine, ManyLines, Memory}
-use Rattle.ppd_top.specs.Call.{Call, Devices, HasFailedLoad, LeftInput, LeftShelf}
-use Rattle.ppd_top_runs.specs.Output.{AppendsFront, output, Finished}
+use Rattle.ppd_top.specs.Call.{Call, Devices, HasFailedLoad, LeftShelf}
+use Rattle.ppd_top_runs.specs.Output.{AppendsFront, output, Finished, IsUnread}
 use Rattle.ppd_text_refusals.specs.Sources.{refused}
-use Rattle.ppd_top.specs.Top.{EndsWith, IsStuckAt, IsUnfinished, drill_options, drill_out, most_bytes, out_of, usage, most_recording}
+use Rattle.ppd_top.specs.Top.{EndsWith, IsStuckAt, IsUnfinished, drill_options, most_bytes, out_of, usage, most_recording, drill_commands}
 use Rattle.ppd_top_query.specs.Queries.{Gives, Query}
-use Rattle.ppd_top.specs.Words.{Asks, AsksDebug, AsksDrill, AsksQuery, AsksRecording, Command, IsNotAsked}
+use Rattle.ppd_top.specs.Words.{Asks, AsksRecording, Command, IsNotAsked}
+use Rattle.ppd_top.specs.Words.Request.{on_source, on_recording, on_number, on_query}
 use Rattle.ppd_top.specs.Words.Command.{Flow, Run, Show}
 use Rattle.ppd_codec.specs.declared.recording.Recording.{Recording}
 use Rattle.ppd_codec_runs.specs.Recordings.{IsAccepted, IsRefusedBy}
@@ -60,8 +61,8 @@ Refuses error old new before now status =
 pub record WasDrilledBy (program : Program) (schedule : List ℕ) (old new : Option (List ℕ)) (before now : ℕ)
     (status : ℕ) : Type 0 where
   pub whole : IsWholeRun program drill_options schedule
-  pub ends : Finished old new before now status 0 (drill_out program schedule).text
-      ⊎ ((status ≡ 5) × AppendsFront old new (drill_out program schedule).text)
+  pub ends : Finished old new before now status 0 (out_of program drill_options schedule drill_commands).text
+      ⊎ ((status ≡ 5) × AppendsFront old new (out_of program drill_options schedule drill_commands).text)
 
 -- what a drill comes to for a program: want of memory before there was anything to write, or what it writes
 abbrev pub Drills : Program → (schedule : List ℕ) → Option (List ℕ) → Option (List ℕ) → ℕ → ℕ → (status : ℕ) → Type 0
@@ -84,34 +85,38 @@ kept_in x = keeping x.held x.stores x.io.written x.io.writes
 -- what a call comes to, by how far it came: to words that ask for nothing, to want of memory, to a load that failed, to
 -- a refused source, to a program, to a recording, to a drill, or to a query
 pub data Comes (c : Call) : Type 0 where
-  not_asked : IsNotAsked c.words → LeftShelf c → c.schedule ≡ [] → LeftInput c
+  not_asked : IsNotAsked c.words → LeftShelf c → c.schedule ≡ [] → IsUnread c.before.io c.after.io
       → Finished c.before.io.written c.after.io.written c.before.io.writes c.after.io.writes c.status 2 usage → Comes c
   no_memory : c.status ≡ 5 → LeftShelf c → DidNothing c.schedule c.before.io c.after.io → Comes c
-  not_loaded : (command : Command) (name : List ℕ) (options : Options) → Asks c.words command name options → LeftShelf c
+  not_loaded : (command : Command) (name : List ℕ) (options : Options)
+      → Asks c.words (on_source command name options) → LeftShelf c
       → c.status ≡ 3 → HasFailedLoad c name → DidNothing c.schedule c.before.io c.after.io → Comes c
   refusal : (command : Command) (name : List ℕ) (options : Options) (bytes : List ℕ) (error : SourceError)
-      → Asks c.words command name options → Loads c.before.held name most_bytes bytes → IsRefused bytes error
-      → LeftShelf c → c.schedule ≡ [] → LeftInput c
+      → Asks c.words (on_source command name options)
+      → Loads c.before.held name most_bytes bytes → IsRefused bytes error
+      → LeftShelf c → c.schedule ≡ [] → IsUnread c.before.io c.after.io
       → Refuses error c.before.io.written c.after.io.written c.before.io.writes c.after.io.writes c.status → Comes c
   flow_done : (name : List ℕ) (options : Options) (bytes : List ℕ) (program : Program)
-      → Asks c.words Flow name options → Loads c.before.held name most_bytes bytes → IsRead bytes program
+      → Asks c.words (on_source Flow name options) → Loads c.before.held name most_bytes bytes → IsRead bytes program
       → LeftShelf c → Flows program options c.schedule c.before.io c.after.io c.status → Comes c
   show_done : (name : List ℕ) (options : Options) (bytes : List ℕ) (program : Program)
-      → Asks c.words Show name options → Loads c.before.held name most_bytes bytes → IsRead bytes program
-      → LeftShelf c → LeftInput c → Shows program options c.schedule c.before.io c.after.io c.status → Comes c
+      → Asks c.words (on_source Show name options) → Loads c.before.held name most_bytes bytes → IsRead bytes program
+      → LeftShelf c → IsUnread c.before.io c.after.io
+      → Shows program options c.schedule c.before.io c.after.io c.status → Comes c
   run_done : (name recording : List ℕ) (options : Options) (bytes : List ℕ) (program : Program)
-      → Asks c.words (Run recording) name options → Loads c.before.held name most_bytes bytes → IsRead bytes program
-      → LeftInput c
+      → Asks c.words (on_source (Run recording) name options)
+      → Loads c.before.held name most_bytes bytes → IsRead bytes program
+      → IsUnread c.before.io c.after.io
       → Records bytes program options recording c.schedule (kept_in c.before) (kept_in c.after) c.status → Comes c
   recording_not_loaded : (name : List ℕ) → AsksRecording c.words name → LeftShelf c
       → c.status ≡ 3 → HasFailedLoad c name → DidNothing c.schedule c.before.io c.after.io → Comes c
-  debug_done : (name bytes : List ℕ) → AsksDebug c.words name → Loads c.before.held name most_recording bytes
+  debug_done : (name bytes : List ℕ) → Asks c.words (on_recording name) → Loads c.before.held name most_recording bytes
       → LeftShelf c → c.schedule ≡ [] → Debugs bytes c.before.io c.after.io c.status → Comes c
-  drill_done : (number : ℕ) → AsksDrill c.words number → LeftShelf c → LeftInput c
+  drill_done : (number : ℕ) → Asks c.words (on_number number) → LeftShelf c → IsUnread c.before.io c.after.io
       → Drilled number c.schedule c.before.io.written c.after.io.written c.before.io.writes c.after.io.writes c.status
       → Comes c
-  query_done : (name : List ℕ) (query : Query) (bytes : List ℕ) → AsksQuery c.words name query
-      → Loads c.before.held name most_recording bytes → LeftShelf c → LeftInput c
+  query_done : (name : List ℕ) (query : Query) (bytes : List ℕ) → Asks c.words (on_query name query)
+      → Loads c.before.held name most_recording bytes → LeftShelf c → IsUnread c.before.io c.after.io
       → Queries bytes query c.schedule c.before.io.written c.after.io.written c.before.io.writes c.after.io.writes
       c.status → Comes c
 

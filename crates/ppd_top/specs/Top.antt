@@ -19,7 +19,8 @@ use Rattle.ppd_top.specs.declared.following.FollowError.TheVariants.{Refused, No
 use Rattle.ppd_top.specs.Call.{Call}
 use Rattle.ppd_top_runs.specs.Output.{Output, answers, before, output}
 use Rattle.ppd_text_refusals.specs.Sources.{refused}
-use Rattle.ppd_top.specs.Words.{Asks, AsksDebug, AsksDrill, AsksQuery, Command, IsNotAsked}
+use Rattle.ppd_top.specs.Words.{Asks, Command, IsNotAsked}
+use Rattle.ppd_top.specs.Words.Request.{on_source, on_recording, on_number, on_query}
 use Rattle.ppd_top.specs.Words.Command.{Flow, Run, Show}
 use Rattle.ppd_codec.specs.declared.recording.Recording.{Recording}
 use Rattle.ppd_session.specs.Known.{Known}
@@ -57,10 +58,6 @@ drill_options = record { budget = MOST_BUDGET; policy = record { leaf = 0; loops
 abbrev pub drill_commands : List ℕ
 drill_commands = codes "final\n"
 
--- all that is written of a drill's run by this schedule, with its status
-abbrev pub drill_out : Program → (schedule : List ℕ) → Output
-drill_out program schedule = out_of program drill_options schedule drill_commands
-
 -- ---- what is written
 
 abbrev pub usage : List ℕ
@@ -95,15 +92,15 @@ pub data Tells (bytes : List ℕ) (query : Query) : (schedule : List ℕ) → Ou
 pub data Writes (c : Call) (commands : List ℕ) : Output → Type 0 where
   for_words : IsNotAsked c.words → c.schedule ≡ [] → Writes c commands (output 2 usage)
   for_source : (command : Command) (name : List ℕ) (options : Options) (bytes : List ℕ)
-      → Asks c.words command name options → Loads c.before.held name most_bytes bytes → (out : Output)
+      → Asks c.words (on_source command name options) → Loads c.before.held name most_bytes bytes → (out : Output)
       → Answers bytes options commands command c.schedule out → Writes c commands out
-  for_recording : (name : List ℕ) (bytes : List ℕ) → AsksDebug c.words name
+  for_recording : (name : List ℕ) (bytes : List ℕ) → Asks c.words (on_recording name)
       → Loads c.before.held name most_recording bytes → c.schedule ≡ []
       → (out : Output) → Recalls bytes commands out → Writes c commands out
-  for_number : (number : ℕ) → AsksDrill c.words number → (out : Output)
+  for_number : (number : ℕ) → Asks c.words (on_number number) → (out : Output)
       → Answers (generated number) drill_options drill_commands Flow c.schedule out
       → Writes c commands out
-  for_query : (name : List ℕ) (query : Query) (bytes : List ℕ) → AsksQuery c.words name query
+  for_query : (name : List ℕ) (query : Query) (bytes : List ℕ) → Asks c.words (on_query name query)
       → Loads c.before.held name most_recording bytes → (out : Output) → Tells bytes query c.schedule out
       → Writes c commands out
 

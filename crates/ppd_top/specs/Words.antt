@@ -1,12 +1,12 @@
 -- The words after the program's name: the command that they give, with its options and the name of a source, or its
 -- number.
-use Rattle.std.specs.Prelude.{◌≡◌, ◌⊎◌, ℕ, ◌≤◌, ◌&&◌, nat_le, List, [], ◌∷◌, Option, Some, None, if◌then◌else◌, codes, option_map, ⊤}
+use Rattle.std.specs.Prelude.{◌≡◌, ◌⊎◌, ℕ, ◌≤◌, ◌&&◌, nat_le, List, [], ◌∷◌, Option, Some, None, if◌then◌else◌, codes, option_and_then, option_map, ⊤}
 use Rattle.std.specs.Borrow.{Bor}
 use Rattle.ppd_ast.specs.declared.limits.TheConstants.{DEFAULT_BUDGET, MOST_BUDGET, MOST_DRILL, MOST_POLICY}
 use Rattle.ppd_ast.specs.Digits.{number_in as number_of_word}
 use Rattle.ppd_top_words.specs.declared.commands.Command.{Command as Word}
 use Rattle.ppd_top_words.specs.declared.commands.Command.TheVariants as word
-use Rattle.ppd_top_words.specs.Words.{Text, Uses, value_of}
+use Rattle.ppd_top_words.specs.Words.{Text, value_of}
 use Rattle.ppd_top_words.specs.Commands.{command_gives}
 use Rattle.ppd_top_words.specs.Reads.{texts_in}
 use Rattle.ppd_top_runs.specs.Commands.{AreInRange}
@@ -20,10 +20,6 @@ use Rattle.ppd_top_query.specs.Queries.{ItemAsked, Query, query_of}
 use Rattle.ppd_top_query.specs.Queries.Query.{Clean, Rerun, Slice, Whole}
 
 -- ---- the words of options and names
-
--- the word of each option and of each name, by its long name and by its id
-abbrev pub Values : Type 0
-Values = Text → Option Text
 
 -- a number, where it is within these limits
 abbrev pub within : (least most : ℕ) → Option ℕ → Option ℕ
@@ -40,8 +36,8 @@ abbrev pub with_numbers : (budget leaf loops : Option ℕ) → Option Options
 with_numbers (Some b) (Some m) (Some n) = Some (record { budget = b; policy = record { leaf = m; loops = n } })
 with_numbers _ _ _ = None
 
--- the options, each with its default where it was not given
-abbrev pub options_in : Values → Option Options
+-- the options, each with its default where it was not given, by the word of each option and of each name
+abbrev pub options_in : (Text → Option Text) → Option Options
 options_in v =
     with_numbers (number_in DEFAULT_BUDGET 1 MOST_BUDGET (v (codes "budget")))
     (number_in 0 0 MOST_POLICY (v (codes "leaf"))) (number_in 0 0 MOST_POLICY (v (codes "loops")))
@@ -85,16 +81,8 @@ abbrev pub with_source : Option Command → Option Text → Option Options → O
 with_source (Some command) (Some name) (Some options) = Some (on_source command name options)
 with_source _ _ _ = None
 
-abbrev pub asked_by : Option Command → Values → Option Request
+abbrev pub asked_by : Option Command → (Text → Option Text) → Option Request
 asked_by command v = with_source command (name_in (v (codes "source"))) (options_in v)
-
-abbrev pub run_in : Values → Option Command
-run_in v = option_map Run (name_in (v (codes "recording")))
-
--- the number of a drill, which must be there
-abbrev pub drill_in : Option Text → Option ℕ
-drill_in None = None
-drill_in (Some w) = within 0 MOST_DRILL (number_of_word w)
 
 -- the number of an interval or of an item, in 1 to 9 digits, which must be there
 abbrev pub item_number_in : Option Text → Option ℕ
@@ -106,67 +94,38 @@ abbrev pub with_item : Option Text → Option ℕ → Option ℕ → Option Item
 with_item (Some p) (Some k) (Some j) = Some (record { process = p; interval = k; item = j })
 with_item _ _ _ = None
 
-abbrev pub item_in : Values → Option ItemAsked
+abbrev pub item_in : (Text → Option Text) → Option ItemAsked
 item_in v =
     with_item (name_in (v (codes "process"))) (item_number_in (v (codes "interval"))) (item_number_in (v (codes "item")))
 
-abbrev pub slice_in : Values → Option Query
-slice_in v = option_map Slice (item_in v)
-
-abbrev pub clean_in : Values → Option Query
-clean_in v = option_map Clean (item_in v)
-
--- by 1 to 64 workers, and by 8 where the option was not given
-abbrev pub whole_in : Values → Option Query
-whole_in v = option_map Whole (number_in 8 1 64 (v (codes "workers")))
-
 -- a query of a recording, where it and the name are there
-abbrev pub with_query : Option Query → Option Text → Option Request
-with_query (Some query) (Some name) = Some (on_query name query)
-with_query _ _ = None
+abbrev pub query_by : (Text → Option Text) → Option Query → Option Request
+query_by v query = option_and_then (λ q. option_map (λ name. on_query name q) (name_in (v (codes "recording")))) query
 
-abbrev pub query_by : Values → Option Query → Option Request
-query_by v query = with_query query (name_in (v (codes "recording")))
-
--- what each command asks for
-abbrev pub asked_of : Word → Values → Option Request
+-- what each command asks for: `whole` by 1 to 64 workers, and by 8 where the option was not given
+abbrev pub asked_of : Word → (Text → Option Text) → Option Request
 asked_of word.Flow v = asked_by (Some Flow) v
-asked_of word.Run v = asked_by (run_in v) v
+asked_of word.Run v = asked_by (option_map Run (name_in (v (codes "recording")))) v
 asked_of word.Debug v = option_map on_recording (name_in (v (codes "recording")))
 asked_of word.Show v = asked_by (Some Show) v
-asked_of word.Drill v = option_map on_number (drill_in (v (codes "number")))
-asked_of word.Slice v = query_by v (slice_in v)
+asked_of word.Drill v =
+    option_map on_number (within 0 MOST_DRILL (option_and_then number_of_word (v (codes "number"))))
+asked_of word.Slice v = query_by v (option_map Slice (item_in v))
 asked_of word.Rerun v = query_by v (Some Rerun)
-asked_of word.Clean v = query_by v (clean_in v)
-asked_of word.Whole v = query_by v (whole_in v)
-
-abbrev pub with_given : Option (Word × Uses) → Option Request
-with_given None = None
-with_given (Some (w, uses)) = asked_of w (λ id. value_of id uses)
+asked_of word.Clean v = query_by v (option_map Clean (item_in v))
+asked_of word.Whole v = query_by v (option_map Whole (number_in 8 1 64 (v (codes "workers"))))
 
 -- what the words ask for: the command that they give, with numbers within their limits and names that are not empty
 abbrev pub asked : List Text → Option Request
-asked words = with_given (command_gives words)
+asked words = option_and_then (λ g. asked_of g.0 (λ id. value_of id g.1)) (command_gives words)
 
--- the words ask for this command on the source of this name with these options
-abbrev pub Asks : List (Bor (List ℕ)) → Command → (name : List ℕ) → Options → Type 0
-Asks words command name options = asked (texts_in words) ≡ Some (on_source command name options)
-
--- the words ask for the recording of this name
-abbrev pub AsksDebug : List (Bor (List ℕ)) → (name : List ℕ) → Type 0
-AsksDebug words name = asked (texts_in words) ≡ Some (on_recording name)
-
--- the words ask for the source that this number makes
-abbrev pub AsksDrill : List (Bor (List ℕ)) → (number : ℕ) → Type 0
-AsksDrill words number = asked (texts_in words) ≡ Some (on_number number)
-
--- the words ask for this query of the recording of this name
-abbrev pub AsksQuery : List (Bor (List ℕ)) → (name : List ℕ) → Query → Type 0
-AsksQuery words name query = asked (texts_in words) ≡ Some (on_query name query)
+-- the words ask for this
+abbrev pub Asks : List (Bor (List ℕ)) → Request → Type 0
+Asks words request = asked (texts_in words) ≡ Some request
 
 -- the words ask for the recording of this name, for the lines of the input or for a query
 abbrev pub AsksRecording : List (Bor (List ℕ)) → (name : List ℕ) → Type 0
-AsksRecording words name = AsksDebug words name ⊎ ((query : Query) × AsksQuery words name query)
+AsksRecording words name = Asks words (on_recording name) ⊎ ((query : Query) × Asks words (on_query name query))
 
 -- the words ask for nothing
 abbrev pub IsNotAsked : List (Bor (List ℕ)) → Type 0
