@@ -1,5 +1,5 @@
 -- How processes, cells and the words of traps are written.
-use Rattle.std.specs.Prelude.{ℕ, ◌+◌, ◌-◌, List, [], ◌∷◌, ◌++◌, Option, Some, None, codes, decimal, slice_get, if◌then◌else◌}
+use Rattle.std.specs.Prelude.{ℕ, ◌+◌, ◌-◌, List, [], ◌∷◌, ◌++◌, Option, Some, None, is_none, codes, decimal, slice_get, if◌then◌else◌}
 use Rattle.ppd_ast.specs.Cells.{holds}
 use Rattle.ppd_ast.specs.declared.plan.Block.{Block}
 use Rattle.ppd_ast.specs.declared.program.Program.{Program}
@@ -18,15 +18,12 @@ process_name p k = name_of_body (slice_get p.bodies (p.functions + k))
 abbrev pub at_entry : Program → List ℕ → At → List ℕ
 at_entry p words at = words ++ process_name p at.process ++ codes " " ++ decimal at.entry ++ codes "\n"
 
--- an element of an array by its index
-abbrev pub index_text : Var → ℕ → Option ℕ → List ℕ
-index_text v c None = []
-index_text v c (Some len) = codes "[" ++ decimal (c - v.base) ++ codes "]"
-
--- cell c as a part of the first of these variables that holds it
+-- cell c as a part of the first of these variables that holds it: an element of an array with its index
 abbrev pub cell_text : List Var → ℕ → List ℕ
 cell_text [] c = []
-cell_text (v ∷ vs) c = if holds c v then v.name ++ index_text v c v.len else cell_text vs c
+cell_text (v ∷ vs) c =
+    if holds c v then v.name ++ (if is_none v.len then [] else codes "[" ++ decimal (c - v.base) ++ codes "]")
+    else cell_text vs c
 
 -- what a block is the code of
 abbrev pub what_text : Program → Option Block → List ℕ

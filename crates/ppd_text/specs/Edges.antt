@@ -2,7 +2,7 @@
 use Rattle.std.specs.Prelude.{ℕ, ◌+◌, ℤ, List, [], ◌++◌, Option, Some, None, codes, decimal, slice_get}
 use Rattle.std.specs.Fmt.{signed_decimal}
 use Rattle.std.specs.List.{flat_map}
-use Rattle.ppd_ast.specs.declared.plan.Block.{Block}
+use Rattle.std.specs.Option.{option_map_or}
 use Rattle.ppd_ast.specs.declared.plan.Plan.{Plan}
 use Rattle.ppd_ast.specs.declared.program.Program.{Program}
 use Rattle.ppd_ast.specs.declared.program.Var.{Var}
@@ -27,9 +27,6 @@ origin_text p origin.Entry = codes "entry"
 origin_text p (origin.Item q k j) =
     process_name p q ++ codes " " ++ decimal k ++ codes " " ++ decimal j
 
-abbrev pub from_text : Program → Origin → List ℕ
-from_text p o = codes " from " ++ origin_text p o ++ codes "\n"
-
 -- ---- edges
 
 abbrev pub edge_word : EdgeKind → List ℕ
@@ -47,18 +44,15 @@ subject_text p locals (Some spot) (Some v) = codes " " ++ cell_value p locals sp
 
 -- an edge into an item whose local cells are of these variables
 abbrev pub edge_line : Program → List Var → FlowEdge → List ℕ
-edge_line p locals e = edge_word e.kind ++ subject_text p locals e.spot e.value ++ from_text p e.from
-
--- the local variables of a block that is there
-abbrev pub locals_if : Program → Option Block → List Var
-locals_if p None = []
-locals_if p (Some b) = block_locals p b.kind
+edge_line p locals e =
+    edge_word e.kind ++ subject_text p locals e.spot e.value ++ codes " from " ++ origin_text p e.from ++ codes "\n"
 
 -- whose local cells the edges of an item name: those of the body in which its statement stands, or of the body of its
 -- block
 abbrev pub item_locals : Program → Plan → Item → List Var
 item_locals p plan (item.Own e) = locals_round p (slice_get p.stmts e.stmt)
-item_locals p plan (item.Nested k b values closed) = locals_if p (slice_get plan.blocks b)
+item_locals p plan (item.Nested k b values closed) =
+    option_map_or (λ x. block_locals p x.kind) (slice_get plan.blocks b) []
 
 -- the line of item j, then its edges, as `why` writes them
 abbrev pub why_text : Program → Plan → (j : ℕ) → Item → List FlowEdge → List ℕ
@@ -68,4 +62,5 @@ why_text p plan j i edges = item_line p plan j i ++ flat_map (edge_line p (item_
 
 -- shared cell c with its last value and the write of it
 abbrev pub last_line : Program → (c : ℕ) → ℤ × Origin → List ℕ
-last_line p c x = cell_text p.shared c ++ codes "=" ++ signed_decimal x.0 ++ from_text p x.1
+last_line p c x =
+    cell_text p.shared c ++ codes "=" ++ signed_decimal x.0 ++ codes " from " ++ origin_text p x.1 ++ codes "\n"

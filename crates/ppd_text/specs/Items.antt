@@ -2,6 +2,7 @@
 use Rattle.std.specs.Prelude.{ℕ, ◌+◌, ℤ, Bool, true, false, ◌&&◌, List, [], ◌∷◌, ◌++◌, zip, Option, Some, None, is_none, is_some, codes, decimal, slice_get, if◌then◌else◌}
 use Rattle.std.specs.Fmt.{signed_decimal}
 use Rattle.std.specs.List.{flat_map}
+use Rattle.std.specs.Option.{option_map_or}
 use Rattle.ppd_ast.specs.declared.plan.Block.{Block}
 use Rattle.ppd_ast.specs.declared.plan.BlockKind.{BlockKind}
 use Rattle.ppd_ast.specs.declared.plan.BlockKind.TheVariants.{Loop}
@@ -21,7 +22,7 @@ use Rattle.ppd_sem.specs.declared.event.Spot.{Spot}
 use Rattle.ppd_sem.specs.declared.event.Spot.TheVariants.{Local, Shared}
 use Rattle.ppd_text.specs.Kinds.{kind_text}
 use Rattle.ppd_text.specs.Names.{chan_name}
-use Rattle.ppd_text.specs.Plans.{locals_round}
+use Rattle.ppd_text.specs.Plans.{lines_of, locals_round}
 use Rattle.ppd_text.specs.Texts.{place_text}
 use Rattle.ppd_text.specs.CellNames.{cell_text, trap_word, what_text}
 
@@ -48,99 +49,59 @@ abbrev pub written_locals : Program → ℕ → Kind → List Var
 written_locals p b (kind.Call f args into) = locals_of p f
 written_locals p b k = locals_of p b
 
--- an event of a send that has a number and no value is the completion of an offer
-abbrev pub is_completion : Event → Bool
-is_completion e = is_some e.number && is_none e.value
-
--- an event of a send on channel c
-abbrev pub sent_kind : Program → Event → (c : ℕ) → Kind → List ℕ
-sent_kind p e c k = if is_completion e then codes "done " ++ chan_name (slice_get p.chans c) else kind_text p k
-
--- what an event is: its statement's kind, but a completion is `done`
+-- what an event is: its statement's kind, but the completion of an offer, an event of a send that has a number and no
+-- value, is `done`
 abbrev pub event_kind : Program → Event → Kind → List ℕ
-event_kind p e (kind.Send c v) = sent_kind p e c (kind.Send c v)
+event_kind p e (kind.Send c v) =
+    if is_some e.number && is_none e.value then codes "done " ++ chan_name (slice_get p.chans c)
+    else kind_text p (kind.Send c v)
 event_kind p e k = kind_text p k
 
--- the reads of an event in order, then its writes
-abbrev pub accesses_text : Program → Event → Stmt → List ℕ
-accesses_text p e s =
-    flat_map (access_text (codes " read ") p (locals_of p s.body)) e.reads
-    ++ flat_map (access_text (codes " write ") p (written_locals p s.body s.kind)) e.writes
-
 abbrev pub value_text : Option ℤ → List ℕ
-value_text None = []
-value_text (Some v) = codes " value " ++ signed_decimal v
-
-abbrev pub number_text : Option ℕ → List ℕ
-number_text None = []
-number_text (Some n) = codes " number " ++ decimal n
-
-abbrev pub trap_text : Option Trap → List ℕ
-trap_text None = []
-trap_text (Some t) = codes " trap " ++ trap_word t
+value_text v = option_map_or (λ x. codes " value " ++ signed_decimal x) v []
 
 -- the value of an event, the number of its synchronization, and its trap, where it has them
 abbrev pub outcome_text : Event → List ℕ
-outcome_text e = value_text e.value ++ number_text e.number ++ trap_text e.trap
+outcome_text e =
+    value_text e.value ++ option_map_or (λ n. codes " number " ++ decimal n) e.number []
+    ++ option_map_or (λ t. codes " trap " ++ trap_word t) e.trap []
 
--- an event of its statement, if that is there
-abbrev pub event_text : Program → Event → Option Stmt → List ℕ
-event_text p e None = []
-event_text p e (Some s) =
+-- an event of its statement, with its reads in order, then its writes
+abbrev pub event_text : Program → Event → Stmt → List ℕ
+event_text p e s =
     codes "stmt " ++ decimal e.stmt ++ codes " " ++ place_text s.place ++ codes " " ++ event_kind p e s.kind
-    ++ accesses_text p e s ++ outcome_text e
+    ++ (flat_map (access_text (codes " read ") p (locals_of p s.body)) e.reads
+    ++ flat_map (access_text (codes " write ") p (written_locals p s.body s.kind)) e.writes)
+    ++ outcome_text e
 
 -- ---- intervals directly inside
 
--- a local cell with the value that a loop left in it
-abbrev pub left_cell : List Var → ℕ × ℤ → List ℕ
-left_cell locals x = codes " " ++ cell_text locals x.0 ++ codes "=" ++ signed_decimal x.1
-
--- what a loop left, if its postlog has cells
+-- what a loop left, if its postlog has cells: each local cell with its value
 abbrev pub left_text : List Var → (cells : List ℕ) → List ℤ → List ℕ
 left_text locals [] values = []
-left_text locals (c ∷ cs) values = codes " left" ++ flat_map (left_cell locals) (zip (c ∷ cs) values)
+left_text locals (c ∷ cs) values =
+    codes " left"
+    ++ flat_map (λ x. codes " " ++ cell_text locals x.0 ++ codes "=" ++ signed_decimal x.1) (zip (c ∷ cs) values)
 
--- what a function returned, if it has a value
-abbrev pub returned_text : List ℤ → List ℕ
-returned_text [] = []
-returned_text (v ∷ vs) = value_text (Some v)
-
--- what came of a closed interval with this postlog
+-- what came of a closed interval with this postlog: what a loop left, or what a function returned
 abbrev pub closed_text : Program → BlockKind → (cells : List ℕ) → List ℤ → List ℕ
 closed_text p (Loop s) cells values = left_text (locals_round p (slice_get p.stmts s)) cells values
-closed_text p k cells values = returned_text values
-
-abbrev pub closed_if : Program → Option Block → List ℤ → List ℕ
-closed_if p None values = []
-closed_if p (Some b) values = closed_text p b.kind b.postlog values
-
--- the same, or that the interval is unfinished
-abbrev pub result_text : Program → Option Block → List ℤ → Bool → List ℕ
-result_text p b values true = closed_if p b values
-result_text p b values false = codes " open"
-
--- interval k of this block
-abbrev pub nested_text : Program → (k : ℕ) → Option Block → List ℕ
-nested_text p k b = codes "block " ++ decimal k ++ codes " " ++ what_text p b
+closed_text p k cells values = value_text (slice_get values 0)
 
 -- ---- items
 
--- what stands behind an item's number
+-- what stands behind an item's number: an interval may be unfinished
 abbrev pub item_text : Program → Plan → Item → List ℕ
-item_text p plan (Own e) = event_text p e (slice_get p.stmts e.stmt)
+item_text p plan (Own e) = option_map_or (event_text p e) (slice_get p.stmts e.stmt) []
 item_text p plan (Nested k b values closed) =
-    nested_text p k (slice_get plan.blocks b) ++ result_text p (slice_get plan.blocks b) values closed
+    codes "block " ++ decimal k ++ codes " " ++ what_text p (slice_get plan.blocks b)
+    ++ (if closed then option_map_or (λ x. closed_text p x.kind x.postlog values) (slice_get plan.blocks b) []
+    else codes " open")
 
 -- the line of item j
 abbrev pub item_line : Program → Plan → (j : ℕ) → Item → List ℕ
 item_line p plan j i = codes "item " ++ decimal j ++ codes " " ++ item_text p plan i ++ codes "\n"
 
--- the lines of items from number j on
-abbrev pub item_lines : Program → Plan → (j : ℕ) → List Item → List ℕ
-item_lines p plan j [] = []
-item_lines p plan j (i ∷ is) = item_line p plan j i ++ item_lines p plan (j + 1) is
-
 -- the items of an interval, as `open` writes them
 abbrev pub open_text : Program → Plan → List Item → List ℕ
-open_text p plan items = item_lines p plan 0 items
+open_text p plan items = lines_of (item_line p plan) items

@@ -17,11 +17,7 @@ abbrev pub var_name : Option Var → List ℕ
 var_name None = []
 var_name (Some v) = v.name
 
--- the name of variable v after a space
-abbrev pub spaced : List Var → ℕ → List ℕ
-spaced vars v = codes " " ++ var_name (slice_get vars v)
-
 -- the names of these variables, each after a space, or `-` where there are none
 abbrev pub names_text : List Var → List ℕ → List ℕ
 names_text vars [] = codes " -"
-names_text vars (v ∷ vs) = flat_map (spaced vars) (v ∷ vs)
+names_text vars (v ∷ vs) = flat_map (λ w. codes " " ++ var_name (slice_get vars w)) (v ∷ vs)

@@ -2,6 +2,7 @@
 -- they may read.
 use Rattle.std.specs.Prelude.{ℕ, List, [], ◌++◌, Option, Some, None, codes, decimal, length, slice_get, if◌then◌else◌}
 use Rattle.std.specs.List.{flat_map, range_with_len}
+use Rattle.std.specs.Option.{option_map_or}
 use Rattle.ppd_ast.specs.declared.program.Stmt.{Stmt}
 use Rattle.ppd_ast.specs.declared.program.Var.{Var}
 use Rattle.ppd_ast.specs.declared.program.Program.{Program}
@@ -20,26 +21,17 @@ use Rattle.ppd_text.specs.Names.{names_text}
 abbrev pub cells_text : List Var → (cells : List ℕ) → List ℕ
 cells_text vars cells = names_text vars (vars_met vars cells)
 
--- the line of an item, if it is there
-abbrev pub line_if : {A : Type 0} → (A → List ℕ) → Option A → List ℕ
-line_if line None = []
-line_if line (Some x) = line x
-
 -- the lines of a list's items, by number
 abbrev pub lines_of : {A : Type 0} → (ℕ → A → List ℕ) → List A → List ℕ
-lines_of line items = flat_map (λ k. line_if (line k) (slice_get items k)) (range_with_len 0 (length items))
+lines_of line items = flat_map (λ k. option_map_or (line k) (slice_get items k) []) (range_with_len 0 (length items))
 
 -- ---- blocks
-
-abbrev pub stmt_place : Option Stmt → List ℕ
-stmt_place None = []
-stmt_place (Some s) = place_text s.place
 
 -- what a block is the code of
 abbrev pub block_what : Program → BlockKind → List ℕ
 block_what p (Function f) = codes "function " ++ name_of_body (slice_get p.bodies f)
 block_what p (Process f) = codes "process " ++ name_of_body (slice_get p.bodies f)
-block_what p (Loop s) = codes "loop " ++ stmt_place (slice_get p.stmts s)
+block_what p (Loop s) = codes "loop " ++ option_map_or (λ x. place_text x.place) (slice_get p.stmts s) []
 
 abbrev pub locals_round : Program → Option Stmt → List Var
 locals_round p None = []
@@ -51,18 +43,12 @@ block_locals p (Function f) = locals_of_body (slice_get p.bodies f)
 block_locals p (Process f) = locals_of_body (slice_get p.bodies f)
 block_locals p (Loop s) = locals_round p (slice_get p.stmts s)
 
--- what a postlog holds: the value that a function returns, or variables
-abbrev pub postlog_text : List Var → Block → List ℕ
-postlog_text vars b = if b.value then codes " value" else cells_text vars b.postlog
-
--- the prelog and the postlog of a block whose body has these variables
-abbrev pub logs_text : List Var → Block → List ℕ
-logs_text vars b = codes " prelog" ++ cells_text vars b.prelog ++ codes " postlog" ++ postlog_text vars b
-
--- the line of block k
+-- the line of block k: its postlog holds the value that a function returns, or variables
 abbrev pub block_line : Program → (k : ℕ) → Block → List ℕ
 block_line p k b =
-    codes "block " ++ decimal k ++ codes " " ++ block_what p b.kind ++ logs_text (block_locals p b.kind) b
+    codes "block " ++ decimal k ++ codes " " ++ block_what p b.kind
+    ++ codes " prelog" ++ cells_text (block_locals p b.kind) b.prelog
+    ++ codes " postlog" ++ (if b.value then codes " value" else cells_text (block_locals p b.kind) b.postlog)
     ++ codes "\n"
 
 -- ---- units

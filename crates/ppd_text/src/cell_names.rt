@@ -1,7 +1,7 @@
 // How processes, cells and the words of traps are written, and whose cells are named.
-ghost use Rattle.std.specs.Prelude.{◌≡◌, ◌≤◌, ◌++◌, IfOk, OnOk, slice_get};
+ghost use Rattle.std.specs.Prelude.{◌≡◌, ◌≤◌, ◌-◌, ◌++◌, [], IfOk, OnOk, codes, decimal, if◌then◌else◌, is_none, slice_get};
 ghost use Rattle.ppd_ast.specs.Cells.{holds as holds_of};
-ghost use Rattle.ppd_text.specs.CellNames.{at_entry as at_entry_of, cell_text, index_text};
+ghost use Rattle.ppd_text.specs.CellNames.{at_entry as at_entry_of, cell_text};
 ghost use Rattle.ppd_text.specs.CellNames.{process_name as process_name_of, trap_word, what_text};
 
 use crate::names::body_name;
@@ -44,7 +44,11 @@ fn holds(cell: u16, var: &Var) -> bool
 
 fn put_element(text: &mut Vec<u8>, var: &Var, cell: u16) -> Result<(), Memory>
     requires { var.now.base ≤ cell }
-    ensures { OnOk result (text.new.items ≡ text.old.items ++ (var.now.name ++ index_text var.now cell var.now.len)) }
+    ensures { OnOk result
+        (text.new.items
+        ≡ text.old.items
+        ++ (var.now.name
+        ++ (if is_none var.now.len then [] else codes "[" ++ decimal (cell - var.now.base) ++ codes "]"))) }
 {
     put(text, var.name.as_slice())?;
     if var.len.is_none() {

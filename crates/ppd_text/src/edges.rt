@@ -1,8 +1,10 @@
 // The line of each flowback edge of an item.
-ghost use Rattle.std.specs.Prelude.{◌≡◌, ◌++◌, OnOk, codes, decimal, slice_get};
+ghost use Rattle.std.specs.Prelude.{◌≡◌, ◌++◌, [], OnOk, codes, decimal, slice_get};
+ghost use Rattle.std.specs.Option.{option_map_or};
 ghost use Rattle.std.specs.List.{flat_map};
-ghost use Rattle.ppd_text.specs.Edges.{edge_line, edge_word, from_text, item_locals as locals_of_item};
-ghost use Rattle.ppd_text.specs.Edges.{locals_if as locals_of_block, origin_text, subject_text, why_text};
+ghost use Rattle.ppd_text.specs.Edges.{edge_line, edge_word, item_locals as locals_of_item};
+ghost use Rattle.ppd_text.specs.Edges.{origin_text, subject_text, why_text};
+ghost use Rattle.ppd_text.specs.Plans.{block_locals as locals_of_block};
 ghost use Rattle.ppd_text.specs.CellNames.{process_name as process_name_of};
 
 use crate::cell_names::process_name;
@@ -48,7 +50,8 @@ fn put_origin(text: &mut Vec<u8>, program: &Program, origin: Origin) -> Result<(
 
 /// Appends where something came from, and ends the line.
 pub(crate) fn put_from(text: &mut Vec<u8>, program: &Program, origin: Origin) -> Result<(), Memory>
-    ensures { OnOk result (text.new.items ≡ text.old.items ++ from_text program.now origin) }
+    ensures { OnOk result
+        (text.new.items ≡ text.old.items ++ (codes " from " ++ origin_text program.now origin ++ codes "\n")) }
 {
     put(text, b" from ")?;
     put_origin(text, program, origin)?;
@@ -130,7 +133,8 @@ fn put_each_edge(
 }
 
 fn locals_if<'a>(program: &'a Program, plan: &Plan, block: u16) -> &'a [Var]
-    ensures { result.now ≡ locals_of_block program.now (slice_get plan.now.blocks block) }
+    ensures { result.now
+        ≡ option_map_or (λ x. locals_of_block program.now x.kind) (slice_get plan.now.blocks block) [] }
 {
     match plan.blocks.as_slice().get(block as usize) {
         Some(block) => block_locals(program, block.kind),

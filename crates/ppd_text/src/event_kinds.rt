@@ -1,6 +1,8 @@
 // What an event is, in a word and the name of what it is about.
-ghost use Rattle.std.specs.Prelude.{◌≡◌, ◌++◌, OnOk};
-ghost use Rattle.ppd_text.specs.Items.{event_kind, is_completion as is_completion_of, sent_kind};
+ghost use Rattle.std.specs.Prelude.{◌≡◌, ◌++◌, ◌&&◌, OnOk, codes, if◌then◌else◌, is_none, is_some, slice_get};
+ghost use Rattle.ppd_text.specs.Kinds.{kind_text};
+ghost use Rattle.ppd_text.specs.Names.{chan_name as chan_name_of};
+ghost use Rattle.ppd_text.specs.Items.{event_kind};
 
 use crate::kinds::{put_kind, put_named};
 use crate::names::chan_name;
@@ -9,7 +11,7 @@ use ppd_sem::Event;
 
 /// Whether an event of a send is the completion of an offer.
 fn is_completion(event: &Event) -> bool
-    ensures { result ≡ is_completion_of event.now }
+    ensures { result ≡ is_some event.now.number && is_none event.now.value }
 {
     event.number.is_some() && event.value.is_none()
 }
@@ -22,7 +24,12 @@ fn put_send(
     chan: u8,
     kind: &Kind,
 ) -> Result<(), Memory>
-    ensures { OnOk result (text.new.items ≡ text.old.items ++ sent_kind program.now event.now chan kind.now) }
+    ensures { OnOk result
+        (text.new.items
+        ≡ text.old.items
+        ++ (if is_some event.now.number && is_none event.now.value
+        then codes "done " ++ chan_name_of (slice_get program.now.chans chan)
+        else kind_text program.now kind.now)) }
 {
     if is_completion(event) {
         return put_named(text, b"done ", chan_name(program, chan));

@@ -1,10 +1,13 @@
 // The line of each item of an interval.
-ghost use Rattle.std.specs.Prelude.{◌≡◌, ◌++◌, OnOk, slice_get, zip};
+ghost use Rattle.std.specs.Prelude.{◌≡◌, ◌++◌, [], OnOk, codes, decimal, if◌then◌else◌, slice_get, zip};
+ghost use Rattle.std.specs.Fmt.{signed_decimal};
+ghost use Rattle.std.specs.Option.{option_map_or};
 ghost use Rattle.std.specs.List.{flat_map};
-ghost use Rattle.ppd_text.specs.Items.{access_text, accesses_text, cell_value, closed_if, closed_text, event_text};
-ghost use Rattle.ppd_text.specs.Items.{item_line, item_text, left_cell, left_text, nested_text, number_text};
-ghost use Rattle.ppd_text.specs.Items.{open_text, outcome_text, result_text, returned_text, spot_text, trap_text};
-ghost use Rattle.ppd_text.specs.Items.{value_text, written_locals as locals_written};
+ghost use Rattle.ppd_text.specs.Items.{access_text, cell_value, closed_text, event_text, item_line, item_text};
+ghost use Rattle.ppd_text.specs.Items.{left_text, open_text, outcome_text, spot_text, value_text};
+ghost use Rattle.ppd_text.specs.Items.{written_locals as locals_written};
+ghost use Rattle.ppd_text.specs.CellNames.{cell_text, trap_word, what_text};
+ghost use Rattle.ppd_ast.specs.Lookups.{locals_of as locals_in};
 
 use crate::cell_names::{put_cell, put_trap, put_what};
 use crate::event_kinds::put_event_kind;
@@ -91,7 +94,13 @@ fn put_accesses(
     event: &Event,
     stmt: &Stmt,
 ) -> Result<(), Memory>
-    ensures { OnOk result (text.new.items ≡ text.old.items ++ accesses_text program.now event.now stmt.now) }
+    ensures { OnOk result
+        (text.new.items
+        ≡ text.old.items
+        ++ (flat_map (access_text (codes " read ") program.now (locals_in program.now stmt.now.body)) event.now.reads
+        ++ flat_map
+        (access_text (codes " write ") program.now (locals_written program.now stmt.now.body stmt.now.kind))
+        event.now.writes)) }
 {
     let (own, written) = (
         locals_of(program, stmt.body),
@@ -114,7 +123,8 @@ fn put_value_if(text: &mut Vec<u8>, value: Option<i64>) -> Result<(), Memory>
 }
 
 fn put_number_if(text: &mut Vec<u8>, number: Option<u32>) -> Result<(), Memory>
-    ensures { OnOk result (text.new.items ≡ text.old.items ++ number_text number) }
+    ensures { OnOk result
+        (text.new.items ≡ text.old.items ++ option_map_or (λ n. codes " number " ++ decimal n) number []) }
 {
     match number {
         None => Ok(()),
@@ -126,7 +136,8 @@ fn put_number_if(text: &mut Vec<u8>, number: Option<u32>) -> Result<(), Memory>
 }
 
 fn put_trap_if(text: &mut Vec<u8>, trap: Option<Trap>) -> Result<(), Memory>
-    ensures { OnOk result (text.new.items ≡ text.old.items ++ trap_text trap) }
+    ensures { OnOk result
+        (text.new.items ≡ text.old.items ++ option_map_or (λ t. codes " trap " ++ trap_word t) trap []) }
 {
     match trap {
         None => Ok(()),
@@ -153,7 +164,7 @@ fn put_event(
     event: &Event,
     stmt: &Stmt,
 ) -> Result<(), Memory>
-    ensures { OnOk result (text.new.items ≡ text.old.items ++ event_text program.now event.now (Some stmt.now)) }
+    ensures { OnOk result (text.new.items ≡ text.old.items ++ event_text program.now event.now stmt.now) }
 {
     put(text, b"stmt ")?;
     put_number(text, event.stmt)?;
@@ -168,7 +179,8 @@ fn put_event(
 fn put_own(text: &mut Vec<u8>, program: &Program, event: &Event) -> Result<(), Memory>
     ensures { OnOk result
         (text.new.items
-        ≡ text.old.items ++ event_text program.now event.now (slice_get program.now.stmts event.now.stmt)) }
+        ≡ text.old.items
+        ++ option_map_or (event_text program.now event.now) (slice_get program.now.stmts event.now.stmt) []) }
 {
     match program.stmts.as_slice().get(event.stmt as usize) {
         Some(stmt) => put_event(text, program, event, stmt),
@@ -179,7 +191,9 @@ fn put_own(text: &mut Vec<u8>, program: &Program, event: &Event) -> Result<(), M
 // ---- intervals directly inside
 
 fn put_left_cell(text: &mut Vec<u8>, locals: &[Var], cell: u16, value: i64) -> Result<(), Memory>
-    ensures { OnOk result (text.new.items ≡ text.old.items ++ left_cell locals.now (cell, value)) }
+    ensures { OnOk result
+        (text.new.items
+        ≡ text.old.items ++ (codes " " ++ cell_text locals.now cell ++ codes "=" ++ signed_decimal value)) }
 {
     put(text, b" ")?;
     put_cell(text, locals, cell)?;
@@ -194,7 +208,10 @@ fn put_left_cells(
     values: &[i64],
 ) -> Result<(), Memory>
     ensures { OnOk result
-        (text.new.items ≡ text.old.items ++ flat_map (left_cell locals.now) (zip cells.now values.now)) }
+        (text.new.items
+        ≡ text.old.items
+        ++ flat_map (λ x. codes " " ++ cell_text locals.now x.0 ++ codes "=" ++ signed_decimal x.1)
+        (zip cells.now values.now)) }
 {
     for n in 0..cells.len().min(values.len()) {
         put_left_cell(text, locals, cells[n], values[n])?;
@@ -214,7 +231,7 @@ fn put_left(text: &mut Vec<u8>, locals: &[Var], cells: &[u16], values: &[i64]) -
 }
 
 fn put_returned(text: &mut Vec<u8>, values: &[i64]) -> Result<(), Memory>
-    ensures { OnOk result (text.new.items ≡ text.old.items ++ returned_text values.now) }
+    ensures { OnOk result (text.new.items ≡ text.old.items ++ value_text (slice_get values.now 0)) }
 {
     match values {
         [] => Ok(()),
@@ -251,7 +268,9 @@ fn put_closed_if(
 ) -> Result<(), Memory>
     ensures { OnOk result
         (text.new.items
-        ≡ text.old.items ++ closed_if program.now (slice_get plan.now.blocks block) values.now) }
+        ≡ text.old.items
+        ++ option_map_or (λ x. closed_text program.now x.kind x.postlog values.now)
+        (slice_get plan.now.blocks block) []) }
 {
     match plan.blocks.as_slice().get(block as usize) {
         Some(block) => put_closed(text, program, block, values),
@@ -269,7 +288,9 @@ fn put_nested(
 ) -> Result<(), Memory>
     ensures { OnOk result
         (text.new.items
-        ≡ text.old.items ++ nested_text program.now interval (slice_get plan.now.blocks block)) }
+        ≡ text.old.items
+        ++ (codes "block " ++ decimal interval ++ codes " "
+        ++ what_text program.now (slice_get plan.now.blocks block))) }
 {
     put(text, b"block ")?;
     put_number(text, interval)?;
@@ -288,7 +309,11 @@ fn put_result(
 ) -> Result<(), Memory>
     ensures { OnOk result
         (text.new.items
-        ≡ text.old.items ++ result_text program.now (slice_get plan.now.blocks block) values.now closed) }
+        ≡ text.old.items
+        ++ (if closed
+        then option_map_or (λ x. closed_text program.now x.kind x.postlog values.now)
+        (slice_get plan.now.blocks block) []
+        else codes " open")) }
 {
     if closed {
         return put_closed_if(text, program, plan, block, values);

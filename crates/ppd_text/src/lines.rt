@@ -1,10 +1,13 @@
 // The lines of the tables.
-ghost use Rattle.std.specs.Prelude.{◌≡◌, ◌<◌, ◌++◌, ◌^◌, length, OnOk, IfOk};
+ghost use Rattle.std.specs.Prelude.{◌≡◌, ◌<◌, ◌++◌, ◌^◌, codes, if◌then◌else◌, length, OnOk, IfOk};
 ghost use Rattle.std.specs.List.{flat_map};
 ghost use Rattle.ppd_ast.specs.Numbered.{numbers_of};
 ghost use Rattle.ppd_ast.specs.Valid.{IsValid};
 ghost use Rattle.ppd_sets.specs.SetsOf.{AreSetsOf};
-ghost use Rattle.ppd_text.specs.Table.{what_text, uses_text, sets_text, body_line, body_lines, stmt_line, stmt_at, body_at, bodies_text, table_of};
+ghost use Rattle.ppd_sets.specs.Used.{defined_of, used_of};
+ghost use Rattle.ppd_text.specs.Names.{names_text};
+ghost use Rattle.ppd_text.specs.Plans.{lines_of};
+ghost use Rattle.ppd_text.specs.Table.{body_line, body_lines, stmt_line, stmt_at, body_at, table_of};
 
 use crate::kinds::put_kind;
 use crate::names::put_names;
@@ -48,7 +51,10 @@ fn put_stmts(text: &mut Vec<u8>, program: &Program, body: &Body) -> Result<(), M
 }
 
 fn put_what(text: &mut Vec<u8>, body: &Body) -> Result<(), Memory>
-    ensures { OnOk result (text.new.items ≡ text.old.items ++ what_text body.now) }
+    ensures { OnOk result
+        (text.new.items
+        ≡ text.old.items
+        ++ ((if body.now.process then codes "process " else codes "function ") ++ body.now.name)) }
 {
     if body.process {
         put(text, b"process ")?;
@@ -60,7 +66,10 @@ fn put_what(text: &mut Vec<u8>, body: &Body) -> Result<(), Memory>
 
 // Appends what is used and what is defined of these variables.
 fn put_uses(text: &mut Vec<u8>, vars: &[Var], used: &[u16], defined: &[u16]) -> Result<(), Memory>
-    ensures { OnOk result (text.new.items ≡ text.old.items ++ uses_text vars.now used.now defined.now) }
+    ensures { OnOk result
+        (text.new.items
+        ≡ text.old.items
+        ++ (codes " used" ++ names_text vars.now used.now ++ codes " defined" ++ names_text vars.now defined.now)) }
 {
     put(text, b" used")?;
     put_names(text, vars, used)?;
@@ -77,7 +86,11 @@ fn put_sets(
 ) -> Result<(), Memory>
     requires sets { AreSetsOf program.now sets.now }
     requires there { number < length program.now.bodies }
-    ensures { OnOk result (text.new.items ≡ text.old.items ++ sets_text program.now number) }
+    ensures { OnOk result
+        (text.new.items
+        ≡ text.old.items
+        ++ (codes " used" ++ names_text program.now.shared (used_of program.now number)
+        ++ codes " defined" ++ names_text program.now.shared (defined_of program.now number))) }
 {
     let vars = program.shared.as_slice();
     put_uses(text, vars, sets.used(number), sets.defined(number))?;
@@ -140,7 +153,8 @@ fn put_body_at(
 fn put_bodies(text: &mut Vec<u8>, program: &Program, sets: &VarSets) -> Result<(), Memory>
     requires sets { AreSetsOf program.now sets.now }
     requires count { length program.now.bodies < 2 ^ 16 }
-    ensures { OnOk result (text.new.items ≡ text.old.items ++ bodies_text program.now) }
+    ensures { OnOk result
+        (text.new.items ≡ text.old.items ++ lines_of (body_lines program.now) program.now.bodies) }
 {
     for number in 0..program.bodies.len() {
         put_body_at(text, program, sets, number as u16)?;

@@ -1,8 +1,8 @@
 // The names of a program's parts.
-ghost use Rattle.std.specs.Prelude.{◌≡◌, ◌++◌, OnOk, slice_get};
+ghost use Rattle.std.specs.Prelude.{◌≡◌, ◌++◌, OnOk, codes, slice_get};
 ghost use Rattle.std.specs.List.{flat_map};
 ghost use Rattle.ppd_ast.specs.Lookups.{name_of_body};
-ghost use Rattle.ppd_text.specs.Names.{sem_name as sem_name_of, chan_name as chan_name_of, var_name as var_name_of, spaced, names_text};
+ghost use Rattle.ppd_text.specs.Names.{sem_name as sem_name_of, chan_name as chan_name_of, var_name as var_name_of, names_text};
 
 use crate::text::put;
 use ppd_ast::{Memory, Program, Var};
@@ -55,14 +55,16 @@ pub fn var_name(vars: &[Var], var: u16) -> &[u8]
 
 // Appends a variable's name after a space.
 fn put_name(text: &mut Vec<u8>, vars: &[Var], var: u16) -> Result<(), Memory>
-    ensures { OnOk result (text.new.items ≡ text.old.items ++ spaced vars.now var) }
+    ensures { OnOk result (text.new.items ≡ text.old.items ++ (codes " " ++ var_name_of (slice_get vars.now var))) }
 {
     put(text, b" ")?;
     put(text, var_name(vars, var))
 }
 
 fn put_each(text: &mut Vec<u8>, vars: &[Var], numbers: &[u16]) -> Result<(), Memory>
-    ensures { OnOk result (text.new.items ≡ text.old.items ++ flat_map (spaced vars.now) numbers.now) }
+    ensures { OnOk result
+        (text.new.items
+        ≡ text.old.items ++ flat_map (λ w. codes " " ++ var_name_of (slice_get vars.now w)) numbers.now) }
 {
     for number in numbers {
         put_name(text, vars, *number)?;

@@ -1,8 +1,10 @@
 // The lines of a plan's blocks and units.
-ghost use Rattle.std.specs.Prelude.{◌≡◌, ◌++◌, ℕ, List, decimal, OnOk, slice_get};
+ghost use Rattle.std.specs.Prelude.{◌≡◌, ◌++◌, ℕ, List, [], codes, decimal, if◌then◌else◌, OnOk, slice_get};
+ghost use Rattle.std.specs.Option.{option_map_or};
 ghost use Rattle.ppd_ast.specs.declared.program.Program.{Program};
 ghost use Rattle.ppd_ast.specs.Lookups.{locals_of_body, name_of_body};
-ghost use Rattle.ppd_text.specs.Plans.{stmt_place, block_what, locals_round as locals_round_stmt, block_locals as locals_of_block, postlog_text, logs_text, block_line, lines_of, start_text, unit_line};
+ghost use Rattle.ppd_text.specs.Texts.{place_text};
+ghost use Rattle.ppd_text.specs.Plans.{block_what, locals_round as locals_round_stmt, block_locals as locals_of_block, cells_text, block_line, lines_of, start_text, unit_line};
 
 use crate::met::put_cells;
 use crate::names::function_name;
@@ -18,7 +20,9 @@ fn put_body(text: &mut Vec<u8>, word: &[u8], program: &Program, body: u16) -> Re
 }
 
 fn put_stmt_place(text: &mut Vec<u8>, program: &Program, stmt: u32) -> Result<(), Memory>
-    ensures { OnOk result (text.new.items ≡ text.old.items ++ stmt_place (slice_get program.now.stmts stmt)) }
+    ensures { OnOk result
+        (text.new.items
+        ≡ text.old.items ++ option_map_or (λ x. place_text x.place) (slice_get program.now.stmts stmt) []) }
 {
     match program.stmts.as_slice().get(stmt as usize) {
         Some(stmt) => put_place(text, stmt.place),
@@ -72,7 +76,9 @@ pub fn block_locals(program: &Program, kind: BlockKind) -> &[Var]
 }
 
 fn put_postlog(text: &mut Vec<u8>, vars: &[Var], block: &Block) -> Result<(), Memory>
-    ensures { OnOk result (text.new.items ≡ text.old.items ++ postlog_text vars.now block.now) }
+    ensures { OnOk result
+        (text.new.items
+        ≡ text.old.items ++ (if block.now.value then codes " value" else cells_text vars.now block.now.postlog)) }
 {
     if block.value {
         return put(text, b" value");
@@ -82,7 +88,11 @@ fn put_postlog(text: &mut Vec<u8>, vars: &[Var], block: &Block) -> Result<(), Me
 
 // Appends what the prelog and the postlog of a block hold.
 fn put_logs(text: &mut Vec<u8>, vars: &[Var], block: &Block) -> Result<(), Memory>
-    ensures { OnOk result (text.new.items ≡ text.old.items ++ logs_text vars.now block.now) }
+    ensures { OnOk result
+        (text.new.items
+        ≡ text.old.items
+        ++ (codes " prelog" ++ cells_text vars.now block.now.prelog ++ codes " postlog"
+        ++ (if block.now.value then codes " value" else cells_text vars.now block.now.postlog))) }
 {
     put(text, b" prelog")?;
     put_cells(text, vars, block.prelog.as_slice())?;

@@ -1,7 +1,10 @@
-use Rattle.std.proofs.Common.{◌≡◌, ◌++◌, take}
-use Rattle.ppd_text.specs.Items.{item_lines}
+use Rattle.std.proofs.Common.{◌≡◌, ◌++◌, []}
+use Rattle.std.specs.Prelude.{slice_get}
+use Rattle.std.specs.List.{flat_map, range_with_len}
+use Rattle.std.specs.Option.{option_map_or}
+use Rattle.ppd_text.specs.Items.{item_line}
 use Rattle.ppd_text.proofs.items.put_items.Given as goal
 
 abbrev pub invariant-loop-number : goal.invariant-loop-number
 invariant-loop-number l =
-    l.text.items ≡ l.initial.text.items ++ item_lines l.program l.plan 0 (take l.number l.items)
+    l.text.items ≡ l.initial.text.items ++ flat_map (λ k. option_map_or (item_line l.program l.plan k) (slice_get l.items k) []) (range_with_len 0 l.number)
