@@ -1,19 +1,22 @@
 -- The bytes of a recording, field after field.
 use Rattle.std.specs.Prelude.{◌≡◌, ℕ, ℤ, List, ◌∷◌, ◌++◌, length}
-use Rattle.std.specs.Int.{to_be_bytes, w16, w32}
+use Rattle.std.specs.Int.{cast_unsigned, to_be_bytes, w16, w32, w64}
 use Rattle.std.specs.List.{flat_map}
 use Rattle.ppd_ast.specs.declared.program.Program.{Program}
 use Rattle.ppd_entry.specs.declared.entry.Entry.{Entry}
 use Rattle.ppd_entry.specs.declared.entry.Entry.TheVariants.{Prelog, Unit, Sync, Postlog, End}
 use Rattle.ppd_entry.specs.declared.entry.Logs.{Logs}
 use Rattle.ppd_codec.specs.declared.recording.Header.{Header}
-use Rattle.ppd_codec.specs.Form.{value_bytes}
 use Rattle.ppd_codec.specs.Recordings.{spelled, version_of}
 use Rattle.ppd_codec_fields.specs.Fields.{kind_code, status_code}
 
 -- how many there are, and each
 abbrev pub listed : {A : Type 0} → (A → List ℕ) → List A → List ℕ
 listed bytes xs = to_be_bytes w16 (length xs) ++ flat_map bytes xs
+
+-- a value, in two's complement
+abbrev pub value_bytes : ℤ → List ℕ
+value_bytes v = to_be_bytes w64 (cast_unsigned w64 v)
 
 abbrev pub values : List ℤ → List ℕ
 values vs = listed value_bytes vs

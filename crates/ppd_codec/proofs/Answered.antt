@@ -19,8 +19,8 @@ use Rattle.ppd_codec.specs.Answer.{IsDecodingOf}
 use Rattle.ppd_codec.specs.Came.{Came}
 use Rattle.ppd_codec.specs.Form.{Form}
 use Rattle.ppd_codec.specs.Format.{Front, back, front, recording}
-use Rattle.ppd_codec.specs.Reader.{Got, after, done}
-use Rattle.ppd_codec.specs.Recordings.{AreLawful, ComesToSource, IsBad, IsDecoded, IsJudged, IsLawfulBy, IsMade, IsPastFront, Judged, all_of, back_by, facts_of, front_of, nothing_left, reading, refusal, spelled, version_of}
+use Rattle.ppd_codec.specs.Reader.{Got, Reader, after, both, done}
+use Rattle.ppd_codec.specs.Recordings.{AreLawful, ComesToSource, IsBad, IsDecoded, IsJudged, IsLawfulBy, IsMade, IsPastFront, Judged, all_of, back_by, facts_of, front_of, nothing_left, refusal, spelled, version_of}
 use Rattle.ppd_codec.proofs.Inverts.{AreBytes, Wrote, got, ok_is}
 use Rattle.ppd_codec.proofs.Built.{Holds}
 use Rattle.ppd_codec.proofs.Parts.{recording_holds}
@@ -28,6 +28,10 @@ use Rattle.ppd_codec.proofs.Parts.{recording_holds}
 pub are_bytes : (xs : List ℕ) → ((k : ℕ) → k < length xs → get_or xs k 0 < 2 ^ 8) → AreBytes xs
 are_bytes [] h = tt
 are_bytes (x ∷ xs) h = (h 0 (omega arith), are_bytes xs (λ k l. h (suc k) (omega arith)))
+
+-- a recording whose source is judged so
+abbrev pub reading : Judged → Reader (Front × List (List Entry))
+reading j = both front.read (back_by j)
 
 -- ---- all of the bytes
 

@@ -1,14 +1,14 @@
 -- What is built of forms, both ways.
-use Rattle.std.specs.Prelude.{⊤, nat_eq, nat_le}
-use Rattle.std.specs.List.{AllByRecursion, flat_map}
+use Rattle.std.specs.Prelude.{⊤, IsSomeAnd, nat_eq, nat_le}
+use Rattle.std.specs.List.{AllByRecursion, find, flat_map}
+use Rattle.std.specs.Option.{option_map_or}
 use Rattle.std.proofs.Common.{◌≡◌, ℕ, zero, suc, ◌+◌, ◌≤◌, List, [], ◌∷◌, ◌++◌, length, take, drop, Bool, true, false, cond, Option, Some, None, Result, Ok, Err, refl, ap, sym, ◌∙◌, subst, arith, length-append}
 use Rattle.std.proofs.lemmas.Bool.Decides.{nat_tests}
 use Rattle.std.proofs.lemmas.List.{take-append-drop}
 use Rattle.ppd_codec.specs.declared.bad.BadBytes.{BadBytes}
 use Rattle.ppd_codec.specs.declared.bad.BadBytes.TheVariants as bad
-use Rattle.ppd_codec.specs.Reader.{Got, Reader, after, as_a, both, done, field, next, several}
-use Rattle.ppd_codec.specs.Form.{Along, Form, IsLawfulIn, block, bytes_in, listed, listed_along, named, one_of, only, pair, ranged, tagged}
-use Rattle.ppd_codec_fields.specs.Fields.{coded}
+use Rattle.ppd_codec.specs.Reader.{Got, Reader, after, both, done, field, next, several}
+use Rattle.ppd_codec.specs.Form.{Along, Form, block, listed, listed_along, named, one_of, only, pair, ranged, tagged}
 use Rattle.ppd_codec.proofs.Inverts.{AreBytes, Inverts, Wrote, checked_inverts, done_inverts, got, kept_inverts, next_inverts, ok_is}
 use Rattle.ppd_codec.proofs.Widths.{drop_front, length_take, take_front}
 
@@ -28,13 +28,13 @@ same_inverts r w v P Q i down up = record {
 
 -- a reading with another name: no way back is needed, only that a lawful one comes from somewhere
 pub as_inverts : {A B : Type 0} (f : A → B) (r : Reader A) (w : A → List ℕ) (v : B → List ℕ) (P : A → Type 0) (Q : B → Type 0) → Inverts r w P
-    → ((y : B) → Q y → (x : A) × P x × (f x ≡ y) × (v y ≡ w x)) → ((x : A) → P x → Q (f x) × (v (f x) ≡ w x)) → Inverts (as_a f r) v Q
+    → ((y : B) → Q y → (x : A) × P x × (f x ≡ y) × (v y ≡ w x)) → ((x : A) → P x → Q (f x) × (v (f x) ≡ w x)) → Inverts (next r (λ x. done (f x))) v Q
 as_inverts f r w v P Q i down up = record {
   there = λ y q at rest.
       let h = down y q in
-      let one : as_a f r at (w h.0 ++ rest) ≡ Ok (got y (at + length (w h.0)) rest) =
+      let one : next r (λ x. done (f x)) at (w h.0 ++ rest) ≡ Ok (got y (at + length (w h.0)) rest) =
       ap (λ (g : Result (Got _) BadBytes). after g (λ x. done (f x))) (i.there h.0 h.1 at rest) ∙ ap (λ (z : _). Ok (got z (at + length (w h.0)) rest)) h.2 in
-      subst (λ (bs : List ℕ). as_a f r at (bs ++ rest) ≡ Ok (got y (at + length bs) rest)) (sym h.3) one;
+      subst (λ (bs : List ℕ). next r (λ x. done (f x)) at (bs ++ rest) ≡ Ok (got y (at + length bs) rest)) (sym h.3) one;
   back = λ at bytes y now rest b e. by at bytes y now rest b (r at bytes) refl e;
 }
   where
@@ -78,6 +78,10 @@ ranged_holds bad test f h = kept_inverts test bad f.read f.bytes f.Lawful h
 
 -- ---- codes
 
+-- the first of these that has the code
+abbrev coded : {A : Type 0} → (A → ℕ) → List A → ℕ → Option A
+coded code all n = find (λ y. nat_eq (code y) n) all
+
 coded_is : {A : Type 0} (code : A → ℕ) (all : List A) (n : ℕ) (x : A) → coded code all n ≡ Some x → code x ≡ n
 coded_is code [] n x e = absurd (cc)
 coded_is code (y ∷ ys) n x e = by (nat_eq (code y) n) refl e (λ d. coded_is code ys n x d)
@@ -97,11 +101,11 @@ pub named_holds : {A B : Type 0} (whole : A → B) (parts : B → Option A) (f :
     → Holds f → Holds (named whole parts f)
 named_holds {A} {B} whole parts f to from h = as_inverts whole f.read f.bytes (named whole parts f).bytes f.Lawful (named whole parts f).Lawful h
     (λ y q. by y (parts y) refl q)
-    (λ x l. (subst (IsLawfulIn f.Lawful) (sym (to x)) l, ap (bytes_in f.bytes) (to x)))
+    (λ x l. (subst (λ (o : Option A). IsSomeAnd o f.Lawful) (sym (to x)) l, ap (λ (o : Option A). option_map_or f.bytes o []) (to x)))
   where
-    by : (y : B) (o : Option A) → parts y ≡ o → IsLawfulIn f.Lawful o → (x : A) × f.Lawful x × (whole x ≡ y) × (bytes_in f.bytes (parts y) ≡ f.bytes x)
+    by : (y : B) (o : Option A) → parts y ≡ o → IsSomeAnd o f.Lawful → (x : A) × f.Lawful x × (whole x ≡ y) × (option_map_or f.bytes (parts y) [] ≡ f.bytes x)
     by y None is q = absurd q
-    by y (Some x) is q = (x, q, from x y is, ap (bytes_in f.bytes) is)
+    by y (Some x) is q = (x, q, from x y is, ap (λ (o : Option A). option_map_or f.bytes o []) is)
 
 pub tagged_holds : {T A : Type 0} (tag : Form T) (tag_of : A → T) (row : T → Form A) → ((t : T) (y : A) → (row t).Lawful y → tag_of y ≡ t)
     → Holds tag → ((t : T) → Holds (row t)) → Holds (tagged tag tag_of row)

@@ -1,9 +1,10 @@
 -- Reading undoes spelling, both ways; and what is built of readers for which this holds.
 use Rattle.std.specs.Prelude.{⊤}
-use Rattle.std.proofs.Common.{◌≡◌, ◌^◌, ℕ, ◌+◌, ◌<◌, List, [], ◌∷◌, ◌++◌, length, Bool, true, false, cond, Option, Some, None, Result, Ok, Err, refl, ap, sym, ◌∙◌, subst, arith, length-append}
+use Rattle.std.proofs.Common.{◌≡◌, ◌^◌, ℕ, ◌+◌, ◌<◌, List, [], ◌∷◌, ◌++◌, length, Bool, true, false, cond, Option, Some, None, Result, Ok, Err, refl, ap, sym, ◌∙◌, subst, arith, length-append, if◌then◌else◌}
 use Rattle.std.proofs.lemmas.List.{append_assoc}
 use Rattle.ppd_codec.specs.declared.bad.BadBytes.{BadBytes}
-use Rattle.ppd_codec.specs.Reader.{Got, Reader, after, checked, done, kept, or_refuse, next}
+use Rattle.std.specs.Option.{option_map_or}
+use Rattle.ppd_codec.specs.Reader.{Got, Reader, after, checked, done, next, refuse}
 
 abbrev pub AreBytes : List ℕ → Type 0
 AreBytes [] = ⊤
@@ -82,12 +83,12 @@ pub checked_inverts : {A B : Type 0} (of : A → Option B) (bad : ℕ → BadByt
 checked_inverts of bad r code w P Q inner there back = record {
   there = λ y l at rest.
       let t = there y l in
-      ap (λ (g : Result (Got _) BadBytes). after g (λ x. or_refuse (bad at) (of x))) (inner.there (code y) t.0 at rest)
-      ∙ ap (λ (o : Option _). or_refuse (bad at) o (at + length (w (code y))) rest) t.1;
+      ap (λ (g : Result (Got _) BadBytes). after g (λ x. option_map_or done (of x) (refuse (bad at)))) (inner.there (code y) t.0 at rest)
+      ∙ ap (λ (o : Option _). option_map_or done o (refuse (bad at)) (at + length (w (code y))) rest) t.1;
   back = λ at bytes y now rest b e. by at bytes y now rest b (r at bytes) refl e;
 }
   where
-    go : (at : ℕ) (bytes : List ℕ) (y : _) (now : ℕ) (rest : List ℕ) (g : Got _) → Wrote w P at bytes g.value g.at g.rest → (o : Option _) → of g.value ≡ o → or_refuse (bad at) o g.at g.rest ≡ Ok (got y now rest)
+    go : (at : ℕ) (bytes : List ℕ) (y : _) (now : ℕ) (rest : List ℕ) (g : Got _) → Wrote w P at bytes g.value g.at g.rest → (o : Option _) → of g.value ≡ o → option_map_or done o (refuse (bad at)) g.at g.rest ≡ Ok (got y now rest)
         → Wrote (λ z. w (code z)) Q at bytes y now rest
     go at bytes y now rest g one None is e = absurd (cc)
     go at bytes y now rest g one (Some z) is e =
@@ -100,15 +101,15 @@ checked_inverts of bad r code w P Q inner there back = record {
           at_is = sym (ap (λ (h : Got _). h.at) same) ∙ one.at_is ∙ ap (λ x. at + length (w x)) (sym k.0);
         }
 
-    by : (at : ℕ) (bytes : List ℕ) (y : _) (now : ℕ) (rest : List ℕ) → AreBytes bytes → (g : Result (Got _) BadBytes) → r at bytes ≡ g → after g (λ x. or_refuse (bad at) (of x)) ≡ Ok (got y now rest)
+    by : (at : ℕ) (bytes : List ℕ) (y : _) (now : ℕ) (rest : List ℕ) → AreBytes bytes → (g : Result (Got _) BadBytes) → r at bytes ≡ g → after g (λ x. option_map_or done (of x) (refuse (bad at))) ≡ Ok (got y now rest)
         → Wrote (λ z. w (code z)) Q at bytes y now rest
     by at bytes y now rest b (Err x) is e = absurd (cc)
     by at bytes y now rest b (Ok g) is e = go at bytes y now rest g (inner.back at bytes g.value g.at g.rest b is) (of g.value) refl e
 
 -- a test alone
 pub kept_inverts : {A : Type 0} (test : A → Bool) (bad : ℕ → BadBytes) (r : Reader A) (w : A → List ℕ) (P : A → Type 0) → Inverts r w P
-    → Inverts (checked (kept test) bad r) w (λ x. P x × (test x ≡ true))
-kept_inverts test bad r w P inner = checked_inverts (kept test) bad r (λ x. x) w P (λ x. P x × (test x ≡ true)) inner
+    → Inverts (checked (λ x. if test x then Some x else None) bad r) w (λ x. P x × (test x ≡ true))
+kept_inverts test bad r w P inner = checked_inverts (λ x. if test x then Some x else None) bad r (λ x. x) w P (λ x. P x × (test x ≡ true)) inner
     (λ y l. (l.0, ap (λ (b : Bool). cond b (Some y) None) l.1))
     (λ x y l e. by x y (test x) refl l e)
   where

@@ -1,5 +1,5 @@
 -- The parts of a recording, both ways.
-use Rattle.std.specs.Prelude.{FitsSigned}
+use Rattle.std.specs.Prelude.{◌+◌, List, get_or, FitsSigned}
 use Rattle.std.specs.Int.{cast_signed, cast_unsigned, w16, w32, w64, to_be_bytes, from_be_bytes}
 use Rattle.std.proofs.Common.{Fits, ◌≡◌, ℕ, ◌<◌, ◌^◌, ℤ, [], ◌∷◌, Some, refl, ap, sym, ◌∙◌}
 use Rattle.std.proofs.lemmas.Nat.{be_bytes_8, from_be_bytes-to_be_bytes_8}
@@ -11,8 +11,8 @@ use Rattle.ppd_codec.specs.declared.bad.BadBytes.TheVariants as bad
 use Rattle.ppd_codec.specs.declared.facts.Facts.{Facts}
 use Rattle.ppd_codec_fields.specs.declared.tag.Tag.{Tag}
 use Rattle.ppd_codec_fields.specs.declared.tag.Tag.TheVariants as T
-use Rattle.ppd_codec.specs.Form.{byte, first, number_2, number_4, value, value_bytes, value_of}
-use Rattle.ppd_codec.specs.Format.{End, Sync, an_entry, back, budget, cells, end_entry_of, end_parts, end_status, ended, front, leaf, log, logs, loops, magic, magic_code, numbered, out_of, past, postlog_of, postlog_parts, prelog_of, prelog_parts, process_count, recording, row, source, source_length, sync_kind, sync_number, sync_of, sync_parts, sync_value, synced, tag, tag_of, unit_of, unit_parts, values, version}
+use Rattle.ppd_codec.specs.Form.{byte, number_2, number_4, value}
+use Rattle.ppd_codec.specs.Format.{End, Sync, an_entry, back, budget, cells, end_parts, end_status, ended, front, log, logs, magic, numbered, numbered_parts, out_of, policy_number, process_count, recording, row, source, source_length, sync_kind, sync_number, sync_parts, sync_value, synced, tag, tag_of, values, version}
 use Rattle.ppd_codec_fields.specs.Fields.{is_next, kind_code, kinds, status_code, statuses, tag_code, tags}
 use Rattle.ppd_codec.proofs.Widths.{IsWidth, bound_8, byte_at, field_inverts, width_1, width_2, width_4}
 use Rattle.ppd_codec.proofs.Built.{Holds, block_holds, listed_along_holds, listed_holds, named_holds, one_of_holds, only_holds, pair_holds, ranged_holds, tagged_holds}
@@ -20,7 +20,7 @@ use Rattle.ppd_codec.proofs.Built.{Holds, block_holds, listed_along_holds, liste
 -- ---- numbers
 
 pub byte_holds : Holds byte
-byte_holds = field_inverts 1 first byte.bytes byte.Lawful width_1
+byte_holds = field_inverts 1 (λ bs. get_or bs 0 0) byte.bytes byte.Lawful width_1
 
 pub number_2_holds : Holds number_2
 number_2_holds = field_inverts 2 (from_be_bytes w16) (to_be_bytes w16) number_2.Lawful width_2
@@ -34,7 +34,10 @@ small f = Fits-lt-pow (Fits-of_z f)
 fits : {n : ℕ} → n < 2 ^ 64 → Fits w64 n
 fits h = Fits-of_lt h
 
-width_8 : IsWidth 8 value_of value_bytes (FitsSigned w64)
+abbrev value_of : List ℕ → ℤ
+value_of bytes = cast_signed w64 (from_be_bytes w64 bytes)
+
+width_8 : IsWidth 8 value_of value.bytes (FitsSigned w64)
 width_8 = record {
   long = λ v. refl;
   there = λ v f. ap (cast_signed w64) (from_be_bytes-to_be_bytes_8 (cast_unsigned w64 v) (small f)) ∙ to_z-of_z f;
@@ -43,12 +46,12 @@ width_8 = record {
 }
 
 pub value_holds : Holds value
-value_holds = field_inverts 8 value_of value_bytes (FitsSigned w64) width_8
+value_holds = field_inverts 8 value_of value.bytes (FitsSigned w64) width_8
 
 -- ---- the front
 
 magic_holds : Holds magic
-magic_holds = one_of_holds bad.Magic magic_code (tt ∷ []) number_4 number_4_holds
+magic_holds = one_of_holds bad.Magic (λ t. 0x5050_4452) (tt ∷ []) number_4 number_4_holds
 
 source_holds : Holds source
 source_holds = block_holds source_length (ranged_holds _ _ number_4 number_4_holds)
@@ -58,8 +61,8 @@ front_holds =
     pair_holds magic _ magic_holds (λ m.
     pair_holds version _ (ranged_holds _ _ byte byte_holds) (λ v.
     pair_holds budget _ (ranged_holds _ _ number_4 number_4_holds) (λ b.
-    pair_holds leaf _ (ranged_holds _ _ number_2 number_2_holds) (λ l.
-    pair_holds loops _ (ranged_holds _ _ number_2 number_2_holds) (λ p. source_holds)))))
+    pair_holds (policy_number F.Leaf) _ (ranged_holds _ _ number_2 number_2_holds) (λ l.
+    pair_holds (policy_number F.Loops) _ (ranged_holds _ _ number_2 number_2_holds) (λ p. source_holds)))))
 
 -- ---- rows
 
@@ -67,7 +70,7 @@ values_hold : Holds values
 values_hold = listed_holds number_2 value number_2_holds value_holds
 
 cells_hold : (shared : ℕ) → Holds (cells shared)
-cells_hold shared = listed_along_holds number_2 (out_of F.Cells) (is_next shared) past 0 number_2 number_2_holds number_2_holds
+cells_hold shared = listed_along_holds number_2 (out_of F.Cells) (is_next shared) (λ c. c + 1) 0 number_2 number_2_holds number_2_holds
 
 numbered_holds : Holds numbered
 numbered_holds = pair_holds number_2 (λ b. values) number_2_holds (λ b. values_hold)
@@ -89,26 +92,44 @@ ended_holds f =
 tag_holds : Holds tag
 tag_holds = one_of_holds (out_of F.Tag) tag_code tags byte byte_holds
 
-prelog_back : (x : _) (y : Entry) → prelog_parts y ≡ Some x → prelog_of x ≡ y
-prelog_back x (entry.Prelog b vs) e = let same : (b, vs) ≡ x = cc in ap prelog_of (sym same)
-prelog_back x (entry.Unit b vs) e = absurd (cc)
-prelog_back x (entry.Sync k o n v r w) e = absurd (cc)
-prelog_back x (entry.Postlog b vs) e = absurd (cc)
-prelog_back x (entry.End s n r w) e = absurd (cc)
+-- an entry of a block or a unit, with its values
+abbrev with_values : Tag → ℕ × List ℤ → Entry
+with_values T.Prelog p = entry.Prelog p.0 p.1
+with_values T.Unit p = entry.Unit p.0 p.1
+with_values t p = entry.Postlog p.0 p.1
 
-unit_back : (x : _) (y : Entry) → unit_parts y ≡ Some x → unit_of x ≡ y
-unit_back x (entry.Prelog b vs) e = absurd (cc)
-unit_back x (entry.Unit b vs) e = let same : (b, vs) ≡ x = cc in ap unit_of (sym same)
-unit_back x (entry.Sync k o n v r w) e = absurd (cc)
-unit_back x (entry.Postlog b vs) e = absurd (cc)
-unit_back x (entry.End s n r w) e = absurd (cc)
+abbrev sync_of : Sync → Entry
+sync_of p = entry.Sync p.0 p.1.0 p.1.1.0 p.1.1.1.0 p.1.1.1.1.0 p.1.1.1.1.1
 
-postlog_back : (x : _) (y : Entry) → postlog_parts y ≡ Some x → postlog_of x ≡ y
-postlog_back x (entry.Prelog b vs) e = absurd (cc)
-postlog_back x (entry.Unit b vs) e = absurd (cc)
-postlog_back x (entry.Sync k o n v r w) e = absurd (cc)
-postlog_back x (entry.Postlog b vs) e = let same : (b, vs) ≡ x = cc in ap postlog_of (sym same)
-postlog_back x (entry.End s n r w) e = absurd (cc)
+abbrev end_of : End → Entry
+end_of p = entry.End p.0 p.1.0 p.1.1.0 p.1.1.1
+
+numbered_back : (t : Tag) (x : ℕ × List ℤ) (y : Entry) → numbered_parts t y ≡ Some x → with_values t x ≡ y
+numbered_back T.Prelog x (entry.Prelog b vs) e = let same : (b, vs) ≡ x = cc in ap (with_values T.Prelog) (sym same)
+numbered_back T.Prelog x (entry.Unit b vs) e = absurd (cc)
+numbered_back T.Prelog x (entry.Sync k o n v r w) e = absurd (cc)
+numbered_back T.Prelog x (entry.Postlog b vs) e = absurd (cc)
+numbered_back T.Prelog x (entry.End s n r w) e = absurd (cc)
+numbered_back T.Unit x (entry.Prelog b vs) e = absurd (cc)
+numbered_back T.Unit x (entry.Unit b vs) e = let same : (b, vs) ≡ x = cc in ap (with_values T.Unit) (sym same)
+numbered_back T.Unit x (entry.Sync k o n v r w) e = absurd (cc)
+numbered_back T.Unit x (entry.Postlog b vs) e = absurd (cc)
+numbered_back T.Unit x (entry.End s n r w) e = absurd (cc)
+numbered_back T.Sync x (entry.Prelog b vs) e = absurd (cc)
+numbered_back T.Sync x (entry.Unit b vs) e = absurd (cc)
+numbered_back T.Sync x (entry.Sync k o n v r w) e = absurd (cc)
+numbered_back T.Sync x (entry.Postlog b vs) e = absurd (cc)
+numbered_back T.Sync x (entry.End s n r w) e = absurd (cc)
+numbered_back T.Postlog x (entry.Prelog b vs) e = absurd (cc)
+numbered_back T.Postlog x (entry.Unit b vs) e = absurd (cc)
+numbered_back T.Postlog x (entry.Sync k o n v r w) e = absurd (cc)
+numbered_back T.Postlog x (entry.Postlog b vs) e = let same : (b, vs) ≡ x = cc in ap (with_values T.Postlog) (sym same)
+numbered_back T.Postlog x (entry.End s n r w) e = absurd (cc)
+numbered_back T.End x (entry.Prelog b vs) e = absurd (cc)
+numbered_back T.End x (entry.Unit b vs) e = absurd (cc)
+numbered_back T.End x (entry.Sync k o n v r w) e = absurd (cc)
+numbered_back T.End x (entry.Postlog b vs) e = absurd (cc)
+numbered_back T.End x (entry.End s n r w) e = absurd (cc)
 
 sync_back : (x : Sync) (y : Entry) → sync_parts y ≡ Some x → sync_of x ≡ y
 sync_back x (entry.Prelog b vs) e = absurd (cc)
@@ -117,19 +138,19 @@ sync_back x (entry.Sync k o n v r w) e = let same : (k, (o, (n, (v, (r, w))))) �
 sync_back x (entry.Postlog b vs) e = absurd (cc)
 sync_back x (entry.End s n r w) e = absurd (cc)
 
-end_back : (x : End) (y : Entry) → end_parts y ≡ Some x → end_entry_of x ≡ y
+end_back : (x : End) (y : Entry) → end_parts y ≡ Some x → end_of x ≡ y
 end_back x (entry.Prelog b vs) e = absurd (cc)
 end_back x (entry.Unit b vs) e = absurd (cc)
 end_back x (entry.Sync k o n v r w) e = absurd (cc)
 end_back x (entry.Postlog b vs) e = absurd (cc)
-end_back x (entry.End s n r w) e = let same : (s, (n, (r, w))) ≡ x = cc in ap end_entry_of (sym same)
+end_back x (entry.End s n r w) e = let same : (s, (n, (r, w))) ≡ x = cc in ap end_of (sym same)
 
 row_holds : (f : Facts) (t : Tag) → Holds (row f t)
-row_holds f T.Prelog = named_holds prelog_of prelog_parts numbered (λ x. refl) prelog_back numbered_holds
-row_holds f T.Unit = named_holds unit_of unit_parts numbered (λ x. refl) unit_back numbered_holds
+row_holds f T.Prelog = named_holds (with_values T.Prelog) (numbered_parts T.Prelog) numbered (λ x. refl) (numbered_back T.Prelog) numbered_holds
+row_holds f T.Unit = named_holds (with_values T.Unit) (numbered_parts T.Unit) numbered (λ x. refl) (numbered_back T.Unit) numbered_holds
 row_holds f T.Sync = named_holds sync_of sync_parts (synced f) (λ x. refl) sync_back (synced_holds f)
-row_holds f T.Postlog = named_holds postlog_of postlog_parts numbered (λ x. refl) postlog_back numbered_holds
-row_holds f T.End = named_holds end_entry_of end_parts (ended f) (λ x. refl) end_back (ended_holds f)
+row_holds f T.Postlog = named_holds (with_values T.Postlog) (numbered_parts T.Postlog) numbered (λ x. refl) (numbered_back T.Postlog) numbered_holds
+row_holds f T.End = named_holds end_of end_parts (ended f) (λ x. refl) end_back (ended_holds f)
 
 -- a row is lawful for the entries of its tag alone
 row_tag : (f : Facts) (t : Tag) (y : Entry) → (row f t).Lawful y → tag_of y ≡ t

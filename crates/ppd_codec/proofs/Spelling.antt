@@ -13,10 +13,14 @@ use Rattle.ppd_codec.specs.declared.recording.Recording.{Recording}
 use Rattle.ppd_codec.specs.Format.{Front, front, recording}
 use Rattle.ppd_codec.specs.Laws.{NoRecordingIsBad, OneReading, OneSpelling}
 use Rattle.ppd_codec.specs.Reader.{Got}
-use Rattle.ppd_codec.specs.Recordings.{IsDecoded, IsJudged, IsRecordingOf, Judged, all_of, facts_of, fields_of, front_of, reading, spelled, version_of}
+use Rattle.ppd_codec.specs.Recordings.{IsDecoded, IsJudged, IsRecordingOf, Judged, all_of, facts_of, front_of, spelled, version_of}
 use Rattle.ppd_codec.proofs.Inverts.{got, ok_is}
 use Rattle.ppd_codec.proofs.Parts.{front_holds, recording_holds}
-use Rattle.ppd_codec.proofs.Answered.{all_there}
+use Rattle.ppd_codec.proofs.Answered.{all_there, reading}
+
+-- the three as the fields of the form
+abbrev fields_of : Program → List ℕ → Header → Logs → Front × List (List Entry)
+fields_of p s h logs = (front_of (version_of p.chans) h s, logs.lists)
 
 pub one_spelling : OneSpelling
 one_spelling s h l x y a b =

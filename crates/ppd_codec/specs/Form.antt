@@ -1,11 +1,11 @@
 -- The form of a part of a recording, from which three things follow: which values are lawful, how each is spelled, and
 -- how bytes are read. A form is built of fields by the words below.
-use Rattle.std.specs.Prelude.{◌≡◌, ℕ, ◌<◌, ◌^◌, ℤ, Bool, true, List, [], ◌∷◌, ◌++◌, length, get_or, Option, Some, None, if◌then◌else◌, ⊤, FitsSigned}
+use Rattle.std.specs.Prelude.{◌≡◌, ℕ, ◌<◌, ◌^◌, nat_eq, ℤ, Bool, true, List, [], ◌∷◌, ◌++◌, length, get_or, Option, Some, None, IsSomeAnd, if◌then◌else◌, ⊤, FitsSigned}
 use Rattle.std.specs.Int.{cast_signed, cast_unsigned, w16, w32, w64, to_be_bytes, from_be_bytes}
-use Rattle.std.specs.List.{AllByRecursion, flat_map}
+use Rattle.std.specs.List.{AllByRecursion, find, flat_map}
+use Rattle.std.specs.Option.{option_map_or}
 use Rattle.ppd_codec.specs.declared.bad.BadBytes.{BadBytes}
-use Rattle.ppd_codec.specs.Reader.{Reader, as_a, both, checked, field, kept, next, refuse, several}
-use Rattle.ppd_codec_fields.specs.Fields.{coded}
+use Rattle.ppd_codec.specs.Reader.{Reader, both, checked, done, field, next, refuse, several}
 
 pub record Form (A : Type 0) : Type 1 where
   pub Lawful : A → Type 0
@@ -14,11 +14,8 @@ pub record Form (A : Type 0) : Type 1 where
 
 -- ---- numbers, big-endian
 
-abbrev pub first : List ℕ → ℕ
-first bytes = get_or bytes 0 0
-
 abbrev pub byte : Form ℕ
-byte = record { Lawful = λ n. n < 2 ^ 8; bytes = λ n. n ∷ []; read = field 1 first }
+byte = record { Lawful = λ n. n < 2 ^ 8; bytes = λ n. n ∷ []; read = field 1 (λ bytes. get_or bytes 0 0) }
 
 abbrev pub number_2 : Form ℕ
 number_2 = record { Lawful = λ n. n < 2 ^ 16; bytes = to_be_bytes w16; read = field 2 (from_be_bytes w16) }
@@ -26,15 +23,13 @@ number_2 = record { Lawful = λ n. n < 2 ^ 16; bytes = to_be_bytes w16; read = f
 abbrev pub number_4 : Form ℕ
 number_4 = record { Lawful = λ n. n < 2 ^ 32; bytes = to_be_bytes w32; read = field 4 (from_be_bytes w32) }
 
-abbrev pub value_of : List ℕ → ℤ
-value_of bytes = cast_signed w64 (from_be_bytes w64 bytes)
-
-abbrev pub value_bytes : ℤ → List ℕ
-value_bytes v = to_be_bytes w64 (cast_unsigned w64 v)
-
 -- in two's complement
 abbrev pub value : Form ℤ
-value = record { Lawful = FitsSigned w64; bytes = value_bytes; read = field 8 value_of }
+value = record {
+  Lawful = FitsSigned w64;
+  bytes = λ v. to_be_bytes w64 (cast_unsigned w64 v);
+  read = field 8 (λ bytes. cast_signed w64 (from_be_bytes w64 bytes));
+}
 
 -- ---- what is lawful in a field
 
@@ -43,15 +38,15 @@ abbrev pub ranged : {A : Type 0} → (ℕ → BadBytes) → (A → Bool) → For
 ranged bad test f = record {
   Lawful = λ x. f.Lawful x × (test x ≡ true);
   bytes = f.bytes;
-  read = checked (kept test) bad f.read;
+  read = checked (λ x. if test x then Some x else None) bad f.read;
 }
 
 -- one of these, by its code
 abbrev pub one_of : {A : Type 0} → (ℕ → BadBytes) → (A → ℕ) → List A → Form ℕ → Form A
 one_of bad code all f = record {
-  Lawful = λ x. f.Lawful (code x) × (coded code all (code x) ≡ Some x);
+  Lawful = λ x. f.Lawful (code x) × (find (λ y. nat_eq (code y) (code x)) all ≡ Some x);
   bytes = λ x. f.bytes (code x);
-  read = checked (coded code all) bad f.read;
+  read = checked (λ n. find (λ y. nat_eq (code y) n) all) bad f.read;
 }
 
 -- ---- one after the other
@@ -63,20 +58,12 @@ pair f g = record {
   read = both f.read (λ x. (g x).read);
 }
 
-abbrev pub IsLawfulIn : {A : Type 0} → (A → Type 0) → Option A → Type 0
-IsLawfulIn Lawful None = ⊥
-IsLawfulIn Lawful (Some x) = Lawful x
-
-abbrev pub bytes_in : {A : Type 0} → (A → List ℕ) → Option A → List ℕ
-bytes_in bytes None = []
-bytes_in bytes (Some x) = bytes x
-
 -- the parts by the name of the whole; `parts` gives them back
 abbrev pub named : {A B : Type 0} → (A → B) → (B → Option A) → Form A → Form B
 named whole parts f = record {
-  Lawful = λ y. IsLawfulIn f.Lawful (parts y);
-  bytes = λ y. bytes_in f.bytes (parts y);
-  read = as_a whole f.read;
+  Lawful = λ y. IsSomeAnd (parts y) f.Lawful;
+  bytes = λ y. option_map_or f.bytes (parts y) [];
+  read = next f.read (λ x. done (whole x));
 }
 
 -- a tag, and what it announces

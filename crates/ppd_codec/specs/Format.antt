@@ -24,11 +24,8 @@ within low high n = nat_le low n && nat_le n high
 -- ---- the header and the source
 
 -- 50 50 44 52
-abbrev pub magic_code : ⊤ → ℕ
-magic_code t = 0x5050_4452
-
 abbrev pub magic : Form ⊤
-magic = one_of bad.Magic magic_code (tt ∷ []) number_4
+magic = one_of bad.Magic (λ t. 0x5050_4452) (tt ∷ []) number_4
 
 abbrev pub version : Form ℕ
 version = ranged bad.Version (within 1 2) byte
@@ -39,12 +36,6 @@ budget = ranged (out_of F.Budget) (within 1 MOST_BUDGET) number_4
 -- a number of the policy
 abbrev pub policy_number : Field → Form ℕ
 policy_number f = ranged (out_of f) (within 0 MOST_POLICY) number_2
-
-abbrev pub leaf : Form ℕ
-leaf = policy_number F.Leaf
-
-abbrev pub loops : Form ℕ
-loops = policy_number F.Loops
 
 abbrev pub source_length : Form ℕ
 source_length = ranged (out_of F.Source) (within 0 MOST_SOURCE_BYTES) number_4
@@ -57,22 +48,20 @@ abbrev pub Front : Type 0
 Front = ⊤ × (ℕ × (ℕ × (ℕ × (ℕ × List ℕ))))
 
 abbrev pub front : Form Front
-front = pair magic (λ m. pair version (λ v. pair budget (λ b. pair leaf (λ l. pair loops (λ p. source)))))
+front = pair magic (λ m. pair version (λ v. pair budget
+    (λ b. pair (policy_number F.Leaf) (λ l. pair (policy_number F.Loops) (λ p. source)))))
 
 -- ---- values and cells
 
 abbrev pub values : Form (List ℤ)
 values = listed number_2 value
 
-abbrev pub past : ℕ → ℕ
-past c = c + 1
-
 abbrev pub cell : ℕ → ℕ → Form ℕ
 cell shared low = ranged (out_of F.Cells) (is_next shared low) number_2
 
 -- rising
 abbrev pub cells : ℕ → Form (List ℕ)
-cells shared = listed_along number_2 (out_of F.Cells) (is_next shared) past 0 number_2
+cells shared = listed_along number_2 (out_of F.Cells) (is_next shared) (λ c. c + 1) 0 number_2
 
 -- ---- entries
 
@@ -118,47 +107,28 @@ tag_of (entry.Sync k o n v r w) = T.Sync
 tag_of (entry.Postlog b vs) = T.Postlog
 tag_of (entry.End s n r w) = T.End
 
-abbrev pub prelog_of : ℕ × List ℤ → Entry
-prelog_of p = entry.Prelog p.0 p.1
-
-abbrev pub prelog_parts : Entry → Option (ℕ × List ℤ)
-prelog_parts (entry.Prelog b vs) = Some (b, vs)
-prelog_parts e = None
-
-abbrev pub unit_of : ℕ × List ℤ → Entry
-unit_of p = entry.Unit p.0 p.1
-
-abbrev pub unit_parts : Entry → Option (ℕ × List ℤ)
-unit_parts (entry.Unit b vs) = Some (b, vs)
-unit_parts e = None
-
-abbrev pub postlog_of : ℕ × List ℤ → Entry
-postlog_of p = entry.Postlog p.0 p.1
-
-abbrev pub postlog_parts : Entry → Option (ℕ × List ℤ)
-postlog_parts (entry.Postlog b vs) = Some (b, vs)
-postlog_parts e = None
-
-abbrev pub sync_of : Sync → Entry
-sync_of p = entry.Sync p.0 p.1.0 p.1.1.0 p.1.1.1.0 p.1.1.1.1.0 p.1.1.1.1.1
+-- the block or unit of an entry of this tag, with its values
+abbrev pub numbered_parts : Tag → Entry → Option (ℕ × List ℤ)
+numbered_parts T.Prelog (entry.Prelog b vs) = Some (b, vs)
+numbered_parts T.Unit (entry.Unit u vs) = Some (u, vs)
+numbered_parts T.Postlog (entry.Postlog b vs) = Some (b, vs)
+numbered_parts t e = None
 
 abbrev pub sync_parts : Entry → Option Sync
 sync_parts (entry.Sync k o n v r w) = Some (k, (o, (n, (v, (r, w)))))
 sync_parts e = None
-
-abbrev pub end_entry_of : End → Entry
-end_entry_of p = entry.End p.0 p.1.0 p.1.1.0 p.1.1.1
 
 abbrev pub end_parts : Entry → Option End
 end_parts (entry.End s n r w) = Some (s, (n, (r, w)))
 end_parts e = None
 
 abbrev pub row : Facts → Tag → Form Entry
-row f T.Prelog = named prelog_of prelog_parts numbered
-row f T.Unit = named unit_of unit_parts numbered
-row f T.Sync = named sync_of sync_parts (synced f)
-row f T.Postlog = named postlog_of postlog_parts numbered
-row f T.End = named end_entry_of end_parts (ended f)
+row f T.Prelog = named (λ (p : ℕ × List ℤ). entry.Prelog p.0 p.1) (numbered_parts T.Prelog) numbered
+row f T.Unit = named (λ (p : ℕ × List ℤ). entry.Unit p.0 p.1) (numbered_parts T.Unit) numbered
+row f T.Sync =
+    named (λ (p : Sync). entry.Sync p.0 p.1.0 p.1.1.0 p.1.1.1.0 p.1.1.1.1.0 p.1.1.1.1.1) sync_parts (synced f)
+row f T.Postlog = named (λ (p : ℕ × List ℤ). entry.Postlog p.0 p.1) (numbered_parts T.Postlog) numbered
+row f T.End = named (λ (p : End). entry.End p.0 p.1.0 p.1.1.0 p.1.1.1) end_parts (ended f)
 
 abbrev pub an_entry : Facts → Form Entry
 an_entry f = tagged tag tag_of (row f)

@@ -1,5 +1,6 @@
 -- Reading: what the bytes from an offset on come to, field by field.
-use Rattle.std.specs.Prelude.{ℕ, zero, suc, ◌+◌, nat_le, List, [], ◌∷◌, take, drop, length, Bool, Option, Some, None, Result, Ok, Err, if◌then◌else◌}
+use Rattle.std.specs.Prelude.{ℕ, zero, suc, ◌+◌, nat_le, List, [], ◌∷◌, take, drop, length, Option, Result, Ok, Err, if◌then◌else◌}
+use Rattle.std.specs.Option.{option_map_or}
 use Rattle.ppd_codec.specs.declared.bad.BadBytes.{BadBytes}
 use Rattle.ppd_codec.specs.declared.bad.BadBytes.TheVariants.{Short}
 
@@ -33,26 +34,15 @@ field w of at bytes =
     if nat_le w (length bytes) then Ok (record { value = of (take w bytes); at = at + w; rest = drop w bytes })
     else Err (Short at)
 
-abbrev pub or_refuse : {B : Type 0} → BadBytes → Option B → Reader B
-or_refuse bad None = refuse bad
-or_refuse bad (Some x) = done x
-
 -- a field that has one of the values that mean something, refused at its own offset
 abbrev pub checked : {A B : Type 0} → (A → Option B) → (ℕ → BadBytes) → Reader A → Reader B
-checked of bad r at bytes = after (r at bytes) (λ x. or_refuse (bad at) (of x))
-
-abbrev pub kept : {A : Type 0} → (A → Bool) → A → Option A
-kept test x = if test x then Some x else None
+checked of bad r at bytes = next r (λ x. option_map_or done (of x) (refuse (bad at))) at bytes
 
 -- two, the second by the first
 abbrev pub both : {A B : Type 0} → Reader A → (A → Reader B) → Reader (A × B)
 both r s = next r (λ x. next (s x) (λ y. done (x, y)))
 
--- a reading by another name
-abbrev pub as_a : {A B : Type 0} → (A → B) → Reader A → Reader B
-as_a f r at bytes = after (r at bytes) (λ x. done (f x))
-
 -- so many, each by what the one before it leaves
 abbrev pub several : {S A : Type 0} → (S → Reader A) → (A → S) → S → ℕ → Reader (List A)
 several r leaves s zero = done []
-several r leaves s (suc n) = as_a (λ p. p.0 ∷ p.1) (both (r s) (λ x. several r leaves (leaves x) n))
+several r leaves s (suc n) = next (both (r s) (λ x. several r leaves (leaves x) n)) (λ p. done (p.0 ∷ p.1))

@@ -1,5 +1,5 @@
 -- Recordings: which are lawful, their bytes, and what decoding answers.
-use Rattle.std.specs.Prelude.{◌≡◌, ◌≢◌, ℕ, ◌-◌, ◌≤◌, nat_eq, nat_le, Bool, List, length, Result, Ok, Err, if◌then◌else◌}
+use Rattle.std.specs.Prelude.{◌≡◌, ◌≢◌, ℕ, ◌-◌, ◌≤◌, nat_eq, nat_le, List, length, Result, Ok, Err, if◌then◌else◌}
 use Rattle.std.specs.List.{list_any}
 use Rattle.ppd_ast.specs.declared.program.Chan.{Chan}
 use Rattle.ppd_ast.specs.declared.program.Program.{Program}
@@ -20,12 +20,9 @@ use Rattle.ppd_codec.specs.Format.{Front, back, front, recording}
 
 -- ---- what the form takes from the source's program
 
-abbrev pub is_rendezvous : Chan → Bool
-is_rendezvous c = nat_eq c.capacity 0
-
 -- version 2 where a channel has capacity 0
 abbrev pub version_of : List Chan → ℕ
-version_of chans = if list_any is_rendezvous chans then 2 else 1
+version_of chans = if list_any (λ c. nat_eq c.capacity 0) chans then 2 else 1
 
 abbrev pub facts_of : Program → Facts
 facts_of p =
@@ -36,18 +33,15 @@ facts_of p =
 abbrev pub front_of : ℕ → Header → List ℕ → Front
 front_of v h s = (tt, (v, (h.budget, (h.policy.leaf, (h.policy.loops, s)))))
 
-abbrev pub fields_of : Program → List ℕ → Header → Logs → Front × List (List Entry)
-fields_of p s h logs = (front_of (version_of p.chans) h s, logs.lists)
-
 -- the bytes, where the source has this program
 abbrev pub spelled : Program → List ℕ → Header → Logs → List ℕ
-spelled p s h logs = (recording (facts_of p)).bytes (fields_of p s h logs)
+spelled p s h logs = (recording (facts_of p)).bytes (front_of (version_of p.chans) h s, logs.lists)
 
 pub record IsLawfulBy (p : Program) (s : List ℕ) (h : Header) (logs : Logs) : Type 0 where
   -- the source is accepted
   pub accepted : IsRead s p
   -- each field is lawful, the version by the source and the count of processes too
-  pub fields : (recording (facts_of p)).Lawful (fields_of p s h logs)
+  pub fields : (recording (facts_of p)).Lawful (front_of (version_of p.chans) h s, logs.lists)
   pub short : length (spelled p s h logs) ≤ MOST_RECORDING_BYTES
 
 -- these three have a recording
@@ -93,9 +87,6 @@ abbrev pub back_by : Judged → Front → Reader (List (List Entry))
 back_by (Ok p) h = (back h.1.0 (facts_of p)).read
 back_by (Err e) h = refuse (bad.Source e)
 
-abbrev pub reading : Judged → Reader (Front × List (List Entry))
-reading g = both front.read (back_by g)
-
 abbrev pub nothing_left : {A : Type 0} → Result (Got A) BadBytes → Result A BadBytes
 nothing_left (Err e) = Err e
 nothing_left (Ok g) = if nat_eq (length g.rest) 0 then Ok g.value else Err (bad.Trailing g.at)
@@ -119,4 +110,4 @@ IsPastFront bytes = (s : List ℕ) × ComesToSource bytes s
 pub record IsBad (bytes : List ℕ) (e : BadBytes) : Type 0 where
   pub judged : Judged
   pub by_source : (s : List ℕ) → ComesToSource bytes s → IsJudged s judged
-  pub refused : all_of (reading judged) bytes ≡ Err e
+  pub refused : all_of (both front.read (back_by judged)) bytes ≡ Err e

@@ -1,6 +1,6 @@
-ghost use Rattle.std.specs.Prelude.{◌≡◌};
+ghost use Rattle.std.specs.Prelude.{◌≡◌, nat_eq};
 ghost use Rattle.ppd_ast.specs.Valid.{IsValid};
-ghost use Rattle.ppd_codec.specs.Recordings.{facts_of as facts_in, is_rendezvous, version_of as version_in};
+ghost use Rattle.ppd_codec.specs.Recordings.{facts_of as facts_in, version_of as version_in};
 ghost use Rattle.std.specs.List.{list_any};
 
 use ppd_ast::{Chan, Program};
@@ -17,7 +17,7 @@ pub(crate) struct Facts {
 }
 
 fn has_rendezvous(chans: &[Chan]) -> bool
-    ensures { result ≡ list_any is_rendezvous chans.now }
+    ensures { result ≡ list_any (λ chan. nat_eq chan.capacity 0) chans.now }
 {
     chans.iter().any(|chan| chan.capacity == 0)
 }

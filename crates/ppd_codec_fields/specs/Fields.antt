@@ -1,5 +1,6 @@
 -- What the fields of a recording may hold.
-use Rattle.std.specs.Prelude.{ℕ, zero, nat_eq, nat_le, nat_lt, ℤ, pos, Bool, true, false, ◌&&◌, List, [], ◌∷◌, Option, Some, None, if◌then◌else◌}
+use Rattle.std.specs.Prelude.{ℕ, nat_eq, nat_le, nat_lt, ℤ, pos, Bool, true, ◌&&◌, List, [], ◌∷◌, if◌then◌else◌}
+use Rattle.std.specs.Ordering.{int_eq}
 use Rattle.ppd_ast.specs.declared.status.Status.{Status}
 use Rattle.ppd_ast.specs.declared.status.Status.TheVariants as status
 use Rattle.ppd_ast.specs.declared.status.SyncKind.{SyncKind}
@@ -7,11 +8,6 @@ use Rattle.ppd_ast.specs.declared.status.SyncKind.TheVariants as kind
 use Rattle.ppd_ast.specs.declared.status.Trap.TheVariants as trap
 use Rattle.ppd_codec_fields.specs.declared.tag.Tag.{Tag}
 use Rattle.ppd_codec_fields.specs.declared.tag.Tag.TheVariants as T
-
--- the first of these that has the code
-abbrev pub coded : {A : Type 0} → (A → ℕ) → List A → ℕ → Option A
-coded code [] n = None
-coded code (x ∷ xs) n = if nat_eq (code x) n then Some x else coded code xs n
 
 -- ---- codes
 
@@ -53,17 +49,13 @@ statuses = status.Ended ∷ status.Trap trap.Overflow ∷ status.Trap trap.Zero 
 
 -- ---- values and cells
 
-abbrev pub is_zero : ℤ → Bool
-is_zero (pos zero) = true
-is_zero v = false
-
 -- 0 but for what is sent and received
 abbrev pub fits_kind : SyncKind → ℤ → Bool
-fits_kind kind.P v = is_zero v
-fits_kind kind.V v = is_zero v
+fits_kind kind.P v = int_eq v (pos 0)
+fits_kind kind.V v = int_eq v (pos 0)
 fits_kind kind.Send v = true
 fits_kind kind.Recv v = true
-fits_kind kind.Done v = is_zero v
+fits_kind kind.Done v = int_eq v (pos 0)
 
 -- a cell is at least `low` and below the count of shared cells
 abbrev pub is_next : ℕ → ℕ → ℕ → Bool

@@ -1,12 +1,13 @@
-ghost use Rattle.std.specs.Prelude.{◌≡◌};
-ghost use Rattle.ppd_codec_fields.specs.Fields.{coded, fits_kind as fits_kind_of, is_next as is_next_of, kind_code, kinds, status_code, statuses, tag_code, tags};
+ghost use Rattle.std.specs.Prelude.{◌≡◌, nat_eq};
+ghost use Rattle.std.specs.List.{find};
+ghost use Rattle.ppd_codec_fields.specs.Fields.{fits_kind as fits_kind_of, is_next as is_next_of, kind_code, kinds, status_code, statuses, tag_code, tags};
 
 use crate::tag::Tag;
 use ppd_ast::{Status, SyncKind, Trap};
 
 /// The tag of this code.
 pub fn tag_at(byte: u8) -> Option<Tag>
-    ensures { result ≡ coded tag_code tags byte }
+    ensures { result ≡ find (λ tag. nat_eq (tag_code tag) byte) tags }
 {
     match byte {
         1 => Some(Tag::Prelog),
@@ -20,7 +21,7 @@ pub fn tag_at(byte: u8) -> Option<Tag>
 
 /// The kind of this code in a recording of this version: `Done` stands in version 2 alone.
 pub fn kind_at(version: u8, byte: u8) -> Option<SyncKind>
-    ensures { result ≡ coded kind_code (kinds version) byte }
+    ensures { result ≡ find (λ kind. nat_eq (kind_code kind) byte) (kinds version) }
 {
     match byte {
         1 => Some(SyncKind::P),
@@ -34,7 +35,7 @@ pub fn kind_at(version: u8, byte: u8) -> Option<SyncKind>
 
 /// The status of this code.
 pub fn status_at(byte: u8) -> Option<Status>
-    ensures { result ≡ coded status_code statuses byte }
+    ensures { result ≡ find (λ status. nat_eq (status_code status) byte) statuses }
 {
     match byte {
         0 => Some(Status::Ended),

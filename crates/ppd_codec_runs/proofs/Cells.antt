@@ -1,13 +1,13 @@
 -- The logs of a lawful recording name cells of its program alone.
 use Rattle.std.specs.Prelude.{Option, Some, None, IfSome, ◌||◌}
 use Rattle.std.specs.List.{AllByRecursion}
-use Rattle.std.proofs.Common.{◌≡◌, ℕ, zero, suc, ◌<◌, ◌≤◌, List, [], ◌∷◌, ◌++◌, length, map, get_or, Bool, true, false, refl, ap, ◌∙◌, arith, ne_eqb}
+use Rattle.std.proofs.Common.{◌≡◌, ℕ, zero, suc, ◌+◌, ◌<◌, ◌≤◌, List, [], ◌∷◌, ◌++◌, length, map, get_or, Bool, true, false, refl, ap, ◌∙◌, arith, ne_eqb}
 use Rattle.std.proofs.lemmas.Bool.Decides.{nat_tests}
 use Rattle.ppd_ast.specs.declared.program.Program.{Program}
 use Rattle.ppd_ast.specs.Members.{has}
 use Rattle.ppd_codec.specs.declared.recording.Header.{Header}
 use Rattle.ppd_codec.specs.Form.{Along}
-use Rattle.ppd_codec.specs.Format.{an_entry, log, past}
+use Rattle.ppd_codec.specs.Format.{an_entry, log}
 use Rattle.ppd_codec_fields.specs.Fields.{is_next}
 use Rattle.ppd_codec.specs.Recordings.{IsLawfulBy, facts_of}
 use Rattle.ppd_entry.specs.declared.entry.Entry.{Entry}
@@ -25,9 +25,9 @@ record AreBelow (n : ℕ) (s : EdgeSets) : Type 0 where
 next_below : (n low c : ℕ) → is_next n low c ≡ true → c < n
 next_below n low c e = grind (arith, nat_tests)
 
-along_below : (n low : ℕ) (cs : List ℕ) → Along (is_next n) past low cs → AllByRecursion (λ c. c < n) cs
+along_below : (n low : ℕ) (cs : List ℕ) → Along (is_next n) (λ c. c + 1) low cs → AllByRecursion (λ c. c < n) cs
 along_below n low [] h = tt
-along_below n low (c ∷ cs) h = (next_below n low c h.0, along_below n (past c) cs h.1)
+along_below n low (c ∷ cs) h = (next_below n low c h.0, along_below n (c + 1) cs h.1)
 
 -- ---- the sets of entries
 

@@ -22,13 +22,13 @@ use Rattle.ppd_model.specs.Logs.{closed_log, loggings}
 use Rattle.ppd_model.proofs.Prefixes.{objects_stay}
 use Rattle.ppd_model.proofs.States.{one_state}
 use Rattle.ppd_codec.specs.Format.{an_entry, back, front, log, within}
-use Rattle.ppd_codec.specs.Recordings.{facts_of, front_of, is_rendezvous, version_of}
+use Rattle.ppd_codec.specs.Recordings.{facts_of, front_of, version_of}
 use Rattle.law_logs.specs.Recording.Lawful.{RunLogsAreLawful}
 use Rattle.law_logs.specs.Recording.Values.{HasConstantsOf64Bits}
 use Rattle.law_logs.proofs.Recording.Constants.Coded.{constants_fit}
 use Rattle.law_logs.proofs.Recording.Logs.Entries.{end_lawful}
 use Rattle.law_logs.proofs.Recording.Fit.{All, all_append, all_map}
-use Rattle.law_logs.proofs.Recording.Logs.Steps.{IsFine, Lawful, START}
+use Rattle.law_logs.proofs.Recording.Logs.Steps.{IsFine, Lawful, START, is_rendezvous}
 use Rattle.law_logs.proofs.Recording.Logs.Run.{run_fine}
 use Rattle.law_logs.proofs.Recording.Logs.Sizes.{entries_size, noted, sizes, sizes_append, some_bytes}
 

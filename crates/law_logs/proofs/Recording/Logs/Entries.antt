@@ -1,6 +1,7 @@
 -- The entries that a step writes are lawful.
 use Rattle.std.proofs.Common.{◌≡◌, ℕ, ◌<◌, ◌≤◌, ◌^◌, ℤ, true, false, Bool, List, [], ◌∷◌, ◌++◌, Option, Some, None, refl, sym, ◌∙◌, subst, length, map, arith, w64, FitsSigned, if◌then◌else◌}
 use Rattle.std.specs.Prelude.{nat_eq, nat_le, option_to_list}
+use Rattle.std.specs.List.{find}
 use Rattle.std.proofs.lemmas.Bool.Decides.{nat_tests}
 use Rattle.std.proofs.lemmas.List.{length-map}
 use Rattle.ppd_ast.specs.Valid.{IsValid}
@@ -32,7 +33,7 @@ use Rattle.ppd_model.specs.Marks.{Mark, closed, opened}
 use Rattle.ppd_model.specs.declared.tracing.Taken.{Taken}
 use Rattle.ppd_model.specs.Story.{Moment, unit_started}
 use Rattle.ppd_model.specs.Synchronizations.{kind_of_sync, numbered, sync_of}
-use Rattle.ppd_codec_fields.specs.Fields.{coded, fits_kind, kind_code, kinds, status_code, statuses}
+use Rattle.ppd_codec_fields.specs.Fields.{fits_kind, kind_code, kinds, status_code, statuses}
 use Rattle.ppd_codec.specs.Format.{an_entry, numbered as numbered_form}
 use Rattle.ppd_codec.specs.Recordings.{facts_of, version_of}
 use Rattle.law_logs.specs.Recording.Values.{IsConstantOf64Bits}
@@ -40,6 +41,9 @@ use Rattle.law_logs.proofs.Recording.Fit.{All, Fit, SomeFits, all_append, all_mo
 use Rattle.law_logs.proofs.Recording.Values.Kept.{LocalsFit, NeedFits, arguments_fit, cells_fit, result_fits}
 use Rattle.law_logs.proofs.Recording.Logs.Numbers.{NeedNumbered, Small, block_small, calls, loop_postlog, loop_prelog}
 use Rattle.law_logs.proofs.Recording.Logs.Rows.{IsRow, row_lawful}
+
+abbrev coded : {A : Type 0} → (A → ℕ) → List A → ℕ → Option A
+coded code all n = find (λ x. nat_eq (code x) n) all
 
 pub signed : (vs : List ℤ) → All Fit vs → All (FitsSigned w64) vs
 signed vs h = all_more Fit (FitsSigned w64) vs true-fits h

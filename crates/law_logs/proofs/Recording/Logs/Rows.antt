@@ -6,12 +6,12 @@ use Rattle.std.proofs.lemmas.Bool.Decides.{nat_tests}
 use Rattle.ppd_ast.specs.Members.{with_cell}
 use Rattle.ppd_ast.specs.declared.limits.TheConstants.{MOST_SHARED_CELLS}
 use Rattle.ppd_codec.specs.Form.{Along}
-use Rattle.ppd_codec.specs.Format.{cells, past}
+use Rattle.ppd_codec.specs.Format.{cells}
 use Rattle.ppd_codec_fields.specs.Fields.{is_next}
 use Rattle.law_logs.proofs.Recording.Fit.{All}
 
 abbrev pub IsRow : ℕ → ℕ → List ℕ → Type 0
-IsRow shared low xs = Along (is_next shared) past low xs
+IsRow shared low xs = Along (is_next shared) (λ c. c + 1) low xs
 
 next_of : (shared low c : ℕ) → low ≤ c → c < shared → is_next shared low c ≡ true
 next_of shared low c h k =
@@ -35,14 +35,14 @@ row_with shared low c [] le lt h = (next_of shared low c le lt, tt)
 row_with shared low c (d ∷ ds) le lt h = elim (cases_lt c d) [
   | inl less ↦
       let e : nat_lt c d ≡ true = grind (arith, nat_tests) in
-      rw (e) (next_of shared low c le lt, (next_of shared (past c) d (omega (arith, less)) (below_of shared low d h.0), h.1))
+      rw (e) (next_of shared low c le lt, (next_of shared (c + 1) d (omega (arith, less)) (below_of shared low d h.0), h.1))
   | inr more ↦
       let e : nat_lt c d ≡ false = grind (arith, nat_tests) in
       elim (cases_eq c d) [
         | inl same ↦ let f : nat_eq c d ≡ true = grind (arith, nat_tests) in rw (e, f) h
         | inr other ↦
             let f : nat_eq c d ≡ false = grind (arith, nat_tests) in
-            rw (e, f) (h.0, row_with shared (past d) c ds (omega (arith, more, other)) lt h.1)
+            rw (e, f) (h.0, row_with shared (d + 1) c ds (omega (arith, more, other)) lt h.1)
       ]
 ]
 
@@ -60,12 +60,12 @@ row_length shared low [] le h = omega (arith, le)
 row_length shared low (x ∷ xs) le h =
     let a : low ≤ x = low_of shared low x h.0 in
     let b : x < shared = below_of shared low x h.0 in
-    let r : length xs + (x + 1) ≤ shared = row_length shared (past x) xs (omega (arith, b)) h.1 in
+    let r : length xs + (x + 1) ≤ shared = row_length shared (x + 1) xs (omega (arith, b)) h.1 in
     omega (arith, a, r)
 
 row_small : (shared low : ℕ) (xs : List ℕ) → shared ≤ MOST_SHARED_CELLS → IsRow shared low xs → All (λ c. c < 2 ^ 16) xs
 row_small shared low [] few h = tt
-row_small shared low (x ∷ xs) few h = let b : x < shared = below_of shared low x h.0 in (omega (arith, b, few), row_small shared (past x) xs few h.1)
+row_small shared low (x ∷ xs) few h = let b : x < shared = below_of shared low x h.0 in (omega (arith, b, few), row_small shared (x + 1) xs few h.1)
 
 pub row_lawful : (shared : ℕ) (xs : List ℕ) → shared ≤ MOST_SHARED_CELLS → IsRow shared 0 xs → (cells shared).Lawful xs
 row_lawful shared xs few h =

@@ -13,7 +13,7 @@ use Rattle.ppd_model.specs.declared.state.Logging.{Logging}
 use Rattle.ppd_model.specs.Costs.{values_in}
 use Rattle.ppd_model.specs.Logs.{entries_of, status_of, with_access}
 use Rattle.ppd_codec.specs.Format.{an_entry, cells, values}
-use Rattle.ppd_codec.specs.Form.{number_2, value_bytes}
+use Rattle.ppd_codec.specs.Form.{number_2, value}
 use Rattle.ppd_codec.specs.Recordings.{facts_of}
 use Rattle.law_logs.proofs.Recording.Logs.Rows.{few_more}
 
@@ -45,8 +45,8 @@ each_long f k (x ∷ xs) h =
 
 values_size : (vs : List ℤ) → length (values.bytes vs) ≡ 2 + 8 * length vs
 values_size vs =
-    let c : length (values.bytes vs) ≡ suc (suc (length (flat_map value_bytes vs))) = refl in
-    let r : length (flat_map value_bytes vs) ≡ 8 * length vs = each_long value_bytes 8 vs (λ v. refl) in
+    let c : length (values.bytes vs) ≡ suc (suc (length (flat_map value.bytes vs))) = refl in
+    let r : length (flat_map value.bytes vs) ≡ 8 * length vs = each_long value.bytes 8 vs (λ v. refl) in
     omega (arith, c, r)
 
 cells_size : (shared : ℕ) (cs : List ℕ) → length ((cells shared).bytes cs) ≡ 2 + 2 * length cs

@@ -1,5 +1,5 @@
 -- A log stays lawful by each step of its process.
-use Rattle.std.proofs.Common.{◌≡◌, ◌≢◌, ℕ, zero, suc, ◌+◌, ◌*◌, ◌<◌, ◌≤◌, ◌^◌, ℤ, true, List, [], ◌∷◌, ◌++◌, Option, Some, None, refl, ap, sym, ◌∙◌, subst, length, arith, inl, inr, ◌⊎◌}
+use Rattle.std.proofs.Common.{◌≡◌, ◌≢◌, ℕ, zero, suc, ◌+◌, ◌*◌, ◌<◌, ◌≤◌, ◌^◌, ℤ, Bool, true, List, [], ◌∷◌, ◌++◌, Option, Some, None, refl, ap, sym, ◌∙◌, subst, length, arith, inl, inr, ◌⊎◌}
 use Rattle.std.specs.Prelude.{nat_eq, slice_get}
 use Rattle.std.specs.List.{list_any}
 use Rattle.std.proofs.lemmas.Bool.Decides.{nat_tests}
@@ -28,7 +28,7 @@ use Rattle.ppd_model.specs.Costs.{CostsWhatItWrites, IsFree, IsPaid, values_in}
 use Rattle.ppd_model.specs.Logs.{entries_of, log_step, rest_after, status_of, with_access}
 use Rattle.ppd_model.specs.Story.{Moment}
 use Rattle.ppd_model.proofs.Statuses.{status_after}
-use Rattle.ppd_codec.specs.Recordings.{is_rendezvous, version_of}
+use Rattle.ppd_codec.specs.Recordings.{version_of}
 use Rattle.law_logs.specs.Recording.Values.{IsConstantOf64Bits}
 use Rattle.law_logs.proofs.Recording.Logs.Entries.{AreRows, IsLawful, IsReady, moment, new_lawful, short}
 use Rattle.law_logs.proofs.Recording.Fit.{All, Fit, SomeFits, all_append}
@@ -39,6 +39,9 @@ use Rattle.law_logs.proofs.Recording.Logs.Sizes.{ending, going, noted, sizes, si
 use Rattle.ppd_check.proofs.Limits.Signs.{or_true}
 
 -- ---- channels of capacity 0
+
+abbrev pub is_rendezvous : Chan → Bool
+is_rendezvous c = nat_eq c.capacity 0
 
 any_there : (chans : List Chan) (c : ℕ) → c < length chans → capacity_in (slice_get chans c) ≡ 0 → list_any is_rendezvous chans ≡ true
 any_there [] c lt e = absurd (omega (arith, lt))
