@@ -13,7 +13,6 @@ use Rattle.ppd_graph.specs.declared.refusal.BadSync.{BadSync}
 use Rattle.ppd_graph.specs.declared.refusal.BadSync.TheVariants as sync
 use Rattle.ppd_index.specs.declared.refusal.BadLog.{BadLog}
 use Rattle.ppd_index.specs.declared.refusal.BadLog.TheVariants as log
-use Rattle.ppd_model.specs.declared.graph.NodeId.{NodeId}
 use Rattle.ppd_text.specs.CellNames.{at_entry, process_name}
 use Rattle.ppd_text.specs.Names.{chan_name, sem_name}
 use Rattle.ppd_text_refusals.specs.Stages.{stage_text}
@@ -34,17 +33,13 @@ field_word field.Cells = codes "cells"
 field_word field.Status = codes "status"
 field_word field.Version = codes "version"
 
--- a test of this number and name that failed at an offset
-abbrev pub at_offset : List ℕ → ℕ → List ℕ
-at_offset what n = what ++ decimal n ++ codes "\n"
-
 abbrev pub refused_bytes : BadBytes → List ℕ
-refused_bytes (bytes.Magic n) = at_offset (codes "recording refused bytes 1 Magic ") n
-refused_bytes (bytes.Version n) = at_offset (codes "recording refused bytes 2 Version ") n
-refused_bytes (bytes.Short n) = at_offset (codes "recording refused bytes 3 Short ") n
+refused_bytes (bytes.Magic n) = codes "recording refused bytes 1 Magic " ++ decimal n ++ codes "\n"
+refused_bytes (bytes.Version n) = codes "recording refused bytes 2 Version " ++ decimal n ++ codes "\n"
+refused_bytes (bytes.Short n) = codes "recording refused bytes 3 Short " ++ decimal n ++ codes "\n"
 refused_bytes (bytes.Range n f) = codes "recording refused bytes 4 Range " ++ decimal n ++ codes " " ++ field_word f
     ++ codes "\n"
-refused_bytes (bytes.Trailing n) = at_offset (codes "recording refused bytes 5 Trailing ") n
+refused_bytes (bytes.Trailing n) = codes "recording refused bytes 5 Trailing " ++ decimal n ++ codes "\n"
 refused_bytes (bytes.Source e) = codes "recording refused bytes 6 Source " ++ stage_text e ++ codes "\n"
 refused_bytes bytes.TooLong = codes "recording refused bytes 7 TooLong " ++ decimal MOST_RECORDING_BYTES ++ codes "\n"
 refused_bytes bytes.Memory = []
@@ -66,16 +61,13 @@ object_text program kind.Send o = codes "send " ++ chan_name (slice_get program.
 object_text program kind.Recv o = codes "recv " ++ chan_name (slice_get program.chans o)
 object_text program kind.Done o = codes "done " ++ chan_name (slice_get program.chans o)
 
--- a synchronization of a process, after a space
-abbrev pub node_text : Program → NodeId → List ℕ
-node_text program n = codes " " ++ process_name program n.process ++ codes " " ++ decimal n.sync
-
 abbrev pub refused_sync : Program → BadSync → List ℕ
 refused_sync program (sync.NumberTwice at) = at_entry program (codes "recording refused sync 1 NumberTwice ") at
 refused_sync program (sync.NumberMissing kind object number) =
     codes "recording refused sync 2 NumberMissing " ++ object_text program kind object ++ codes " " ++ decimal number
     ++ codes "\n"
-refused_sync program (sync.Cycle nodes) = codes "recording refused sync 3 Cycle" ++ flat_map (node_text program) nodes
-    ++ codes "\n"
+refused_sync program (sync.Cycle nodes) =
+    codes "recording refused sync 3 Cycle"
+    ++ flat_map (λ n. codes " " ++ process_name program n.process ++ codes " " ++ decimal n.sync) nodes ++ codes "\n"
 refused_sync program (sync.NoObject at) = at_entry program (codes "recording refused sync 4 NoObject ") at
 refused_sync program sync.Memory = []

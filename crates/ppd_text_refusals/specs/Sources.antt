@@ -16,28 +16,15 @@ use Rattle.ppd_check_names.specs.declared.fault.Limit.{Limit}
 use Rattle.ppd_check_names.specs.declared.fault.Limit.TheVariants as limit
 use Rattle.ppd_text_refusals.specs.Stages.{stage_text}
 
-abbrev pub limit_word : Limit → List ℕ
-limit_word limit.Statements = codes "statements "
-limit_word limit.Functions = codes "functions "
-limit_word limit.Processes = codes "processes "
-limit_word limit.Semaphores = codes "semaphores "
-limit_word limit.Channels = codes "channels "
-limit_word limit.Shared = codes "shared "
-limit_word limit.Locals = codes "locals "
-
--- how many there may be at most
-abbrev pub limit_number : Limit → ℕ
-limit_number limit.Statements = MOST_STATEMENTS
-limit_number limit.Functions = MOST_FUNCTIONS
-limit_number limit.Processes = MOST_PROCESSES
-limit_number limit.Semaphores = MOST_SEMAPHORES
-limit_number limit.Channels = MOST_CHANNELS
-limit_number limit.Shared = MOST_SHARED_CELLS
-limit_number limit.Locals = MOST_LOCAL_CELLS
-
--- a limit's word and number
+-- a limit's word, and how many there may be at most
 abbrev pub limit_text : Limit → List ℕ
-limit_text l = limit_word l ++ decimal (limit_number l)
+limit_text limit.Statements = codes "statements " ++ decimal MOST_STATEMENTS
+limit_text limit.Functions = codes "functions " ++ decimal MOST_FUNCTIONS
+limit_text limit.Processes = codes "processes " ++ decimal MOST_PROCESSES
+limit_text limit.Semaphores = codes "semaphores " ++ decimal MOST_SEMAPHORES
+limit_text limit.Channels = codes "channels " ++ decimal MOST_CHANNELS
+limit_text limit.Shared = codes "shared " ++ decimal MOST_SHARED_CELLS
+limit_text limit.Locals = codes "locals " ++ decimal MOST_LOCAL_CELLS
 
 -- what follows the place: of too many of a kind the limit
 abbrev pub limit_part : SourceError → List ℕ

@@ -1,11 +1,12 @@
 // The line that says why a recording is refused.
-ghost use Rattle.std.specs.Prelude.{◌≡◌, ◌≢◌, ◌++◌, IfOk, OnOk};
+ghost use Rattle.std.specs.Prelude.{◌≡◌, ◌≢◌, ◌++◌, IfOk, OnOk, codes, decimal};
 ghost use Rattle.std.specs.List.{flat_map};
 ghost use Rattle.ppd_codec.specs.declared.bad.BadBytes.TheVariants as bytes;
 ghost use Rattle.ppd_graph.specs.declared.refusal.BadSync.TheVariants as sync;
 ghost use Rattle.ppd_index.specs.declared.refusal.BadLog.TheVariants as log;
-ghost use Rattle.ppd_text_refusals.specs.Recordings.{at_offset as at_offset_of, field_word, node_text, object_text};
-ghost use Rattle.ppd_text_refusals.specs.Recordings.{refused_bytes, refused_log, refused_sync};
+ghost use Rattle.ppd_text_refusals.specs.Recordings.{field_word, object_text, refused_bytes};
+ghost use Rattle.ppd_text_refusals.specs.Recordings.{refused_log, refused_sync};
+ghost use Rattle.ppd_text.specs.CellNames.{process_name as process_name_of};
 
 use crate::stage::put_stage;
 use ppd_ast::limits::MOST_RECORDING_BYTES;
@@ -20,7 +21,7 @@ use std::alloc::Global;
 
 /// A line of a test that failed at an offset.
 fn at_offset(alloc: Global, what: &[u8], offset: u32) -> Result<Vec<u8>, Memory>
-    ensures { IfOk result (λ line. line.items ≡ at_offset_of what.now offset) }
+    ensures { IfOk result (λ line. line.items ≡ what.now ++ decimal offset ++ codes "\n") }
 {
     let mut line = Vec::new(alloc);
     put(&mut line, what)?;
@@ -156,7 +157,10 @@ fn missing_line(
 }
 
 fn put_node(line: &mut Vec<u8>, program: &Program, node: NodeId) -> Result<(), Memory>
-    ensures { OnOk result (line.new.items ≡ line.old.items ++ node_text program.now node) }
+    ensures { OnOk result
+        (line.new.items
+        ≡ line.old.items
+        ++ (codes " " ++ process_name_of program.now node.process ++ codes " " ++ decimal node.sync)) }
 {
     put(line, b" ")?;
     put(line, process_name(program, node.process))?;
@@ -165,7 +169,11 @@ fn put_node(line: &mut Vec<u8>, program: &Program, node: NodeId) -> Result<(), M
 }
 
 fn put_nodes(line: &mut Vec<u8>, program: &Program, nodes: &[NodeId]) -> Result<(), Memory>
-    ensures { OnOk result (line.new.items ≡ line.old.items ++ flat_map (node_text program.now) nodes.now) }
+    ensures { OnOk result
+        (line.new.items
+        ≡ line.old.items
+        ++ flat_map (λ n. codes " " ++ process_name_of program.now n.process ++ codes " " ++ decimal n.sync)
+        nodes.now) }
 {
     for node in nodes {
         put_node(line, program, *node)?;

@@ -1,7 +1,7 @@
 // The line that says why a source is refused.
-ghost use Rattle.std.specs.Prelude.{◌≡◌, ◌≢◌, ◌++◌, OnOk, IfOk};
+ghost use Rattle.std.specs.Prelude.{◌≡◌, ◌≢◌, ◌++◌, OnOk, IfOk, decimal};
 ghost use Rattle.ppd_check.specs.declared.error.SourceError.TheVariants as source;
-ghost use Rattle.ppd_text_refusals.specs.Sources.{limit_number, limit_part, limit_text, limit_word, refused};
+ghost use Rattle.ppd_text_refusals.specs.Sources.{limit_part, limit_text, refused};
 
 use crate::stage::put_stage;
 use ppd_ast::Memory;
@@ -16,8 +16,7 @@ use std::alloc::Global;
 
 /// A limit's word, and how many there may be at most.
 fn limit_row(limit: Limit) -> (&'static [u8], usize)
-    ensures word { result.0.now ≡ limit_word limit }
-    ensures number { result.1 ≡ limit_number limit }
+    ensures { result.0.now ++ decimal result.1 ≡ limit_text limit }
 {
     match limit {
         Limit::Statements => (b"statements ", MOST_STATEMENTS),

@@ -2,7 +2,7 @@
 ghost use Rattle.std.specs.Prelude.{◌≡◌, ◌≢◌, ◌++◌, OnOk};
 ghost use Rattle.ppd_check.specs.declared.error.SourceError.TheVariants as source;
 ghost use Rattle.ppd_text.specs.Texts.{place_text};
-ghost use Rattle.ppd_text_refusals.specs.Stages.{stage_of_check, stage_of_lex, stage_of_syntax, stage_text};
+ghost use Rattle.ppd_text_refusals.specs.Stages.{stage_text};
 
 use ppd_ast::{Memory, Place};
 use ppd_check::{CheckError, SourceError};
@@ -19,7 +19,7 @@ fn put_fault(text: &mut Vec<u8>, what: &[u8], place: Place) -> Result<(), Memory
 }
 
 fn put_lex(text: &mut Vec<u8>, error: LexError) -> Result<(), Memory>
-    ensures { OnOk result (text.new.items ≡ text.old.items ++ stage_of_lex error) }
+    ensures { OnOk result (text.new.items ≡ text.old.items ++ stage_text (source.Lex error)) }
 {
     match error {
         LexError::BadByte(place) => put_fault(text, b"lex 1 BadByte ", place),
@@ -32,7 +32,7 @@ fn put_lex(text: &mut Vec<u8>, error: LexError) -> Result<(), Memory>
 }
 
 fn put_syntax(text: &mut Vec<u8>, error: SyntaxError) -> Result<(), Memory>
-    ensures { OnOk result (text.new.items ≡ text.old.items ++ stage_of_syntax error) }
+    ensures { OnOk result (text.new.items ≡ text.old.items ++ stage_text (source.Syntax error)) }
 {
     match error {
         SyntaxError::Unexpected(place) => put_fault(text, b"syntax 1 Unexpected ", place),
@@ -43,7 +43,7 @@ fn put_syntax(text: &mut Vec<u8>, error: SyntaxError) -> Result<(), Memory>
 }
 
 fn put_check(text: &mut Vec<u8>, error: CheckError) -> Result<(), Memory>
-    ensures { OnOk result (text.new.items ≡ text.old.items ++ stage_of_check error) }
+    ensures { OnOk result (text.new.items ≡ text.old.items ++ stage_text (source.Check error)) }
 {
     match error {
         CheckError::Twice(place) => put_fault(text, b"check 1 Twice ", place),
