@@ -18,11 +18,7 @@ const MOST_STEPS: u32 = 140_000;
 
 /// The program and the plan of a source. None where the source is refused, the policy is not valid, or memory is
 /// wanting.
-pub(crate) fn parts(
-    alloc: Global,
-    source: &[u8],
-    options: &Options,
-) -> Option<(Program, Plan)> {
+pub(crate) fn parts(alloc: Global, source: &[u8], options: &Options) -> Option<(Program, Plan)> {
     let policy = options.policy;
     if policy.leaf > MOST_POLICY || policy.loops > MOST_POLICY {
         return None;
