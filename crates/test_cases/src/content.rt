@@ -96,12 +96,14 @@ fn cut(bytes: &mut Vec<u8>, rest: &str) -> Result<(), Fault> {
     Ok(())
 }
 
+/// The words with which a line begins that stands for bytes.
+const CONTENT: [&str; 9] = [
+    "|", ">", "=", "hex", "times", "lines", "numbered", "at", "cut",
+];
+
 /// Whether a line that begins with this word stands for bytes.
 pub(crate) fn is_content(mark: &str) -> bool {
-    matches!(
-        mark,
-        "|" | ">" | "=" | "hex" | "times" | "lines" | "numbered" | "at" | "cut"
-    )
+    CONTENT.contains(&mark)
 }
 
 /// Appends what a line stands for, or changes what there is so far.

@@ -25,27 +25,29 @@ fn is_before(key: &str) -> bool {
     matches!(key, "file" | "shelf-fails" | "each" | "wrong")
 }
 
-/// Whether a line of this word may stand under a call: what the call is given, and what it must come to.
+/// Words of lines that may stand under a call: what the call is given, and what it must come to.
+const UNDER: [&str; 16] = [
+    "input",
+    "chunk",
+    "input-fails",
+    "waits",
+    "holds",
+    "room",
+    "output-fails",
+    "budget",
+    "leaf",
+    "loops",
+    "status",
+    "output",
+    "taken",
+    "length",
+    "stored",
+    "refused",
+];
+
+/// Whether a line of this word may stand under a call.
 fn is_under(key: &str) -> bool {
-    matches!(
-        key,
-        "input"
-            | "chunk"
-            | "input-fails"
-            | "waits"
-            | "holds"
-            | "room"
-            | "output-fails"
-            | "budget"
-            | "leaf"
-            | "loops"
-            | "status"
-            | "output"
-            | "taken"
-            | "length"
-            | "stored"
-            | "refused"
-    )
+    UNDER.contains(&key)
 }
 
 /// Whether a line of this word, which is no content, may stand there.
