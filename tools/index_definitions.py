@@ -97,7 +97,7 @@ HEADLINE = [
             ("ppd_top/specs/Clauses.antt", "WasStored", "ppd"),
             ("ppd_codec_runs/specs/Recordings.antt", "IsAccepted", "recall"),
             ("ppd_top/specs/Clauses.antt", "WasAnswered", "ppd"),
-            ("law_headline/specs/Headline.antt", "Headline", "calls_tell_of_runs"),
+            ("ppd_top/specs/Promises/Headline.antt", "Headline", "calls_tell_of_runs"),
         ],
     ),
 ]

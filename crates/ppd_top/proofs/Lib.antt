@@ -13,3 +13,4 @@ pub mod Queried
 pub mod Unloaded
 pub mod Inputs
 pub mod Clauses
+pub mod Promises

@@ -5,6 +5,7 @@ pub use Rattle.ppd_top_runs.specs.Summary
 pub mod Call
 pub mod Clauses
 pub mod Kept
+pub mod Promises
 pub mod Ran
 pub mod Top
 pub mod Words

@@ -5,11 +5,13 @@
 mod call;
 mod drilling;
 mod following;
+mod laws;
 mod querying;
 mod text_sink;
 mod words;
 
 pub use call::ppd;
 pub use following::{FollowError, follow};
+pub use laws::{calls_tell_of_runs, runs_have_the_headline};
 pub use ppd_top_drill::generate;
 pub use ppd_top_runs::{Options, Outcome};

@@ -15,7 +15,7 @@ use Rattle.ppd_session.specs.Texts.{failure_of, flow_at, text_of, told_at}
 use Rattle.ppd_text.specs.Edges.{why_text}
 use Rattle.law_whole.specs.Joined.{events_in}
 use Rattle.law_whole.specs.Laws.{bare}
-use Rattle.law_headline.specs.Runs.{Run, plan_in, splits_in, story_in}
+use Rattle.ppd_top.specs.Promises.Runs.{Run, plan_in, splits_in, story_in}
 
 -- ---- values
 

@@ -13,8 +13,8 @@ use Rattle.ppd_top.specs.Top.{most_bytes, most_recording}
 use Rattle.ppd_top.specs.Words.{Asks}
 use Rattle.ppd_top.specs.Words.Request.{on_source, on_recording}
 use Rattle.ppd_top.specs.Words.Command.{Flow, Run as RunTo}
-use Rattle.law_headline.specs.Headline.{Headline}
-use Rattle.law_headline.specs.Runs.{Run, plan_in}
+use Rattle.ppd_top.specs.Promises.Headline.{Headline}
+use Rattle.ppd_top.specs.Promises.Runs.{Run, plan_in}
 
 -- how the processes of the run ended, then the race report by what is told of it
 abbrev pub report : Run → Known → List ℕ

@@ -3,10 +3,10 @@ use Rattle.std.specs.Prelude.{◌≡◌, ℕ, List, []}
 use Rattle.ppd_check.specs.Read.{IsRead}
 use Rattle.ppd_model.specs.Schedule.{IsWhole}
 use Rattle.ppd_session.specs.Known.{Known}
-use Rattle.law_headline.specs.Answered.{AreEdgesOf, AreValuesOf, MissesNoEdge}
-use Rattle.law_headline.specs.Replayed.{AreByReExecuting}
-use Rattle.law_headline.specs.Runs.{AgreesWith, Run, plan_in, story_in}
-use Rattle.law_headline.specs.Unordered.{ListsExactly}
+use Rattle.ppd_top.specs.Promises.Answered.{AreEdgesOf, AreValuesOf, MissesNoEdge}
+use Rattle.ppd_top.specs.Promises.Replayed.{AreByReExecuting}
+use Rattle.ppd_top.specs.Promises.Runs.{AgreesWith, Run, plan_in, story_in}
+use Rattle.ppd_top.specs.Promises.Unordered.{ListsExactly}
 
 -- what the headline says of a run and of what is told of it: of its source, program and schedule, of its race report,
 -- and, where that is empty, of the values and edges that are told

@@ -1,6 +1,6 @@
-ghost use Rattle.law_headline.specs.Calls.{AcceptedProgramsAreTold, DebugTellsOfRuns, FlowTellsOfRuns};
-ghost use Rattle.law_headline.specs.Calls.{RecordedRunsAreTold, RunTellsOfRuns, SourcesAreRecorded};
-ghost use Rattle.law_headline.specs.OfRuns.{RunsHaveTheHeadline};
+ghost use Rattle.ppd_top.specs.Promises.Calls.{AcceptedProgramsAreTold, DebugTellsOfRuns, FlowTellsOfRuns};
+ghost use Rattle.ppd_top.specs.Promises.Calls.{RecordedRunsAreTold, RunTellsOfRuns, SourcesAreRecorded};
+ghost use Rattle.ppd_top.specs.Promises.OfRuns.{RunsHaveTheHeadline};
 
 use law_agreement::agreeing_schedules;
 use law_flow_own::all_own_parts_are_found;

@@ -12,8 +12,8 @@ use Rattle.ppd_session.specs.Laws.{LogsTellRuns}
 use Rattle.ppd_session.specs.Known.{Known, flow_by, known_of_logs, known_of_run, last_by, of_cells, told_by, told_of_entries, unless_raced}
 use Rattle.ppd_session.specs.Texts.{told_at}
 use Rattle.ppd_session.proofs.Tables.{cell_at, flow_inside, told_logs}
-use Rattle.law_headline.specs.Replayed.{AreByReplays, told_by_replay}
-use Rattle.law_headline.specs.Runs.{Run, logs_in, plan_in}
+use Rattle.ppd_top.specs.Promises.Replayed.{AreByReplays, told_by_replay}
+use Rattle.ppd_top.specs.Promises.Runs.{Run, logs_in, plan_in}
 
 replayed : (r : Run) (o : Option Indexed) → option_map (λ (i : Indexed). told_by (replay r.program (plan_in r) i.log r.budget).answer) o ≡ told_by_replay r (log_in o)
 replayed r None = refl

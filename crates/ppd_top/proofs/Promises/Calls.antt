@@ -12,10 +12,10 @@ use Rattle.ppd_top.specs.Top.{most_bytes, most_recording}
 use Rattle.ppd_top.specs.Words.{Request, asked}
 use Rattle.ppd_top.specs.Words.Request.{on_source, on_recording, on_number, on_query}
 use Rattle.ppd_top.specs.Words.Command.{Flow, Run as RunTo, Show}
-use Rattle.law_headline.specs.Calls.{AcceptedProgramsAreTold, AsksFlow, AsksLines, AsksRun, DebugTells, DebugTellsOfRuns, FlowTells, FlowTellsOfRuns, HasAnswered, IsRecorded, RecordedRunsAreTold, RunTells, RunTellsOfRuns, SourcesAreRecorded, promised_run}
-use Rattle.law_headline.specs.Headline.{Headline}
-use Rattle.law_headline.specs.OfRuns.{RunsHaveTheHeadline}
-use Rattle.law_headline.specs.Runs.{Run}
+use Rattle.ppd_top.specs.Promises.Calls.{AcceptedProgramsAreTold, AsksFlow, AsksLines, AsksRun, DebugTells, DebugTellsOfRuns, FlowTells, FlowTellsOfRuns, HasAnswered, IsRecorded, RecordedRunsAreTold, RunTells, RunTellsOfRuns, SourcesAreRecorded, promised_run}
+use Rattle.ppd_top.specs.Promises.Headline.{Headline}
+use Rattle.ppd_top.specs.Promises.OfRuns.{RunsHaveTheHeadline}
+use Rattle.ppd_top.specs.Promises.Runs.{Run}
 
 -- ---- words ask for one thing
 

@@ -21,9 +21,9 @@ use Rattle.ppd_model.specs.Laws.{IsTestOfEdges}
 use Rattle.ppd_model.specs.Prefixes.{ObjectsStay}
 use Rattle.ppd_model.specs.RecordedSets.{AccessesAreOfCells}
 use Rattle.ppd_model.proofs.RaceFree.{edge_below}
-use Rattle.law_headline.specs.Unordered.{AreUnordered, HasAccess, IsUnorderedConflict, ListsExactly}
-use Rattle.law_headline.proofs.Once.{candidates_once, filter_once, one_place}
-use Rattle.law_headline.proofs.Members.{Member, at_place, in_any, in_contains, in_filter, in_flat, in_map, in_range, of_any, of_contains, of_filter, of_flat, of_map, of_range}
+use Rattle.ppd_top.specs.Promises.Unordered.{AreUnordered, HasAccess, IsUnorderedConflict, ListsExactly}
+use Rattle.ppd_top.proofs.Promises.Once.{candidates_once, filter_once, one_place}
+use Rattle.ppd_top.proofs.Promises.Members.{Member, at_place, in_any, in_contains, in_filter, in_flat, in_map, in_range, of_any, of_contains, of_filter, of_flat, of_map, of_range}
 
 left_true : (a b : Bool) → (a && b) ≡ true → a ≡ true
 left_true true b e = refl

@@ -31,10 +31,10 @@ use Rattle.ppd_session.specs.declared.question.Question.TheVariants.{Unknown, Wh
 use Rattle.ppd_session.proofs.Tables.{flow_inside, flow_nowhere, flow_past}
 use Rattle.ppd_session.specs.Texts.{answer_text, at_interval, flow_at, flow_text, intervals_at, no_event, raced, text_of, told_at, told_text}
 use Rattle.ppd_text.specs.Edges.{why_text}
-use Rattle.law_headline.specs.Answered.{AreEdgesOf, AsksEdges, HasEdges, HasItsEdges, IsItem, MissesNoEdge, told_if}
-use Rattle.law_headline.specs.Runs.{Run, plan_in, splits_in, story_in}
-use Rattle.law_headline.proofs.Tables.{count_in, count_row, told_in, told_in_span, told_row}
-use Rattle.law_headline.proofs.Values.{told_as, told_here}
+use Rattle.ppd_top.specs.Promises.Answered.{AreEdgesOf, AsksEdges, HasEdges, HasItsEdges, IsItem, MissesNoEdge, told_if}
+use Rattle.ppd_top.specs.Promises.Runs.{Run, plan_in, splits_in, story_in}
+use Rattle.ppd_top.proofs.Promises.Tables.{count_in, count_row, told_in, told_in_span, told_row}
+use Rattle.ppd_top.proofs.Promises.Values.{told_as, told_here}
 
 found : (o : Option (List FlowEdge)) (es : List FlowEdge) → edges_or_none o ≡ Ok es → o ≡ Some es
 found None es e = absurd (cc)

@@ -5,15 +5,15 @@ use Rattle.ppd_check.specs.Read.{IsRead}
 use Rattle.ppd_model.specs.Races.{races}
 use Rattle.ppd_model.specs.Schedule.{IsWhole}
 use Rattle.ppd_session.specs.Known.{Known, known_of_run, known_of_story}
-use Rattle.law_headline.proofs.Below.{Below}
-use Rattle.law_headline.specs.Answered.{AreEdgesOf, AreValuesOf, MissesNoEdge}
-use Rattle.law_headline.specs.Headline.{Headline}
-use Rattle.law_headline.specs.Runs.{AgreesWith, Run, plan_in}
-use Rattle.law_headline.proofs.Edges.{edges_are, misses_none}
-use Rattle.law_headline.proofs.Few.{replays_few}
-use Rattle.law_headline.proofs.Listed.{races_listed}
-use Rattle.law_headline.proofs.Replays.{by_replays}
-use Rattle.law_headline.proofs.Values.{values_are}
+use Rattle.ppd_top.proofs.Promises.Below.{Below}
+use Rattle.ppd_top.specs.Promises.Answered.{AreEdgesOf, AreValuesOf, MissesNoEdge}
+use Rattle.ppd_top.specs.Promises.Headline.{Headline}
+use Rattle.ppd_top.specs.Promises.Runs.{AgreesWith, Run, plan_in}
+use Rattle.ppd_top.proofs.Promises.Edges.{edges_are, misses_none}
+use Rattle.ppd_top.proofs.Promises.Few.{replays_few}
+use Rattle.ppd_top.proofs.Promises.Listed.{races_listed}
+use Rattle.ppd_top.proofs.Promises.Replays.{by_replays}
+use Rattle.ppd_top.proofs.Promises.Values.{values_are}
 
 module _ (laws : Below) (r : Run) (read : IsRead r.source r.program) (whole : IsWhole r.program (plan_in r) r.budget r.schedule) where
   abbrev known : List ℕ → Known

@@ -29,9 +29,9 @@ use Rattle.ppd_model.specs.Races.{races}
 use Rattle.ppd_model.specs.Schedule.{IsWhole}
 use Rattle.ppd_session.specs.Known.{seens}
 use Rattle.ppd_session.proofs.Honest.{all_there}
-use Rattle.law_headline.specs.Answered.{HasEdges}
-use Rattle.law_headline.specs.Replayed.{Kept, ReplaysAreFew, kept_of}
-use Rattle.law_headline.specs.Runs.{Run, logs_in, plan_in, splits_in, story_in}
+use Rattle.ppd_top.specs.Promises.Answered.{HasEdges}
+use Rattle.ppd_top.specs.Promises.Replayed.{Kept, ReplaysAreFew, kept_of}
+use Rattle.ppd_top.specs.Promises.Runs.{Run, logs_in, plan_in, splits_in, story_in}
 
 -- ---- an interval that is there, or not
 

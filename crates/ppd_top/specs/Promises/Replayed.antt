@@ -19,8 +19,8 @@ use Rattle.ppd_session.specs.Known.{Known, Told, flow_by, last_by, told_by}
 use Rattle.ppd_session.specs.Sessions.{IsItemThere}
 use Rattle.ppd_session.specs.Texts.{flow_at, told_at}
 use Rattle.law_flow_shared.specs.Costs.Bounds.{steps_in}
-use Rattle.law_headline.specs.Answered.{HasEdges}
-use Rattle.law_headline.specs.Runs.{Run, logs_in, plan_in, splits_in, story_in}
+use Rattle.ppd_top.specs.Promises.Answered.{HasEdges}
+use Rattle.ppd_top.specs.Promises.Runs.{Run, logs_in, plan_in, splits_in, story_in}
 
 -- ---- what is answered
 
