@@ -1,10 +1,11 @@
 #!/usr/bin/env python3
-"""Proves a crate and those that it stands on side by side: each as soon as those below it are proved, that on which the
-longest chain waits first. One check at a time works in one copy of the repository, so each processor has a copy of its
-own; what is kept of a proved crate is linked into the others, so that none proves it again. Tells on standard error how
-far it is, in crates, functions and processor minutes, which are an estimate from the lengths of sources and proofs: at a
-terminal in one line that changes, else once a minute. Where a check fails, the end of what it wrote goes there, and the
-status is 1. Prints the folder of the crate, in the copy in which it was proved last.
+"""Proves the libraries that a crate stands on side by side, and the crate where it is one: each as soon as those below it
+are proved, that on which the longest chain waits first. A library is proved and built by one call, so that no crate above
+builds it again. One call at a time works in one copy of the repository, so each processor has a copy of its own; what is
+built is linked into the others. A program is left to who runs it, whose call proves and builds it. Tells on standard
+error how far it is, in crates, functions and processor minutes, which are an estimate from the lengths of sources and
+proofs: at a terminal in one line that changes, else once a minute. Where a proof fails, the end of what was written goes
+there, and the status is 1. Prints the folder of the crate, in the copy in which the last proof was.
 
     prove.py FOLDER CRATE [WORKERS]     FOLDER: for the copies; WORKERS: how many processors to use, all where none is given
     prove.py --keep FOLDER CRATE PLACE  once all is built in PLACE, what the first form printed: that copy alone stays, cut
@@ -23,7 +24,6 @@ TOP = os.path.dirname(os.path.dirname(os.path.abspath(__file__)))
 PARTS = ("src", "specs", "proofs")
 # the sources: what the repository tracks there, and nothing that an editor leaves
 SOURCE = re.compile(r"[^.#].*\.(rt|antt)")
-COUNTED = re.compile(r", (\d+) of (\d+)\s*$")
 FUNCTION = re.compile(r"^[^/\n]*\bfn \w", re.MULTILINE)
 PROVED = re.compile(r"^logic=proved functions=(\d+)", re.MULTILINE)
 # what proofs take on one processor, about: seconds for each crate, for each function, and for each line of proofs
@@ -171,8 +171,9 @@ class Copy:
             file.write(mark)
 
     def lend(self, name, others):
-        """Links what is kept here of a proved crate into the other copies."""
+        """Links a built library into the other copies; what its proof kept beside it goes."""
         kept = os.path.join(self.crate(name), "out")
+        shutil.rmtree(os.path.join(kept, "incremental"), ignore_errors=True)
         for other in others:
             there = os.path.join(other.crate(name), "out")
             shutil.rmtree(there, ignore_errors=True)
@@ -180,13 +181,14 @@ class Copy:
 
 
 class Check:
-    """A crate that is being proved in a copy."""
+    """A library that is being proved and built in a copy."""
 
-    def __init__(self, crate, copy, jobs):
+    def __init__(self, crate, copy, jobs, seconds):
         self.crate, self.copy, self.jobs = crate, copy, jobs
+        self.seconds, self.began = seconds, time.monotonic()
         self.log = os.path.join(copy.folder, f"{crate}.log")
         with open(self.log, "w", encoding="utf-8") as file:
-            words = ["rt", "check", "--jobs", str(jobs)]
+            words = ["rt", "lib", "--jobs", str(jobs)]
             self.process = subprocess.Popen(words, cwd=copy.crate(crate), stdin=subprocess.DEVNULL, stdout=file, stderr=file)
 
     def output(self):
@@ -197,19 +199,9 @@ class Check:
         whole = PROVED.findall(self.output())
         return int(whole[-1]) if whole else 0
 
-    def counted(self):
-        """How many functions of how many it says to be through."""
-        found = [COUNTED.search(line) for line in self.output().splitlines()]
-        last = [each for each in found if each][-1:]
-        return (int(last[0][1]), int(last[0][2])) if last else (0, 0)
-
-    def progress(self):
-        through, whole = self.counted()
-        return f"{self.crate} {through} of {whole}" if whole else self.crate
-
     def share(self):
-        through, whole = self.counted()
-        return min(through / whole, 1.0) if whole else 0.0
+        """How much of it is done, by the estimate."""
+        return min((time.monotonic() - self.began) * self.jobs / self.seconds, 1.0)
 
 
 class Teller:
@@ -237,7 +229,7 @@ class Teller:
         self.told = now
         done = sum(self.seconds[crate] for crate in proved) - self.kept
         done += sum(each.share() * self.seconds[each.crate] for each in checks)
-        working = ", ".join(each.progress() for each in checks)
+        working = ", ".join(each.crate for each in checks)
         text = (
             f"ppd: {len(proved)} of {self.count} crates proved, {functions} functions in {int(now)} s;"
             f" about {round(done / 60)} of {minutes(self.left)} processor minutes (estimated); at {working}"
@@ -277,7 +269,8 @@ def prove(below, copies):
             # jobs cannot become more later
             waiting.remove(ready[0])
             least = 1 + functions_in(ready[0]) // 80
-            checks.append(Check(ready[0], free.pop(0), max(spare // len(ready), min(least, spare + 1))))
+            jobs = max(spare // len(ready), min(least, spare + 1))
+            checks.append(Check(ready[0], free.pop(0), jobs, seconds[ready[0]]))
             continue
         time.sleep(0.2)
         for each in [each for each in checks if each.process.poll() is not None]:
@@ -334,7 +327,10 @@ def main():
     folder, crate = sys.argv[1:3]
     workers = int(sys.argv[3]) if len(sys.argv) > 3 else len(os.sched_getaffinity(0))
     below = crates_below(crate)
-    last = prove(below, [Copy(os.path.join(folder, str(number)), below) for number in range(workers)])
+    copies = [Copy(os.path.join(folder, str(number)), below) for number in range(workers)]
+    if os.path.isfile(os.path.join(TOP, "crates", crate, "src", "main.rt")):
+        del below[crate]
+    last = prove(below, copies)
     if last is None:
         return 1
     print(last.crate(crate))
