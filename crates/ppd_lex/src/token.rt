@@ -6,7 +6,7 @@ use std::alloc::{AllocError, AllocFailed};
 use thiserror::Error;
 
 /// What a token is to the grammar: its sort, without a name's bytes or a number's value.
-#[derive(Clone, Copy, Drop)]
+#[derive(Clone, Copy, PartialEq, Drop)]
 pub enum Kind {
     Name,
     Number,
