@@ -6,7 +6,7 @@ ghost use Rattle.ppd_top.specs.Clauses.{IsOutcome, ReadsNothing};
 ghost use Rattle.ppd_top_runs.specs.Output.{standing};
 ghost use Rattle.ppd_top.specs.Ran.{Comes, IsUnloaded, Refuses};
 ghost use Rattle.ppd_top_query.specs.Queries.{query_of};
-ghost use Rattle.ppd_top.specs.Words.Request as asks;
+ghost use Rattle.ppd_top.specs.Words.Request.{on_source as asks_source, on_recording as asks_recording, on_query as asks_query};
 ghost use Rattle.ppd_top.specs.Words.{Asks, command_of};
 ghost use Rattle.ppd_top_runs.specs.Commands.{AreInRange};
 ghost use Rattle.ppd_top.specs.Words.Command.{Flow};
@@ -146,7 +146,7 @@ fn on_source<F: Shelf, I: Source, O: Sink, G: Gate, R: Threads + Wait + Sync>(
 ) -> Outcome
     requires range { AreInRange request.now.options }
     ensures comes { (words : List (Bor (List ℕ))) → Asks words
-        (asks.on_source (command_of request.now.command) request.now.name.now request.now.options)
+        (asks_source (command_of request.now.command) request.now.name.now request.now.options)
         → Comes (call_of words
         (devices (F.held shelf.old) (F.failed_loads shelf.old) (F.failed_stores shelf.old)
         (standing (I.left input.old) (I.before_last input.old) (I.faults input.old) (O.written output.old)
@@ -193,7 +193,7 @@ fn on_recording<F: Shelf, I: Source, O: Sink>(
     input: &mut I,
     output: &mut O,
 ) -> Outcome
-    ensures comes { (words : List (Bor (List ℕ))) → Asks words (asks.on_recording name.now) → Comes (call_of words
+    ensures comes { (words : List (Bor (List ℕ))) → Asks words (asks_recording name.now) → Comes (call_of words
         (devices (F.held shelf.old) (F.failed_loads shelf.old) (F.failed_stores shelf.old)
         (standing (I.left input.old) (I.before_last input.old) (I.faults input.old) (O.written output.old)
         (O.faults output.old)))
@@ -222,7 +222,7 @@ fn on_query<F: Shelf, O: Sink>(
     output: &mut O,
 ) -> Outcome
     ensures { (words : List (Bor (List ℕ))) (left last : Option (List ℕ)) (reads : ℕ)
-        → Asks words (asks.on_query name.now (query_of query.now)) → Comes (call_of words
+        → Asks words (asks_query name.now (query_of query.now)) → Comes (call_of words
         (devices (F.held shelf.old) (F.failed_loads shelf.old) (F.failed_stores shelf.old)
         (standing left last reads (O.written output.old) (O.faults output.old)))
         (devices (F.held shelf.new) (F.failed_loads shelf.new) (F.failed_stores shelf.new)

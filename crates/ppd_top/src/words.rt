@@ -5,8 +5,8 @@ ghost use Rattle.ppd_top_words.specs.declared.commands.Command.TheVariants as wo
 ghost use Rattle.clap.specs.Matches.{first_value, found_of};
 ghost use Rattle.ppd_top_query.specs.Queries.{asked_of as item_asked, query_of};
 ghost use Rattle.ppd_top.specs.Words.{IsInRange, asked as asked_for, asked_by, asked_of, command_of, item_in, item_number_in, name_in, number_in as number_for, options_in as options_for, query_by, request_of};
-ghost use Rattle.ppd_top.specs.Words.Command as command_asked;
-ghost use Rattle.ppd_top_query.specs.Queries.Query as query_asked;
+ghost use Rattle.ppd_top.specs.Words.Command.{Run as run_asked};
+ghost use Rattle.ppd_top_query.specs.Queries.Query.{Slice as slice_asked, Clean as clean_asked, Whole as whole_asked};
 ghost use Rattle.ppd_top_runs.specs.Commands.{AreInRange};
 
 use ppd_ast::limits::{DEFAULT_BUDGET, MOST_BUDGET, MOST_DRILL, MOST_POLICY};
@@ -115,7 +115,7 @@ fn name_of<'a>(given: &CommandWords<'a>, id: &str) -> Option<&'a str>
 /// The command `run`, with the name of its recording.
 fn run_of<'a>(given: &CommandWords<'a>) -> Option<Command<'a>>
     ensures { option_map command_of result
-        ≡ option_map command_asked.Run (name_in (first_value (found_of given.now.matches) (codes "recording"))) }
+        ≡ option_map run_asked (name_in (first_value (found_of given.now.matches) (codes "recording"))) }
 {
     let recording = name_of(given, "recording")?;
     Some(Command::Run(recording))
@@ -184,7 +184,7 @@ fn on_query<'a>(given: &CommandWords<'a>, query: Option<Query<'a>>) -> Option<Re
 /// The query of `slice`, if its item is there.
 fn slice_of<'a>(given: &CommandWords<'a>) -> Option<Query<'a>>
     ensures { option_map query_of result
-        ≡ option_map query_asked.Slice (item_in (first_value (found_of given.now.matches))) }
+        ≡ option_map slice_asked (item_in (first_value (found_of given.now.matches))) }
 {
     let item = item_of(given)?;
     Some(Query::Slice(item))
@@ -193,7 +193,7 @@ fn slice_of<'a>(given: &CommandWords<'a>) -> Option<Query<'a>>
 /// The query of `clean`, if its item is there.
 fn clean_of<'a>(given: &CommandWords<'a>) -> Option<Query<'a>>
     ensures { option_map query_of result
-        ≡ option_map query_asked.Clean (item_in (first_value (found_of given.now.matches))) }
+        ≡ option_map clean_asked (item_in (first_value (found_of given.now.matches))) }
 {
     let item = item_of(given)?;
     Some(Query::Clean(item))
@@ -202,7 +202,7 @@ fn clean_of<'a>(given: &CommandWords<'a>) -> Option<Query<'a>>
 /// The query of `whole`, with the number of its workers.
 fn whole_of<'a>(given: &CommandWords<'a>) -> Option<Query<'a>>
     ensures { option_map query_of result
-        ≡ option_map query_asked.Whole
+        ≡ option_map whole_asked
         (number_for 8 1 64 (first_value (found_of given.now.matches) (codes "workers"))) }
 {
     let workers = number_of(given.value("workers"), DEFAULT_WORKERS, 1, MOST_WORKERS)?;

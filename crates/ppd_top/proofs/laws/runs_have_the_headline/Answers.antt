@@ -1,6 +1,6 @@
 use Rattle.ppd_check.proofs.AcceptedValid.{read_valid}
 use Rattle.ppd_top.proofs.Promises.Tells.{headline}
-use Rattle.ppd_top.proofs.Promises.laws.runs_have_the_headline.Goals as goal
+use Rattle.ppd_top.proofs.laws.runs_have_the_headline.Goals as goal
 
 pub returns : goal.returns
 returns c = headline (record {
