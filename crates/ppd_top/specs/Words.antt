@@ -6,7 +6,7 @@ use Rattle.ppd_ast.specs.declared.limits.TheConstants.{DEFAULT_BUDGET, MOST_BUDG
 use Rattle.ppd_ast.specs.Digits.{number_in as number_of_word}
 use Rattle.ppd_top_words.specs.declared.commands.Command.{Command as Word}
 use Rattle.ppd_top_words.specs.declared.commands.Command.TheVariants as word
-use Rattle.ppd_top_words.specs.Words.{Text, value_of}
+use Rattle.ppd_top_words.specs.Words.{Text, Uses, value_of}
 use Rattle.ppd_top_words.specs.Commands.{command_gives}
 use Rattle.ppd_top_words.specs.Reads.{texts_in}
 use Rattle.ppd_top_runs.specs.Commands.{AreInRange}
@@ -115,9 +115,14 @@ asked_of word.Rerun v = query_by v (Some Rerun)
 asked_of word.Clean v = query_by v (option_map Clean (item_in v))
 asked_of word.Whole v = query_by v (option_map Whole (number_in 8 1 64 (v (codes "workers"))))
 
+-- what a command asks for with what is given to its options and names
+abbrev pub with_given : Option (Word × Uses) → Option Request
+with_given None = None
+with_given (Some (w, uses)) = asked_of w (λ id. value_of id uses)
+
 -- what the words ask for: the command that they give, with numbers within their limits and names that are not empty
 abbrev pub asked : List Text → Option Request
-asked words = option_and_then (λ g. asked_of g.0 (λ id. value_of id g.1)) (command_gives words)
+asked words = with_given (command_gives words)
 
 -- the words ask for this
 abbrev pub Asks : List (Bor (List ℕ)) → Request → Type 0

@@ -1,5 +1,5 @@
 -- What is told of a run by a schedule without a race are all flowback edges of that schedule.
-use Rattle.std.specs.Option.{option_map_or, option_zip}
+use Rattle.std.specs.Option.{option_map_or}
 use Rattle.std.specs.Prelude.{None, Some, codes, option_map, slice_get, if◌then◌else◌}
 use Rattle.std.proofs.Common.{◌≡◌, ℕ, zero, suc, ◌+◌, ◌<◌, true, List, [], ◌∷◌, Option, Ok, Err, arith, get_or, inl, inr, length, lt-ltb, map, nat_lt, refl, ap, sym, ◌∙◌}
 use Rattle.std.proofs.lemmas.Bool.{cases_lt}
@@ -26,8 +26,6 @@ use Rattle.ppd_model.specs.Laws.{ProcessesFollowTheirSteps}
 use Rattle.ppd_session.specs.Laws.{RunsAreAnswered}
 use Rattle.ppd_session.specs.Known.{Flow, Known, Told, flow_told, known_of_run, of_processes, told_of_split, unless_raced}
 use Rattle.ppd_session.specs.Questions.{asked}
-use Rattle.ppd_session.specs.declared.question.Question.{Question}
-use Rattle.ppd_session.specs.declared.question.Question.TheVariants.{Unknown, Why}
 use Rattle.ppd_session.proofs.Tables.{flow_inside, flow_nowhere, flow_past}
 use Rattle.ppd_session.specs.Texts.{answer_text, at_interval, flow_at, flow_text, intervals_at, no_event, raced, text_of, told_at, told_text}
 use Rattle.ppd_text.specs.Edges.{why_text}
@@ -63,10 +61,6 @@ module _ (follow : ProcessesFollowTheirSteps) (program : Program) (plan : Plan) 
     ap (λ (t : Tracing). slice_get t.events n) ((follow program plan budget h).split told_story k s) ∙ is,
   )
   trace_at k (suc p) n e (s ∷ rest) is = trace_at (k + 1) p n e rest is
-
--- what `why` asks with these numbers
-abbrev why_of : Option ℕ → Option ℕ → Option ℕ → Question
-why_of process interval item = option_map_or (λ n. Why process n.0 n.1) (option_zip interval item) Unknown
 
 module _ (items_whole : ItemsAreWhole) (r : Run) (valid : IsValid r.program) (h : List ℕ) (free : races_of r.program (story_in r h) ≡ []) where
   abbrev known : Known
@@ -161,7 +155,7 @@ module _ (items_whole : ItemsAreWhole) (r : Run) (valid : IsValid r.program) (h 
         ∙ (ap (λ (o : Option Item). option_map_or (λ i. flow_text known.program known.plan j i (flow_at known p k j)) o no_event) there.2
         ∙ ap (flow_text r.program (plan_in r) j item) (flow_is p k j ∙ ap edges_or_none has))
 
-    answered : answer_text known (why_of (Some p) (Some k) (Some j)) ≡ why_text r.program (plan_in r) j item es
+    answered : raced known.races (at_interval known (Some p) k (λ q. told_text known q k (Some j) (told_at known q k))) ≡ why_text r.program (plan_in r) j item es
     answered =
         ap (λ rs. raced rs (at_interval known (Some p) k (λ q. told_text known q k (Some j) (told_at known q k)))) free
         ∙ (ap (λ b. if b then told_text known p k (Some j) (told_at known p k) else codes "? block\n") interval_there ∙ shown)
@@ -169,9 +163,7 @@ module _ (items_whole : ItemsAreWhole) (r : Run) (valid : IsValid r.program) (h 
     requested : (line : List ℕ) → AsksEdges r line p k j → text_of known line ≡ why_text r.program (plan_in r) j item es
     requested line a =
         ap (λ ws. answer_text known (asked r.program ws)) a.words_are
-        ∙ (ap (λ q. answer_text known (why_of q (number_in a.interval) (number_in a.item))) a.process_is
-        ∙ (ap (λ n. answer_text known (why_of (Some p) n (number_in a.item))) a.interval_is
-        ∙ (ap (λ n. answer_text known (why_of (Some p) (Some k) n)) a.item_is ∙ answered)))
+        ∙ rw (a.process_is, a.interval_is, a.item_is) answered
 
   pub misses_none : ProcessesFollowTheirSteps → RunsAreAnswered → MissesNoEdge r h known
   misses_none follow run_answered = record {
