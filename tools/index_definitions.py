@@ -165,18 +165,29 @@ class Module:
                 yield module, named
 
 
+def file_of(module):
+    return os.path.join(TOP, "crates", module.replace(".", "/") + ".antt")
+
+
 def reached():
     """The definitions that the clauses of the top call name, and all that these name."""
     modules, found, todo = {}, set(), list(CLAUSES)
 
     def module_at(name):
         if name not in modules:
-            place = os.path.join(TOP, "crates", name.replace(".", "/") + ".antt")
-            modules[name] = Module(open(place, encoding="utf-8").read()) if os.path.isfile(place) else None
+            is_there = os.path.isfile(file_of(name))
+            modules[name] = Module(open(file_of(name), encoding="utf-8").read()) if is_there else None
         return modules[name]
+
+    def origin(name):
+        """Where a module stands that a crate passes on by a line of its Lib.antt."""
+        folder, _, last = name.rpartition(".")
+        lib = None if os.path.isfile(file_of(name)) else module_at(f"{folder}.Lib")
+        return origin(lib.names[last][0]) if lib and last in lib.names else name
 
     while todo:
         module, word = todo.pop()
+        module = origin(module)
         texts = module_at(module)
         if (module, word) in found or texts is None:
             continue

@@ -1,3 +1,5 @@
+pub use Rattle.law_flow_shared.proofs.Edges.Assembled
+pub use Rattle.law_flow_shared.proofs.Edges.Sources.LastOrigins
 pub mod Places
 pub mod Control
 pub mod Locals

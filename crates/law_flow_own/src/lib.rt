@@ -4,6 +4,9 @@
 
 mod laws;
 
+pub use law_flow_shared::{
+    edges_are_found, edges_cost_little, last_costs_little, last_writes_are_found,
+};
 pub use laws::control::own_controls_are_found;
 pub use laws::locals::{local_reads_are_found, returns_are_found};
 pub use laws::loops::{all_local_reads_are_found, all_own_parts_are_found, loops_left_are_found};

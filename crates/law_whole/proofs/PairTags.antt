@@ -39,7 +39,7 @@ use Rattle.ppd_model.proofs.Numbers.{are_counted}
 use Rattle.ppd_model.proofs.Parents.{own_from}
 use Rattle.ppd_model.proofs.RecordedSyncs.{record_syncs}
 use Rattle.ppd_model.proofs.Lists.{get_mapped}
-use Rattle.law_steps.proofs.StaticEdges.SharedCells.Writers.{events_in}
+use Rattle.law_flow_shared.proofs.Writers.{events_in}
 use Rattle.law_flow_shared.proofs.Vocabulary.Events.{synchronizes}
 use Rattle.law_flow_shared.proofs.Edges.Spans.Facts.{count_to}
 use Rattle.law_flow_shared.proofs.Edges.Sources.InEdges.{sync_event as sync_is_event}

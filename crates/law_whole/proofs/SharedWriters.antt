@@ -32,7 +32,7 @@ use Rattle.ppd_model.proofs.AccessSets.{accesses_there}
 use Rattle.ppd_model.proofs.Lists.{get_mapped}
 use Rattle.ppd_model.proofs.SharedReads.{shared_found, steps_access}
 use Rattle.ppd_flow_model.specs.Shared.{greatest, greatest_before, is_before_in, writing}
-use Rattle.law_steps.proofs.StaticEdges.SharedCells.Writers.{count_is, events_in}
+use Rattle.law_flow_shared.proofs.Writers.{count_is, events_in}
 use Rattle.law_flow_shared.proofs.Vocabulary.Events.{AreQuiet, IsLastWriter, synchronizes, written_by}
 use Rattle.law_flow_shared.proofs.Edges.LogPlaces.EdgePlaces.{count_one}
 use Rattle.law_flow_shared.proofs.Edges.Spans.Facts.{count_to}

@@ -4,7 +4,7 @@ ghost use Rattle.ppd_clean.specs.Answers.{AreEdges, AreItems, Fails, FailsFrom, 
 ghost use Rattle.ppd_clean.specs.ByOrder.{cut_for};
 ghost use Rattle.ppd_clean.specs.Missing.{IsCauseOfSets};
 ghost use Rattle.ppd_clean.specs.Runs.{GivesClean};
-ghost use Rattle.ppd_flow_shared.specs.SharedCells.{seens_in};
+ghost use Rattle.ppd_flow.specs.SharedCells.{seens_in};
 ghost use Rattle.ppd_flow_past.specs.Pasts.{IsPast};
 ghost use Rattle.ppd_index.specs.Fitting.{AreFittingLogs};
 ghost use Rattle.ppd_index.specs.Indexes.{IsIndexOf};

@@ -4,7 +4,7 @@ ghost use Rattle.ppd_clean.specs.Answers.{IsAnswer, IsCleanItem, IsItem, answer_
 ghost use Rattle.ppd_clean.specs.ByOrder.{is_unclean as is_unclean_of};
 ghost use Rattle.ppd_flow_past.specs.Pasts.{IsPast};
 ghost use Rattle.ppd_flow_past.specs.SeenBy.{items_in, seen_in};
-ghost use Rattle.ppd_flow_shared.specs.SharedCells.{seens_in};
+ghost use Rattle.ppd_flow.specs.SharedCells.{seens_in};
 
 use crate::clean_error::CleanError;
 use crate::left::{edge_of_item, left_edge};

@@ -6,5 +6,6 @@ mod recalling;
 mod storing;
 
 pub use laws::{recalled_runs, refused_or_accepted};
+pub use ppd_session::{Past, Reply, Session, SessionError, replay_line};
 pub use recalling::{NoRecall, Recalled, recall};
 pub use storing::record;

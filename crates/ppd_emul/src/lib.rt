@@ -9,3 +9,4 @@ mod wanting;
 
 pub use emulating::{Counters, emulate, emulate_in};
 pub use ppd_emul_model::{BlockTrace, EmulError, Found, Item, Piece, Wanted};
+pub use ppd_emul_values::LogIndex;

@@ -2,7 +2,7 @@
 use Rattle.std.specs.Prelude.{◌≡◌, ℕ, ◌+◌, ◌<◌, ◌≤◌}
 use Rattle.ppd_ast.specs.declared.plan.Plan.{Plan}
 use Rattle.ppd_ast.specs.declared.program.Program.{Program}
-use Rattle.ppd_entry.specs.IntervalLogs.{IntervalLog}
+use Rattle.ppd_model.specs.IntervalLogs.{IntervalLog}
 use Rattle.ppd_sem.specs.Blocks.{block_kind, block_unit}
 use Rattle.ppd_emul_model.specs.Replay.{Replaying, Replayed, Turn, more, done, begun_replay, replay, replay_from, take_unit, turn}
 

@@ -3,7 +3,7 @@ use Rattle.std.specs.Prelude.{◌≡◌, ℕ, ◌+◌, ◌<◌, ◌≤◌, ◌�
 use Rattle.ppd_ast.specs.declared.plan.Plan.{Plan}
 use Rattle.ppd_ast.specs.declared.program.Program.{Program}
 use Rattle.ppd_ast.specs.declared.status.Status.TheVariants as status
-use Rattle.ppd_entry.specs.IntervalLogs.{IntervalLog}
+use Rattle.ppd_model.specs.IntervalLogs.{IntervalLog}
 use Rattle.ppd_emul_model.specs.declared.trace.EmulError.TheVariants.{Diverged}
 use Rattle.ppd_emul_model.specs.declared.wanted.Found.{Found}
 use Rattle.ppd_emul_model.specs.declared.wanted.Found.TheVariants as found

@@ -5,8 +5,8 @@ use Rattle.ppd_ast.specs.declared.program.Program.{Program}
 use Rattle.ppd_ast.specs.declared.status.Status.{Status}
 use Rattle.ppd_ast.specs.declared.status.Status.TheVariants as status
 use Rattle.ppd_ast.specs.declared.status.Trap.{Trap as TrapOf}
-use Rattle.ppd_entry.specs.IntervalLogs.{IntervalLog}
-use Rattle.ppd_entry.specs.Pieces.{Piece, unit, sync, nested, unfinished, finish}
+use Rattle.ppd_model.specs.IntervalLogs.{IntervalLog}
+use Rattle.ppd_model.specs.Pieces.{Piece, unit, sync, nested, unfinished, finish}
 use Rattle.ppd_sem.specs.declared.proc.Answer.{Answer}
 use Rattle.ppd_sem.specs.declared.proc.Answer.TheVariants.{Value, Go}
 use Rattle.ppd_sem.specs.declared.proc.Need.{Need}

@@ -8,7 +8,6 @@ mod wanted;
 pub use laws::{
     failures_differ, replays_are_within_budget, replays_count_their_steps, replays_end_by_turns,
 };
-pub use ppd_entry::Piece;
-pub use ppd_model::Item;
+pub use ppd_model::{Item, Piece};
 pub use trace::{BlockTrace, EmulError};
 pub use wanted::{Found, Wanted};

@@ -16,6 +16,7 @@ pub use failing::fail;
 pub use found::{copied, found_of};
 pub use in_force::InForce;
 pub use pieces::Pieces;
+pub use ppd_index::{IntervalLog, LogIndex};
 pub use replayer::{Code, Replayer, Turned};
 pub use skipping::skip_over;
 pub use units::take_unit;

@@ -5,7 +5,7 @@ ghost use Rattle.ppd_emul_model.specs.Replay.{counted, past_piece, with_item, wi
 use crate::in_force::InForce;
 use crate::pieces::Pieces;
 use ppd_ast::{Memory, Plan, Program, Seq, Steps};
-use ppd_model::Item;
+use ppd_index::Item;
 use ppd_sem::{Need, Proc};
 use std::alloc::Global;
 use std::sync::ledger::Ledger;

@@ -6,7 +6,7 @@ use crate::failing::fail;
 use crate::replayer::{Code, Replayer, Turned};
 use ppd_emul_model::{EmulError, Wanted};
 use ppd_entry::Piece;
-use ppd_model::unit_cells;
+use ppd_index::unit_cells;
 
 /// The start of a unit, which has to be the next piece. `Diverged`: it is another. `Memory` is want of memory.
 pub fn take_unit(code: &Code, state: &mut Replayer, unit: u16) -> Result<Turned, EmulError>

@@ -1,7 +1,7 @@
 -- Words on entries and on the logs of a program.
 use Rattle.std.specs.Prelude.{ℕ, Bool, true, false, List, [], get_or}
-use Rattle.ppd_ast.specs.declared.status.SyncKind.{SyncKind}
-use Rattle.ppd_ast.specs.declared.status.SyncKind.TheVariants.{P, V, Send, Recv, Done}
+use Rattle.ppd_sem.specs.SyncKind.{SyncKind}
+use Rattle.ppd_sem.specs.SyncKind.TheVariants.{P, V, Send, Recv, Done}
 use Rattle.ppd_entry.specs.declared.entry.Entry.{Entry}
 use Rattle.ppd_entry.specs.declared.entry.Entry.TheVariants as entry
 use Rattle.ppd_entry.specs.declared.entry.Logs.{Logs}

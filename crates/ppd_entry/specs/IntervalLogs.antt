@@ -1,7 +1,7 @@
 -- The log of each interval of a process, from the process's entries.
 use Rattle.std.specs.Prelude.{ℕ, zero, suc, ◌+◌, ℤ, List, [], ◌∷◌, ◌++◌, drop, fold, length, get_or, slice_get, Option, Some, None, if◌then◌else◌}
 use Rattle.ppd_sem.specs.Blocks.{block_kind, is_function}
-use Rattle.ppd_ast.specs.declared.plan.Plan.{Plan}
+use Rattle.ppd_sem.specs.Plan.{Plan}
 use Rattle.ppd_entry.specs.declared.entry.Entry.{Entry}
 use Rattle.ppd_entry.specs.declared.entry.Entry.TheVariants as entry
 use Rattle.ppd_entry.specs.Pieces.{Piece, unit, sync, nested, unfinished, postlog, finish}

@@ -1,7 +1,7 @@
 -- A piece of an interval's log, with the lists that it lends.
 use Rattle.std.specs.Prelude.{ℕ, ℤ, List}
-use Rattle.ppd_ast.specs.declared.status.Status.{Status}
-use Rattle.ppd_ast.specs.declared.status.SyncKind.{SyncKind}
+use Rattle.ppd_sem.specs.Status.{Status}
+use Rattle.ppd_sem.specs.SyncKind.{SyncKind}
 use Rattle.ppd_entry.specs.declared.piece.Piece.{Piece as Lent}
 use Rattle.ppd_entry.specs.declared.piece.Piece.TheVariants.{Unit, Sync, Nested, Unfinished, Postlog, End}
 

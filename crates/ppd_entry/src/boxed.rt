@@ -1,6 +1,6 @@
 ghost use Rattle.std.specs.Prelude.{◌≡◌, [], IfOk, length};
 
-use ppd_ast::{Memory, Seq};
+use ppd_sem::{Memory, Seq};
 use std::alloc::Global;
 use std::marker::Model;
 

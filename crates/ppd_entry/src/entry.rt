@@ -2,7 +2,7 @@ ghost use Rattle.std.specs.Prelude.{◌≡◌};
 ghost use Rattle.ppd_entry.specs.Entries.{same_kind};
 
 use crate::boxed::{BoxedCells, BoxedNums};
-use ppd_ast::{Seq, Status, SyncKind};
+use ppd_sem::{Seq, Status, SyncKind};
 
 /// An entry of a process's log. Numbers of blocks and units are those of the plan, cells are
 /// shared cells, rising. `reads` and `writes` are the cells accessed since the previous

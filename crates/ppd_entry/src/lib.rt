@@ -9,4 +9,4 @@ mod piece;
 pub use boxed::{Boxed, BoxedCells, BoxedNums};
 pub use entry::{At, Entry, Logs, same_kind};
 pub use piece::Piece;
-pub use ppd_ast::Status;
+pub use ppd_sem::Status;

@@ -1,4 +1,4 @@
-use ppd_ast::{Status, SyncKind};
+use ppd_sem::{Status, SyncKind};
 
 /// A piece of an interval's log: an entry that the interval's own step wrote, or an interval
 /// directly inside it. Its values stand in the log of the process.

@@ -12,7 +12,7 @@ use Rattle.ppd_model.specs.FlowbackEdges.{edges}
 use Rattle.ppd_model.specs.Intervals.{splits}
 use Rattle.ppd_model.specs.Logs.{closed_logs}
 use Rattle.ppd_model.specs.Story.{story, told}
-use Rattle.law_flow_shared.specs.Costs.Bounds.{EdgesCostLittle, LastCostsLittle, steps_in, steps_of_all}
+use Rattle.law_flow_own.specs.Bounds.{EdgesCostLittle, LastCostsLittle, steps_in, steps_of_all}
 use Rattle.law_flow_own.specs.Loops.AllOwnParts.{AllOwnPartsAreFound}
 use Rattle.ppd_flow_past.specs.declared.flow_error.FlowError.{FlowError}
 use Rattle.ppd_flow_past.specs.declared.past.Past.{Past}
@@ -22,8 +22,8 @@ use Rattle.ppd_flow_past.specs.SeenBy.{own_steps_of, steps_in as replayed_steps}
 use Rattle.ppd_flow_model.specs.Found.{edges_replays}
 use Rattle.ppd_flow_model.specs.Seen.{Seen}
 use Rattle.ppd_flow_model.specs.Shared.{last_replays}
-use Rattle.law_flow_shared.specs.Edges.Assembled.{EdgesAreFound, HasOwnParts}
-use Rattle.law_flow_shared.specs.Edges.SharedEdges.{all_seen}
+use Rattle.law_flow_own.specs.Assembled.{EdgesAreFound, HasOwnParts}
+use Rattle.law_flow_own.specs.SharedEdges.{all_seen}
 use Rattle.ppd_flow_shared.specs.SharedCells.{IsLastFound, seens_in}
 use Rattle.ppd_flow.specs.Answers.{IsEdges}
 use Rattle.ppd_flow.specs.Runs.{CostsEdges, CostsLast, IsOfRun, edges_or_none, splits_in, story_in}

@@ -10,7 +10,7 @@ use Rattle.ppd_flow_past.specs.declared.past.Past.{Past}
 use Rattle.ppd_flow_past.specs.ByReplays.{AreReplayed, IsFoundBy, steps_to_replay}
 use Rattle.ppd_flow_past.specs.SeenBy.{items_in}
 use Rattle.ppd_flow_past.proofs.Found.{found_err, found_given, found_then}
-use Rattle.ppd_flow_edges.specs.Asked.{IsAsked}
+use Rattle.ppd_flow_local.specs.Asked.{IsAsked}
 use Rattle.ppd_flow_model.specs.Found.{edges_if, item_edges, item_replays}
 use Rattle.ppd_flow_model.specs.Seen.{Seen, items_at}
 use Rattle.ppd_flow_model.specs.Shared.{seen_at}

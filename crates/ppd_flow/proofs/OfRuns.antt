@@ -27,8 +27,8 @@ use Rattle.ppd_flow_past.specs.SeenBy.{failed_at, failed_in, seen_by}
 use Rattle.ppd_flow_model.specs.Found.{edges_replays, found_edges}
 use Rattle.ppd_flow_model.specs.Seen.{Seen, seen_of}
 use Rattle.ppd_flow_model.specs.Shared.{Missing, found_last}
-use Rattle.law_flow_shared.specs.Edges.Assembled.{EdgesAreFound, HasOwnParts}
-use Rattle.law_flow_shared.specs.Edges.SharedEdges.{LastWritesAreFound, all_seen}
+use Rattle.law_flow_own.specs.Assembled.{EdgesAreFound, HasOwnParts}
+use Rattle.law_flow_own.specs.SharedEdges.{LastWritesAreFound, all_seen}
 use Rattle.ppd_flow_shared.specs.SharedCells.{IsMemoryOr, answer_of, seens_in}
 use Rattle.ppd_flow.specs.Answers.{IsEdges, answer_if}
 use Rattle.ppd_flow.specs.Runs.{AnswersAreOfRuns, GivesEdges, GivesLast, IsOfRun, edges_or_none, splits_in, story_in}

@@ -12,11 +12,9 @@ ghost use Rattle.ppd_flow_shared.specs.SharedCells.{answer_of, seens_in};
 ghost use Rattle.ppd_flow_shared.specs.Tabled.{IsOfInterval, IsTabled};
 
 use crate::reads::read_edges;
-use law_flow_own::all_own_parts_are_found;
-use law_flow_shared::{edges_are_found, edges_cost_little};
+use law_flow_own::{all_own_parts_are_found, edges_are_found, edges_cost_little};
 use ppd_ast::{Seq, Steps};
-use ppd_flow_edges::{asked_items, control_edge, push_rest};
-use ppd_flow_local::{Place, Search};
+use ppd_flow_local::{Place, Search, asked_items, control_edge, push_rest};
 use ppd_flow_past::{FlowError, Past, replays_are_seen};
 use ppd_flow_shared::{ItemPlace, TabledItems, Tables, pair_origin};
 use ppd_model::{EdgeKind, FlowEdge, Item, Origin};

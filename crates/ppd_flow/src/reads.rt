@@ -5,8 +5,7 @@ ghost use Rattle.ppd_flow_past.specs.ByReplays.{IsFoundBy};
 ghost use Rattle.ppd_flow_shared.specs.SharedCells.{answer_of};
 
 use ppd_ast::{Seq, Steps};
-use ppd_flow_edges::push_read;
-use ppd_flow_local::{LocalCell, Place, Search};
+use ppd_flow_local::{LocalCell, Place, Search, push_read};
 use ppd_flow_past::FlowError;
 use ppd_flow_shared::CellSearch;
 use ppd_model::{FlowEdge, Origin};

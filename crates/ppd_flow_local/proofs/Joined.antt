@@ -1,10 +1,10 @@
 -- What is found by replays of a process, one after another.
 use Rattle.std.proofs.Common.{◌≡◌, ℕ, List, [], ◌∷◌, ◌++◌, Result, Ok, Err, refl, ap, sym, subst}
 use Rattle.std.specs.Prelude.{Option, Some, None, unwrap_or}
-use Rattle.ppd_flow_past.specs.declared.flow_error.FlowError.{FlowError}
-use Rattle.ppd_flow_past.specs.declared.flow_error.FlowError.TheVariants.{Diverged, NoEvent, Sets, Memory}
-use Rattle.ppd_flow_past.specs.ByReplays.{IsFoundBy}
-use Rattle.ppd_flow_past.proofs.Found.{found_err, found_none, found_then}
+use Rattle.ppd_flow_tables.specs.FlowError.{FlowError}
+use Rattle.ppd_flow_tables.specs.FlowError.TheVariants.{Diverged, NoEvent, Sets, Memory}
+use Rattle.ppd_flow_tables.specs.ByReplays.{IsFoundBy}
+use Rattle.ppd_flow_tables.proofs.Found.{found_err, found_none, found_then}
 use Rattle.ppd_model.specs.declared.flow.Origin.{Origin}
 use Rattle.ppd_model.specs.FullTrace.{or_else}
 use Rattle.ppd_flow_model.specs.Seen.{unless}

@@ -5,7 +5,7 @@ use Rattle.std.proofs.lemmas.Bool.{cases_lt}
 use Rattle.std.specs.Prelude.{ℤ, min, pos}
 use Rattle.ppd_model.specs.declared.flow.FlowEdge.{FlowEdge}
 use Rattle.ppd_model.specs.declared.flow.Origin.{Origin}
-use Rattle.ppd_flow_past.specs.declared.flow_error.FlowError.{FlowError}
+use Rattle.ppd_flow_tables.specs.FlowError.{FlowError}
 use Rattle.ppd_flow_model.specs.Own.{left_edges, left_replays}
 use Rattle.ppd_flow_model.specs.Locals.{local_origin, local_replays}
 use Rattle.ppd_flow_local.specs.declared.search.Search.{Search}

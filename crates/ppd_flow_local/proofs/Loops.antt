@@ -3,7 +3,7 @@ use Rattle.std.proofs.Common.{◌≡◌, ℕ, ◌+◌, List, [], ◌∷◌, drop
 use Rattle.std.specs.Prelude.{slice_get}
 use Rattle.ppd_model.specs.declared.flow.Origin.{Origin}
 use Rattle.ppd_model.proofs.Lists.{left_from}
-use Rattle.ppd_flow_past.specs.declared.flow_error.FlowError.{FlowError}
+use Rattle.ppd_flow_tables.specs.FlowError.{FlowError}
 use Rattle.ppd_flow_model.specs.Locals.{in_loops, loop_replays, scan, writer_at, writer_replays}
 use Rattle.ppd_flow_model.specs.Seen.{items_at, unless}
 use Rattle.ppd_flow_model.specs.declared.writer.Writer.{Writer}

@@ -6,7 +6,7 @@ use Rattle.ppd_model.specs.declared.flow.EdgeKind.TheVariants.{Control}
 use Rattle.ppd_model.specs.declared.flow.FlowEdge.{FlowEdge}
 use Rattle.ppd_model.specs.declared.flow.Origin.{Origin}
 use Rattle.ppd_model.specs.FlowbackEdges.{bare_edge}
-use Rattle.ppd_flow_past.specs.declared.flow_error.FlowError.{FlowError}
+use Rattle.ppd_flow_tables.specs.FlowError.{FlowError}
 use Rattle.ppd_sem.specs.Blocks.{postlog_cells}
 use Rattle.ppd_flow_model.specs.Control.{control_origin, control_replays}
 use Rattle.ppd_flow_model.specs.Own.{edges_of_nested, frame_at, left_edges, left_replays, nested_replays}

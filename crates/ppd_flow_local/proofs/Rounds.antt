@@ -5,7 +5,7 @@ use Rattle.ppd_ast.specs.declared.plan.BlockKind.TheVariants as block
 use Rattle.ppd_model.specs.declared.flow.Item.{Item}
 use Rattle.ppd_model.specs.declared.flow.Origin.{Origin}
 use Rattle.ppd_model.specs.FullTrace.{or_else}
-use Rattle.ppd_flow_past.specs.declared.flow_error.FlowError.{FlowError}
+use Rattle.ppd_flow_tables.specs.FlowError.{FlowError}
 use Rattle.ppd_flow_model.specs.Control.{call_or_entry, call_replays, control_above, control_above_replays, control_in}
 use Rattle.ppd_flow_model.specs.Locals.{Scan, in_loops, local_in, local_in_replays, local_outside, loop_replays, outer_frame, outside_replays, scan, writer_at, writer_replays}
 use Rattle.ppd_flow_model.specs.Own.{frame_at}

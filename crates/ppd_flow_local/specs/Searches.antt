@@ -12,9 +12,9 @@ use Rattle.ppd_flow_model.specs.Locals.{in_loops, local_origin, local_replays, l
 use Rattle.ppd_flow_model.specs.Seen.{Seen, items_at, unless}
 use Rattle.ppd_flow_model.specs.Shared.{of_process}
 use Rattle.ppd_flow_edges.specs.Joined.{left_at}
-use Rattle.ppd_flow_past.specs.declared.flow_error.FlowError.{FlowError}
-use Rattle.ppd_flow_past.specs.ByReplays.{IsFoundBy}
-use Rattle.ppd_flow_past.specs.SeenBy.{seen_in}
+use Rattle.ppd_flow_tables.specs.FlowError.{FlowError}
+use Rattle.ppd_flow_tables.specs.ByReplays.{IsFoundBy}
+use Rattle.ppd_flow_tables.specs.SeenBy.{seen_in}
 use Rattle.ppd_flow_tables.specs.Tabled.{IsTabled}
 use Rattle.ppd_flow_local.specs.declared.scan.LocalCell.{LocalCell}
 use Rattle.ppd_flow_local.specs.declared.search.Place.{Place}

@@ -11,7 +11,7 @@ use crate::testing::last_test;
 use ppd_ast::{BlockKind, Memory, Steps};
 use ppd_flow_local_tables::frame_in;
 use ppd_flow_model::{LastTest, LeafCall};
-use ppd_flow_past::FlowError;
+use ppd_flow_tables::FlowError;
 use ppd_model::Origin;
 use std::sync::ledger::Ledger;
 

@@ -11,7 +11,7 @@ use crate::scan::LocalCell;
 use crate::search::{Place, Search};
 use ppd_ast::{BlockKind, Seq, Steps};
 use ppd_flow_edges::{control_edge, push_left};
-use ppd_flow_past::{FlowError, number};
+use ppd_flow_tables::{FlowError, number};
 use ppd_model::{EdgeKind, FlowEdge, Origin};
 use ppd_sem::{Spot, block_kind, postlog_cells};
 use std::sync::ledger::Ledger;

@@ -5,7 +5,7 @@ ghost use Rattle.ppd_flow_model.specs.Locals.{leaf_at as leaf_among};
 use ppd_ast::Memory;
 use ppd_flow_local_tables::{Code, leaf_after};
 use ppd_flow_model::LeafCall;
-use ppd_flow_past::number;
+use ppd_flow_tables::number;
 use ppd_model::Item;
 
 /// The call whose activation goes on without an interval of its own after an item.

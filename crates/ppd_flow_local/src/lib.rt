@@ -10,5 +10,6 @@ mod scan;
 mod search;
 mod testing;
 
+pub use ppd_flow_edges::{asked_items, control_edge, push_read, push_rest};
 pub use scan::LocalCell;
 pub use search::{Place, Search};

@@ -8,7 +8,7 @@ use crate::scan::{LocalCell, Scan, has_cell};
 use crate::search::{Place, Search};
 use ppd_ast::{BlockKind, Memory, Steps};
 use ppd_flow_model::Writer;
-use ppd_flow_past::{FlowError, block_of};
+use ppd_flow_tables::{FlowError, block_of};
 use ppd_model::{Item, Origin};
 use ppd_sem::prelog_cells;
 use std::sync::ledger::Ledger;

@@ -8,7 +8,7 @@ ghost use Rattle.ppd_flow_model.specs.Locals.{begins_leaf, begun_scan, is_local 
 use ppd_ast::{BlockKind, Memory, Seq};
 use ppd_flow_local_tables::{Code, frame_in, leaf_after};
 use ppd_flow_model::{LeafCall, Writer};
-use ppd_flow_past::number;
+use ppd_flow_tables::number;
 use ppd_model::Item;
 use ppd_sem::{Event, Spot, block_kind, postlog_cells};
 use std::alloc::Global;

@@ -10,8 +10,10 @@ use crate::leaf::leaf_at;
 use ppd_ast::{BlockKind, Memory, Steps};
 use ppd_flow_local_tables::{Code, frame_in};
 use ppd_flow_model::LeafCall;
-use ppd_flow_past::{FlowError, Items, Past, block_of, interval_items, number, outer_of};
-use ppd_flow_tables::{BlockTables, Tables, place_of};
+use ppd_flow_tables::{
+    BlockTables, FlowError, Items, Past, Tables, block_of, interval_items, number, outer_of,
+    place_of,
+};
 use ppd_model::{Item, Origin};
 use ppd_sem::block_kind;
 use std::alloc::Global;

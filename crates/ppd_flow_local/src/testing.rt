@@ -5,7 +5,7 @@ ghost use Rattle.ppd_flow_model.specs.Control.{last_test as last_test_among, tes
 use ppd_ast::Memory;
 use ppd_flow_local_tables::Code;
 use ppd_flow_model::LastTest;
-use ppd_flow_past::number;
+use ppd_flow_tables::number;
 use ppd_model::Item;
 
 /// Whether a value is there and not 0.

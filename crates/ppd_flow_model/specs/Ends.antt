@@ -1,7 +1,7 @@
 -- The internal edge in which an item lies, and the place at which an internal edge ends, by the process's entries.
 use Rattle.std.specs.Prelude.{ℕ, zero, suc, ◌+◌, ◌-◌, nat_eq, nat_le, nat_lt, Bool, true, false, ◌&&◌, List, [], ◌∷◌, length, take, slice_get, sum_by, filter_map, unwrap_or, Option, Some, None, is_some, if◌then◌else◌}
-use Rattle.ppd_entry.specs.declared.entry.Entry.{Entry}
-use Rattle.ppd_entry.specs.declared.entry.Entry.TheVariants as entry
+use Rattle.ppd_graph.specs.Entry.{Entry}
+use Rattle.ppd_graph.specs.Entry.TheVariants as entry
 use Rattle.ppd_model.specs.declared.flow.Item.{Item}
 use Rattle.ppd_model.specs.declared.flow.Item.TheVariants as item
 use Rattle.ppd_model.specs.Extents.{Extent, extents}

@@ -4,17 +4,17 @@ use Rattle.std.specs.Prelude.{slice_get}
 use Rattle.std.proofs.lemmas.List.{length-map}
 use Rattle.std.proofs.lemmas.Option.{none-some, same_Some, slice_get_past}
 use Rattle.ppd_ast.specs.declared.plan.Plan.{Plan}
-use Rattle.ppd_emul_model.specs.declared.trace.BlockTrace.{BlockTrace}
-use Rattle.ppd_emul_model.specs.declared.trace.EmulError.TheVariants.{Diverged}
-use Rattle.ppd_emul_model.specs.declared.wanted.Found.{Found}
-use Rattle.ppd_emul_model.specs.declared.wanted.Wanted.{Wanted}
-use Rattle.ppd_emul_model.specs.Replay.{Replayed, replay}
+use Rattle.ppd_emul.specs.BlockTrace.{BlockTrace}
+use Rattle.ppd_emul.specs.EmulError.TheVariants.{Diverged}
+use Rattle.ppd_emul.specs.Found.{Found}
+use Rattle.ppd_emul.specs.Wanted.{Wanted}
+use Rattle.ppd_emul.specs.Replay.{Replayed, replay}
 use Rattle.ppd_entry.specs.declared.entry.Entry.{Entry}
 use Rattle.ppd_entry.specs.IntervalLogs.{Indexed, IntervalLog, indexed, interval_log, log_in}
 use Rattle.ppd_entry.specs.Entries.{entries_at}
-use Rattle.ppd_index.specs.declared.row.Row.{Row}
-use Rattle.ppd_index.specs.Indexes.{AreIntervals, IsIndexOf, rows_at}
-use Rattle.ppd_index.specs.Tables.{indexed_of}
+use Rattle.ppd_emul.specs.Row.{Row}
+use Rattle.ppd_emul.specs.Indexes.{AreIntervals, IsIndexOf, rows_at}
+use Rattle.ppd_emul.specs.Tables.{indexed_of}
 use Rattle.ppd_model.specs.Bounds.{AreEach}
 use Rattle.ppd_model.specs.declared.flow.Item.{Item}
 use Rattle.ppd_flow_past.specs.declared.past.Past.{Past}

@@ -8,11 +8,11 @@ use Rattle.ppd_entry.specs.declared.entry.Entry.{Entry}
 use Rattle.ppd_entry.specs.IntervalLogs.{Indexed, indexed}
 use Rattle.ppd_entry.specs.declared.entry.Logs.{Logs}
 use Rattle.ppd_entry.specs.Entries.{entries_at}
-use Rattle.ppd_emul_model.specs.Replay.{replay}
-use Rattle.ppd_index.specs.declared.interval.Interval.{Interval}
-use Rattle.ppd_index.specs.declared.row.Row.{Row}
-use Rattle.ppd_index.specs.Indexes.{AreIntervals, IsIndexOf, interval_of, rows_at}
-use Rattle.ppd_index.specs.Tables.{extent_of, indexed_of}
+use Rattle.ppd_emul.specs.Replay.{replay}
+use Rattle.ppd_emul.specs.Interval.{Interval}
+use Rattle.ppd_emul.specs.Row.{Row}
+use Rattle.ppd_emul.specs.Indexes.{AreIntervals, IsIndexOf, interval_of, rows_at}
+use Rattle.ppd_emul.specs.Tables.{extent_of, indexed_of}
 use Rattle.ppd_model.specs.Bounds.{AreEach}
 use Rattle.ppd_model.specs.Extents.{Extent, extents, first_of}
 use Rattle.ppd_flow_past.specs.declared.past.Past.{Past}

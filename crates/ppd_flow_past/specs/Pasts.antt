@@ -6,11 +6,11 @@ use Rattle.ppd_ast.specs.declared.plan.Plan.{Plan}
 use Rattle.ppd_ast.specs.declared.program.Program.{Program}
 use Rattle.ppd_entry.specs.declared.entry.Logs.{Logs}
 use Rattle.ppd_entry.specs.Entries.{entries_at}
-use Rattle.ppd_graph.specs.declared.sync_graph.SyncGraph.{SyncGraph}
-use Rattle.ppd_graph.specs.Graphs.{IsGraphOf}
-use Rattle.ppd_index.specs.declared.log_index.LogIndex.{LogIndex}
-use Rattle.ppd_index.specs.Fitting.{AreFittingLogs}
-use Rattle.ppd_index.specs.Indexes.{IsIndexOf}
+use Rattle.ppd_race.specs.SyncGraph.{SyncGraph}
+use Rattle.ppd_race.specs.Graphs.{IsGraphOf}
+use Rattle.ppd_emul.specs.LogIndex.{LogIndex}
+use Rattle.ppd_emul.specs.Fitting.{AreFittingLogs}
+use Rattle.ppd_emul.specs.Indexes.{IsIndexOf}
 use Rattle.ppd_flow_model.specs.Seen.{items_at}
 use Rattle.ppd_flow_past.specs.declared.past.Past.{Past}
 use Rattle.ppd_flow_past.specs.SeenBy.{failed_at, seen_by}

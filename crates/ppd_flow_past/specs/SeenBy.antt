@@ -2,10 +2,10 @@
 use Rattle.std.specs.Prelude.{ℕ, List, [], ◌∷◌, ◌++◌, fold, get_or, map, Option, Some, None, Result, Ok, Err}
 use Rattle.ppd_ast.specs.declared.plan.Plan.{Plan}
 use Rattle.ppd_ast.specs.declared.program.Program.{Program}
-use Rattle.ppd_emul_model.specs.declared.trace.BlockTrace.{BlockTrace}
-use Rattle.ppd_emul_model.specs.declared.trace.EmulError.{EmulError}
-use Rattle.ppd_emul_model.specs.declared.trace.EmulError.TheVariants.{Diverged, Memory}
-use Rattle.ppd_emul_model.specs.Replay.{Replayed, replay}
+use Rattle.ppd_emul.specs.BlockTrace.{BlockTrace}
+use Rattle.ppd_emul.specs.EmulError.{EmulError}
+use Rattle.ppd_emul.specs.EmulError.TheVariants.{Diverged, Memory}
+use Rattle.ppd_emul.specs.Replay.{Replayed, replay}
 use Rattle.ppd_entry.specs.declared.entry.Entry.{Entry}
 use Rattle.ppd_entry.specs.IntervalLogs.{indexed, interval_log}
 use Rattle.ppd_entry.specs.Entries.{entries_at}

@@ -7,9 +7,9 @@ use Rattle.ppd_entry.specs.Entries.{entries_at}
 use Rattle.ppd_model.specs.declared.flow.Item.{Item}
 use Rattle.ppd_model.specs.declared.flow.Origin.{Origin}
 use Rattle.ppd_model.specs.declared.graph.EdgeId.{EdgeId}
-use Rattle.ppd_flow_past.specs.declared.flow_error.FlowError.{FlowError}
-use Rattle.ppd_flow_past.specs.declared.past.Past.{Past}
-use Rattle.ppd_flow_past.specs.ByReplays.{AreReplayed, IsFoundBy, steps_to_replay}
+use Rattle.ppd_flow_tables.specs.FlowError.{FlowError}
+use Rattle.ppd_flow_tables.specs.Past.{Past}
+use Rattle.ppd_flow_tables.specs.ByReplays.{AreReplayed, IsFoundBy, steps_to_replay}
 use Rattle.ppd_flow_model.specs.Ends.{first_edge, sync_item}
 use Rattle.ppd_flow_model.specs.Shared.{greatest_writing, start_replays, written_or_start}
 use Rattle.ppd_flow_shared.specs.declared.last.LastEdge.{LastEdge}

@@ -1,10 +1,10 @@
 -- What is left of a walk: whatever answers it answers the whole.
 use Rattle.std.proofs.Common.{◌≡◌, ℕ, true, false, List, ◌++◌, Result, Ok, Err, refl, ap, sym, ◌∙◌, subst, true≢false}
 use Rattle.std.proofs.lemmas.List.{append-nil, map-append}
-use Rattle.ppd_flow_past.specs.declared.flow_error.FlowError.{FlowError}
-use Rattle.ppd_flow_past.specs.declared.past.Past.{Past}
-use Rattle.ppd_flow_past.specs.ByReplays.{IsFoundBy}
-use Rattle.ppd_flow_past.proofs.Found.{found_err, found_then}
+use Rattle.ppd_flow_tables.specs.FlowError.{FlowError}
+use Rattle.ppd_flow_tables.specs.Past.{Past}
+use Rattle.ppd_flow_tables.specs.ByReplays.{IsFoundBy}
+use Rattle.ppd_flow_tables.proofs.Found.{found_err, found_then}
 use Rattle.ppd_flow_model.specs.declared.walked.Walked.{Walked}
 use Rattle.ppd_flow_model.specs.declared.walked.Walked.TheVariants.{Stopped, Passed, Found}
 use Rattle.ppd_flow_model.specs.Shared.{of_process}

@@ -6,11 +6,11 @@ use Rattle.ppd_entry.specs.Entries.{entries_at}
 use Rattle.ppd_model.specs.declared.flow.Origin.{Origin}
 use Rattle.ppd_model.specs.declared.flow.Origin.TheVariants as origin
 use Rattle.ppd_model.specs.declared.graph.EdgeId.{EdgeId}
-use Rattle.ppd_flow_past.specs.declared.flow_error.FlowError.{FlowError}
-use Rattle.ppd_flow_past.specs.declared.past.Past.{Past}
-use Rattle.ppd_flow_past.specs.ByReplays.{IsFoundBy, steps_to_replay}
-use Rattle.ppd_flow_past.specs.SeenBy.{failed_in, seen_by, seen_in}
-use Rattle.ppd_flow_past.proofs.Found.{err_any, found_err, found_given, found_then}
+use Rattle.ppd_flow_tables.specs.FlowError.{FlowError}
+use Rattle.ppd_flow_tables.specs.Past.{Past}
+use Rattle.ppd_flow_tables.specs.ByReplays.{IsFoundBy, steps_to_replay}
+use Rattle.ppd_flow_tables.specs.SeenBy.{failed_in, seen_by, seen_in}
+use Rattle.ppd_flow_tables.proofs.Found.{err_any, found_err, found_given, found_then}
 use Rattle.ppd_flow_model.specs.declared.walked.Walked.{Walked}
 use Rattle.ppd_flow_model.specs.declared.walked.Walked.TheVariants.{Stopped, Passed, Found}
 use Rattle.ppd_flow_model.specs.Ends.{end_interval, end_item}

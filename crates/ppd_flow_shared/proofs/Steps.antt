@@ -5,13 +5,13 @@ use Rattle.std.proofs.lemmas.List.{take_all}
 use Rattle.ppd_entry.specs.Entries.{entries_at}
 use Rattle.ppd_model.specs.declared.flow.Item.{Item}
 use Rattle.ppd_model.specs.Extents.{first_of}
-use Rattle.ppd_flow_past.specs.declared.flow_error.FlowError.{FlowError}
-use Rattle.ppd_flow_past.specs.declared.past.Past.{Past}
-use Rattle.ppd_flow_past.specs.ByReplays.{IsFoundBy}
-use Rattle.ppd_flow_past.specs.SeenBy.{items_in, round_by, seen_in}
-use Rattle.ppd_flow_past.proofs.Found.{found_err, found_none, found_then}
+use Rattle.ppd_flow_tables.specs.FlowError.{FlowError}
+use Rattle.ppd_flow_tables.specs.Past.{Past}
+use Rattle.ppd_flow_tables.specs.ByReplays.{IsFoundBy}
+use Rattle.ppd_flow_tables.specs.SeenBy.{items_in, round_by, seen_in}
+use Rattle.ppd_flow_tables.proofs.Found.{found_err, found_none, found_then}
 use Rattle.ppd_flow_tables.specs.Stops.{ArePassed}
-use Rattle.ppd_flow_past.proofs.Parents.{round_goes_on, round_is_before}
+use Rattle.ppd_flow_tables.proofs.Parents.{round_goes_on, round_is_before}
 use Rattle.ppd_flow_model.specs.declared.walked.Walked.{Walked}
 use Rattle.ppd_flow_model.specs.declared.walked.Walked.TheVariants.{Passed}
 use Rattle.ppd_flow_model.specs.Seen.{Seen, items_at, place_of, round_at}

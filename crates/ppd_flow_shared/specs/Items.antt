@@ -2,7 +2,7 @@
 use Rattle.std.specs.Prelude.{ℕ, Bool, true, false, List, [], ◌∷◌}
 use Rattle.ppd_model.specs.declared.flow.Item.{Item}
 use Rattle.ppd_model.specs.declared.flow.Item.TheVariants as item
-use Rattle.ppd_flow_past.specs.SeenBy.{seen_in}
+use Rattle.ppd_flow_tables.specs.SeenBy.{seen_in}
 use Rattle.ppd_flow_model.specs.declared.walked.Walked.{Walked}
 use Rattle.ppd_flow_model.specs.declared.walked.Walked.TheVariants.{Passed}
 use Rattle.ppd_flow_model.specs.Seen.{Seen, items_at, place_of}

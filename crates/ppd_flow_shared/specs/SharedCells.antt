@@ -6,12 +6,12 @@ use Rattle.ppd_model.specs.declared.flow.Origin.{Origin}
 use Rattle.ppd_model.specs.declared.flow.Origin.TheVariants as origin
 use Rattle.ppd_model.specs.declared.graph.EdgeId.{EdgeId}
 use Rattle.ppd_model.specs.declared.graph.NodeId.{NodeId}
-use Rattle.ppd_flow_past.specs.declared.flow_error.FlowError.{FlowError}
-use Rattle.ppd_flow_past.specs.declared.flow_error.FlowError.TheVariants.{Sets, Memory}
-use Rattle.ppd_flow_past.specs.declared.past.Past.{Past}
-use Rattle.ppd_flow_past.specs.ByReplays.{AreReplayed, IsFoundBy}
-use Rattle.ppd_flow_past.specs.Pasts.{IsPast}
-use Rattle.ppd_flow_past.specs.SeenBy.{items_in, seen_by, seen_in}
+use Rattle.ppd_flow_tables.specs.FlowError.{FlowError}
+use Rattle.ppd_flow_tables.specs.FlowError.TheVariants.{Sets, Memory}
+use Rattle.ppd_flow_tables.specs.Past.{Past}
+use Rattle.ppd_flow_tables.specs.ByReplays.{AreReplayed, IsFoundBy}
+use Rattle.ppd_flow_tables.specs.Pasts.{IsPast}
+use Rattle.ppd_flow_tables.specs.SeenBy.{items_in, seen_by, seen_in}
 use Rattle.ppd_flow_model.specs.Ends.{end_interval, end_item}
 use Rattle.ppd_flow_model.specs.Seen.{Seen}
 use Rattle.ppd_flow_model.specs.Shared.{Missing, found_last, greatest_writing, last_replays, of_process}

@@ -1,13 +1,12 @@
 ghost use Rattle.std.specs.Prelude.{[], ◌∷◌, Ok};
 ghost use Rattle.ppd_entry.specs.Entries.{entries_at};
-ghost use Rattle.ppd_flow_past.specs.ByReplays.{IsFoundBy};
+ghost use Rattle.ppd_flow_tables.specs.ByReplays.{IsFoundBy};
 ghost use Rattle.ppd_flow_model.specs.Ends.{end_interval as end_interval_of};
 ghost use Rattle.ppd_flow_shared.specs.SharedCells.{edge_end_of};
 ghost use Rattle.ppd_flow_tables.specs.Tabled.{IsTabled};
 
 use ppd_ast::Steps;
-use ppd_flow_past::{FlowError, Items, Past, interval_items};
-use ppd_flow_tables::{Tables, end_interval, sync_item};
+use ppd_flow_tables::{FlowError, Items, Past, Tables, end_interval, interval_items, sync_item};
 use ppd_model::EdgeId;
 use std::alloc::Global;
 use std::sync::ledger::Ledger;

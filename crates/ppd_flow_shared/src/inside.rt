@@ -1,5 +1,5 @@
 ghost use Rattle.std.specs.Prelude.{◌≡◌, Ok};
-ghost use Rattle.ppd_flow_past.specs.ByReplays.{IsFoundBy};
+ghost use Rattle.ppd_flow_tables.specs.ByReplays.{IsFoundBy};
 ghost use Rattle.ppd_flow_model.specs.Seen.{items_at};
 ghost use Rattle.ppd_flow_model.specs.Shared.{of_process};
 ghost use Rattle.ppd_flow_model.specs.Walk.{back, back_from, back_over, back_replays, over_replays};
@@ -10,8 +10,7 @@ use crate::event::over_event;
 use crate::search::CellSearch;
 use ppd_ast::Steps;
 use ppd_flow_model::Walked;
-use ppd_flow_past::{FlowError, interval_items, number};
-use ppd_flow_tables::stop_before;
+use ppd_flow_tables::{FlowError, interval_items, number, stop_before};
 use ppd_model::Item;
 use std::sync::ledger::Ledger;
 

@@ -1,14 +1,13 @@
 ghost use Rattle.std.specs.Prelude.{◌≡◌, ◌+◌, IfOk, IfSome, option_copied};
-ghost use Rattle.ppd_flow_past.specs.ByReplays.{steps_to_replay};
-ghost use Rattle.ppd_flow_past.specs.Pasts.{IsPast};
+ghost use Rattle.ppd_flow_tables.specs.ByReplays.{steps_to_replay};
+ghost use Rattle.ppd_flow_tables.specs.Pasts.{IsPast};
 ghost use Rattle.ppd_flow_shared.specs.SharedCells.{AreItemsOfLast, IsLastFound, last_edge as last_edge_of};
 ghost use Rattle.ppd_flow_tables.specs.Tabled.{IsOfInterval};
 
 use crate::search::CellSearch;
 use crate::written::written_before;
 use ppd_ast::{Memory, Steps};
-use ppd_flow_past::{FlowError, Past, end_interval, greatest_writing};
-use ppd_flow_tables::{TabledItems, sync_item};
+use ppd_flow_tables::{FlowError, Past, TabledItems, end_interval, greatest_writing, sync_item};
 use ppd_model::{EdgeId, Origin};
 use std::alloc::Global;
 use std::sync::ledger::Ledger;

@@ -14,6 +14,8 @@ mod written;
 
 pub use last::{LastEdge, last_edge, last_write_from};
 pub use pairs::{ItemPlace, pair_of, pair_origin};
-pub use ppd_flow_tables::{BlockTables, EdgeTable, KeptTables, TabledItems, Tables};
+pub use ppd_flow_tables::{
+    BlockTables, EdgeTable, KeptTables, Past, TabledItems, Tables, WritingEdges, writing_edges,
+};
 pub use search::CellSearch;
 pub use shared::last_write;

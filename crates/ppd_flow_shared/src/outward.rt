@@ -1,5 +1,5 @@
 ghost use Rattle.std.specs.Prelude.{◌≡◌, Ok};
-ghost use Rattle.ppd_flow_past.specs.ByReplays.{IsFoundBy};
+ghost use Rattle.ppd_flow_tables.specs.ByReplays.{IsFoundBy};
 ghost use Rattle.ppd_flow_model.specs.Seen.{items_at, round_at};
 ghost use Rattle.ppd_flow_model.specs.Shared.{of_process};
 ghost use Rattle.ppd_flow_shared.specs.SharedCells.{IsWalked};
@@ -10,8 +10,7 @@ use crate::inside::{is_passed, over_items};
 use crate::search::CellSearch;
 use ppd_ast::Steps;
 use ppd_flow_model::Walked;
-use ppd_flow_past::{FlowError, count_of, interval_items, outer_of};
-use ppd_flow_tables::place_of;
+use ppd_flow_tables::{FlowError, count_of, interval_items, outer_of, place_of};
 use ppd_model::Item;
 use std::sync::ledger::Ledger;
 

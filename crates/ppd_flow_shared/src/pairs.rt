@@ -1,14 +1,13 @@
 ghost use Rattle.std.specs.Prelude.{◌≡◌, IfOk, Ok, Some};
-ghost use Rattle.ppd_flow_past.specs.ByReplays.{IsFoundBy};
-ghost use Rattle.ppd_flow_past.specs.SeenBy.{items_in};
+ghost use Rattle.ppd_flow_tables.specs.ByReplays.{IsFoundBy};
+ghost use Rattle.ppd_flow_tables.specs.SeenBy.{items_in};
 ghost use Rattle.ppd_flow_model.specs.Shared.{pair_of as pair_of_place, pair_origin as pair_origin_of, pair_replays};
 ghost use Rattle.ppd_flow_shared.specs.SharedCells.{IsNodeFound, seens_in};
 ghost use Rattle.ppd_flow_tables.specs.Tabled.{IsTabled};
 
 use crate::edge_end::edge_end;
 use ppd_ast::{Memory, Steps};
-use ppd_flow_past::{FlowError, Past, number};
-use ppd_flow_tables::{Tables, edge_at};
+use ppd_flow_tables::{FlowError, Past, Tables, edge_at, number};
 use ppd_graph::Paired;
 use ppd_model::{EdgeId, Item, NodeId, Origin};
 use std::alloc::Global;

@@ -1,5 +1,4 @@
-use ppd_flow_past::Past;
-use ppd_flow_tables::Tables;
+use ppd_flow_tables::{Past, Tables};
 use std::alloc::Global;
 
 /// A search for writes of a shared cell by a process, by the tables that are at hand of the past.

@@ -1,6 +1,6 @@
 ghost use Rattle.std.specs.Prelude.{◌≡◌, IfOk, Ok};
-ghost use Rattle.ppd_flow_past.specs.ByReplays.{IsFoundBy};
-ghost use Rattle.ppd_flow_past.specs.Pasts.{IsPast};
+ghost use Rattle.ppd_flow_tables.specs.ByReplays.{IsFoundBy};
+ghost use Rattle.ppd_flow_tables.specs.Pasts.{IsPast};
 ghost use Rattle.ppd_flow_model.specs.Seen.{items_at};
 ghost use Rattle.ppd_flow_model.specs.Shared.{edge_of_place, greatest_before as greatest_before_of, of_process, origin_in, shared_origin as shared_origin_of, shared_replays, start_replays, written_or_start as written_or_start_of};
 ghost use Rattle.ppd_flow_model.specs.Walk.{walk as walk_from, walk_replays};
@@ -12,8 +12,7 @@ use crate::search::CellSearch;
 use crate::written::written_or_start;
 use ppd_ast::{Memory, Steps};
 use ppd_flow_model::Walked;
-use ppd_flow_past::{FlowError, Past, greatest_writing};
-use ppd_flow_tables::{Tables, edge_at, greatest_before};
+use ppd_flow_tables::{FlowError, Past, Tables, edge_at, greatest_before, greatest_writing};
 use ppd_model::{EdgeId, Item, Origin};
 use std::alloc::Global;
 use std::sync::ledger::Ledger;

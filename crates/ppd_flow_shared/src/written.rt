@@ -1,5 +1,5 @@
 ghost use Rattle.std.specs.Prelude.{◌≡◌, get_or, pos};
-ghost use Rattle.ppd_flow_past.specs.ByReplays.{IsFoundBy};
+ghost use Rattle.ppd_flow_tables.specs.ByReplays.{IsFoundBy};
 ghost use Rattle.ppd_model.specs.HappenedBefore.{edge as edge_of};
 ghost use Rattle.ppd_flow_model.specs.Seen.{items_at};
 ghost use Rattle.ppd_flow_model.specs.Shared.{of_process, start_replays, written_at, written_in as written_in_edge, written_or_start as written_or_start_of, written_replays};
@@ -12,7 +12,7 @@ use crate::edge_end::edge_end;
 use crate::search::CellSearch;
 use ppd_ast::{Program, Steps};
 use ppd_flow_model::Walked;
-use ppd_flow_past::{FlowError, Past, ending, entries_of, number};
+use ppd_flow_tables::{FlowError, Past, ending, entries_of, number};
 use ppd_model::{EdgeId, Item, Origin};
 use std::sync::ledger::Ledger;
 

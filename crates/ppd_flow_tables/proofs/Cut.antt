@@ -3,7 +3,7 @@ use Rattle.std.proofs.Common.{◌≡◌, ℕ, zero, suc, ◌+◌, ◌-◌, ◌<�
 use Rattle.std.specs.Prelude.{nat_lt}
 use Rattle.std.specs.List.Sorted.{IsNonDecreasing}
 use Rattle.ppd_model.proofs.Lists.{get_or_any}
-use Rattle.law_flow_latest.specs.Halves.{last_below, last_or}
+use Rattle.ppd_flow_tables.specs.LatestEdges.{last_below, last_or}
 use Rattle.ppd_flow_tables.specs.Writing.{IsCut}
 
 -- ---- halves

@@ -11,8 +11,8 @@ use Rattle.ppd_graph.specs.declared.sets.EdgeSets.{EdgeSets}
 use Rattle.ppd_graph.specs.declared.sync_graph.SyncGraph.{SyncGraph}
 use Rattle.ppd_graph.specs.Graphs.{IsEdge, is_before_by}
 use Rattle.ppd_model.specs.declared.graph.EdgeId.{EdgeId}
-use Rattle.law_flow_latest.specs.Halves.{last_below, latest_from, latest_in, later_if, limit_of, numbers_in}
-use Rattle.law_flow_latest.proofs.Latest.{latest_is}
+use Rattle.ppd_flow_tables.specs.LatestEdges.{last_below, latest_from, latest_in, later_if, limit_of, numbers_in}
+use Rattle.ppd_flow_tables.proofs.LatestEdges.{latest_is}
 use Rattle.ppd_flow_tables.specs.Writing.{AreWritingEdges}
 use Rattle.ppd_flow_tables.specs.declared.by_cell.WritingEdges.{WritingEdges}
 use Rattle.ppd_flow_tables.proofs.Listed.{last_listed, last_there, listed_rise}

@@ -1,4 +1,6 @@
 -- What the tables hold, and what is found in them.
+pub use Rattle.ppd_flow_past.proofs.Found
+pub use Rattle.ppd_flow_past.proofs.Parents
 pub mod Sought
 pub mod Collected
 pub mod Marked
@@ -13,3 +15,5 @@ pub mod Latest
 pub mod Listed
 mod Passing
 pub mod Tabled
+pub mod LatestBelow
+pub mod LatestEdges

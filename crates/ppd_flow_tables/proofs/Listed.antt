@@ -8,8 +8,8 @@ use Rattle.ppd_ast.specs.Members.{has}
 use Rattle.ppd_graph.specs.declared.sets.EdgeSets.{EdgeSets}
 use Rattle.ppd_model.specs.declared.graph.EdgeId.{EdgeId}
 use Rattle.ppd_model.specs.HappenedBefore.{edge}
-use Rattle.law_flow_latest.specs.Halves.{last_below, last_or, later_if, numbers_in}
-use Rattle.law_flow_latest.proofs.Halves.{later_there}
+use Rattle.ppd_flow_tables.specs.LatestEdges.{last_below, last_or, later_if, numbers_in}
+use Rattle.ppd_flow_tables.proofs.LatestBelow.{later_there}
 use Rattle.ppd_flow_tables.specs.Writing.{listed_in, times_in}
 
 -- ---- they never fall

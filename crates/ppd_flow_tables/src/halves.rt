@@ -1,7 +1,7 @@
 // The last of some rising numbers below a limit, by halves.
 ghost use Rattle.std.specs.Prelude.{◌≡◌, ◌<◌, ◌≤◌, ◌+◌, ◌^◌, length};
 ghost use Rattle.std.specs.List.Sorted.{IsNonDecreasing};
-ghost use Rattle.law_flow_latest.specs.Halves.{last_below as last_below_of};
+ghost use Rattle.ppd_flow_tables.specs.LatestEdges.{last_below as last_below_of};
 ghost use Rattle.ppd_flow_tables.specs.Writing.{IsCut};
 
 use ppd_ast::Steps;

@@ -11,6 +11,7 @@ mod greatest;
 mod halves;
 mod innermost;
 mod kept;
+mod laws;
 mod listing;
 mod lookups;
 mod marks;
@@ -25,7 +26,12 @@ pub use block::BlockTables;
 pub use by_cell::{WritingEdges, writing_edges};
 pub use edge_table::EdgeTable;
 pub use kept::KeptTables;
+pub use laws::latest_is_greatest;
 pub use lookups::{edge_at, end_interval, greatest_before, place_of, stop_before, sync_item};
 pub use place_table::PlaceTable;
+pub use ppd_flow_past::{
+    FlowError, Items, Past, block_of, count_of, ending, entries_of, greatest_writing,
+    interval_items, number, outer_of,
+};
 pub use process::ProcessTables;
 pub use tables::{TabledItems, Tables};

@@ -11,7 +11,7 @@ use Rattle.ppd_model.specs.FullTrace.{or_else}
 use Rattle.ppd_model.specs.HappenedBefore.{node, own_syncs, sync_at}
 use Rattle.ppd_model.specs.Numbers.{sync}
 use Rattle.ppd_model.specs.Synchronizations.{Sync, is_number, leads, leads_at, led_to}
-use Rattle.ppd_sem.specs.Tables.{capacity_of}
+use Rattle.ppd_model.specs.Tables.{capacity_of}
 use Rattle.ppd_model.proofs.SameSyncs.{same_is, same_self}
 use Rattle.ppd_graph.specs.declared.paired.Paired.TheVariants.{Nothing}
 use Rattle.ppd_graph.specs.Partners.{IsOnce, PartnersAreFound, found, found_from, found_in_row, paired_by, pairs_of, partner_of, wanted}

@@ -11,7 +11,7 @@ use Rattle.ppd_ast.specs.Members.{has}
 use Rattle.ppd_ast.specs.Counting.{one_if}
 use Rattle.ppd_model.specs.FullTrace.{or_else}
 use Rattle.ppd_model.specs.Synchronizations.{Sync}
-use Rattle.ppd_sem.specs.Tables.{capacity_of}
+use Rattle.ppd_model.specs.Tables.{capacity_of}
 use Rattle.ppd_graph.specs.declared.greatest.Greatest.{Greatest}
 use Rattle.ppd_graph.specs.declared.missing.Objects.TheVariants.{Semaphores, Channels}
 use Rattle.ppd_graph.specs.declared.placed.Placed.{Placed}

@@ -1,4 +1,7 @@
 -- The graph of the synchronizations of logs.
+pub use Rattle.ppd_entry.specs.declared.entry.Entry
+pub use Rattle.ppd_entry.specs.declared.entry.Logs
+pub use Rattle.ppd_entry.specs.Entries
 pub mod LogRecord
 pub mod Refusals
 pub mod Partners

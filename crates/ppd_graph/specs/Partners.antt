@@ -8,7 +8,7 @@ use Rattle.ppd_model.specs.declared.graph.NodeId.{NodeId}
 use Rattle.ppd_model.specs.FullTrace.{or_else}
 use Rattle.ppd_model.specs.HappenedBefore.{node, sync_at}
 use Rattle.ppd_model.specs.Synchronizations.{Sync}
-use Rattle.ppd_sem.specs.Tables.{capacity_of}
+use Rattle.ppd_model.specs.Tables.{capacity_of}
 use Rattle.ppd_graph_partners.specs.Wanted.{wanted_by}
 use Rattle.ppd_graph.specs.declared.paired.Paired.{Paired}
 use Rattle.ppd_graph.specs.declared.paired.Paired.TheVariants.{Nothing, Initial, Node}

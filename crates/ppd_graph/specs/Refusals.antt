@@ -16,7 +16,7 @@ use Rattle.ppd_model.specs.HappenedBefore.{Before, node}
 use Rattle.ppd_model.specs.Numbers.{sync}
 use Rattle.ppd_model.specs.SameSyncs.{same_sync}
 use Rattle.ppd_model.specs.Synchronizations.{Sync}
-use Rattle.ppd_sem.specs.Tables.{capacity_of}
+use Rattle.ppd_model.specs.Tables.{capacity_of}
 use Rattle.ppd_graph.specs.declared.missing.Objects.{Objects}
 use Rattle.ppd_graph.specs.declared.missing.Objects.TheVariants.{Semaphores, Channels}
 use Rattle.ppd_graph.specs.declared.placed.Placed.{Placed}

@@ -13,7 +13,7 @@ use Rattle.ppd_graph.specs.declared.missing.Objects.TheVariants.{Semaphores, Cha
 use Rattle.ppd_graph.specs.declared.paired.Paired.{Paired}
 use Rattle.ppd_graph.specs.ByNumber.{greatest_kept}
 use Rattle.ppd_graph.specs.Refusals.{object_count, start_of}
-use Rattle.ppd_sem.specs.Tables.{capacity_of}
+use Rattle.ppd_model.specs.Tables.{capacity_of}
 
 -- of one pass over a list
 abbrev pub list_cost : List Entry → ℕ

@@ -21,7 +21,7 @@ use crate::times::all_times;
 use ppd_ast::limits::MOST_NAMED;
 use ppd_ast::{Memory, Program, Seq, Steps, SyncKind};
 use ppd_entry::{At, Entry, Logs};
-use ppd_sem::capacity_of;
+use ppd_model::capacity_of;
 use std::alloc::Global;
 use std::marker::Brand;
 use std::sync::ledger::{Blank, Ledger};

@@ -3,13 +3,13 @@ ghost use Rattle.std.specs.List.{range_with_len};
 ghost use Rattle.ppd_graph.specs.ByNumber.{greatest_kept, node_kept, numbered_kept};
 ghost use Rattle.ppd_graph.specs.Spending.{chan_numbers, done_numbers, missing_cost, object_numbers, objects_cost, sem_numbers};
 ghost use Rattle.ppd_graph.specs.Refusals.{absent as absent_by, first_missing, missing_by, missing_of_chan as missing_of_channel, missing_of_handover as missing_of_offers, missing_of_places as missing_of_room, missing_of_sem as missing_of_semaphore, object_count, object_misses, start_of as start_in_program};
-ghost use Rattle.ppd_sem.specs.Tables.{capacity_of as capacity_in_program};
+ghost use Rattle.ppd_model.specs.Tables.{capacity_of as capacity_in_program};
 
 use crate::by_number::{ByNumber, start_of};
 use crate::greatest::Greatest;
 use ppd_ast::limits::MOST_NAMED;
 use ppd_ast::{Program, Steps, SyncKind};
-use ppd_sem::capacity_of;
+use ppd_model::capacity_of;
 use std::sync::ledger::Ledger;
 
 /// A synchronization that is not there: its kind, its object and its number.

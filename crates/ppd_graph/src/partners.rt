@@ -11,7 +11,7 @@ use crate::paired::Paired;
 use ppd_ast::{Memory, Program, Seq, Steps, SyncKind};
 use ppd_entry::Entry;
 use ppd_graph_partners::wanted;
-use ppd_sem::capacity_of;
+use ppd_model::capacity_of;
 use std::alloc::Global;
 use std::sync::ledger::Ledger;
 

@@ -1,7 +1,7 @@
 -- What leads to a synchronization by its number.
 use Rattle.std.specs.Prelude.{ℕ, zero, suc, ◌-◌, nat_le, Option, Some, None, if◌then◌else◌}
-use Rattle.ppd_ast.specs.declared.status.SyncKind.{SyncKind}
-use Rattle.ppd_ast.specs.declared.status.SyncKind.TheVariants.{P, V, Send, Recv, Done}
+use Rattle.ppd_model.specs.SyncKind.{SyncKind}
+use Rattle.ppd_model.specs.SyncKind.TheVariants.{P, V, Send, Recv, Done}
 use Rattle.ppd_model.specs.Numbers.{sync}
 use Rattle.ppd_model.specs.Synchronizations.{Sync}
 

@@ -1,7 +1,7 @@
 ghost use Rattle.std.specs.Prelude.{◌≡◌, ℕ};
 ghost use Rattle.ppd_graph_partners.specs.Wanted.{named, wanted_by};
 
-use ppd_ast::SyncKind;
+use ppd_model::SyncKind;
 
 /// The kind and the number of a synchronization of some object.
 type KindAndNumber = (SyncKind, u32);

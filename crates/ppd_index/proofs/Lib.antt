@@ -1,4 +1,5 @@
 -- The table that the code keeps says what the definitions of intervals say.
+pub use Rattle.ppd_model.proofs.CountedOn
 pub mod Lists
 pub mod Rows
 pub mod Tabled

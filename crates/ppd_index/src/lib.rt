@@ -15,4 +15,5 @@ pub use interval::Interval;
 pub use interval_log::IntervalLog;
 pub use log_index::LogIndex;
 pub use ppd_entry::{At, Piece};
+pub use ppd_model::{Item, unit_cells};
 pub use refusal::BadLog;

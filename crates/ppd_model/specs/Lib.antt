@@ -1,4 +1,10 @@
 -- What a schedule of a program is, and all that is found in its run.
+pub use Rattle.ppd_entry.specs.IntervalLogs
+pub use Rattle.ppd_entry.specs.Pieces
+pub use Rattle.ppd_entry.specs.Entries
+pub use Rattle.ppd_sem.specs.Tables
+pub use Rattle.ppd_ast.specs.declared.status.SyncKind
+pub use Rattle.ppd_entry.specs.declared.entry.Entry
 pub mod World
 pub mod Schedule
 pub mod Story

@@ -24,6 +24,9 @@ pub use laws::{
     steps_cost_what_they_write, stories_grow, stories_tell_all, synchronizations_are_counted,
     tags_are_last_writes, traces_are_of_runs,
 };
+pub use ppd_ast::SyncKind;
+pub use ppd_entry::Piece;
+pub use ppd_sem::capacity_of;
 pub use state::{Channel, Counts, Logging};
 pub use trace::{DriveError, EventId, Trace, TracedEvent};
 pub use tracing::{Activation, Story, Taken, Test, Tracing};

@@ -12,11 +12,11 @@ use Rattle.ppd_model.specs.declared.graph.RaceKind.TheVariants.{ReadWrite, Write
 use Rattle.ppd_model.specs.HappenedBefore.{edge, is_edge_before}
 use Rattle.ppd_model.specs.Races.{Edges, are_apart, first_writes, is_race, kinds, own_edges, race, races_among, second_writes}
 use Rattle.ppd_model.proofs.Tested.{tests_edges}
-use Rattle.ppd_graph.specs.Graphs.{is_before_by, sets_at}
+use Rattle.ppd_race_found.specs.Graphs.{is_before_by, sets_at}
 use Rattle.ppd_model.specs.RecordedSets.{record_in}
 use Rattle.ppd_model.proofs.Earlier.{each_append}
-use Rattle.ppd_graph.specs.LogRecord.{sets_from}
-use Rattle.ppd_graph.proofs.Leads.{length_mapped}
+use Rattle.ppd_race_found.specs.LogRecord.{sets_from}
+use Rattle.ppd_race_found.proofs.Leads.{length_mapped}
 use Rattle.ppd_race.specs.Races.{GraphRacesAreOfLogs, IsThere, cells_by, edges_of_graph, edges_of_logs}
 use Rattle.ppd_race.proofs.Vocabulary.{AlikeRace, AreAlike, edges_from, pairs_among, races_of_pair}
 use Rattle.ppd_race.proofs.ByPairs.{filter_flat, flat_same, races_by_pairs}

@@ -11,10 +11,10 @@ use Rattle.ppd_model.specs.declared.graph.EdgeId.{EdgeId}
 use Rattle.ppd_model.specs.HappenedBefore.{edge}
 use Rattle.ppd_model.proofs.AccessSets.{or-assoc}
 use Rattle.ppd_model.proofs.Lists.{get_or_any}
-use Rattle.ppd_graph.specs.declared.sets.EdgeSets.{EdgeSets}
-use Rattle.ppd_graph.specs.LogRecord.{no_sets}
-use Rattle.ppd_graph.proofs.Timed.{at_end, at_front, length_more}
-use Rattle.ppd_graph.proofs.Counted.{range_more}
+use Rattle.ppd_race_found.specs.EdgeSets.{EdgeSets}
+use Rattle.ppd_race_found.specs.LogRecord.{no_sets}
+use Rattle.ppd_race_found.proofs.Timed.{at_end, at_front, length_more}
+use Rattle.ppd_race_found.proofs.Counted.{range_more}
 use Rattle.ppd_race_found.specs.declared.busy.Busy.{Busy}
 use Rattle.ppd_race.specs.Busy.{EachBusyIn, IsBusyIn, IsBusyOf, IsBusyPart, IsBusyRow, Takes, is_busy, is_busy_in, is_none, numbers}
 

@@ -1,3 +1,4 @@
+pub use Rattle.ppd_race_found.proofs.Built
 pub mod Vocabulary
 pub mod ByPairs
 pub mod Cells

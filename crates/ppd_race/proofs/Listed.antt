@@ -5,8 +5,8 @@ use Rattle.std.proofs.lemmas.Bool.{cases_eq}
 use Rattle.std.proofs.lemmas.List.{drop_all, drop_more, append_assoc, append-nil}
 use Rattle.ppd_ast.specs.Members.{has, RisesFrom}
 use Rattle.ppd_ast.specs.declared.limits.TheConstants.{MOST_SHARED_CELLS}
-use Rattle.ppd_graph.specs.declared.sync_graph.SyncGraph.{SyncGraph}
-use Rattle.ppd_graph.specs.Graphs.{edge_count}
+use Rattle.ppd_race_found.specs.SyncGraph.{SyncGraph}
+use Rattle.ppd_race_found.specs.Graphs.{edge_count}
 use Rattle.ppd_race_found.specs.declared.busy.Accessor.{Accessor}
 use Rattle.ppd_race_found.specs.declared.busy.Busy.{Busy}
 use Rattle.ppd_race.specs.Busy.{EachBusyIn, IsBusyRow, numbers}

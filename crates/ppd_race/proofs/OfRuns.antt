@@ -18,11 +18,11 @@ use Rattle.ppd_model.specs.Synchronizations.{syncs_of}
 use Rattle.ppd_model.proofs.AccessSets.{accesses_there, cells_are}
 use Rattle.ppd_model.proofs.Prefixes.{objects_stay}
 use Rattle.ppd_model.proofs.RecordedSyncs.{record_syncs}
-use Rattle.ppd_graph.specs.Graphs.{sets_at}
-use Rattle.ppd_graph.specs.LogRecord.{no_sets, edge_sets_in}
-use Rattle.ppd_graph.proofs.ClosedSets.{row_sets, run_sets}
-use Rattle.ppd_graph.proofs.Timed.{at_end, at_front, length_more}
-use Rattle.ppd_graph.proofs.Leads.{length_mapped}
+use Rattle.ppd_race_found.specs.Graphs.{sets_at}
+use Rattle.ppd_race_found.specs.LogRecord.{no_sets, edge_sets_in}
+use Rattle.ppd_race_found.proofs.ClosedSets.{row_sets, run_sets}
+use Rattle.ppd_race_found.proofs.Timed.{at_end, at_front, length_more}
+use Rattle.ppd_race_found.proofs.Leads.{length_mapped}
 use Rattle.ppd_race.specs.Races.{AreCellsThere, IsThere, RunRacesAreOfLogs, cells_by, edges_of_logs, races_of_logs}
 use Rattle.ppd_race.proofs.Alike.{alike_race}
 

@@ -4,8 +4,8 @@ use Rattle.std.specs.List.{flat_map, range_with_len}
 use Rattle.std.proofs.lemmas.List.Concat.{length-flat_map}
 use Rattle.std.proofs.lemmas.List.Sums.{sum_by-cons}
 use Rattle.std.proofs.lemmas.List.{append_assoc, append-nil}
-use Rattle.ppd_graph.specs.declared.sync_graph.SyncGraph.{SyncGraph}
-use Rattle.ppd_graph.proofs.Rows.{no_items}
+use Rattle.ppd_race_found.specs.SyncGraph.{SyncGraph}
+use Rattle.ppd_race_found.proofs.Rows.{no_items}
 use Rattle.ppd_race_found.specs.declared.busy.Busy.{Busy}
 use Rattle.ppd_race_found.specs.declared.by_cell.ByCell.{ByCell}
 use Rattle.ppd_race.specs.Busy.{AreBusyRows}

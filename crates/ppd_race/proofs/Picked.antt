@@ -8,8 +8,8 @@ use Rattle.ppd_ast.proofs.Members.{has_first}
 use Rattle.ppd_ast.specs.declared.limits.TheConstants.{MOST_SHARED_CELLS}
 use Rattle.ppd_model.specs.declared.graph.Race.{Race}
 use Rattle.ppd_model.specs.declared.graph.RaceKind.TheVariants.{ReadWrite, WriteRead, WriteWrite}
-use Rattle.ppd_graph.specs.declared.sets.EdgeSets.{EdgeSets}
-use Rattle.ppd_graph.specs.declared.sync_graph.SyncGraph.{SyncGraph}
+use Rattle.ppd_race_found.specs.EdgeSets.{EdgeSets}
+use Rattle.ppd_race_found.specs.SyncGraph.{SyncGraph}
 use Rattle.ppd_race_found.specs.declared.busy.Accessor.{Accessor}
 use Rattle.ppd_race_found.specs.declared.busy.Against.{Against}
 use Rattle.ppd_race_found.specs.declared.busy.Busy.{Busy}

@@ -5,8 +5,8 @@ use Rattle.std.proofs.Math.Nat.{add-mul, mul-add}
 use Rattle.std.proofs.lemmas.List.Sums.{sum_by-cons}
 use Rattle.std.proofs.lemmas.Nat.{mul-le}
 use Rattle.ppd_model.specs.declared.graph.Race.{Race}
-use Rattle.ppd_graph.proofs.Rows.{length_replicated, no_items}
-use Rattle.ppd_graph.specs.declared.sync_graph.SyncGraph.{SyncGraph}
+use Rattle.ppd_race_found.proofs.Rows.{length_replicated, no_items}
+use Rattle.ppd_race_found.specs.SyncGraph.{SyncGraph}
 use Rattle.ppd_race_found.specs.declared.busy.Busy.{Busy}
 use Rattle.ppd_race.specs.ByCell.{listing_cost, own_cost}
 use Rattle.ppd_race_found.specs.Lists.{total}

@@ -4,9 +4,9 @@ use Rattle.std.specs.List.{flat_map, range_with_len}
 use Rattle.ppd_model.specs.declared.graph.Race.{Race}
 use Rattle.ppd_model.specs.HappenedBefore.{edge}
 use Rattle.ppd_model.specs.Races.{candidates_at, is_race, own_edges, races_among}
-use Rattle.ppd_graph.specs.declared.sets.EdgeSets.{EdgeSets}
-use Rattle.ppd_graph.specs.declared.sync_graph.SyncGraph.{SyncGraph}
-use Rattle.ppd_graph.specs.Graphs.{sets_at}
+use Rattle.ppd_race_found.specs.EdgeSets.{EdgeSets}
+use Rattle.ppd_race_found.specs.SyncGraph.{SyncGraph}
+use Rattle.ppd_race_found.specs.Graphs.{sets_at}
 use Rattle.ppd_race_found.specs.declared.busy.Busy.{Busy}
 use Rattle.ppd_race.specs.Busy.{AreBusyRows, EachBusyIn, IsBusyIn, IsBusyOf, IsBusyRow, is_busy_in, races_between, races_by_rows, races_from, races_with_later}
 use Rattle.ppd_race_found.specs.Search.{IsRising}

@@ -7,10 +7,10 @@ use Rattle.ppd_model.specs.declared.graph.EdgeId.{EdgeId}
 use Rattle.ppd_model.specs.declared.graph.Race.{Race}
 use Rattle.ppd_model.specs.declared.graph.RaceKind.TheVariants.{ReadWrite, WriteRead, WriteWrite}
 use Rattle.ppd_ast.specs.declared.limits.TheConstants.{MOST_NAMED}
-use Rattle.ppd_graph.specs.declared.sets.EdgeSets.{EdgeSets}
-use Rattle.ppd_graph.specs.declared.sync_graph.SyncGraph.{SyncGraph}
-use Rattle.ppd_graph.specs.Graphs.{is_before_by}
-use Rattle.ppd_graph.specs.LogRecord.{no_sets}
+use Rattle.ppd_race_found.specs.EdgeSets.{EdgeSets}
+use Rattle.ppd_race_found.specs.SyncGraph.{SyncGraph}
+use Rattle.ppd_race_found.specs.Graphs.{is_before_by}
+use Rattle.ppd_race_found.specs.LogRecord.{no_sets}
 use Rattle.ppd_race_found.specs.declared.busy.Busy.{Busy}
 use Rattle.ppd_race_found.specs.Search.{race_of}
 

@@ -12,10 +12,10 @@ use Rattle.ppd_model.specs.HappenedBefore.{is_edge_before}
 use Rattle.ppd_model.specs.Logs.{closed_logs}
 use Rattle.ppd_model.specs.Races.{Edges, races, races_among}
 use Rattle.ppd_model.specs.RecordedSets.{record_in}
-use Rattle.ppd_graph.specs.declared.sync_graph.SyncGraph.{SyncGraph}
-use Rattle.ppd_graph.specs.declared.sets.EdgeSets.{EdgeSets}
-use Rattle.ppd_graph.specs.Graphs.{IsGraphOf, edge_count, is_before_by, sets_at}
-use Rattle.ppd_graph.specs.LogRecord.{edge_sets_in}
+use Rattle.ppd_race_found.specs.SyncGraph.{SyncGraph}
+use Rattle.ppd_race_found.specs.EdgeSets.{EdgeSets}
+use Rattle.ppd_race_found.specs.Graphs.{IsGraphOf, edge_count, is_before_by, sets_at}
+use Rattle.ppd_race_found.specs.LogRecord.{edge_sets_in}
 
 -- the cells that an edge writes, or those that it reads
 abbrev pub cells_by : Bool → EdgeSets → List ℕ

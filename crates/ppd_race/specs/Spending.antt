@@ -2,8 +2,8 @@
 -- process, and a step for each race.
 use Rattle.std.specs.Prelude.{ℕ, ◌+◌, ◌*◌, List, length}
 use Rattle.std.specs.List.{sum_by}
-use Rattle.ppd_graph.specs.declared.sets.EdgeSets.{EdgeSets}
-use Rattle.ppd_graph.specs.declared.sync_graph.SyncGraph.{SyncGraph}
+use Rattle.ppd_race_found.specs.EdgeSets.{EdgeSets}
+use Rattle.ppd_race_found.specs.SyncGraph.{SyncGraph}
 use Rattle.ppd_race.specs.Union.{size_of}
 
 -- of an edge, by its accesses

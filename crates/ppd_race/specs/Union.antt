@@ -2,7 +2,7 @@
 use Rattle.std.specs.Prelude.{◌≡◌, ℕ, ◌+◌, ◌<◌, Bool, true, not, ◌&&◌, nat_lt, nat_eq, min, List, [], ◌∷◌, length, Option, Some, None, if◌then◌else◌}
 use Rattle.ppd_ast.specs.declared.limits.TheConstants.{MOST_SHARED_CELLS}
 use Rattle.ppd_ast.specs.Members.{has, RisesFrom, AreBelow}
-use Rattle.ppd_graph.specs.declared.sets.EdgeSets.{EdgeSets}
+use Rattle.ppd_race_found.specs.EdgeSets.{EdgeSets}
 
 -- the cells rise from n on, and are below 1,024
 abbrev pub do_rise : ℕ → List ℕ → Bool

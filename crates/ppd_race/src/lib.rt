@@ -10,4 +10,5 @@ mod union;
 
 pub use laws::{graph_races_are_of_logs, run_races_are_of_logs};
 pub use ppd_model::{Race, RaceKind};
+pub use ppd_race_found::{EdgeSets, SyncGraph};
 pub use search::{races, races_in};

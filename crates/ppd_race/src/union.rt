@@ -4,7 +4,7 @@ ghost use Rattle.ppd_race.specs.Union.{HasBelow, IsUnion, do_rise as rise_by, le
 
 use ppd_ast::limits::MOST_SHARED_CELLS;
 use ppd_ast::{Cells, Memory, Steps};
-use ppd_graph::EdgeSets;
+use ppd_race_found::EdgeSets;
 use ppd_sets::CellSet;
 use std::alloc::Global;
 use std::sync::ledger::Ledger;

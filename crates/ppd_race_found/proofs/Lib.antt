@@ -1,3 +1,9 @@
+pub use Rattle.ppd_graph.proofs.Leads
+pub use Rattle.ppd_graph.proofs.Timed
+pub use Rattle.ppd_graph.proofs.Counted
+pub use Rattle.ppd_graph.proofs.Built
+pub use Rattle.ppd_graph.proofs.ClosedSets
+pub use Rattle.ppd_graph.proofs.Rows
 pub mod Grown
 pub mod Halves
 pub mod OverCell

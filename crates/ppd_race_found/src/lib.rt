@@ -12,3 +12,4 @@ pub use busy::{Accessor, Against, Busy};
 pub use by_cell::ByCell;
 pub use found::{Found, add_row};
 pub use lists::{Lists, no_lists, push_at};
+pub use ppd_graph::{EdgeSets, SyncGraph};

@@ -1,4 +1,7 @@
 -- What one process needs next, and the step that it takes.
+pub use Rattle.ppd_ast.specs.declared.status.SyncKind
+pub use Rattle.ppd_ast.specs.declared.plan.Plan
+pub use Rattle.ppd_ast.specs.declared.status.Status
 pub mod Ask
 pub mod Asked
 pub mod Blocks

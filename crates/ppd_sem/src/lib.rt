@@ -38,7 +38,7 @@ pub use laws::{
 };
 pub use looking::{capacity_of, look};
 pub use passing::{call_values, local_cells, next_effect, next_stmt, returned_value};
-pub use ppd_ast::{Status, SyncKind, Trap};
+pub use ppd_ast::{Memory, Seq, Status, SyncKind, Trap};
 pub use proc::{Answer, Frame, Need, Proc, Todo};
 pub use skipping::skip;
 pub use stack::Stack;

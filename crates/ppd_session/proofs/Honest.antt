@@ -32,9 +32,9 @@ use Rattle.ppd_flow.proofs.OwnParts.{own_parts}
 use Rattle.ppd_flow_model.specs.Found.{edges_if, edges_replays, found_edges}
 use Rattle.ppd_flow_model.specs.Seen.{Seen, items_at, seen_of}
 use Rattle.ppd_flow_model.specs.Shared.{found_last, last_replays, seen_at}
-use Rattle.law_flow_shared.proofs.Edges.Assembled.{assembled}
-use Rattle.law_flow_shared.proofs.Edges.Sources.LastOrigins.{last_found}
-use Rattle.law_flow_shared.specs.Edges.SharedEdges.{all_seen}
+use Rattle.ppd_flow.proofs.Assembled.{assembled}
+use Rattle.ppd_flow.proofs.LastOrigins.{last_found}
+use Rattle.ppd_flow.specs.SharedEdges.{all_seen}
 use Rattle.ppd_flow_past.proofs.Runs.{replays_are_seen}
 use Rattle.ppd_flow_past.specs.ByReplays.{failure_or, first_failed}
 use Rattle.ppd_flow_past.specs.SeenBy.{failed_at, failure_of, seen_by}

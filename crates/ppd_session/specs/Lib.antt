@@ -1,5 +1,7 @@
 -- What command lines ask, and what is answered.
 pub use Rattle.ppd_flow_past.specs.Pasts
+pub use Rattle.ppd_flow.specs.Answers
+pub use Rattle.ppd_flow.specs.Runs
 pub mod Questions
 pub mod Known
 pub mod Texts

@@ -18,7 +18,7 @@ use Rattle.ppd_flow_past.specs.Pasts.{AreKept, IsPast}
 use Rattle.ppd_flow_past.specs.SeenBy.{failed_in, items_in, steps_in}
 use Rattle.ppd_flow_model.specs.Shared.{of_process}
 use Rattle.ppd_flow_past.proofs.Keeping.{AreFree, costs_nothing, kept_free}
-use Rattle.ppd_flow_shared.specs.SharedCells.{seens_in}
+use Rattle.ppd_flow.specs.SharedCells.{seens_in}
 use Rattle.ppd_model.specs.declared.flow.FlowEdge.{FlowEdge}
 use Rattle.ppd_model.specs.declared.flow.Item.{Item}
 use Rattle.ppd_slice_search.specs.declared.reached.ItemAt.{ItemAt}

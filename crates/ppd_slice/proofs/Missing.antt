@@ -12,7 +12,7 @@ use Rattle.ppd_flow_past.specs.ByReplays.{first_failed_in}
 use Rattle.law_flow_missing.specs.Missing.{write_at}
 use Rattle.ppd_flow_model.specs.Found.{edges_replays, found_edges}
 use Rattle.ppd_flow_model.specs.Shared.{Missing}
-use Rattle.ppd_flow_shared.specs.SharedCells.{seens_in}
+use Rattle.ppd_flow.specs.SharedCells.{seens_in}
 use Rattle.ppd_slice_search.specs.declared.reached.ItemAt.{ItemAt}
 use Rattle.ppd_slice_search.specs.declared.reached.Reached.{Reached}
 use Rattle.ppd_slice.specs.Slices.{IsSliceOf, unless_failed}

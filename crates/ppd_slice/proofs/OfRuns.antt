@@ -18,7 +18,7 @@ use Rattle.ppd_flow_past.specs.declared.past.Past.{Past}
 use Rattle.ppd_flow_past.specs.ByReplays.{cost, failure_or, first_failed_in}
 use Rattle.ppd_flow_past.specs.Honest.{ReplaysAreSeen}
 use Rattle.ppd_flow_past.specs.SeenBy.{failed_in}
-use Rattle.ppd_flow_shared.specs.SharedCells.{seens_in}
+use Rattle.ppd_flow.specs.SharedCells.{seens_in}
 use Rattle.law_flow_own.specs.Loops.AllOwnParts.{AllOwnPartsAreFound}
 use Rattle.law_flow_shared.specs.Edges.Assembled.{EdgesAreFound}
 use Rattle.ppd_model.specs.declared.flow.FlowEdge.{FlowEdge}

@@ -29,7 +29,7 @@ use Rattle.ppd_flow_model.specs.Walk.{walk}
 use Rattle.ppd_flow_past.specs.declared.flow_error.FlowError.{FlowError}
 use Rattle.ppd_flow_past.specs.declared.past.Past.{Past}
 use Rattle.ppd_flow_past.specs.ByReplays.{first_failed_in}
-use Rattle.ppd_flow_shared.specs.SharedCells.{answer_of, edge_unless_found, seens_in}
+use Rattle.ppd_flow.specs.SharedCells.{answer_of, edge_unless_found, seens_in}
 use Rattle.ppd_slice_search.specs.declared.reached.ItemAt.{ItemAt}
 use Rattle.ppd_slice_search.specs.Reach.{IsIn, at, place_of, places_of}
 use Rattle.ppd_slice.specs.Slices.{flow_of, unless_failed}

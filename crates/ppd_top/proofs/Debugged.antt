@@ -19,10 +19,10 @@ use Rattle.ppd_session.proofs.Answered.{run_answered}
 use Rattle.ppd_session.proofs.Knowing.{logs_are_known}
 use Rattle.ppd_session.proofs.Missing.{missing_writes_told}
 use Rattle.ppd_io.specs.Content.{Loads}
-use Rattle.ppd_codec_runs.specs.Laws.{known_by}
-use Rattle.ppd_codec_runs.specs.Recordings.{IsAccepted, IsRunRecorded, known_of as known_of_recording, seens_of}
-use Rattle.ppd_codec_runs.proofs.Runs.{no_run_is_refused, runs_are_recalled}
-use Rattle.ppd_codec_runs.proofs.Same.{refused_or_accepted}
+use Rattle.ppd_top_query.specs.CodecRunsLaws.{known_by}
+use Rattle.ppd_top_query.specs.Recordings.{IsAccepted, IsRunRecorded, known_of as known_of_recording, seens_of}
+use Rattle.ppd_top_query.proofs.Runs.{no_run_is_refused, runs_are_recalled}
+use Rattle.ppd_top_query.proofs.Same.{refused_or_accepted}
 use Rattle.ppd_top_runs.specs.Output.{Standing, Talks, answers, output}
 use Rattle.ppd_top_runs.specs.Debugging.{Debugs}
 use Rattle.ppd_top_runs.specs.Debugging.Debugs.{no_recall, recording_refused, recalled}

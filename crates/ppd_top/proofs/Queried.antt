@@ -23,10 +23,10 @@ use Rattle.ppd_session.proofs.Knowing.{logs_are_known}
 use Rattle.ppd_top_runs.specs.Asking.{IsFailed}
 use Rattle.ppd_top_query.proofs.Ends.{queries_end, runs_are_told}
 use Rattle.ppd_top_query.proofs.Determined.{answers_are_determined, failed_are_missing}
-use Rattle.ppd_codec_runs.specs.Recordings.{IsAccepted, IsRecalled, IsRunRecorded, known_of}
-use Rattle.ppd_codec_runs.specs.declared.recalling.Recalled.{Recalled}
-use Rattle.ppd_codec_runs.proofs.Runs.{no_run_is_refused, runs_are_recalled}
-use Rattle.ppd_codec_runs.proofs.Same.{refused_or_accepted}
+use Rattle.ppd_top_query.specs.Recordings.{IsAccepted, IsRecalled, IsRunRecorded, known_of}
+use Rattle.ppd_top_query.specs.Recalled.{Recalled}
+use Rattle.ppd_top_query.proofs.Runs.{no_run_is_refused, runs_are_recalled}
+use Rattle.ppd_top_query.proofs.Same.{refused_or_accepted}
 use Rattle.ppd_top_words.specs.Reads.{texts_in}
 use Rattle.ppd_top_runs.specs.declared.options.Options.{Options}
 use Rattle.ppd_top_runs.specs.Output.{output, Finished, IsUnread}

@@ -26,8 +26,8 @@ use Rattle.ppd_top_query.specs.Missing.{IsMissingFor}
 use Rattle.ppd_top_query.specs.OfRuns.{IsOfRuns}
 use Rattle.ppd_top_query.specs.Queries.{Query}
 use Rattle.ppd_top_query.specs.Queries.Query.{Rerun}
-use Rattle.ppd_codec_runs.specs.Laws.{IsKnownOfRuns}
-use Rattle.ppd_codec_runs.specs.Recordings.{IsAccepted, IsKnownOf, IsRefusedBy, IsRunRecorded, seens_of}
+use Rattle.ppd_top_query.specs.CodecRunsLaws.{IsKnownOfRuns}
+use Rattle.ppd_top_query.specs.Recordings.{IsAccepted, IsKnownOf, IsRefusedBy, IsRunRecorded, seens_of}
 use Rattle.ppd_top_runs.specs.Commands.{IsWholeRun, header_of, known_of, plan_of, summary_of_run}
 use Rattle.ppd_top_runs.specs.declared.options.Options.{Options}
 use Rattle.ppd_top.specs.Call.{Call, HasFailedLoad, HasFailedWrite, Wrote}

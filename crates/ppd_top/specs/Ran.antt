@@ -25,7 +25,7 @@ use Rattle.ppd_top.specs.Words.{Asks, AsksRecording, Command, IsNotAsked}
 use Rattle.ppd_top.specs.Words.Request.{on_source, on_recording, on_number, on_query}
 use Rattle.ppd_top.specs.Words.Command.{Flow, Run, Show}
 use Rattle.ppd_codec.specs.declared.recording.Recording.{Recording}
-use Rattle.ppd_codec_runs.specs.Recordings.{IsAccepted, IsRefusedBy}
+use Rattle.ppd_top_query.specs.Recordings.{IsAccepted, IsRefusedBy}
 use Rattle.ppd_top_runs.specs.Debugging.{Debugs}
 
 -- ---- a command

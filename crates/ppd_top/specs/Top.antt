@@ -27,8 +27,8 @@ use Rattle.ppd_session.specs.Known.{Known}
 use Rattle.ppd_top_query.specs.Determined.{GivesBy}
 use Rattle.ppd_top_query.specs.OfRuns.{IsOfRuns}
 use Rattle.ppd_top_query.specs.Queries.{Query}
-use Rattle.ppd_codec_runs.specs.Laws.{IsKnownOfRuns}
-use Rattle.ppd_codec_runs.specs.Recordings.{IsAccepted, IsKnownOf, IsRefusedBy}
+use Rattle.ppd_top_query.specs.CodecRunsLaws.{IsKnownOfRuns}
+use Rattle.ppd_top_query.specs.Recordings.{IsAccepted, IsKnownOf, IsRefusedBy}
 
 -- ---- the run of a program
 

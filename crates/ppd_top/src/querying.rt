@@ -4,9 +4,8 @@ ghost use Rattle.ppd_top_query.specs.Replies.{IsAskable};
 ghost use Rattle.ppd_top.specs.Ran.{IsTold, Queries};
 
 use ppd_ast::Seq;
-use ppd_codec_runs::{NoRecall, Recalled, recall};
 use ppd_io::Sink;
-use ppd_top_query::{Query, answer};
+use ppd_top_query::{NoRecall, Query, Recalled, answer, recall};
 use ppd_top_runs::{Outcome, ended, finish, refuse_replay};
 use std::alloc::Global;
 use std::thread::Threads;

@@ -2,10 +2,9 @@
 ghost use Rattle.ppd_top_runs.specs.Output.{standing};
 ghost use Rattle.ppd_top_runs.specs.Debugging.{Debugs};
 
-use ppd_codec_runs::{NoRecall, recall};
 use ppd_io::{Sink, Source};
 use ppd_top_output::finish;
-use ppd_top_runs::converse;
+use ppd_top_runs::{NoRecall, converse, recall};
 use std::alloc::Global;
 use std::thread::Threads;
 

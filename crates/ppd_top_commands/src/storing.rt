@@ -4,16 +4,15 @@ ghost use Rattle.ppd_ast.specs.Valid.{IsValid};
 ghost use Rattle.ppd_check.specs.Read.{IsRead};
 ghost use Rattle.ppd_codec.specs.Recordings.{IsRecordingOf};
 ghost use Rattle.ppd_race.specs.Races.{races_of_logs};
-ghost use Rattle.ppd_codec_runs.specs.Recordings.{AreOfSomeRun};
+ghost use Rattle.ppd_top_runs.specs.Recordings.{AreOfSomeRun};
 ghost use Rattle.ppd_top_runs.specs.Commands.{Keeps, Records, keeping, header_of as header_for, AreInRange};
 ghost use Rattle.ppd_top_runs.specs.Runs.{CanBeTold};
 ghost use Rattle.ppd_top_runs.specs.Summary.{summary_of};
 
 use ppd_codec::Header;
-use ppd_codec_runs::record;
 use ppd_io::{Gate, Shelf, ShelfError, Sink};
 use ppd_top_output::finish;
-use ppd_top_runs::{ClosedRun, Means, Options, Outcome, Task, ended, run_task, summarize};
+use ppd_top_runs::{ClosedRun, Means, Options, Outcome, Task, ended, record, run_task, summarize};
 use std::alloc::Global;
 use std::sync::Wait;
 use std::thread::Threads;

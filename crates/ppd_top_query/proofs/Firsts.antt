@@ -17,7 +17,7 @@ use Rattle.ppd_session.specs.Known.{Known, known_with}
 use Rattle.ppd_session.proofs.Knowing.{failing, failing_is_told, there}
 use Rattle.ppd_top_query.specs.Determined.{IsFirstFailure, NoneFails}
 use Rattle.ppd_top_query.specs.Queries.{first_failure}
-use Rattle.ppd_whole_intervals.specs.Intervals.{intervals_from}
+use Rattle.ppd_whole.specs.Intervals.{intervals_from}
 
 some_none : {X Y : Type 0} {o : Option X} {x : X} → o ≡ None → o ≡ Some x → Y
 some_none a b = absurd (cc (a, b))

@@ -14,7 +14,7 @@ use Rattle.ppd_flow_past.specs.declared.past.Past.{Past}
 use Rattle.ppd_flow_past.specs.ByReplays.{cost, failure_or, first_failed_in}
 use Rattle.ppd_flow_past.specs.SeenBy.{failed_in, items_in}
 use Rattle.ppd_flow_model.specs.Found.{edges_replays, found_edges}
-use Rattle.ppd_flow_shared.specs.SharedCells.{seens_in}
+use Rattle.ppd_whole.specs.SharedCells.{seens_in}
 use Rattle.ppd_slice_search.specs.declared.reached.ItemAt.{ItemAt}
 use Rattle.ppd_slice_search.specs.declared.reached.Reached.{Reached}
 use Rattle.ppd_slice_search.specs.Reach.{IsReach, item_of}

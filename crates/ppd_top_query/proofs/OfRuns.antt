@@ -44,7 +44,7 @@ use Rattle.ppd_top_query.specs.SlicesOfRuns.{IsSliceOfRun}
 use Rattle.ppd_top_query.proofs.SlicesOfRuns.{slices_of_runs}
 use Rattle.ppd_top_query.specs.Queries.IsWritten.{refuses, answers}
 use Rattle.ppd_top_query.specs.Queries.Query.{Slice, Whole, Rerun, Clean}
-use Rattle.ppd_whole_intervals.specs.Intervals.{intervals_from}
+use Rattle.ppd_whole.specs.Intervals.{intervals_from}
 use Rattle.ppd_whole.specs.WholeText.{whole_text}
 
 no_failure : {o : Option At} {t : At} → o ≡ None → o ≡ Some t → ⊥

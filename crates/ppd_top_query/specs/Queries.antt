@@ -39,7 +39,7 @@ use Rattle.ppd_slice.specs.Slices.{places_found}
 use Rattle.ppd_codec_runs.specs.Recordings.{known_of, seens_of}
 use Rattle.ppd_text.specs.CellNames.{process_name}
 use Rattle.ppd_top_query.specs.VerdictTexts.{verdict_text}
-use Rattle.ppd_whole_intervals.specs.Intervals.{intervals_from}
+use Rattle.ppd_whole.specs.Intervals.{intervals_from}
 use Rattle.ppd_whole.specs.WholeText.{whole_text}
 
 -- ---- what is asked

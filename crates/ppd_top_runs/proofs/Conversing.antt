@@ -12,12 +12,12 @@ use Rattle.ppd_io.specs.declared.lines.LineError.{LineError}
 use Rattle.ppd_io.specs.declared.lines.LineError.TheVariants.{Failed, LongLine}
 use Rattle.ppd_io.specs.Lines.{GivesLine, IsAtNeed, Lined, lines_of}
 use Rattle.ppd_io.proofs.Prefixes.{appends_nothing, appends_twice}
-use Rattle.ppd_session.specs.Known.{Known}
-use Rattle.ppd_session.specs.Questions.{is_quit}
-use Rattle.ppd_session.specs.Sessions.{FlowError, IsWhy, error_of}
-use Rattle.ppd_session.specs.Texts.{failure_of, refused_replay, text_of}
-use Rattle.ppd_session.specs.declared.reply.SessionError.{SessionError}
-use Rattle.ppd_session.specs.declared.reply.SessionError.TheVariants as session_error
+use Rattle.ppd_codec_runs.specs.Known.{Known}
+use Rattle.ppd_codec_runs.specs.Questions.{is_quit}
+use Rattle.ppd_codec_runs.specs.Sessions.{FlowError, IsWhy, error_of}
+use Rattle.ppd_codec_runs.specs.Texts.{failure_of, refused_replay, text_of}
+use Rattle.ppd_codec_runs.specs.SessionError.{SessionError}
+use Rattle.ppd_codec_runs.specs.SessionError.TheVariants as session_error
 use Rattle.ppd_top_runs.specs.Asking.{Becomes, Goes, IsAsked, IsFailed, IsReadAtNeed, IsReadTo}
 use Rattle.ppd_top_runs.specs.Asking.Becomes.{answered, quit, refused, unwritten as unwritten_line, unfinished as unfinished_line}
 use Rattle.ppd_top_runs.specs.Output.{AreAnswered, AreCommands, AreNotYetTaken, ArePlain, AppendsFront, IsReadNoFurther, Output, Standing, Talks, answers, answers_from, before, ended, output, through_quit, Finished}

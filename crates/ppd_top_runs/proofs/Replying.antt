@@ -3,9 +3,9 @@ use Rattle.std.specs.Prelude.{true}
 use Rattle.std.proofs.Common.{◌≡◌, ◌⊎◌, ℕ, Bool, List, Option, Some, None, inl, inr, sym, subst, ◌∙◌}
 use Rattle.ppd_io.specs.Causes.{Rose}
 use Rattle.ppd_io.specs.Content.{Appends, AppendsPart}
-use Rattle.ppd_session.specs.Known.{Known}
-use Rattle.ppd_session.specs.Questions.{is_quit}
-use Rattle.ppd_session.specs.Texts.{failure_of, text_of}
+use Rattle.ppd_codec_runs.specs.Known.{Known}
+use Rattle.ppd_codec_runs.specs.Questions.{is_quit}
+use Rattle.ppd_codec_runs.specs.Texts.{failure_of, text_of}
 use Rattle.ppd_top_output.specs.Finishing.{IsReplied}
 use Rattle.ppd_top_runs.specs.Asking.{Becomes}
 use Rattle.ppd_top_runs.specs.Asking.Becomes.{answered, quit, unwritten}

@@ -4,13 +4,13 @@ use Rattle.std.specs.Prelude.{◌≡◌, ◌≢◌, ◌⊎◌, ℕ, ◌+◌, ◌
 use Rattle.ppd_io.specs.Causes.{Rose}
 use Rattle.ppd_io.specs.Content.{Appends, AppendsPart}
 use Rattle.ppd_io.specs.Lines.{Lined, lines_of}
-use Rattle.ppd_session.specs.Known.{Known}
-use Rattle.ppd_session.specs.Questions.{is_quit}
+use Rattle.ppd_codec_runs.specs.Known.{Known}
+use Rattle.ppd_codec_runs.specs.Questions.{is_quit}
 use Rattle.ppd_ast.specs.declared.program.Program.{Program}
-use Rattle.ppd_session.specs.Sessions.{FlowError, error_of}
-use Rattle.ppd_session.specs.Texts.{failure_of, refused_replay, text_of}
-use Rattle.ppd_session.specs.declared.reply.SessionError.{SessionError}
-use Rattle.ppd_session.specs.declared.reply.SessionError.TheVariants.{Memory}
+use Rattle.ppd_codec_runs.specs.Sessions.{FlowError, error_of}
+use Rattle.ppd_codec_runs.specs.Texts.{failure_of, refused_replay, text_of}
+use Rattle.ppd_codec_runs.specs.SessionError.{SessionError}
+use Rattle.ppd_codec_runs.specs.SessionError.TheVariants.{Memory}
 use Rattle.ppd_top_runs.specs.Output.{Finished, AreAnswered, AreNotYetTaken, ArePlain, Standing, Talks, ended}
 
 -- these lines were read of these bytes, and what is left of them: before the end was met, and after it

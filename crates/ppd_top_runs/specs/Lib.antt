@@ -1,4 +1,5 @@
 -- The answers to the lines of an input, one after another.
+pub use Rattle.ppd_codec_runs.specs.Recordings
 pub mod Output
 pub mod Asking
 pub mod Debugging

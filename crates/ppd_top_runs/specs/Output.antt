@@ -6,10 +6,10 @@ use Rattle.ppd_io.specs.declared.bytes.TheConstants.{CHUNK_BYTES}
 use Rattle.ppd_io.specs.Causes.{Rose}
 use Rattle.ppd_io.specs.Content.{Appends, AppendsPart, Takes}
 use Rattle.ppd_io.specs.Lines.{HasNoNewline, lines_of}
-use Rattle.ppd_session.specs.Known.{Known}
-use Rattle.ppd_session.specs.Questions.{is_quit}
-use Rattle.ppd_session.specs.Sessions.{FlowError, error_of}
-use Rattle.ppd_session.specs.Texts.{failure_of, refused_replay, text_of}
+use Rattle.ppd_codec_runs.specs.Known.{Known}
+use Rattle.ppd_codec_runs.specs.Questions.{is_quit}
+use Rattle.ppd_codec_runs.specs.Sessions.{FlowError, error_of}
+use Rattle.ppd_codec_runs.specs.Texts.{failure_of, refused_replay, text_of}
 pub use Rattle.ppd_top_output.specs.Finishing.{Finished}
 
 -- a status, and all that is written with it

@@ -14,7 +14,7 @@ use Rattle.ppd_text.specs.Texts.{place_text}
 use Rattle.ppd_model.specs.declared.graph.Race.{Race}
 use Rattle.ppd_model.specs.Logs.{close}
 use Rattle.ppd_model.specs.Races.{races}
-use Rattle.ppd_session.specs.Texts.{races_text}
+use Rattle.ppd_codec_runs.specs.Texts.{races_text}
 use Rattle.ppd_text.specs.CellNames.{trap_word}
 
 abbrev pub status_text : Status → Place → List ℕ

@@ -1,16 +1,16 @@
 // The command lines of an input, each answered before the next is read.
 ghost use Rattle.std.specs.Prelude.{◌≡◌, ◌<◌, ◌≤◌, ℕ, List, [], false, None};
 ghost use Rattle.ppd_ast.specs.declared.limits.TheConstants.{MOST_INPUT_LINES};
-ghost use Rattle.ppd_session.specs.Known.{Known};
-ghost use Rattle.ppd_session.specs.Questions.{is_quit};
-ghost use Rattle.ppd_session.specs.Texts.{failure_of, text_of};
+ghost use Rattle.ppd_codec_runs.specs.Known.{Known};
+ghost use Rattle.ppd_codec_runs.specs.Questions.{is_quit};
+ghost use Rattle.ppd_codec_runs.specs.Texts.{failure_of, text_of};
 ghost use Rattle.ppd_top_runs.specs.Asking.{Becomes, Goes, IsAsked, IsFailed};
 ghost use Rattle.ppd_top_runs.specs.Output.{Standing, Talks, standing};
 
 use ppd_ast::limits::MOST_INPUT_LINES;
 use ppd_ast::{Memory, Program};
+use ppd_codec_runs::{Reply, Session, SessionError, replay_line};
 use ppd_io::{LineError, LineReader, Sink, Source};
-use ppd_session::{Reply, Session, SessionError, replay_line};
 use ppd_top_output::{finish, finish_reply};
 use std::alloc::Global;
 

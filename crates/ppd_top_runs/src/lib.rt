@@ -14,6 +14,7 @@ mod text;
 pub use asking::{refuse_replay, talk};
 pub use options::Options;
 pub use outcome::{Outcome, ended};
+pub use ppd_codec_runs::{NoRecall, recall, record};
 pub use ppd_top_output::finish;
 pub use recorded::converse;
 pub use run::{ClosedRun, Means, RunByThreads, Task, run_task};

@@ -4,9 +4,8 @@ ghost use Rattle.ppd_codec_runs.specs.Recordings.{IsRecalled, known_of};
 ghost use Rattle.ppd_top_runs.specs.Output.{Talks, standing};
 
 use crate::asking::talk;
-use ppd_codec_runs::Recalled;
+use ppd_codec_runs::{Past, Recalled, Session};
 use ppd_io::{LineReader, Sink, Source};
-use ppd_session::{Past, Session};
 use std::alloc::Global;
 use std::thread::Threads;
 

@@ -5,8 +5,8 @@ ghost use Rattle.ppd_top_runs.specs.Summary.{end_text, end_texts, summary_of};
 
 use crate::text::{put_prints, put_status};
 use ppd_ast::{Memory, Place, Program};
+use ppd_codec_runs::Session;
 use ppd_model::ProcEnd;
-use ppd_session::Session;
 use ppd_text::{body_name, put, put_number};
 use std::alloc::Global;
 

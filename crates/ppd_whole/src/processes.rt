@@ -3,7 +3,7 @@ ghost use Rattle.std.specs.Prelude.{◌≡◌, ◌<◌, ◌^◌, ℕ, [], IsTrue
 ghost use Rattle.std.specs.List.{flat_map};
 ghost use Rattle.law_whole.specs.Joined.{events_in};
 ghost use Rattle.ppd_flow_past.specs.Pasts.{IsPast};
-ghost use Rattle.ppd_flow_shared.specs.SharedCells.{seens_in};
+ghost use Rattle.ppd_flow.specs.SharedCells.{seens_in};
 
 use ppd_ast::{Memory, Seq};
 use ppd_flow_past::{Past, count_of};

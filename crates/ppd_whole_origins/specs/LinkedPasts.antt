@@ -1,6 +1,6 @@
 -- A past with what its events leave and the edges that write each cell.
-use Rattle.ppd_flow_past.specs.Pasts.{IsPast}
-use Rattle.ppd_flow_tables.specs.Writing.{AreWritingEdges}
+use Rattle.ppd_flow_shared.specs.Pasts.{IsPast}
+use Rattle.ppd_flow_shared.specs.Writing.{AreWritingEdges}
 use Rattle.ppd_whole_origins.specs.declared.linked_past.LinkedPast.{LinkedPast}
 use Rattle.ppd_whole_origins.specs.Origins.{AreMarked}
 

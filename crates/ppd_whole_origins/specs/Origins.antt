@@ -7,7 +7,7 @@ use Rattle.ppd_sem.specs.declared.event.Spot.{Spot}
 use Rattle.ppd_sem.specs.declared.event.Spot.TheVariants.{Local, Shared}
 use Rattle.ppd_model.specs.declared.trace.EventId.{EventId}
 use Rattle.ppd_model.specs.HappenedBefore.{edge, node}
-use Rattle.ppd_flow_past.specs.declared.past.Past.{Past}
+use Rattle.ppd_flow_shared.specs.Past.{Past}
 use Rattle.ppd_flow_model.specs.Shared.{greatest_before}
 use Rattle.ppd_flow_shared.specs.SharedCells.{seens_in}
 use Rattle.law_whole.specs.Joined.{events_in}

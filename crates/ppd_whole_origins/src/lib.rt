@@ -7,4 +7,5 @@ mod writers;
 
 pub use linked_past::LinkedPast;
 pub use point::Point;
+pub use ppd_flow_shared::writing_edges;
 pub use writers::{pair_of, writer_of};

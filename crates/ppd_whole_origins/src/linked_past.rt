@@ -1,5 +1,4 @@
-use ppd_flow_past::Past;
-use ppd_flow_tables::WritingEdges;
+use ppd_flow_shared::{Past, WritingEdges};
 use ppd_whole_link::Marks;
 
 /// A past with what the events of each process leave, and the internal edges that write each shared cell.

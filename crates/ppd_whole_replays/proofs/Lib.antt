@@ -1,2 +1,3 @@
 -- Replays one after the other.
+pub use Rattle.ppd_whole_intervals.proofs.Intervals
 mod Gathered

@@ -4,10 +4,10 @@ use Rattle.std.specs.Prelude.{nat_le, nat_lt, option_map, slice_get, ifâ—Œthenâ—
 use Rattle.std.proofs.lemmas.List.{length-map}
 use Rattle.ppd_entry.specs.declared.entry.Entry.{Entry}
 use Rattle.ppd_entry.specs.Entries.{entries_at}
-use Rattle.ppd_index.specs.declared.interval.Interval.{Interval}
-use Rattle.ppd_index.specs.declared.row.Row.{Row}
-use Rattle.ppd_index.specs.Indexes.{IsIndexOf, interval_of, rows_at}
-use Rattle.ppd_index.specs.Tables.{extent_of}
+use Rattle.ppd_emul.specs.Interval.{Interval}
+use Rattle.ppd_emul.specs.Row.{Row}
+use Rattle.ppd_emul.specs.Indexes.{IsIndexOf, interval_of, rows_at}
+use Rattle.ppd_emul.specs.Tables.{extent_of}
 use Rattle.ppd_model.specs.Extents.{Extent, extents}
 use Rattle.ppd_model.proofs.Lists.{left_from}
 use Rattle.ppd_flow_past.specs.declared.past.Past.{Past}

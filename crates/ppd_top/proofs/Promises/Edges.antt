@@ -8,7 +8,7 @@ use Rattle.ppd_ast.specs.declared.plan.Plan.{Plan}
 use Rattle.ppd_ast.specs.declared.program.Program.{Program}
 use Rattle.ppd_ast.specs.Digits.{number_in}
 use Rattle.ppd_ast.specs.Valid.{IsValid}
-use Rattle.ppd_flow.specs.Runs.{edges_or_none}
+use Rattle.ppd_session.specs.Runs.{edges_or_none}
 use Rattle.ppd_flow_past.specs.declared.flow_error.FlowError.TheVariants.{NoEvent}
 use Rattle.ppd_model.specs.declared.flow.FlowEdge.{FlowEdge}
 use Rattle.ppd_model.specs.declared.flow.Item.{Item}

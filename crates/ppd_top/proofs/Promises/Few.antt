@@ -10,7 +10,7 @@ use Rattle.law_flow_own.specs.Loops.AllOwnParts.{AllOwnPartsAreFound}
 use Rattle.law_flow_shared.specs.Costs.Bounds.{EdgesCostLittle, LastCostsLittle, steps_in, steps_of_all}
 use Rattle.law_flow_shared.specs.Edges.Assembled.{EdgesAreFound}
 use Rattle.law_flow_shared.specs.Edges.SharedEdges.{LastWritesAreFound, all_seen}
-use Rattle.ppd_flow.specs.Answers.{answer_if}
+use Rattle.ppd_session.specs.Answers.{answer_if}
 use Rattle.ppd_flow_model.specs.Found.{edges_replays, found_edges}
 use Rattle.ppd_flow_model.specs.Seen.{Seen}
 use Rattle.ppd_flow_model.specs.Spans.{steps_of_span}

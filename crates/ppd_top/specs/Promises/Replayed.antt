@@ -6,7 +6,7 @@ use Rattle.ppd_emul_model.specs.Replay.{replay}
 use Rattle.ppd_entry.specs.declared.entry.Logs.{Logs}
 use Rattle.ppd_entry.specs.Entries.{entries_at}
 use Rattle.ppd_entry.specs.IntervalLogs.{IntervalLog, interval_log}
-use Rattle.ppd_flow.specs.Answers.{IsEdges}
+use Rattle.ppd_session.specs.Answers.{IsEdges}
 use Rattle.ppd_flow_past.specs.declared.past.Past.{Past}
 use Rattle.ppd_flow_past.specs.SeenBy.{failed_at, own_steps_of}
 use Rattle.ppd_flow_shared.specs.SharedCells.{IsLastFound}

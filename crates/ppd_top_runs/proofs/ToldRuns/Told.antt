@@ -17,18 +17,18 @@ use Rattle.ppd_graph.specs.declared.refusal.BadSync.{BadSync}
 use Rattle.ppd_graph.specs.declared.refusal.BadSync.TheVariants as no_graph
 use Rattle.ppd_graph.specs.Graphs.{IsGraphOf}
 use Rattle.ppd_graph.specs.Refusals.{IsRefused as IsNoGraph}
-use Rattle.law_logs.proofs.Graph.Ordered.{refused}
+use Rattle.ppd_codec_runs.proofs.Ordered.{refused}
 use Rattle.ppd_index.specs.declared.log_index.LogIndex.{LogIndex}
 use Rattle.ppd_index.specs.declared.refusal.BadLog.{BadLog}
 use Rattle.ppd_index.specs.declared.refusal.BadLog.TheVariants as no_index
 use Rattle.ppd_index.specs.Fitting.{AreFittingLogs}
 use Rattle.ppd_index.specs.Indexes.{IsIndexOf}
 use Rattle.ppd_index.specs.Refusals.{IsRefused as IsNoIndex, first_in_lists}
-use Rattle.law_logs.proofs.Index.Found.{logs_indexed}
+use Rattle.ppd_codec_runs.proofs.Found.{logs_indexed}
 use Rattle.ppd_race.specs.Races.{AreCellsThere}
 use Rattle.ppd_race.proofs.OfRuns.{of_runs}
-use Rattle.ppd_session.specs.Pasts.{BelongTogether}
-use Rattle.ppd_session.proofs.Keeping.{nothing_kept}
+use Rattle.ppd_codec_runs.specs.Pasts.{BelongTogether}
+use Rattle.ppd_codec_runs.proofs.Keeping.{nothing_kept}
 use Rattle.ppd_top_runs.specs.Runs.{CanBeTold}
 
 -- ---- how many processes

@@ -18,7 +18,7 @@ use Rattle.ppd_flow_model.specs.Walk.{back, back_from, back_over, backwards, fou
 use Rattle.law_flow_shared.proofs.Vocabulary.Events.{AreQuiet, IsLastSync, IsLastWriter, IsQuiet, IsWalk, synchronizes, written_by}
 use Rattle.law_flow_shared.proofs.Edges.Spans.Tiles.{Stands, Tiles, ends, event, inside, outermost, within, IsNowhere, rises}
 use Rattle.ppd_ast.proofs.ValidLaws.{slice_get_there, slice_get_below}
-use Rattle.ppd_graph.proofs.Leads.{length_mapped}
+use Rattle.ppd_flow_model.proofs.Leads.{length_mapped}
 
 -- ---- lists
 

@@ -17,7 +17,7 @@ use Rattle.law_flow_shared.proofs.Edges.Spans.Tiles.{Stands, Tiles, ends, event,
 use Rattle.law_flow_shared.proofs.Edges.Back.Walks.{here, items_are, map_at, place_is, right_inside, taken, whole}
 use Rattle.law_flow_shared.proofs.Edges.Sources.Members.{in_cases, in_either, no_member}
 use Rattle.ppd_ast.proofs.ValidLaws.{slice_get_there}
-use Rattle.ppd_graph.proofs.Leads.{length_mapped}
+use Rattle.ppd_flow_model.proofs.Leads.{length_mapped}
 
 -- none of the events from number lo up to number hi is a synchronization
 abbrev pub ArePlain : List TracedEvent → ℕ → ℕ → Type 0

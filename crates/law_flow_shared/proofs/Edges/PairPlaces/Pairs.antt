@@ -13,11 +13,11 @@ use Rattle.ppd_ast.specs.Lookups.{kind_of}
 use Rattle.ppd_ast.proofs.ValidLaws.{slice_get_below}
 use Rattle.ppd_entry.specs.declared.entry.Logs.{Logs}
 use Rattle.ppd_entry.specs.Entries.{entries_at}
-use Rattle.ppd_graph.specs.declared.paired.Paired.{Paired}
-use Rattle.ppd_graph.specs.declared.paired.Paired.TheVariants.{Nothing, Initial, Node}
-use Rattle.ppd_graph.specs.Partners.{found, paired_by, pairs_of, partner_of, wanted}
-use Rattle.ppd_graph.specs.Times.{ArePartners, node_of, pair_at}
-use Rattle.ppd_graph.proofs.Leads.{partners_found, row_mapped}
+use Rattle.ppd_flow_model.specs.Paired.{Paired}
+use Rattle.ppd_flow_model.specs.Paired.TheVariants.{Nothing, Initial, Node}
+use Rattle.ppd_flow_model.specs.Partners.{found, paired_by, pairs_of, partner_of, wanted}
+use Rattle.ppd_flow_model.specs.Times.{ArePartners, node_of, pair_at}
+use Rattle.ppd_flow_model.proofs.Leads.{partners_found, row_mapped}
 use Rattle.ppd_sem.specs.declared.proc.Need.{Need}
 use Rattle.ppd_sem.specs.declared.proc.Need.TheVariants as need
 use Rattle.ppd_sem.specs.Process.{need_of, started}

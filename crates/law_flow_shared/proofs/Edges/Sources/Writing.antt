@@ -9,9 +9,9 @@ use Rattle.ppd_ast.specs.declared.plan.Plan.{Plan}
 use Rattle.ppd_ast.specs.declared.program.Program.{Program}
 use Rattle.ppd_ast.specs.Members.{has}
 use Rattle.ppd_ast.proofs.ValidLaws.{slice_get_below}
-use Rattle.ppd_graph.specs.declared.sets.EdgeSets.{EdgeSets}
-use Rattle.ppd_graph.specs.LogRecord.{sets_from, edge_sets_in}
-use Rattle.ppd_graph.proofs.ClosedSets.{row_sets, run_sets}
+use Rattle.ppd_flow_model.specs.EdgeSets.{EdgeSets}
+use Rattle.ppd_flow_model.specs.LogRecord.{sets_from, edge_sets_in}
+use Rattle.ppd_flow_model.proofs.ClosedSets.{row_sets, run_sets}
 use Rattle.ppd_model.specs.declared.graph.EdgeId.{EdgeId}
 use Rattle.ppd_model.specs.HappenedBefore.{edge}
 use Rattle.ppd_model.specs.Logs.{closed_logs}

@@ -1,5 +1,5 @@
 use Rattle.std.proofs.Common.{◌≤◌, ◌+◌, ◌∙◌, List, ap, arith, length, subst, sym}
-use Rattle.ppd_index.specs.Indexes.{rows_at}
+use Rattle.ppd_emul.specs.Indexes.{rows_at}
 use Rattle.ppd_model.specs.declared.flow.Item.{Item}
 use Rattle.ppd_flow_past.specs.ByReplays.{AreReplayed}
 use Rattle.ppd_flow_past.proofs.Given.{given_items, given_steps, none_items, none_steps, not_there}

@@ -3,8 +3,8 @@ use Rattle.std.specs.Prelude.{slice_get}
 use Rattle.std.proofs.lemmas.Option.{slice_get_read}
 use Rattle.std.proofs.lemmas.Result.{err_from_is_err_and}
 use Rattle.ppd_model.specs.declared.flow.Item.{Item}
-use Rattle.ppd_flow_past.specs.ByReplays.{IsFoundBy}
-use Rattle.ppd_flow_past.specs.SeenBy.{items_in}
+use Rattle.ppd_flow_tables.specs.ByReplays.{IsFoundBy}
+use Rattle.ppd_flow_tables.specs.SeenBy.{items_in}
 use Rattle.ppd_flow_tables.specs.Stops.{ArePassed}
 use Rattle.ppd_flow_shared.specs.Items.{is_passed}
 use Rattle.ppd_flow_shared.proofs.Steps.{item_ended, item_failed, item_passed, items_jump, items_passed, whole_err, whole_ok}

@@ -1,6 +1,6 @@
 use Rattle.std.proofs.lemmas.Result.{err_from_is_err_and}
 use Rattle.ppd_model.specs.HappenedBefore.{edge}
-use Rattle.ppd_flow_past.proofs.Found.{err_any}
+use Rattle.ppd_flow_tables.proofs.Found.{err_any}
 use Rattle.ppd_flow_model.specs.Shared.{of_process, written_at}
 use Rattle.ppd_flow_model.specs.Walk.{walk, walk_replays}
 use Rattle.ppd_flow_shared.specs.Items.{seen_for}

@@ -4,7 +4,7 @@ use Rattle.std.proofs.lemmas.List.{take_all}
 use Rattle.std.proofs.lemmas.List.Sums.{sum_by-take-le, sum_by_more}
 use Rattle.ppd_ast.specs.Members.{has}
 use Rattle.ppd_ast.specs.declared.limits.TheConstants.{MOST_SHARED_CELLS}
-use Rattle.ppd_graph.proofs.Rows.{length_replicated, no_items, none_at}
+use Rattle.ppd_race_found.proofs.Rows.{length_replicated, no_items, none_at}
 use Rattle.ppd_race_found.specs.declared.busy.Accessor.{Accessor}
 use Rattle.ppd_race_found.specs.declared.busy.Busy.{Busy}
 use Rattle.ppd_race.specs.ByCell.{accessor, accessors_from, listed_in, listing_cost, listing_least}

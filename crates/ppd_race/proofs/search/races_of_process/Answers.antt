@@ -1,5 +1,5 @@
 use Rattle.std.proofs.Common.{arith, ◌≡◌, ◌∙◌, [], ap, sym, subst, get_or, length}
-use Rattle.ppd_graph.proofs.Rows.{length_replicated, none_at}
+use Rattle.ppd_race_found.proofs.Rows.{length_replicated, none_at}
 use Rattle.ppd_race.specs.Busy.{IsBusyRow}
 use Rattle.ppd_race.proofs.Listed.{can_search}
 use Rattle.ppd_race.proofs.Over.{is_whole, row_cells}

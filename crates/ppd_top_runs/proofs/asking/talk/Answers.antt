@@ -1,5 +1,5 @@
 use Rattle.std.proofs.Common.{subst, sym, refl, []}
-use Rattle.ppd_session.specs.Known.{Known}
+use Rattle.ppd_codec_runs.specs.Known.{Known}
 use Rattle.ppd_top_runs.specs.Asking.{IsAsked}
 use Rattle.ppd_top_runs.specs.Output.{Talks, standing}
 use Rattle.ppd_top_runs.proofs.Conversing.{asked_none}

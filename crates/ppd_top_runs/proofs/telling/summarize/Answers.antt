@@ -1,5 +1,5 @@
 use Rattle.std.proofs.Common.{[], rules}
-use Rattle.ppd_session.specs.Pasts.{BelongTogether}
+use Rattle.ppd_codec_runs.specs.Pasts.{BelongTogether}
 use Rattle.ppd_top_runs.proofs.ToldRuns.Told.{together}
 use Rattle.ppd_top_runs.proofs.telling.summarize.Goals as goal
 

@@ -1,5 +1,5 @@
 use Rattle.std.proofs.Common.{[], rules}
-use Rattle.ppd_session.specs.Pasts.{BelongTogether}
+use Rattle.ppd_codec_runs.specs.Pasts.{BelongTogether}
 use Rattle.ppd_top_runs.proofs.Conversing.{nothing_yet}
 use Rattle.ppd_top_runs.proofs.ToldRuns.Told.{together, told_ends}
 use Rattle.ppd_top_runs.proofs.telling.tell.Goals as goal

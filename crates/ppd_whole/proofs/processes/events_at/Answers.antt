@@ -3,7 +3,7 @@ use Rattle.std.proofs.lemmas.Result.{IfOk-weaker}
 use Rattle.law_whole.specs.Joined.{events_in}
 use Rattle.ppd_flow_model.specs.Seen.{Seen}
 use Rattle.ppd_flow_past.specs.SeenBy.{seen_in}
-use Rattle.ppd_flow_shared.specs.SharedCells.{seens_in}
+use Rattle.ppd_flow.specs.SharedCells.{seens_in}
 use Rattle.ppd_whole.proofs.Events.Parts.{in_step}
 use Rattle.ppd_whole.proofs.processes.events_at.Goals as goal
 

@@ -1,6 +1,6 @@
 use Rattle.std.proofs.Common.{◌≡◌, map, take}
 use Rattle.law_whole.specs.Joined.{events_in}
-use Rattle.ppd_flow_shared.specs.SharedCells.{seens_in}
+use Rattle.ppd_flow.specs.SharedCells.{seens_in}
 use Rattle.ppd_whole.proofs.processes.events_in_turn.Given as goal
 
 abbrev pub invariant-loop-p : goal.invariant-loop-p

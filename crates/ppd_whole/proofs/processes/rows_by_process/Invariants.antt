@@ -1,6 +1,6 @@
 use Rattle.std.proofs.Common.{◌≡◌, drop, map, take}
 use Rattle.std.specs.List.{flat_map}
-use Rattle.ppd_flow_shared.specs.SharedCells.{seens_in}
+use Rattle.ppd_flow.specs.SharedCells.{seens_in}
 use Rattle.ppd_whole.proofs.processes.rows_by_process.Given as goal
 
 abbrev pub invariant-loop-p : goal.invariant-loop-p

@@ -1,6 +1,6 @@
 use Rattle.std.proofs.Common.{ℕ, drop, reverse, Result, Option}
 use Rattle.ppd_model.specs.declared.flow.Origin.{Origin}
-use Rattle.ppd_flow_past.specs.declared.flow_error.FlowError.{FlowError}
+use Rattle.ppd_flow_tables.specs.FlowError.{FlowError}
 use Rattle.ppd_flow_local.specs.Searches.{IsFound}
 use Rattle.ppd_flow_local.proofs.Loops.{all_replays, found_in}
 use Rattle.ppd_flow_local.proofs.search.Search.in_loops.Given as goal

@@ -1,6 +1,6 @@
 use Rattle.std.proofs.Common.{ℕ, List, drop, Result}
 use Rattle.ppd_model.specs.declared.flow.FlowEdge.{FlowEdge}
-use Rattle.ppd_flow_past.specs.declared.flow_error.FlowError.{FlowError}
+use Rattle.ppd_flow_tables.specs.FlowError.{FlowError}
 use Rattle.ppd_flow_local.specs.Searches.{IsFound}
 use Rattle.ppd_flow_local.proofs.Lefts.{all_edges, all_replays, prefixed}
 use Rattle.ppd_flow_local.proofs.search.Search.left_edges.Given as goal

@@ -1,5 +1,5 @@
 use Rattle.std.proofs.Common.{◌≡◌, ◌≤◌, ◌+◌, ◌*◌, drop}
-use Rattle.law_flow_latest.specs.Halves.{latest_in}
+use Rattle.ppd_flow_tables.specs.LatestEdges.{latest_in}
 use Rattle.ppd_flow_past.specs.Edges.Found.{IsEdgeIf}
 use Rattle.ppd_flow_tables.proofs.Latest.{found_from}
 use Rattle.ppd_flow_tables.proofs.by_cell.WritingEdges.greatest_before.Given as goal

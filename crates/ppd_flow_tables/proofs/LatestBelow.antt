@@ -10,7 +10,7 @@ use Rattle.ppd_model.specs.declared.graph.EdgeId.{EdgeId}
 use Rattle.ppd_model.specs.HappenedBefore.{edge}
 use Rattle.ppd_model.proofs.Changes.{some}
 use Rattle.ppd_flow_model.specs.Shared.{greater}
-use Rattle.law_flow_latest.specs.Halves.{last_below, last_or, later_if, numbers_in}
+use Rattle.ppd_flow_tables.specs.LatestEdges.{last_below, last_or, later_if, numbers_in}
 
 -- ---- last elements
 

@@ -16,8 +16,8 @@ use Rattle.ppd_flow_model.specs.Shared.{is_before_in}
 use Rattle.ppd_flow_past.specs.Edges.Found.{greatest_from, greatest_in}
 use Rattle.ppd_flow_past.proofs.Edges.Before.{before_is, before_none}
 use Rattle.ppd_flow_past.proofs.Edges.WritingEdges.{of_those}
-use Rattle.law_flow_latest.specs.Halves.{LatestIsGreatest, last_below, latest_from, latest_in, later_if, limit_of, numbers_in}
-use Rattle.law_flow_latest.proofs.Halves.{later_there, one_process}
+use Rattle.ppd_flow_tables.specs.LatestEdges.{LatestIsGreatest, last_below, latest_from, latest_in, later_if, limit_of, numbers_in}
+use Rattle.ppd_flow_tables.proofs.LatestBelow.{later_there, one_process}
 
 below_if : (b : Bool) (i x y : ℕ) → (if b then nat_lt i x else nat_lt i y) ≡ nat_lt i (if b then x else y)
 below_if true i x y = refl
