@@ -188,7 +188,7 @@ class Check:
         self.seconds, self.began = seconds, time.monotonic()
         self.log = os.path.join(copy.folder, f"{crate}.log")
         with open(self.log, "w", encoding="utf-8") as file:
-            words = ["rt", "lib", "--jobs", str(jobs)]
+            words = [sys.executable, os.path.join(TOP, "tools", "rt_once.py"), "lib", "--jobs", str(jobs)]
             self.process = subprocess.Popen(words, cwd=copy.crate(crate), stdin=subprocess.DEVNULL, stdout=file, stderr=file)
 
     def output(self):
