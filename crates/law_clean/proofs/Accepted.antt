@@ -7,17 +7,18 @@ use Rattle.ppd_entry.specs.declared.entry.Entry.{Entry}
 use Rattle.ppd_entry.specs.declared.entry.Entry.TheVariants as entry
 use Rattle.ppd_entry.specs.Entries.{is_end}
 use Rattle.ppd_entry.specs.IntervalLogs.{Indexing, index_step}
-use Rattle.ppd_model.specs.FullTrace.{or_else}
+use Rattle.std.specs.Option.{option_or}
 use Rattle.ppd_index.specs.declared.standing.Fault.{Fault}
 use Rattle.ppd_index.specs.declared.standing.Fault.TheVariants as fault
-use Rattle.ppd_index.specs.Refusals.{bad, fault_of, first_from, innermost_of, is_fitting, is_paired, refusal, standing}
-use Rattle.ppd_flow_model.specs.Ends.{is_sync}
+use Rattle.ppd_index.specs.Refusals.{bad, fault_of, first_from, is_fitting, refusal, standing}
+use Rattle.ppd_index.proofs.Vocabulary.{innermost_of, is_paired}
+use Rattle.ppd_flow_model.proofs.Vocabulary.{is_sync}
 use Rattle.law_clean.specs.Cuts.{stop}
 
 not_zero : (n : ℕ) → nat_eq (suc n) 0 ≡ false
 not_zero n = ne_eqb (suc n) 0 (λ e. (let z : suc n ≡ 0 = e in omega (arith, z)))
 
-pub both_none : {A : Type 0} (a b : Option A) → or_else a b ≡ None → (a ≡ None) × (b ≡ None)
+pub both_none : {A : Type 0} (a b : Option A) → option_or a b ≡ None → (a ≡ None) × (b ≡ None)
 both_none None b e = (refl, e)
 both_none (Some x) b e = absurd (none-some x (sym e))
 
@@ -38,9 +39,9 @@ module _ (plan : Plan) (body p : ℕ) where
   -- the cut log's end is accepted
   pub stops : (x : Indexing) (ended : Bool) → CanStop x ended → first_from plan body p x ended (stop ∷ []) ≡ None
   stops x ended c =
-      ap (λ b. or_else (refusal plan body p (standing x b) stop) (first_from plan body p (index_step plan x stop) (b || true) [])) c.goes_on
-      ∙ ap₂ (λ n ks. or_else (option_map (bad p n) (fault_of plan body (record { entry = n; ended = false; innermost = innermost_of ks x.intervals; functions = (standing x false).functions }) stop)) None) c.entry_is c.running
-      ∙ ap (λ t. or_else (option_map (bad p (suc c.before)) (if not (if t then false else true) then Some fault.Unpaired else None)) None) (not_zero c.before)
+      ap (λ b. option_or (refusal plan body p (standing x b) stop) (first_from plan body p (index_step plan x stop) (b || true) [])) c.goes_on
+      ∙ ap₂ (λ n ks. option_or (option_map (bad p n) (fault_of plan body (record { entry = n; ended = false; innermost = innermost_of ks x.intervals; functions = (standing x false).functions }) stop)) None) c.entry_is c.running
+      ∙ ap (λ t. option_or (option_map (bad p (suc c.before)) (if not (if t then false else true) then Some fault.Unpaired else None)) None) (not_zero c.before)
 
   -- the state after some entries
   abbrev pub After : List Entry → (Indexing → Bool → Type 0) → Indexing → Bool → Type 0
@@ -52,7 +53,7 @@ module _ (plan : Plan) (body p : ℕ) where
   accepted_cut [] x ended rest ok c = stops x ended c
   accepted_cut (e ∷ es) x ended rest ok c =
       let both = both_none (refusal plan body p (standing x ended) e) (first_from plan body p (index_step plan x e) (ended || is_end e) (es ++ rest)) ok in
-      ap (λ o. or_else o (first_from plan body p (index_step plan x e) (ended || is_end e) (es ++ stop ∷ []))) both.0
+      ap (λ o. option_or o (first_from plan body p (index_step plan x e) (ended || is_end e) (es ++ stop ∷ []))) both.0
       ∙ accepted_cut es (index_step plan x e) (ended || is_end e) rest both.1 c
 
   -- ---- where an accepted log can be cut

@@ -1,5 +1,5 @@
 -- Logs that the index accepts are accepted when they are cut.
-use Rattle.std.specs.Option.{option_map_or}
+use Rattle.std.specs.Option.{option_map_or, option_or}
 use Rattle.std.proofs.Common.{◌≡◌, ℕ, zero, suc, ◌+◌, Bool, true, false, List, [], ◌∷◌, ◌++◌, Option, Some, None, refl, ap, sym, subst, ◌∙◌, append_assoc, arith, ◌||◌, true≢false}
 use Rattle.std.proofs.lemmas.Option.{none-some}
 use Rattle.std.specs.Prelude.{slice_get, take, if◌then◌else◌}
@@ -9,11 +9,13 @@ use Rattle.ppd_entry.specs.declared.entry.Entry.{Entry}
 use Rattle.ppd_entry.specs.declared.entry.Entry.TheVariants as entry
 use Rattle.ppd_entry.specs.Entries.{is_end}
 use Rattle.ppd_entry.specs.IntervalLogs.{Indexing, begun_indexing, index_step}
-use Rattle.ppd_model.specs.FullTrace.{or_else}
-use Rattle.ppd_index.specs.Refusals.{first_bad, is_paired, first_from, first_in_lists, refusal, standing}
-use Rattle.ppd_flow_model.specs.Ends.{ending, is_sync}
-use Rattle.law_clean.specs.Cuts.{cut, cut_at, cut_from, is_unit, stop}
+use Rattle.ppd_index.specs.Refusals.{first_bad, first_from, first_in_lists, refusal, standing}
+use Rattle.ppd_flow_model.specs.Ends.{ending}
+use Rattle.law_clean.specs.Cuts.{cut, cut_at, is_unit, stop}
 use Rattle.law_clean.proofs.Accepted.{CanStop, both_none, stops, sync_stops, unit_stops, unrefused}
+use Rattle.law_clean.proofs.PastWords.{cut_from}
+use Rattle.ppd_index.proofs.Vocabulary.{is_paired}
+use Rattle.ppd_flow_model.proofs.Vocabulary.{is_sync}
 
 -- ---- an element of a list
 
@@ -81,7 +83,7 @@ module _ (plan : Plan) (body p : ℕ) where
 
   -- one entry
   over : (x : Indexing) (ended : Bool) (e : Entry) (rest more : List Entry) → OK x ended (e ∷ rest) → OK (index_step plan x e) (ended || is_end e) more → OK x ended (e ∷ more)
-  over x ended e rest more ok g = ap (λ o. or_else o (first_from plan body p (index_step plan x e) (ended || is_end e) more)) (taken x ended e rest ok) ∙ g
+  over x ended e rest more ok g = ap (λ o. option_or o (first_from plan body p (index_step plan x e) (ended || is_end e) more)) (taken x ended e rest ok) ∙ g
 
   -- after a first part
   after : (front rest more : List Entry) (x : Indexing) (ended : Bool) → OK x ended (front ++ rest) → ((y : Indexing) (b : Bool) → OK y b rest → OK y b more) → OK x ended (front ++ more)
@@ -138,5 +140,5 @@ pub cuts_accepted : (program : Program) (plan : Plan) (last : ℕ → Option ℕ
 cuts_accepted program plan last p [] ok = refl
 cuts_accepted program plan last p (es ∷ lists) ok =
     let both = both_none (first_bad program plan p es) (first_in_lists program plan (p + 1) lists) ok in
-    ap (λ o. or_else o (first_in_lists program plan (p + 1) (cut_from last (p + 1) lists))) (cut_ok plan (program.functions + p) p (last p) es both.0)
+    ap (λ o. option_or o (first_in_lists program plan (p + 1) (cut_from last (p + 1) lists))) (cut_ok plan (program.functions + p) p (last p) es both.0)
     ∙ cuts_accepted program plan last (p + 1) lists both.1

@@ -19,10 +19,12 @@ use Rattle.ppd_model.specs.declared.flow.Item.TheVariants as item
 use Rattle.ppd_model.specs.declared.graph.Race.{Race}
 use Rattle.ppd_model.specs.declared.trace.TracedEvent.{TracedEvent}
 use Rattle.ppd_model.specs.declared.tracing.Story.{Story}
-use Rattle.ppd_model.specs.FlowbackEdges.{edges, edges_if, edges_in, edges_of_event, edges_of_nested as model_edges_of_nested, part_at, part_in}
+use Rattle.ppd_model.specs.FlowbackEdges.{edges, edges_of_event, edges_of_nested as model_edges_of_nested, part_at}
+use Rattle.ppd_model.proofs.EdgeWords.{edges_if, edges_in, part_in}
 use Rattle.ppd_model.specs.Forward.{edge_in}
 use Rattle.ppd_model.specs.HappenedBefore.{Before, EdgeBefore, across, earlier, edge, is_before, is_edge_before, node, own_syncs}
-use Rattle.ppd_model.specs.Intervals.{Part, own, nested, Span, Split, is_closed, item_of, item_of_event, item_of_span, splits}
+use Rattle.ppd_model.specs.Intervals.{Part, own, nested, Span, Split, is_closed, item_of, splits}
+use Rattle.ppd_model.proofs.IntervalWords.{item_of_event, item_of_span}
 use Rattle.ppd_model.specs.Items.{HasWholeItems}
 use Rattle.ppd_model.specs.Logs.{closed_logs}
 use Rattle.ppd_model.specs.NearIntervals.{edge_of_event}
@@ -56,8 +58,8 @@ use Rattle.law_flow_shared.proofs.Edges.Spans.Told.{IsPlaced}
 use Rattle.law_flow_shared.proofs.Edges.StepEvents.Processes.{Facts, facts}
 use Rattle.law_flow_shared.proofs.Edges.StepEvents.Timeline.{none_did}
 use Rattle.law_flow_shared.proofs.Edges.StepEvents.Writers.{edge_is_count}
-use Rattle.law_clean.specs.Answers.{CleanOr, answer_of, by_part, clean, first_item, no_item, unclean, unclean_or}
-use Rattle.law_clean.specs.Pasts.{Lies, are_raced, edges_between, first_unclean, is_clean, is_same_edge, left_edge, lies, past_of, is_past}
+use Rattle.law_clean.specs.Answers.{CleanOr, answer_of, by_part, clean, no_item, unclean, unclean_or}
+use Rattle.law_clean.specs.Pasts.{Lies, are_raced, edges_between, is_clean, left_edge, lies, past_of, is_past, is_same_edge}
 use Rattle.law_clean.specs.Search.{by_first, by_item, clean_by, edge_of_item, first_raced, from_first, has_race, is_unclean, leads_from_race, reached, seens, with_edges}
 use Rattle.law_clean.proofs.CleanItems.{IsIn, IsOwn, at', event_found, event_placed, inside_found, inside_placed, left_own, own_state}
 use Rattle.law_clean.proofs.EdgeEnds.{EndsEdge, edge_ends, edge_own}
@@ -69,6 +71,7 @@ use Rattle.law_clean.proofs.Prefixes.{edge_same}
 use Rattle.law_clean.proofs.Ranges.{IsFirst, NonePasses, first_between, is_first, is_none}
 use Rattle.law_clean.proofs.Reached.{total_syncs}
 use Rattle.law_clean.proofs.SeenCut.{has_split, one_of}
+use Rattle.law_clean.proofs.PastWords.{first_unclean, first_item}
 
 alike : (a b : Bool) → (a ≡ true → b ≡ true) → (b ≡ true → a ≡ true) → a ≡ b
 alike true true f g = refl

@@ -11,11 +11,13 @@ use Rattle.ppd_ast.specs.declared.program.Program.{Program}
 use Rattle.ppd_ast.specs.Valid.{IsValid}
 use Rattle.ppd_ast.proofs.ValidLaws.{slice_get_there, valid_body}
 use Rattle.ppd_blocks.specs.Blocks.{plan_of}
-use Rattle.ppd_entry.specs.IntervalLogs.{Indexed, Indexing, begun_indexing, index_step, log_in, no_interval}
+use Rattle.ppd_entry.specs.IntervalLogs.{Indexed, Indexing, begun_indexing, index_step}
+use Rattle.ppd_entry.proofs.Vocabulary.{log_in, no_interval}
 use Rattle.ppd_sem.specs.Blocks.{block_todo}
 use Rattle.ppd_sem.specs.declared.proc.Proc.{Proc}
 use Rattle.ppd_sem.specs.Process.{new_frame, started}
-use Rattle.ppd_sem.specs.Tables.{block_of, or_zero, unit_of}
+use Rattle.ppd_sem.specs.Tables.{block_of, unit_of}
+use Rattle.ppd_sem.proofs.TableWords.{or_zero}
 use Rattle.ppd_model.specs.declared.state.Logging.{Logging}
 use Rattle.ppd_model.specs.declared.tracing.Story.{Story}
 use Rattle.ppd_model.specs.Intervals.{Span, Split, begun_split, split_step}

@@ -10,7 +10,8 @@ use Rattle.ppd_ast.specs.Valid.{IsValid}
 use Rattle.ppd_blocks.specs.Blocks.{plan_of}
 use Rattle.ppd_entry.specs.IntervalLogs.{interval_log}
 use Rattle.ppd_model.specs.declared.graph.NodeId.{NodeId}
-use Rattle.ppd_model.specs.HappenedBefore.{Before, EdgeBefore, across, direct, earlier, edge, is_next, node, sync_at, through}
+use Rattle.ppd_model.specs.HappenedBefore.{Before, EdgeBefore, across, direct, earlier, edge, node, sync_at, through}
+use Rattle.ppd_model.proofs.OrderWords.{is_next}
 use Rattle.ppd_model.specs.Intervals.{Split, splits}
 use Rattle.ppd_model.specs.Record.{record_of}
 use Rattle.ppd_model.specs.Schedule.{IsWhole}

@@ -51,8 +51,8 @@ use Rattle.law_flow_shared.specs.Edges.SharedEdges.{all_seen}
 use Rattle.law_flow_shared.proofs.Edges.Spans.Facts.{count_to}
 use Rattle.law_clean.specs.Cuts.{cut}
 use Rattle.law_clean.specs.Ordered.{IsUnracedIn}
-use Rattle.law_clean.specs.Pasts.{is_clean, is_raced, is_same_edge, left_edge, lies, is_past}
-use Rattle.law_clean.specs.Search.{has_race, is_raced_to, is_wanted, last_wanted, leads_from_race, other_last, own_last, seens}
+use Rattle.law_clean.specs.Pasts.{is_clean, is_raced, left_edge, lies, is_past, is_same_edge}
+use Rattle.law_clean.specs.Search.{has_race, is_wanted, last_wanted, leads_from_race, own_last, seens}
 use Rattle.law_clean.proofs.CleanCuts.{before_back}
 use Rattle.law_clean.proofs.CutEvents.{event_edges_same}
 use Rattle.law_clean.proofs.CutShared.{HasEnded, HasPlace, IsBegun, event_there, here_in}
@@ -67,6 +67,7 @@ use Rattle.law_clean.proofs.Prefixes.{place_back}
 use Rattle.law_clean.proofs.Ranges.{last_is}
 use Rattle.law_clean.proofs.Reached.{closed_syncs, left_then, nested_back, syncs_in_log, total_syncs}
 use Rattle.law_clean.proofs.SeenCut.{cut_begun, has_split, seen_there, stays_whole, whole_begun}
+use Rattle.law_clean.proofs.PastWords.{is_raced_to, other_last}
 
 -- edge e is before the first edge whose past has a race, and there
 abbrev pub IsIn : ℕ → Option ℕ → ℕ → Type 0

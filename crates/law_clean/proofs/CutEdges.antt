@@ -22,7 +22,8 @@ use Rattle.ppd_model.specs.Schedule.{IsWhole, run, started_world}
 use Rattle.ppd_model.specs.States.{act_on}
 use Rattle.ppd_model.specs.Story.{Moment, moment_of, own_moments, steps_of, story, told}
 use Rattle.ppd_model.specs.Synchronizations.{kind_of_sync}
-use Rattle.ppd_model.specs.World.{World, need_at}
+use Rattle.ppd_model.specs.World.{World}
+use Rattle.ppd_model.proofs.WorldWords.{need_at}
 use Rattle.ppd_model.proofs.Forward.{fewer, run_begins}
 use Rattle.ppd_model.proofs.Prefixes.{objects_stay}
 use Rattle.law_steps.proofs.OpenBlocks.Runs.{process_is}

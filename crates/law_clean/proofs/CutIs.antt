@@ -22,7 +22,8 @@ use Rattle.ppd_model.specs.Synchronizations.{Sync, kind_of_sync, sync_of, syncs_
 use Rattle.ppd_model.proofs.RecordedSyncs.{of_step}
 use Rattle.ppd_model.specs.Story.{Moment, steps_of, unit_started}
 use Rattle.law_replay.proofs.Coming.Later.{closing}
-use Rattle.ppd_flow_model.specs.Ends.{ending, ends_edge, is_sync}
+use Rattle.ppd_flow_model.specs.Ends.{ending, ends_edge}
+use Rattle.ppd_flow_model.proofs.Vocabulary.{is_sync}
 use Rattle.ppd_entry.specs.Entries.{is_end}
 use Rattle.law_flow_shared.proofs.Edges.LogPlaces.EdgeEnds.{ending_is}
 use Rattle.law_flow_shared.proofs.Edges.Spans.Facts.{syncs}

@@ -8,7 +8,8 @@ use Rattle.ppd_ast.specs.declared.status.Status.{Status}
 use Rattle.ppd_ast.specs.Valid.{IsValid}
 use Rattle.ppd_blocks.specs.Blocks.{plan_of}
 use Rattle.ppd_sem.specs.declared.proc.Proc.{Proc}
-use Rattle.ppd_sem.specs.Process.{act, need_by_status, need_of}
+use Rattle.ppd_sem.specs.Process.{act, need_of}
+use Rattle.ppd_sem.proofs.NeedWords.{need_by_status}
 use Rattle.ppd_model.specs.declared.state.Logging.{Logging}
 use Rattle.ppd_model.specs.Logs.{begun_log, closed_log, log_of, log_step, status_of}
 use Rattle.ppd_model.specs.Schedule.{IsWhole}

@@ -21,7 +21,8 @@ use Rattle.law_steps.specs.Course.{EndsWithEnd, GoesUntilEnd}
 use Rattle.law_steps.proofs.Course.Ending.{never_runs_out}
 use Rattle.ppd_model.specs.declared.state.Logging.{Logging}
 use Rattle.ppd_model.specs.declared.tracing.Story.{Story}
-use Rattle.ppd_model.specs.Intervals.{Part, own, nested, Span, Split, begun_split, item_of, item_of_event, item_of_span, split_of, split_step, splits}
+use Rattle.ppd_model.specs.Intervals.{Part, own, nested, Span, Split, begun_split, item_of, split_of, split_step, splits}
+use Rattle.ppd_model.proofs.IntervalWords.{item_of_event, item_of_span}
 use Rattle.ppd_model.specs.Logs.{begun_log, closed_log, log_of, log_step}
 use Rattle.ppd_model.specs.Schedule.{IsWhole}
 use Rattle.ppd_model.specs.Story.{Moment, moment_of, own_moments, own_steps, steps_of, story, told}

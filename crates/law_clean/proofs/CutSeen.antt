@@ -12,14 +12,18 @@ use Rattle.ppd_blocks.specs.Blocks.{plan_of}
 use Rattle.ppd_emul_model.specs.Replay.{Replayed, replay}
 use Rattle.ppd_entry.specs.declared.entry.Entry.{Entry}
 use Rattle.ppd_entry.specs.declared.entry.Entry.TheVariants as entry
-use Rattle.ppd_entry.specs.IntervalLogs.{Indexed, indexed, log_in}
+use Rattle.ppd_entry.specs.IntervalLogs.{Indexed, indexed}
+use Rattle.ppd_entry.proofs.Vocabulary.{log_in}
 use Rattle.ppd_model.specs.declared.flow.Item.{Item}
 use Rattle.ppd_model.specs.declared.state.Logging.{Logging}
 use Rattle.ppd_model.specs.declared.tracing.Story.{Story}
 use Rattle.ppd_model.specs.Bounds.{AreEach}
-use Rattle.ppd_model.specs.Extents.{Extending, Extent, IsSameInterval, begun_extents, extend, extents, first_of}
-use Rattle.ppd_model.specs.Intervals.{Span, Split, items_of, split_of, splits, splits_from}
-use Rattle.ppd_model.specs.Logs.{closed_log, log_of, loggings, logs_from}
+use Rattle.ppd_model.specs.Extents.{Extending, Extent, IsSameInterval, extend, extents, first_of}
+use Rattle.ppd_model.proofs.ExtentWords.{begun_extents}
+use Rattle.ppd_model.specs.Intervals.{Span, Split, items_of, split_of, splits}
+use Rattle.ppd_model.proofs.IntervalWords.{splits_from}
+use Rattle.ppd_model.specs.Logs.{closed_log, log_of, loggings}
+use Rattle.ppd_model.proofs.LogWords.{logs_from}
 use Rattle.ppd_model.specs.Schedule.{IsWhole}
 use Rattle.ppd_model.specs.Story.{Moment, own_moments, own_steps, steps_of as steps_of_moments, story, told}
 use Rattle.ppd_model.proofs.Items.{split_found}

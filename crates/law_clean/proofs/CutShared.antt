@@ -25,7 +25,8 @@ use Rattle.ppd_model.specs.declared.flow.Origin.TheVariants as origin
 use Rattle.ppd_model.specs.declared.tracing.Taken.{Taken}
 use Rattle.ppd_model.specs.FlowbackEdges.{part_at}
 use Rattle.ppd_model.specs.Forward.{edge_in}
-use Rattle.ppd_model.specs.HappenedBefore.{Before, EdgeBefore, direct, edge, is_next, node, sync_at}
+use Rattle.ppd_model.specs.HappenedBefore.{Before, EdgeBefore, direct, edge, node, sync_at}
+use Rattle.ppd_model.proofs.OrderWords.{is_next}
 use Rattle.ppd_model.specs.Intervals.{own, Split, splits}
 use Rattle.ppd_model.specs.Laws.{begins}
 use Rattle.ppd_model.specs.Logs.{closed_logs}

@@ -9,7 +9,8 @@ use Rattle.ppd_sem.specs.declared.proc.Answer.{Answer}
 use Rattle.ppd_sem.specs.declared.proc.Need.{Need}
 use Rattle.ppd_sem.specs.declared.proc.Need.TheVariants.{P, V, Send, Offer, Done, Recv}
 use Rattle.ppd_sem.specs.declared.proc.Proc.{Proc}
-use Rattle.ppd_sem.specs.Process.{act, need_by_status, need_of}
+use Rattle.ppd_sem.specs.Process.{act, need_of}
+use Rattle.ppd_sem.proofs.NeedWords.{need_by_status}
 use Rattle.ppd_model.specs.declared.state.Logging.{Logging}
 use Rattle.ppd_model.specs.declared.tracing.Taken.{Taken}
 use Rattle.ppd_model.specs.Forward.{edge_in}

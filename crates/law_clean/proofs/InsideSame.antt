@@ -18,9 +18,11 @@ use Rattle.ppd_model.specs.declared.flow.FlowEdge.{FlowEdge}
 use Rattle.ppd_model.specs.declared.flow.Item.{Item}
 use Rattle.ppd_model.specs.declared.flow.Item.TheVariants as item
 use Rattle.ppd_model.specs.Earlier.{IsEarlier}
-use Rattle.ppd_model.specs.FlowbackEdges.{bare_edge, edges_of_nested as model_edges_of_nested, from_parent, from_writer, left_edges, part_at, part_in, result_edges, returned_edges}
+use Rattle.ppd_model.specs.FlowbackEdges.{bare_edge, edges_of_nested as model_edges_of_nested, from_parent, from_writer, left_edges, part_at, result_edges, returned_edges}
+use Rattle.ppd_model.proofs.EdgeWords.{part_in}
 use Rattle.ppd_model.specs.FullTrace.{Tag}
-use Rattle.ppd_model.specs.Intervals.{nested, Span, Split, is_closed, item_of_span, items_of, split_of, splits}
+use Rattle.ppd_model.specs.Intervals.{nested, Span, Split, is_closed, items_of, split_of, splits}
+use Rattle.ppd_model.proofs.IntervalWords.{item_of_span}
 use Rattle.ppd_model.specs.Items.{HasWholeItems}
 use Rattle.ppd_model.specs.Schedule.{run}
 use Rattle.ppd_model.specs.Story.{own_steps, story}

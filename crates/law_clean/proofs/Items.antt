@@ -12,8 +12,10 @@ use Rattle.ppd_blocks.specs.Blocks.{plan_of}
 use Rattle.ppd_model.specs.declared.flow.Origin.TheVariants as origin
 use Rattle.ppd_model.specs.declared.trace.TracedEvent.{TracedEvent}
 use Rattle.ppd_model.specs.declared.tracing.Story.{Story}
-use Rattle.ppd_model.specs.FlowbackEdges.{part_at, part_in}
-use Rattle.ppd_model.specs.Intervals.{Part, own, nested, Span, Split, begun_split, is_closed, item_of, item_of_event, item_of_span, ref, split_of, splits}
+use Rattle.ppd_model.specs.FlowbackEdges.{part_at}
+use Rattle.ppd_model.proofs.EdgeWords.{part_in}
+use Rattle.ppd_model.specs.Intervals.{Part, own, nested, Span, Split, begun_split, is_closed, item_of, ref, split_of, splits}
+use Rattle.ppd_model.proofs.IntervalWords.{item_of_event, item_of_span}
 use Rattle.ppd_model.specs.Items.{IsReferred}
 use Rattle.ppd_model.specs.Story.{Moment, own_moments, own_steps, steps_of, story, told}
 use Rattle.ppd_model.proofs.CountedOn.{kept_at}

@@ -15,7 +15,8 @@ use Rattle.ppd_sem.specs.declared.proc.Proc.{Proc}
 use Rattle.ppd_sem.specs.declared.proc.Todo.{Todo}
 use Rattle.ppd_sem.specs.Offers.{Completes}
 use Rattle.ppd_sem.specs.Passed.{next_stmt_of}
-use Rattle.ppd_sem.specs.Process.{act, need_by_status, need_of, need_of_running}
+use Rattle.ppd_sem.specs.Process.{act, need_of}
+use Rattle.ppd_sem.proofs.NeedWords.{need_by_status, need_of_running}
 use Rattle.ppd_sem.specs.Tables.{unit_of}
 use Rattle.ppd_sem.proofs.Offering.{offers_completed}
 use Rattle.ppd_model.specs.declared.state.Logging.{Logging}

@@ -14,9 +14,11 @@ use Rattle.ppd_sem.specs.declared.event.Spot.TheVariants.{Local}
 use Rattle.ppd_model.specs.declared.flow.Item.TheVariants as item
 use Rattle.ppd_model.specs.declared.trace.TracedEvent.{TracedEvent}
 use Rattle.ppd_model.specs.Earlier.{AreEarlier, EachNamesEarlier, IsEarlier, IsEarlierAt, NamesEarlier}
-use Rattle.ppd_model.specs.FlowbackEdges.{from_parent, from_writer, part_at, part_in}
+use Rattle.ppd_model.specs.FlowbackEdges.{from_parent, from_writer, part_at}
+use Rattle.ppd_model.proofs.EdgeWords.{part_in}
 use Rattle.ppd_model.specs.FullTrace.{Tag}
-use Rattle.ppd_model.specs.Intervals.{own, Span, Split, item_of_event, items_of, splits}
+use Rattle.ppd_model.specs.Intervals.{own, Span, Split, items_of, splits}
+use Rattle.ppd_model.proofs.IntervalWords.{item_of_event}
 use Rattle.ppd_model.specs.Items.{HasWholeItems}
 use Rattle.ppd_model.specs.Story.{story, told}
 use Rattle.ppd_model.proofs.Changes.{some}

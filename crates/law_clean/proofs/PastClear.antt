@@ -18,8 +18,9 @@ use Rattle.ppd_model.proofs.LastEdges.{before_from}
 use Rattle.ppd_model.proofs.Tested.{In, from_zero, in_map, tests_before, tests_edges}
 use Rattle.law_flow_shared.proofs.Edges.Sources.Members.{filter_in}
 use Rattle.law_clean.proofs.Vocabulary.{IsUnraced}
-use Rattle.law_clean.specs.Pasts.{Lies, all_edges, is_clean, is_item_past, is_past, is_raced, is_same_edge}
+use Rattle.law_clean.specs.Pasts.{Lies, all_edges, is_clean, is_past, is_raced, is_same_edge}
 use Rattle.law_clean.proofs.Ordered.{any_in, in_flat_map}
+use Rattle.law_clean.proofs.PastWords.{is_item_past}
 
 pub some_there : {A : Type 0} (xs : List A) (i : ℕ) → is_some (slice_get xs i) ≡ true → i < length xs
 some_there [] i e = absurd (true≢false (sym e))

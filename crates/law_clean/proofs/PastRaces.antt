@@ -17,11 +17,12 @@ use Rattle.ppd_model.proofs.Accesses.{record_at}
 use Rattle.ppd_model.proofs.LastEdges.{before_from}
 use Rattle.ppd_model.proofs.Tested.{In, tests_before, tests_edges}
 use Rattle.law_flow_shared.proofs.Edges.Sources.Members.{filter_in, in_filter}
-use Rattle.law_clean.specs.Pasts.{Lies, all_edges, are_raced, is_clean, is_item_past, is_of_race, is_past, is_raced, is_same_edge, past_of}
-use Rattle.law_clean.specs.Search.{has_race, is_raced_to, leads_from_race}
+use Rattle.law_clean.specs.Pasts.{Lies, all_edges, are_raced, is_clean, is_past, is_raced, past_of, is_same_edge}
+use Rattle.law_clean.specs.Search.{has_race, leads_from_race}
 use Rattle.law_clean.proofs.Ordered.{any_in}
 use Rattle.law_clean.proofs.PastClear.{edge_there, ended_there, some_there}
 use Rattle.law_clean.proofs.PastsGrow.{any_found, pasts_grow}
+use Rattle.law_clean.proofs.PastWords.{is_of_race, is_item_past, is_raced_to}
 
 pub either : (a b : Bool) → (a || b) ≡ true → (a ≡ true) ⊎ (b ≡ true)
 either true b e = inl refl

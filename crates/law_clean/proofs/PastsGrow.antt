@@ -13,7 +13,7 @@ use Rattle.ppd_model.specs.Record.{record_of}
 use Rattle.ppd_model.specs.Synchronizations.{Sync}
 use Rattle.ppd_model.proofs.Tested.{In, here, tests_edges}
 use Rattle.law_flow_shared.proofs.Edges.Sources.Members.{filter_in, in_filter}
-use Rattle.law_clean.specs.Pasts.{all_edges, are_raced, is_past, is_raced, is_same_edge, past_of}
+use Rattle.law_clean.specs.Pasts.{all_edges, are_raced, is_past, is_raced, past_of, is_same_edge}
 use Rattle.law_clean.proofs.CleanCuts.{next_before}
 use Rattle.law_clean.proofs.Ordered.{any_in}
 

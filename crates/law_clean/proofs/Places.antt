@@ -9,8 +9,10 @@ use Rattle.ppd_entry.specs.declared.entry.Entry.{Entry}
 use Rattle.ppd_entry.specs.declared.entry.Entry.TheVariants as entry
 use Rattle.ppd_model.specs.declared.flow.Item.{Item}
 use Rattle.ppd_model.specs.declared.trace.TracedEvent.{TracedEvent}
-use Rattle.ppd_model.specs.Extents.{Extending, Extent, begun_extents, ended_by, extend, extents, first_of, left_by}
-use Rattle.ppd_model.specs.FlowbackEdges.{part_at, part_in}
+use Rattle.ppd_model.specs.Extents.{Extending, Extent, extend, extents, first_of}
+use Rattle.ppd_model.proofs.ExtentWords.{begun_extents, ended_by, left_by}
+use Rattle.ppd_model.specs.FlowbackEdges.{part_at}
+use Rattle.ppd_model.proofs.EdgeWords.{part_in}
 use Rattle.ppd_model.specs.Intervals.{Part, nested, own, Span, Split, item_of, items_of}
 use Rattle.ppd_model.specs.Items.{HasWholeItems}
 use Rattle.ppd_model.specs.RecordedSets.{sync_in}
@@ -18,13 +20,15 @@ use Rattle.ppd_model.specs.Synchronizations.{Sync}
 use Rattle.ppd_model.specs.World.{change}
 use Rattle.ppd_model.proofs.Changes.{length-change, some}
 use Rattle.ppd_model.proofs.Extents.{extents_match}
-use Rattle.ppd_flow_model.specs.Ends.{begins_in, first_edge, syncs_before}
+use Rattle.ppd_flow_model.specs.Ends.{first_edge, syncs_before}
+use Rattle.ppd_flow_model.proofs.Vocabulary.{begins_in}
 use Rattle.ppd_flow_model.specs.Seen.{items_at, seen_of}
 use Rattle.law_flow_shared.proofs.Edges.Back.Walks.{map_at}
 use Rattle.law_flow_shared.proofs.Edges.LogPlaces.EdgePlaces.{first_edge_is}
 use Rattle.law_flow_shared.proofs.Edges.PartItems.{item_at, item_if}
 use Rattle.law_flow_shared.proofs.Edges.Spans.Facts.{OpensAt, at, count_to}
-use Rattle.law_clean.specs.Pasts.{left_edge, left_in}
+use Rattle.law_clean.specs.Pasts.{left_edge}
+use Rattle.law_clean.proofs.PastWords.{left_in}
 
 -- ---- synchronizations before entries
 

@@ -14,8 +14,10 @@ use Rattle.ppd_entry.specs.Entries.{entries_at}
 use Rattle.ppd_model.specs.declared.flow.Item.{Item}
 use Rattle.ppd_model.specs.declared.flow.Item.TheVariants as item
 use Rattle.ppd_model.specs.declared.trace.TracedEvent.{TracedEvent}
-use Rattle.ppd_model.specs.FlowbackEdges.{part_at, part_in}
-use Rattle.ppd_model.specs.Intervals.{Part, own, nested, Span, Split, is_closed, item_of_event, item_of_span, items_of, splits}
+use Rattle.ppd_model.specs.FlowbackEdges.{part_at}
+use Rattle.ppd_model.proofs.EdgeWords.{part_in}
+use Rattle.ppd_model.specs.Intervals.{Part, own, nested, Span, Split, is_closed, items_of, splits}
+use Rattle.ppd_model.proofs.IntervalWords.{item_of_event, item_of_span}
 use Rattle.ppd_model.specs.Items.{HasWholeItems, IsReferred}
 use Rattle.ppd_model.specs.Logs.{closed_logs}
 use Rattle.ppd_model.specs.Story.{story}

@@ -19,7 +19,8 @@ use Rattle.ppd_model.specs.declared.tracing.Story.{Story}
 use Rattle.ppd_model.specs.declared.tracing.Taken.{Taken}
 use Rattle.ppd_model.specs.Bounds.{AreEach}
 use Rattle.ppd_model.specs.Extents.{Extent, IsSameInterval, extents}
-use Rattle.ppd_model.specs.FlowbackEdges.{part_at, part_in}
+use Rattle.ppd_model.specs.FlowbackEdges.{part_at}
+use Rattle.ppd_model.proofs.EdgeWords.{part_in}
 use Rattle.ppd_model.specs.Forward.{edge_in}
 use Rattle.ppd_model.specs.Intervals.{Part, nested, Span, Split, is_closed, split_of, splits}
 use Rattle.ppd_model.specs.Laws.{begins}
@@ -39,12 +40,13 @@ use Rattle.law_flow_shared.proofs.Edges.Spans.Tiles.{Stands, outermost, within}
 use Rattle.law_flow_shared.proofs.Edges.Spans.Facts.{Logged}
 use Rattle.law_flow_shared.proofs.Edges.Spans.Told.{IsPlaced}
 use Rattle.law_flow_shared.proofs.Edges.StepEvents.Processes.{Facts, facts}
-use Rattle.law_clean.specs.Pasts.{left_edge, left_in}
+use Rattle.law_clean.specs.Pasts.{left_edge}
 use Rattle.law_clean.proofs.CutIs.{log_tail, syncs_are, tail}
 use Rattle.law_clean.proofs.CutRuns.{moments_grow}
 use Rattle.law_clean.proofs.CutSeen.{logging_at}
 use Rattle.law_clean.proofs.Items.{closed_stays, part_kept, span_kept}
 use Rattle.law_clean.proofs.LeftBy.{left_before}
+use Rattle.law_clean.proofs.PastWords.{left_in}
 
 first_at : {A B : Type 0} (R : A → B → Type 0) (xs : List A) (ys : List B) (m : ℕ) (x : A) → AreEach R xs ys → slice_get xs m ≡ Some x → (y : B) × (slice_get ys m ≡ Some y) × R x y
 first_at R [] ys m x h e = absurd (none-some x e)

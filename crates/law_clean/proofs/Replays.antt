@@ -5,7 +5,8 @@ use Rattle.ppd_ast.specs.declared.plan.Plan.{Plan}
 use Rattle.ppd_ast.specs.declared.plan.Policy.{Policy}
 use Rattle.ppd_ast.specs.declared.program.Program.{Program}
 use Rattle.ppd_ast.specs.Valid.{IsValid}
-use Rattle.ppd_entry.specs.IntervalLogs.{IntervalLog, begun_indexing, index_step, log_in}
+use Rattle.ppd_entry.specs.IntervalLogs.{IntervalLog, begun_indexing, index_step}
+use Rattle.ppd_entry.proofs.Vocabulary.{log_in}
 use Rattle.ppd_model.specs.declared.tracing.Story.{Story}
 use Rattle.ppd_model.specs.Intervals.{Span, Split, items_of}
 use Rattle.ppd_model.specs.Logs.{closed_log, log_step}

@@ -22,7 +22,8 @@ use Rattle.ppd_model.specs.Bounds.{AreEach}
 use Rattle.ppd_model.specs.Extents.{Extent, IsSameInterval, extents}
 use Rattle.ppd_model.specs.Forward.{edge_in}
 use Rattle.ppd_model.specs.Intervals.{Span, Split, items_of, splits}
-use Rattle.ppd_model.specs.Logs.{closed_log, closed_logs, log_of, loggings, logs_from}
+use Rattle.ppd_model.specs.Logs.{closed_log, closed_logs, log_of, loggings}
+use Rattle.ppd_model.proofs.LogWords.{logs_from}
 use Rattle.ppd_model.specs.RecordedSets.{sync_in}
 use Rattle.ppd_model.specs.Schedule.{IsWhole, run}
 use Rattle.ppd_model.specs.SharedReads.{need_after}
@@ -36,7 +37,8 @@ use Rattle.law_flow_own.proofs.Places.LeafTells.{split_is}
 use Rattle.law_replay.proofs.Theorem.Processes.{process_there}
 use Rattle.law_replay.specs.Theorem.Laws.{modelled_of, replay_of}
 use Rattle.law_steps.proofs.OpenBlocks.Told.{own_steps_are}
-use Rattle.ppd_flow_model.specs.Ends.{ending, ends_edge, is_sync}
+use Rattle.ppd_flow_model.specs.Ends.{ending, ends_edge}
+use Rattle.ppd_flow_model.proofs.Vocabulary.{is_sync}
 use Rattle.ppd_flow_model.specs.Seen.{Seen, seen_of}
 use Rattle.ppd_flow_model.specs.Shared.{seen_at}
 use Rattle.ppd_sem.specs.declared.proc.Need.TheVariants.{Read}
@@ -45,7 +47,7 @@ use Rattle.law_flow_shared.proofs.Edges.PairPlaces.Leading.{IsSyncStep, sync_ste
 use Rattle.law_flow_shared.proofs.Edges.Sources.LastOrigins.{below_moments, split_there}
 use Rattle.law_flow_shared.proofs.Edges.StepEvents.Timeline.{did, none_did}
 use Rattle.law_flow_shared.proofs.Edges.StepEvents.Writers.{edge_is_count}
-use Rattle.law_clean.specs.Cuts.{cut, cut_at, cut_from, cut_logs}
+use Rattle.law_clean.specs.Cuts.{cut, cut_at, cut_logs}
 use Rattle.law_clean.specs.Ordered.{AreUnracedReads, IsUnracedIn}
 use Rattle.law_clean.proofs.CutLogs.{cut_of_log}
 use Rattle.law_clean.proofs.CutSeen.{cut_seen, items_same, logging_at, rounds_same, same_blocks, same_parents}
@@ -53,6 +55,7 @@ use Rattle.law_clean.proofs.CutShared.{HasEnded, IsBegun}
 use Rattle.law_clean.proofs.EdgeEnds.{EndsEdge, edge_ends, edge_own}
 use Rattle.law_clean.proofs.ReadsAnswered.{unraced_reads}
 use Rattle.law_clean.proofs.Replays.{replays_alike}
+use Rattle.law_clean.proofs.PastWords.{cut_from}
 
 -- ---- cut lists
 

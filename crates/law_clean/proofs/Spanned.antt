@@ -17,8 +17,10 @@ use Rattle.ppd_model.specs.declared.tracing.Story.{Story}
 use Rattle.ppd_model.specs.declared.tracing.Taken.{Taken}
 use Rattle.ppd_model.specs.declared.tracing.Activation.{Activation}
 use Rattle.ppd_model.specs.declared.tracing.Tracing.{Tracing}
-use Rattle.ppd_model.specs.FullTrace.{Tag, event_of, me_in, tagged_after, tagged_at, tagged_by, top_tags, trace_by, trace_step, traced_by, with_event, with_test}
-use Rattle.ppd_model.specs.Intervals.{Split, begin_if, control_by, end_if, innermost, left_by, own, split_step, with_marks, with_own, with_part, with_step}
+use Rattle.ppd_model.specs.FullTrace.{Tag, event_of, me_in, tagged_after, tagged_by, top_tags, trace_by, trace_step, traced_by, with_event, with_test}
+use Rattle.ppd_model.proofs.TraceWords.{tagged_at}
+use Rattle.ppd_model.specs.Intervals.{Split, control_by, innermost, left_by, own, split_step, with_marks, with_own, with_part, with_step}
+use Rattle.ppd_model.proofs.IntervalWords.{begin_if, end_if}
 use Rattle.ppd_model.specs.Marks.{Mark, closed, opened}
 use Rattle.ppd_model.specs.Record.{edge_after}
 use Rattle.ppd_model.specs.Story.{Moment, steps_of}

@@ -17,7 +17,8 @@ use Rattle.ppd_model.specs.declared.tracing.Story.{Story}
 use Rattle.ppd_model.specs.declared.tracing.Taken.{Taken}
 use Rattle.ppd_model.specs.declared.tracing.Tracing.{Tracing}
 use Rattle.ppd_model.specs.FullTrace.{Tag, event_of, me_in, tagged_after, top_tags, trace_by, traced_by, with_event, with_test}
-use Rattle.ppd_model.specs.Intervals.{Part, own, nested, Span, Split, begin_if, control_by, end_if, innermost, item_of, item_of_event, items_of, left_by, split_step, with_marks, with_own, with_part, with_step}
+use Rattle.ppd_model.specs.Intervals.{Part, own, nested, Span, Split, control_by, innermost, item_of, items_of, left_by, split_step, with_marks, with_own, with_part, with_step}
+use Rattle.ppd_model.proofs.IntervalWords.{begin_if, end_if, item_of_event}
 use Rattle.ppd_model.specs.Marks.{Mark, closed, opened}
 use Rattle.ppd_model.specs.Record.{edge_after}
 use Rattle.ppd_flow_model.specs.Seen.{seen_of}

@@ -7,7 +7,8 @@ use Rattle.ppd_ast.specs.declared.program.Program.{Program}
 use Rattle.ppd_blocks.specs.Blocks.{plan_of}
 use Rattle.ppd_model.specs.declared.tracing.Story.{Story}
 use Rattle.ppd_model.specs.declared.tracing.Taken.{Taken}
-use Rattle.ppd_model.specs.Intervals.{Split, splits_from}
+use Rattle.ppd_model.specs.Intervals.{Split}
+use Rattle.ppd_model.proofs.IntervalWords.{splits_from}
 use Rattle.ppd_model.specs.Story.{story}
 use Rattle.law_clean.specs.Laws.{AnswersAreOfRuns}
 use Rattle.law_clean.proofs.Answered.{answered_here}

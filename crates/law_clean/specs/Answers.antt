@@ -1,5 +1,5 @@
 -- What is answered of an item in a run with races.
-use Rattle.std.specs.Prelude.{ℕ, List, [], ◌∷◌, slice_get, Option, Some, None, if◌then◌else◌, unwrap_or}
+use Rattle.std.specs.Prelude.{ℕ, List, [], find, slice_get, Option, Some, None, if◌then◌else◌, unwrap_or}
 use Rattle.std.specs.Option.{option_map_or}
 use Rattle.ppd_ast.specs.declared.plan.Plan.{Plan}
 use Rattle.ppd_ast.specs.declared.program.Program.{Program}
@@ -15,7 +15,7 @@ use Rattle.ppd_model.specs.Logs.{closed_logs}
 use Rattle.ppd_model.specs.Story.{story}
 use Rattle.ppd_flow_model.specs.Ends.{first_edge}
 use Rattle.ppd_flow_model.specs.Shared.{Missing}
-use Rattle.law_clean.specs.Pasts.{edges_between, first_unclean, is_clean, left_edge, lies}
+use Rattle.law_clean.specs.Pasts.{are_raced, edges_between, is_clean, left_edge, lies, past_of}
 
 -- an item with its edges; an edge whose past has a race; that there is no such item; or a write that an edge records
 -- and its replay does not do
@@ -29,15 +29,12 @@ abbrev pub unclean_or : ℕ → Option ℕ → CleanOr → CleanOr
 unclean_or p None otherwise = otherwise
 unclean_or p (Some i) otherwise = unclean (edge p i)
 
-abbrev pub first_item : List Item → List FlowEdge → CleanOr
-first_item [] es = no_item
-first_item (t ∷ ts) es = clean t es
-
 module _ (program : Program) (plan : Plan) (budget : ℕ) (h : List ℕ) (p k j : ℕ) where
   -- the least edge of p whose past has a race, of those from the one in which interval k begins through another
   abbrev unclean_to : ℕ → Option ℕ
   unclean_to last =
-      first_unclean program (story program plan budget h) p
+      find
+      (λ i. are_raced program (story program plan budget h) (past_of program (story program plan budget h) (edge p i)))
       (edges_between (first_edge (entries_at (closed_logs program plan budget h) p) k) last)
 
   -- interval k of process p, in its split: of an item that is not there, the edges that the interval reaches
@@ -46,7 +43,8 @@ module _ (program : Program) (plan : Plan) (budget : ℕ) (h : List ℕ) (p k j 
   by_part x (Some part) =
       if is_clean program (story program plan budget h) p
       (lies (entries_at (closed_logs program plan budget h) p) x part) then
-      first_item (item_of x part) (unwrap_or (edges program plan budget (story program plan budget h) p k j) [])
+      option_map_or (λ t. clean t (unwrap_or (edges program plan budget (story program plan budget h) p k j) []))
+      (slice_get (item_of x part) 0) no_item
       else unclean_or p (unclean_to (edge_in program plan budget h p)) no_item
 
   -- what is to be answered of item j of interval k of process p

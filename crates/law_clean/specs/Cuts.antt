@@ -1,11 +1,13 @@
 -- Logs that are cut after the last wanted edge of each process.
-use Rattle.std.specs.Prelude.{ℕ, ◌+◌, Bool, true, false, List, [], ◌∷◌, ◌++◌, slice_get, take, Option, Some, None, if◌then◌else◌}
+use Rattle.std.specs.Prelude.{ℕ, ◌+◌, Bool, true, false, List, [], ◌∷◌, ◌++◌, map, slice_get, take, Option, Some, None, if◌then◌else◌, is_some}
+use Rattle.std.specs.List.{enumerate_from}
 use Rattle.std.specs.Option.{option_map_or}
 use Rattle.ppd_ast.specs.declared.status.Status.TheVariants as status
 use Rattle.ppd_entry.specs.declared.entry.Entry.{Entry}
 use Rattle.ppd_entry.specs.declared.entry.Entry.TheVariants as entry
 use Rattle.ppd_entry.specs.declared.entry.Logs.{Logs}
-use Rattle.ppd_flow_model.specs.Ends.{ending, is_sync}
+use Rattle.ppd_flow_model.specs.Ends.{ending}
+use Rattle.ppd_model.specs.RecordedSets.{sync_in}
 
 -- ---- one log
 
@@ -26,16 +28,12 @@ cut_at entries n = take (if is_unit (slice_get entries n) then n + 1 else n) ent
 abbrev pub cut : Option ℕ → List Entry → List Entry
 cut None entries = cut_at entries 1
 cut (Some i) entries =
-    if option_map_or is_sync (slice_get entries (ending i entries)) false then cut_at entries (ending i entries + 1)
+    if option_map_or (λ e. is_some (sync_in e)) (slice_get entries (ending i entries)) false
+    then cut_at entries (ending i entries + 1)
     else entries
 
 -- ---- all logs
 
--- the lists of the processes from number p on, each cut after the last edge that is wanted of its process
-abbrev pub cut_from : (ℕ → Option ℕ) → ℕ → List (List Entry) → List (List Entry)
-cut_from last p [] = []
-cut_from last p (entries ∷ rest) = cut (last p) entries ∷ cut_from last (p + 1) rest
-
--- logs without the edges that are not wanted
+-- logs without the edges that are not wanted: the log of each process is cut after the last that is wanted of it
 abbrev pub cut_logs : (ℕ → Option ℕ) → Logs → Logs
-cut_logs last logs = record { lists = cut_from last 0 logs.lists }
+cut_logs last logs = record { lists = map (λ e. cut (last e.0) e.1) (enumerate_from 0 logs.lists) }

@@ -1,5 +1,6 @@
 -- The past of an item, and whether a race touches it.
-use Rattle.std.specs.Prelude.{ℕ, ◌+◌, ◌-◌, nat_eq, Bool, false, ◌&&◌, ◌||◌, not, List, map, filter, filter_map, find, length, slice_get, Option, Some, None, is_some, option_and_then, unwrap_or, if◌then◌else◌}
+use Rattle.std.specs.Prelude.{ℕ, ◌+◌, ◌-◌, nat_eq, Bool, false, ◌&&◌, ◌||◌, not, List, map, filter, filter_map, length, slice_get, is_some, option_and_then, unwrap_or, if◌then◌else◌}
+use Rattle.std.specs.Option.{option_map_or}
 use Rattle.std.specs.List.{flat_map, list_any, range_with_len}
 use Rattle.ppd_ast.specs.declared.program.Program.{Program}
 use Rattle.ppd_entry.specs.declared.entry.Entry.{Entry}
@@ -7,7 +8,7 @@ use Rattle.ppd_model.specs.declared.graph.EdgeId.{EdgeId}
 use Rattle.ppd_model.specs.declared.graph.Race.{Race}
 use Rattle.ppd_model.specs.declared.tracing.Story.{Story}
 use Rattle.ppd_model.specs.HappenedBefore.{edge, is_before, is_edge_before, node}
-use Rattle.ppd_model.specs.Extents.{Extent, extents}
+use Rattle.ppd_model.specs.Extents.{extents}
 use Rattle.ppd_model.specs.Intervals.{Part, own, nested, Split}
 use Rattle.ppd_model.specs.NearIntervals.{edge_of_event}
 use Rattle.ppd_model.specs.Races.{races_of}
@@ -18,13 +19,10 @@ use Rattle.ppd_flow_model.specs.Ends.{syncs_before}
 
 -- ---- races that have an edge
 
--- the edge is one of the two of the race
-abbrev pub is_of_race : EdgeId → Race → Bool
-is_of_race e r = (nat_eq r.p e.process && nat_eq r.i e.edge) || (nat_eq r.q e.process && nat_eq r.j e.edge)
-
--- some race has the edge
+-- some race has the edge: it is one of its two
 abbrev pub is_raced : List Race → EdgeId → Bool
-is_raced rs e = list_any (is_of_race e) rs
+is_raced rs e =
+    list_any (λ r. (nat_eq r.p e.process && nat_eq r.i e.edge) || (nat_eq r.q e.process && nat_eq r.j e.edge)) rs
 
 -- ---- the past of an edge
 
@@ -54,14 +52,12 @@ pub record Lies : Type 0 where
   pub edge : ℕ
   pub ends : Bool
 
--- the edge in which an interval of these entries is left: that of its postlog, and the last edge where it has none
-abbrev pub left_in : List Entry → Option Extent → ℕ
-left_in entries None = 0
-left_in entries (Some x) =
-    if x.closed then syncs_before entries (unwrap_or x.last 0) else length (filter_map sync_in entries)
-
+-- the edge in which interval m of these entries is left: that of its postlog, and the last edge where it has none
 abbrev pub left_edge : List Entry → ℕ → ℕ
-left_edge entries m = left_in entries (slice_get (extents entries) m)
+left_edge entries m =
+    option_map_or
+    (λ x. if x.closed then syncs_before entries (unwrap_or x.last 0) else length (filter_map sync_in entries))
+    (slice_get (extents entries) m) 0
 
 -- of a process with these entries
 abbrev pub lies : List Entry → Split → Part → Lies
@@ -71,22 +67,15 @@ lies entries x (own n) = record {
 }
 lies entries x (nested m) = record { edge = left_edge entries m; ends = false }
 
--- the past of an item of process p that lies so: that of its last edge, and for a synchronization also every edge that
--- ends in a synchronization before it
-abbrev pub is_item_past : Program → Story → ℕ → Lies → EdgeId → Bool
-is_item_past program s p l a =
-    is_past program (record_of s) (edge p l.edge) a
-    || (l.ends && is_before program (record_of s) (node a.process a.edge) (node p l.edge))
-
--- no race has an edge of it
+-- no race has an edge of the past of an item of process p that lies so: that of its last edge, and for a
+-- synchronization also every edge that ends in a synchronization before it
 abbrev pub is_clean : Program → Story → ℕ → Lies → Bool
-is_clean program s p l = not (are_raced program s (filter (is_item_past program s p l) (all_edges s)))
+is_clean program s p l =
+    not (are_raced program s (filter
+    (λ a. is_past program (record_of s) (edge p l.edge) a
+    || (l.ends && is_before program (record_of s) (node a.process a.edge) (node p l.edge))) (all_edges s)))
 
 -- ---- where there is no clean item
-
--- the least of these edges of process p whose past has a race
-abbrev pub first_unclean : Program → Story → ℕ → List ℕ → Option ℕ
-first_unclean program s p es = find (λ i. are_raced program s (past_of program s (edge p i))) es
 
 -- the edges from one through another
 abbrev pub edges_between : ℕ → ℕ → List ℕ

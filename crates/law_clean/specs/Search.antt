@@ -36,10 +36,6 @@ module _ (program : Program) (rec : List (List Sync)) (races : List Race) where
       list_any (λ r. is_before program rec (node r.p r.i) (node e.process e.edge)
       || is_before program rec (node r.q r.j) (node e.process e.edge)) races
 
-  -- edge i of process q, or one before it in its process, is one of a race
-  abbrev pub is_raced_to : ℕ → ℕ → Bool
-  is_raced_to q i = list_any (λ r. (nat_eq r.p q && nat_le r.i i) || (nat_eq r.q q && nat_le r.j i)) races
-
   -- ---- the edges that are wanted, where o is the first edge of process p whose past has a race, if there is one
 
   -- of p the edges before it, all where there is none
@@ -48,19 +44,19 @@ module _ (program : Program) (rec : List (List Sync)) (races : List Race) where
   own_last p (Some zero) = None
   own_last p (Some (suc i)) = Some i
 
-  -- of process q those before that edge, or before p's last one, up to q's first that is one of a race
+  -- of process q those before that edge, or before p's last one, up to q's first that is one of a race: neither edge i
+  -- nor one before it in its process is one
   abbrev pub is_wanted : ℕ → ℕ → ℕ → ℕ → Bool
-  is_wanted p top q i = is_edge_before program rec (edge q i) (edge p top) && not (is_raced_to q i)
-
-  -- the last of these
-  abbrev pub other_last : ℕ → ℕ → ℕ → Option ℕ
-  other_last p top q =
-      fold (λ found i. if is_wanted p top q i then Some i else found) None (range_with_len 0 (length (own_syncs rec q)))
+  is_wanted p top q i =
+      is_edge_before program rec (edge q i) (edge p top)
+      && not (list_any (λ r. (nat_eq r.p q && nat_le r.i i) || (nat_eq r.q q && nat_le r.j i)) races)
 
   -- the last edge that is wanted of process q
   abbrev pub last_wanted : ℕ → Option ℕ → ℕ → Option ℕ
   last_wanted p o q =
-      if nat_eq q p then own_last p o else other_last p (unwrap_or o (length (own_syncs rec p))) q
+      if nat_eq q p then own_last p o
+      else fold (λ found i. if is_wanted p (unwrap_or o (length (own_syncs rec p))) q i then Some i else found) None
+      (range_with_len 0 (length (own_syncs rec q)))
 
 -- ---- by logs, of which this is the record
 

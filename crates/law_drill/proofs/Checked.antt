@@ -1,5 +1,5 @@
 -- The rules of the language hold for the trees of pipelines.
-use Rattle.std.specs.Prelude.{nat_lt, nat_le, map}
+use Rattle.std.specs.Prelude.{nat_lt, nat_le, map, not}
 use Rattle.std.specs.List.{filter, count_by, flat_map}
 use Rattle.std.proofs.Common.{◌≡◌, ◌<◌, ◌≤◌, ◌+◌, ℕ, zero, suc, Bool, true, false, List, [], ◌∷◌, length, refl, ap, arith}
 use Rattle.std.proofs.lemmas.Bool.{leb-true}
@@ -13,12 +13,13 @@ use Rattle.ppd_parse.specs.Trees.{Shape, node, forest}
 use Rattle.ppd_check_names.specs.declared.fault.Cause.TheVariants.{NoProcess}
 use Rattle.ppd_check_names.specs.declared.fault.Cause.TheVariants.{TooMany}
 use Rattle.ppd_check_names.specs.declared.fault.Limit.TheVariants.{Statements}
-use Rattle.ppd_check_names.specs.Faults.{at, unless}
+use Rattle.ppd_check_names.specs.Faults.{at, if_so}
 use Rattle.ppd_check_names.specs.Syntax.{Source}
 use Rattle.ppd_check_names.specs.Reading as Reading
 use Rattle.ppd_check_names.specs.Globals.{globals, no_globals, items_faults, count_faults}
-use Rattle.ppd_check_stmts.specs.Code.{places}
-use Rattle.ppd_check_bodies.specs.Sources.{faults, faults_in, past_statements, is_up_to, head_faults, heads, codes}
+use Rattle.ppd_check.specs.Placed.{place_of}
+use Rattle.ppd_check_bodies.specs.Sources.{faults_in, all_stmts, past_statements, head_faults, heads, codes}
+use Rattle.ppd_check.proofs.Vocabulary.{is_up_to}
 use Rattle.law_drill.proofs.Derivations.{trees}
 use Rattle.law_drill.proofs.Pipelines.{source_of}
 
@@ -37,10 +38,10 @@ few_statements ps few =
     below m n h = grind (arith, nat_tests)
 
 -- a source breaks no rule, where each part of it breaks none
-accepted_if : (s : Source) → nat_le (length (flat_map places (codes (globals s)))) MOST_STATEMENTS ≡ true
-    → items_faults s.items no_globals ≡ [] → count_faults (globals s) ≡ [] → unless (nat_lt 0 (length (globals s).processes)) s.end NoProcess ≡ []
+accepted_if : (s : Source) → nat_le (length (map place_of (all_stmts 0 0 0 (codes (globals s))))) MOST_STATEMENTS ≡ true
+    → items_faults s.items no_globals ≡ [] → count_faults (globals s) ≡ [] → if_so (not (nat_lt 0 (length (globals s).processes))) s.end NoProcess ≡ []
     → flat_map (head_faults (globals s).scope) (heads (globals s)) ≡ [] → faults_in s ≡ []
-accepted_if s few items count process bodies = rw (items, count, process, bodies) (few_statements (flat_map places (codes (globals s))) (leb-true _ _ few))
+accepted_if s few items count process bodies = rw (items, count, process, bodies) (few_statements (map place_of (all_stmts 0 0 0 (codes (globals s)))) (leb-true _ _ few))
 
 -- the first of some trees
 abbrev root : List Shape → Shape
@@ -54,7 +55,7 @@ tree_of w m n k = root (trees w 0 (source_of m n k))
 module _ (w : ℕ → Token) (m n : ℕ) where
   -- a pipeline with k channels breaks no rule
   abbrev IsRight : ℕ → Type 0
-  IsRight k = faults (tree_of w m n k) ≡ []
+  IsRight k = faults_in (Reading.source_of (tree_of w m n k)) ≡ []
 
   two_channels : IsRight 2
   two_channels = accepted_if (Reading.source_of (tree_of w m n 2)) refl refl refl refl refl
@@ -74,7 +75,7 @@ module _ (w : ℕ → Token) (m n : ℕ) where
   seven_channels : IsRight 7
   seven_channels = accepted_if (Reading.source_of (tree_of w m n 7)) refl refl refl refl refl
 
-  pub no_fault : (r : ℕ) → r < 6 → faults (tree_of w m n (2 + r)) ≡ []
+  pub no_fault : (r : ℕ) → r < 6 → faults_in (Reading.source_of (tree_of w m n (2 + r))) ≡ []
   no_fault zero lt = two_channels
   no_fault (suc zero) lt = three_channels
   no_fault (suc (suc zero)) lt = four_channels

@@ -9,7 +9,8 @@ use Rattle.ppd_ast.specs.Digits.{is_digit, value_from}
 use Rattle.ppd_ast.proofs.Digits.{value_append}
 use Rattle.ppd_lex.specs.declared.token.TokenKind.TheVariants.{Number}
 use Rattle.ppd_lex.specs.declared.scan.Piece.TheVariants.{Read}
-use Rattle.ppd_lex.specs.Front.{front, is_space, is_letter, is_name_byte, number_of, read_value}
+use Rattle.ppd_lex.specs.Front.{front, is_space, is_letter, is_name_byte, number_of}
+use Rattle.ppd_lex.proofs.Words.{read_value}
 use Rattle.ppd_lex.proofs.Begins.{front_number}
 use Rattle.ppd_lex.proofs.Numbers.{value_is}
 

@@ -7,7 +7,8 @@ use Rattle.ppd_lex.specs.declared.token.Token.{Token}
 use Rattle.ppd_lex.proofs.FormedTokens.{formed}
 use Rattle.ppd_parse.specs.Limits.{IsTree, token_at}
 use Rattle.ppd_check.specs.Read.{IsRead}
-use Rattle.ppd_check_bodies.specs.Sources.{core}
+use Rattle.ppd_check_bodies.specs.Sources.{core_of}
+use Rattle.ppd_check_names.specs.Reading as Reading
 use Rattle.ppd_top_drill.specs.Drills.{pipeline, turns}
 use Rattle.law_drill.specs.Drilled.{AreRead}
 use Rattle.law_drill.proofs.Checked.{tree_of, no_fault}
@@ -28,7 +29,7 @@ pipeline_read n r small lt =
     let ts : List Token = lexed.0 in
     let w : ℕ → Token = λ i. token_at ts i in
     let tree : IsTree ts (tree_of w m n k ∷ []) = derived_tree ts (source_of m n k) lexed.2 (within_limits w m n r lt) (formed (pipeline n k) ts lexed.1).ends in (
-      core (tree_of w m n k),
+      core_of (Reading.source_of (tree_of w m n k)),
       record {
         tree = tree_of w m n k;
         parsed = record { tokens = ts; lexed = lexed.1; parsed = tree };

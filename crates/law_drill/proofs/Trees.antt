@@ -10,7 +10,8 @@ use Rattle.ppd_parse.specs.declared.error.SyntaxError.{SyntaxError}
 use Rattle.ppd_parse.specs.declared.error.SyntaxError.TheVariants as E
 use Rattle.ppd_parse.specs.Trees.{Shape, Marked, tokens_of, outside}
 use Rattle.ppd_parse.specs.Language.{IsProgram, the, source_side}
-use Rattle.ppd_parse.specs.Limits.{count_with, count_after, KeepLimits, token_at, IsTree, BreaksDepth, BreaksWidth, IsPast, IsRefused}
+use Rattle.ppd_parse.specs.Limits.{count_with, KeepLimits, token_at, IsTree, IsPast, IsRefused}
+use Rattle.ppd_parse.proofs.Vocabulary.{count_after, BreaksDepth, BreaksWidth}
 use Rattle.ppd_parse.proofs.Excluded.{kept_at}
 use Rattle.ppd_parse.proofs.Total.{an_answer}
 use Rattle.law_drill.proofs.Derivations.{Derivation, kinds, laid, marks, trees, derived, tokens_derived, laid_self}

@@ -13,7 +13,7 @@ use Rattle.ppd_flow_model.specs.declared.walked.Walked.{Walked}
 use Rattle.ppd_flow_model.specs.declared.walked.Walked.TheVariants.{Stopped, Passed, Found}
 use Rattle.ppd_flow_model.specs.Seen.{Seen, items_at, place_of, round_at}
 use Rattle.ppd_flow_model.specs.Walk.{back, back_from, back_over, backwards, found_or, inside, is_shared, onward, over_event, value_to, walk, walk_out}
-use Rattle.law_flow_missing.specs.Missing.{after_event, events_among, events_before, events_in, events_to, since_sync, writes_cell}
+use Rattle.law_flow_missing.specs.Missing.{events_among, events_in, events_to, writes_cell}
 
 or_none : (a b : Bool) → (a || b) ≡ false → (a ≡ false) × (b ≡ false)
 or_none true b e = absurd (true≢false e)
@@ -22,6 +22,18 @@ or_none false b e = (refl, e)
 or_one : (a b : Bool) → b ≡ true → (a || b) ≡ true
 or_one true b e = refl
 or_one false b e = e
+
+-- all events of the process before place j of interval k
+abbrev pub events_before : Seen → ℕ → ℕ → List Event
+events_before x k j = events_to x k j (round_at x k)
+
+-- an event more after the last synchronization, or a synchronization itself
+abbrev pub after_event : List Event → Event → List Event
+after_event es e = if is_some e.number then [] else es ++ e ∷ []
+
+-- those of these events that come after the last synchronization
+abbrev pub since_sync : List Event → List Event
+since_sync es = fold after_event [] es
 
 -- ---- synchronizations among events
 

@@ -27,8 +27,8 @@ use Rattle.ppd_flow_model.specs.Seen.{Seen, items_at}
 use Rattle.ppd_flow_model.specs.Shared.{Missing, edge_of_place, greater, greatest_before, greatest_writing, is_before_in, missing, origin_in, own_or, seen_at, shared_origin, walk_in, writing, writing_from, writing_in, written_at, written_or_start}
 use Rattle.ppd_flow_model.specs.Ends.{end_interval, end_item}
 use Rattle.ppd_flow_model.specs.Walk.{walk}
-use Rattle.law_flow_missing.specs.Missing.{IsMissingWrite, MissingWritesAreTold, events_before, events_of, writes_cell}
-use Rattle.law_flow_missing.proofs.Events.{is_found, none_written, walk_tells}
+use Rattle.law_flow_missing.specs.Missing.{IsMissingWrite, MissingWritesAreTold, events_of, writes_cell}
+use Rattle.law_flow_missing.proofs.Events.{is_found, none_written, walk_tells, events_before}
 use Rattle.law_flow_missing.proofs.RecordedWrites.{all_end_last, entry_records, sets_of_process}
 
 -- each of these edges has the property

@@ -29,10 +29,6 @@ writes_of (entry.Sync kind object number value reads writes) = writes
 writes_of (entry.End status rest reads writes) = writes
 writes_of e = []
 
--- the internal edge that the entry ends: as many synchronizations stand before it
-abbrev pub edge_ended : Logs → Missing → EdgeId
-edge_ended logs m = edge m.process (syncs_before (entries_at logs m.process) m.entry)
-
 -- ---- the events of an internal edge, as replays give them
 
 -- the events of these items in order; `inner` are those of a whole interval
@@ -53,23 +49,15 @@ events_to x k j [] = events_among (events_in (length x.items) x) (take j (items_
 events_to x k j (m ∷ ms) =
     events_to x m (place_of k (items_at x m)) ms ++ events_among (events_in (length x.items) x) (take j (items_at x k))
 
--- all events of the process before place j of interval k
-abbrev pub events_before : Seen → ℕ → ℕ → List Event
-events_before x k j = events_to x k j (round_at x k)
-
-abbrev pub after_event : List Event → Event → List Event
-after_event es e = if is_some e.number then [] else es ++ e ∷ []
-
--- those of these events that come after the last synchronization
-abbrev pub since_sync : List Event → List Event
-since_sync es = fold after_event [] es
-
--- the events of the edge: from the synchronization before it to the place where it ends
+-- the events of the edge: of all those of its process before the place where it ends, those after the last
+-- synchronization
 abbrev pub events_of : List Seen → List Entry → EdgeId → List Event
 events_of xs entries a =
-    since_sync (events_before (seen_at xs a.process) (end_interval entries a.edge)
-    (end_item entries (seen_at xs a.process) a.edge))
+    fold (λ (es : List Event) (e : Event). if is_some e.number then [] else es ++ e ∷ []) []
+    (events_to (seen_at xs a.process) (end_interval entries a.edge) (end_item entries (seen_at xs a.process) a.edge)
+    (round_at (seen_at xs a.process) (end_interval entries a.edge)))
 
+-- whether an event writes shared cell c
 abbrev pub writes_cell : ℕ → Event → Bool
 writes_cell c e = list_any (λ a. is_shared c a.spot) e.writes
 
@@ -79,14 +67,15 @@ writes_cell c e = list_any (λ a. is_shared c a.spot) e.writes
 abbrev pub write_at : (q n c : ℕ) → Missing
 write_at q n c = record { process = q; entry = n; cell = c }
 
--- the entry is there and ends an internal edge of its process, a synchronization or the end; its write set has the cell;
--- and none of the events of that edge writes the cell
+-- the entry is there and ends an internal edge of its process, a synchronization or the end, the one with as many
+-- synchronizations before it; its write set has the cell; and none of the events of that edge writes the cell
 pub record IsMissingWrite (logs : Logs) (xs : List Seen) (m : Missing) : Type 0 where
   pub entry : Entry
   pub there : slice_get (entries_at logs m.process) m.entry ≡ Some entry
   pub ends : ends_edge entry ≡ true
   pub recorded : has (writes_of entry) m.cell ≡ true
-  pub unwritten : list_any (writes_cell m.cell) (events_of xs (entries_at logs m.process) (edge_ended logs m)) ≡ false
+  pub unwritten : list_any (writes_cell m.cell) (events_of xs (entries_at logs m.process)
+      (edge m.process (syncs_before (entries_at logs m.process) m.entry))) ≡ false
 
 -- so it is with each write that a search misses
 pub record AreMissingWrites (program : Program) (plan : Plan) (logs : Logs) (xs : List Seen) : Type 0 where

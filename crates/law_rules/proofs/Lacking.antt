@@ -6,9 +6,10 @@ use Rattle.std.proofs.lemmas.Bool.{cases_lt, lt-ltb, ltb-true}
 use Rattle.ppd_ast.specs.declared.program.Program.{Program}
 use Rattle.ppd_ast.specs.declared.status.SyncKind.{SyncKind}
 use Rattle.ppd_ast.specs.declared.status.SyncKind.TheVariants.{P, V, Send, Recv, Done}
-use Rattle.ppd_model.specs.FullTrace.{or_else}
+use Rattle.std.specs.Option.{option_or}
 use Rattle.ppd_sem.specs.Tables.{capacity_of}
-use Rattle.ppd_graph.specs.Refusals.{Missing, Numbered, absent, chan_misses, first_missing, missing_of_chan, missing_of_handover, missing_of_places, missing_of_sem, number_if, of_kind, sem_misses, start_of}
+use Rattle.ppd_graph.specs.Refusals.{Missing, Numbered, absent, first_missing, missing_of_chan, missing_of_handover, missing_of_places, missing_of_sem, number_if, of_kind, start_of}
+use Rattle.ppd_graph.proofs.Vocabulary.{chan_misses, sem_misses}
 use Rattle.law_rules.specs.Missing.{AreThere, AreWhole, ChanLacks, Channel, IsGap, IsMissing, LacksNothing, MissingFollowsTheRules, SemLacks, Semaphore, completed_receive, completion, give, next_completion, next_give, next_receive, next_send, of_channel, of_semaphore, receive, send, take}
 
 no_some : {A : Type 0} (x : A) → None ≡ Some x → ⊥
@@ -165,29 +166,29 @@ module _ (o start : ℕ) (taken given : Numbered) where
   sem_lacks : (x : Missing) → missing_of_sem o start taken given ≡ Some x → Says o Sem x
   sem_lacks x e = by takes refl e
     where
-      by_gives : (g : Option ℕ) → gives ≡ g → takes ≡ None → or_else (of_kind V o g) last_give ≡ Some x → Says o Sem x
+      by_gives : (g : Option ℕ) → gives ≡ g → takes ≡ None → option_or (of_kind V o g) last_give ≡ Some x → Says o Sem x
       by_gives (Some n) is none e =
           says o Sem V n x e (give n (all_of taken.is_there 0 taken.greatest none) (gap_of given.is_there start b n is))
       by_gives None is none e =
           says_next o Sem V (b + 1) b taken.greatest x e
           (λ lt. next_give (all_of taken.is_there 0 taken.greatest none) (all_of given.is_there start b is) lt)
 
-      by : (t : Option ℕ) → takes ≡ t → or_else (of_kind P o t) (or_else (of_kind V o gives) last_give) ≡ Some x → Says o Sem x
+      by : (t : Option ℕ) → takes ≡ t → option_or (of_kind P o t) (option_or (of_kind V o gives) last_give) ≡ Some x → Says o Sem x
       by (Some n) is e = says o Sem P n x e (take n (gap_of taken.is_there 0 taken.greatest n is))
       by None is e = by_gives gives refl is e
 
-  after_takes : AreThere taken.is_there 0 taken.greatest → missing_of_sem o start taken given ≡ or_else (of_kind V o gives) last_give
+  after_takes : AreThere taken.is_there 0 taken.greatest → missing_of_sem o start taken given ≡ option_or (of_kind V o gives) last_give
   after_takes all =
-      ap (λ t. or_else (of_kind P o t) (or_else (of_kind V o gives) last_give)) (is_all taken.is_there 0 taken.greatest all)
+      ap (λ t. option_or (of_kind P o t) (option_or (of_kind V o gives) last_give)) (is_all taken.is_there 0 taken.greatest all)
 
   sem_is : (kind : SyncKind) (n : ℕ) → Sem kind n → missing_of_sem o start taken given ≡ Some (kind, o, n)
   sem_is kind n (take m gap) =
-      ap (λ t. or_else (of_kind P o t) (or_else (of_kind V o gives) last_give)) (is_gap taken.is_there 0 taken.greatest m gap)
+      ap (λ t. option_or (of_kind P o t) (option_or (of_kind V o gives) last_give)) (is_gap taken.is_there 0 taken.greatest m gap)
   sem_is kind n (give m all gap) =
-      after_takes all ∙ ap (λ g. or_else (of_kind V o g) last_give) (is_gap given.is_there start b m gap)
+      after_takes all ∙ ap (λ g. option_or (of_kind V o g) last_give) (is_gap given.is_there start b m gap)
   sem_is kind n (next_give all others lt) =
       after_takes all
-      ∙ ap (λ g. or_else (of_kind V o g) last_give) (is_all given.is_there start b others)
+      ∙ ap (λ g. option_or (of_kind V o g) last_give) (is_all given.is_there start b others)
       ∙ is_next V o (b + 1) b taken.greatest lt
 
   pub sem_agrees : Agrees o (missing_of_sem o start taken given) Sem
@@ -223,13 +224,13 @@ module _ (o : ℕ) (sent received completed : Numbered) where
   handover_lacks : AreWhole sent received → (x : Missing) → missing_of_handover o s r completed ≡ Some x → Says o (Chan 0) x
   handover_lacks whole x e = by (nat_lt r d) refl e
     where
-      by_completions : (c : Option ℕ) → completions ≡ c → d ≤ r → or_else (of_kind Done o c) last_completion ≡ Some x → Says o (Chan 0) x
+      by_completions : (c : Option ℕ) → completions ≡ c → d ≤ r → option_or (of_kind Done o c) last_completion ≡ Some x → Says o (Chan 0) x
       by_completions (Some n) is le e = says o (Chan 0) Done n x e (completion n whole refl le (gap_of completed.is_there 0 d n is))
       by_completions None is le e =
           says_next o (Chan 0) Done (d + 1) (d + 1) s x e
           (λ lt. next_completion whole refl le (all_of completed.is_there 0 d is) lt)
 
-      by : (t : Bool) → nat_lt r d ≡ t → or_else (of_kind Recv o (number_if t (r + 1))) (or_else (of_kind Done o completions) last_completion) ≡ Some x
+      by : (t : Bool) → nat_lt r d ≡ t → option_or (of_kind Recv o (number_if t (r + 1))) (option_or (of_kind Done o completions) last_completion) ≡ Some x
           → Says o (Chan 0) x
       by true t e = says o (Chan 0) Recv (r + 1) x e (completed_receive whole refl (ltb-true r d t))
       by false t e = by_completions completions refl (at_least r d t) e
@@ -239,9 +240,9 @@ module _ (o : ℕ) (sent received completed : Numbered) where
   places_lack (suc c) whole x e =
       says_next o (Chan (suc c)) Recv (r + 1) (r + suc c) s x e (λ lt. next_receive c whole refl lt)
 
-  after_completed : d ≤ r → missing_of_handover o s r completed ≡ or_else (of_kind Done o completions) last_completion
+  after_completed : d ≤ r → missing_of_handover o s r completed ≡ option_or (of_kind Done o completions) last_completion
   after_completed le =
-      ap (λ f. or_else f (or_else (of_kind Done o completions) last_completion)) (no_next Recv o (r + 1) r d le)
+      ap (λ f. option_or f (option_or (of_kind Done o completions) last_completion)) (no_next Recv o (r + 1) r d le)
 
   -- ---- all of a channel
 
@@ -255,7 +256,7 @@ module _ (o : ℕ) (sent received completed : Numbered) where
     chan_lacks : (x : Missing) → missing_of_chan o capacity sent received completed ≡ Some x → Says o (Chan capacity) x
     chan_lacks x e = by sends refl e
       where
-        by_receives : (t : Option ℕ) → receives ≡ t → sends ≡ None → r ≤ s → or_else (of_kind Recv o t) places ≡ Some x → Says o (Chan capacity) x
+        by_receives : (t : Option ℕ) → receives ≡ t → sends ≡ None → r ≤ s → option_or (of_kind Recv o t) places ≡ Some x → Says o (Chan capacity) x
         by_receives (Some n) is none le e =
             says o (Chan capacity) Recv n x e (receive n (all_of sent.is_there 0 s none) le (gap_of received.is_there 0 r n is))
         by_receives None is none le e =
@@ -263,52 +264,52 @@ module _ (o : ℕ) (sent received completed : Numbered) where
             (record { sent_all = all_of sent.is_there 0 s none; sent_first = le; received_all = all_of received.is_there 0 r is }) x e
 
         by_next : (t : Bool) → nat_lt s r ≡ t → sends ≡ None
-            → or_else (of_kind Send o (number_if t (s + 1))) (or_else (of_kind Recv o receives) places) ≡ Some x → Says o (Chan capacity) x
+            → option_or (of_kind Send o (number_if t (s + 1))) (option_or (of_kind Recv o receives) places) ≡ Some x → Says o (Chan capacity) x
         by_next true t none e =
             says o (Chan capacity) Send (s + 1) x e (next_send (all_of sent.is_there 0 s none) (ltb-true s r t))
         by_next false t none e = by_receives receives refl none (at_least s r t) e
 
-        by : (t : Option ℕ) → sends ≡ t → or_else (of_kind Send o t) (or_else next (or_else (of_kind Recv o receives) places)) ≡ Some x
+        by : (t : Option ℕ) → sends ≡ t → option_or (of_kind Send o t) (option_or next (option_or (of_kind Recv o receives) places)) ≡ Some x
             → Says o (Chan capacity) x
         by (Some n) is e = says o (Chan capacity) Send n x e (send n (gap_of sent.is_there 0 s n is))
         by None is e = by_next (nat_lt s r) refl is e
 
-    after_sends : AreThere sent.is_there 0 s → missing_of_chan o capacity sent received completed ≡ or_else next (or_else (of_kind Recv o receives) places)
+    after_sends : AreThere sent.is_there 0 s → missing_of_chan o capacity sent received completed ≡ option_or next (option_or (of_kind Recv o receives) places)
     after_sends all =
-        ap (λ t. or_else (of_kind Send o t) (or_else next (or_else (of_kind Recv o receives) places))) (is_all sent.is_there 0 s all)
+        ap (λ t. option_or (of_kind Send o t) (option_or next (option_or (of_kind Recv o receives) places))) (is_all sent.is_there 0 s all)
 
-    after_next : AreThere sent.is_there 0 s → r ≤ s → missing_of_chan o capacity sent received completed ≡ or_else (of_kind Recv o receives) places
+    after_next : AreThere sent.is_there 0 s → r ≤ s → missing_of_chan o capacity sent received completed ≡ option_or (of_kind Recv o receives) places
     after_next all le =
-        after_sends all ∙ ap (λ f. or_else f (or_else (of_kind Recv o receives) places)) (no_next Send o (s + 1) s r le)
+        after_sends all ∙ ap (λ f. option_or f (option_or (of_kind Recv o receives) places)) (no_next Send o (s + 1) s r le)
 
     after_receives : AreWhole sent received → missing_of_chan o capacity sent received completed ≡ places
     after_receives whole =
         after_next whole.sent_all whole.sent_first
-        ∙ ap (λ t. or_else (of_kind Recv o t) places) (is_all received.is_there 0 r whole.received_all)
+        ∙ ap (λ t. option_or (of_kind Recv o t) places) (is_all received.is_there 0 r whole.received_all)
 
     at_handover : capacity ≡ 0 → places ≡ missing_of_handover o s r completed
     at_handover none = ap (λ c. missing_of_places c o s r completed) none
 
     chan_is : (kind : SyncKind) (n : ℕ) → Chan capacity kind n → missing_of_chan o capacity sent received completed ≡ Some (kind, o, n)
     chan_is kind n (send m gap) =
-        ap (λ t. or_else (of_kind Send o t) (or_else next (or_else (of_kind Recv o receives) places))) (is_gap sent.is_there 0 s m gap)
+        ap (λ t. option_or (of_kind Send o t) (option_or next (option_or (of_kind Recv o receives) places))) (is_gap sent.is_there 0 s m gap)
     chan_is kind n (next_send all lt) =
-        after_sends all ∙ ap (λ f. or_else f (or_else (of_kind Recv o receives) places)) (is_next Send o (s + 1) s r lt)
+        after_sends all ∙ ap (λ f. option_or f (option_or (of_kind Recv o receives) places)) (is_next Send o (s + 1) s r lt)
     chan_is kind n (receive m all le gap) =
-        after_next all le ∙ ap (λ t. or_else (of_kind Recv o t) places) (is_gap received.is_there 0 r m gap)
+        after_next all le ∙ ap (λ t. option_or (of_kind Recv o t) places) (is_gap received.is_there 0 r m gap)
     chan_is kind n (next_receive c whole is lt) =
         after_receives whole
         ∙ ap (λ c. missing_of_places c o s r completed) is
         ∙ is_next Recv o (r + 1) (r + suc c) s lt
     chan_is kind n (completed_receive whole none lt) =
         after_receives whole ∙ at_handover none
-        ∙ ap (λ f. or_else f (or_else (of_kind Done o completions) last_completion)) (is_next Recv o (r + 1) r d lt)
+        ∙ ap (λ f. option_or f (option_or (of_kind Done o completions) last_completion)) (is_next Recv o (r + 1) r d lt)
     chan_is kind n (completion m whole none le gap) =
         after_receives whole ∙ at_handover none ∙ after_completed le
-        ∙ ap (λ t. or_else (of_kind Done o t) last_completion) (is_gap completed.is_there 0 d m gap)
+        ∙ ap (λ t. option_or (of_kind Done o t) last_completion) (is_gap completed.is_there 0 d m gap)
     chan_is kind n (next_completion whole none le all lt) =
         after_receives whole ∙ at_handover none ∙ after_completed le
-        ∙ ap (λ t. or_else (of_kind Done o t) last_completion) (is_all completed.is_there 0 d all)
+        ∙ ap (λ t. option_or (of_kind Done o t) last_completion) (is_all completed.is_there 0 d all)
         ∙ is_next Done o (d + 1) (d + 1) s lt
 
     pub chan_agrees : Agrees o (missing_of_chan o capacity sent received completed) (Chan capacity)
@@ -330,7 +331,7 @@ module _ (f : ℕ → Option Missing) where
   first_from (suc k) a x e = by (first_from k (a + 1) x) (f a) refl e
     where
       by : (first_missing f (range_with_len (a + 1) k) ≡ Some x → First f (a + 1) k x)
-          → (o : Option Missing) → f a ≡ o → or_else o (first_missing f (range_with_len (a + 1) k)) ≡ Some x → First f a (suc k) x
+          → (o : Option Missing) → f a ≡ o → option_or o (first_missing f (range_with_len (a + 1) k)) ≡ Some x → First f a (suc k) x
       by later (Some y) is e =
           record { object = a; above = omega arith; within = omega arith; is = is ∙ e; before = λ m le lt. absurd (omega (arith, le, lt)) }
       by later None is e =
@@ -351,17 +352,17 @@ module _ (f : ℕ → Option Missing) where
   is_first (suc k) a o x le lt is before =
       elim (cases_lt a o) [
         | inl later ↦
-            ap (λ y. or_else y (first_missing f (range_with_len (a + 1) k))) (before a (omega arith) later)
+            ap (λ y. option_or y (first_missing f (range_with_len (a + 1) k))) (before a (omega arith) later)
             ∙ is_first k (a + 1) o x (omega (arith, later)) (omega (arith, lt)) is (λ m y z. before m (omega (arith, y)) z)
         | inr back ↦
             let same : a ≡ o = omega (arith, le, back) in
-            ap (λ y. or_else y (first_missing f (range_with_len (a + 1) k))) (ap f same ∙ is)
+            ap (λ y. option_or y (first_missing f (range_with_len (a + 1) k))) (ap f same ∙ is)
       ]
 
   no_first : (k a : ℕ) → ((m : ℕ) → a ≤ m → m < a + k → f m ≡ None) → first_missing f (range_with_len a k) ≡ None
   no_first zero a none = refl
   no_first (suc k) a none =
-      ap (λ y. or_else y (first_missing f (range_with_len (a + 1) k))) (none a (omega arith) (omega arith))
+      ap (λ y. option_or y (first_missing f (range_with_len (a + 1) k))) (none a (omega arith) (omega arith))
       ∙ no_first k (a + 1) (λ m le lt. none m (omega (arith, le)) (omega (arith, lt)))
 
   none_first : (k a : ℕ) → first_missing f (range_with_len a k) ≡ None → (m : ℕ) → a ≤ m → m < a + k → f m ≡ None
@@ -369,7 +370,7 @@ module _ (f : ℕ → Option Missing) where
   none_first (suc k) a e = by (none_first k (a + 1)) (f a) refl e
     where
       by : (first_missing f (range_with_len (a + 1) k) ≡ None → (m : ℕ) → a + 1 ≤ m → m < a + 1 + k → f m ≡ None)
-          → (o : Option Missing) → f a ≡ o → or_else o (first_missing f (range_with_len (a + 1) k)) ≡ None
+          → (o : Option Missing) → f a ≡ o → option_or o (first_missing f (range_with_len (a + 1) k)) ≡ None
           → (m : ℕ) → a ≤ m → m < a + suc k → f m ≡ None
       by rest (Some y) is e m le lt = absurd (no_some y (sym e))
       by rest None is e m le lt =
@@ -417,10 +418,10 @@ module _ (program : Program) (numbered : SyncKind → ℕ → Numbered) where
       (of_channel x.0 f.object x.2 (λ m lt. nothing (sem_at m) (none_first of_sem (length program.sems) 0 none m (omega arith) (omega (arith, lt))))
       (omega (arith, within)) (λ m lt. nothing (chan_at m) (f.before m (omega arith) lt)) said.1)
 
-  by_rule : (x : Missing) → or_else sems chans ≡ Some x → Rule x
+  by_rule : (x : Missing) → option_or sems chans ≡ Some x → Rule x
   by_rule x e = by sems refl e
     where
-      by : (o : Option Missing) → sems ≡ o → or_else o chans ≡ Some x → Rule x
+      by : (o : Option Missing) → sems ≡ o → option_or o chans ≡ Some x → Rule x
       by (Some y) is e = by_sem x (is ∙ e)
       by None is e = by_chan x is e
 
@@ -430,13 +431,13 @@ module _ (program : Program) (numbered : SyncKind → ℕ → Numbered) where
   chan_none : (m : ℕ) → LacksNothing (Channel program numbered m) → of_chan m ≡ None
   chan_none m none = is_nothing m (of_chan m) (Channel program numbered m) (chan_at m) none
 
-  is_missing : (kind : SyncKind) (o n : ℕ) → IsMissing program numbered kind o n → or_else sems chans ≡ Some (kind, o, n)
+  is_missing : (kind : SyncKind) (o n : ℕ) → IsMissing program numbered kind o n → option_or sems chans ≡ Some (kind, o, n)
   is_missing kind o n (of_semaphore k i m within before lacks) =
-      ap (λ y. or_else y chans)
+      ap (λ y. option_or y chans)
       (is_first of_sem (length program.sems) 0 o (kind, o, n) (omega arith) (omega (arith, within)) ((sem_at o).is kind n lacks)
       (λ j x lt. sem_none j (before j lt)))
   is_missing kind o n (of_channel k i m none within before lacks) =
-      ap (λ y. or_else y chans) (no_first of_sem (length program.sems) 0 (λ j x lt. sem_none j (none j (omega (arith, lt)))))
+      ap (λ y. option_or y chans) (no_first of_sem (length program.sems) 0 (λ j x lt. sem_none j (none j (omega (arith, lt)))))
       ∙ is_first of_chan (length program.chans) 0 o (kind, o, n) (omega arith) (omega (arith, within)) ((chan_at o).is kind n lacks)
       (λ j x lt. chan_none j (before j lt))
 

@@ -16,7 +16,8 @@ use Rattle.ppd_sem.specs.declared.proc.Proc.{Proc}
 use Rattle.ppd_sem.specs.declared.proc.Todo.{Todo}
 use Rattle.ppd_sem.specs.Asked.{Asked}
 use Rattle.ppd_sem.specs.Deed.{Deed, set_local, set_shared, clear, branch, turn, leave, invoke, back, take, give, send, receive, print, pass, finish}
-use Rattle.ppd_sem.specs.Process.{cost, entry_of, head_deed, need_by_entry, need_by_offer, need_by_status, need_of, need_of_asked, need_of_deed, need_of_head, need_of_leaving, need_of_running, need_of_send, offer_of, within_budget}
+use Rattle.ppd_sem.specs.Process.{cost, entry_of, head_deed, need_of, need_of_asked, need_of_deed, need_of_head, need_of_leaving, need_of_send, offer_of, within_budget}
+use Rattle.ppd_sem.proofs.NeedWords.{need_by_entry, need_by_offer, need_by_status, need_of_running}
 use Rattle.ppd_sem.specs.Tables.{block_of, capacity_of, unit_of}
 use Rattle.law_rules.specs.Needs.{Does, HeadNeeds, IsEvaluated, IsOwn, Needs, NeedsFollowTheRules, calls, calls_too_deep, completes, ends_loop, ends_process, enters, gives, goes_on, has_done_all, has_ended, leaves, needs, offers, reads, receives, returns, sends, takes, too_dear, traps, writes}
 

@@ -21,7 +21,8 @@ use Rattle.ppd_emul_model.specs.declared.wanted.Wanted.{Wanted}
 use Rattle.ppd_emul_model.specs.declared.wanted.Wanted.TheVariants as wanted
 use Rattle.ppd_emul_model.specs.Ending.{IsEndedBy, now, later, IsOverBy}
 use Rattle.ppd_emul_model.specs.Fits.{found_of, wanted_of, same_trap, fits}
-use Rattle.ppd_emul_model.specs.Replay.{Replaying, Replayed, Turn, more, done, begun_replay, counted, end_here, fail, finished, goes_on as another_step, is_budget, next_piece, replay, step_with, step_without, stepped, take_unit, take_unit_if, turn_at_end, turn_at_trap, turn_by_end, turn_by_wanted, turn_within, with_event, with_write}
+use Rattle.ppd_emul_model.specs.Replay.{Replaying, Replayed, Turn, more, done, begun_replay, counted, end_here, fail, finished, goes_on as another_step, is_budget, next_piece, replay, step_with, step_without, stepped, take_unit, take_unit_if, turn_at_end, turn_by_end, turn_by_wanted, with_event, with_write}
+use Rattle.ppd_emul_model.proofs.Vocabulary.{turn_at_trap, turn_within}
 use Rattle.ppd_emul_model.proofs.Ending.{replays_end}
 use Rattle.law_rules.specs.Replays.{ComesTo, EndsHere, EndsLater, Fits, IsNotAt, Needs, Replays, ReplaysFollowTheRules, Turns, TurnsFollowTheRules, ends, ends_too_early, enters, goes_on, is_over, leaves, needs_none, other_piece, reads, skips, stopped, synchronizes, too_dear, traps, traps_otherwise, waits}
 use Rattle.law_rules.proofs.Starting.{ends_here, ends_later, end_of, none_here, start_by_rule, start_is, unit_by_rule}

@@ -1,5 +1,5 @@
 -- What the next step of a process needs, one constructor for each rule.
-use Rattle.std.specs.Prelude.{◌≡◌, ◌↔◌, ℕ, suc, ◌+◌, ◌<◌, ◌≤◌, ℤ, List, [], ◌∷◌, length, Option, Some, None, Ok, Err, ⊤}
+use Rattle.std.specs.Prelude.{◌≡◌, ◌↔◌, ℕ, suc, ◌+◌, ◌<◌, ◌≤◌, ℤ, List, [], ◌∷◌, length, Option, Some, None, Ok, Err, ⊤, unwrap_or}
 use Rattle.ppd_ast.specs.declared.limits.TheConstants.{MOST_CALLS}
 use Rattle.ppd_ast.specs.declared.plan.BlockKind.TheVariants as block
 use Rattle.ppd_ast.specs.declared.plan.Plan.{Plan}
@@ -15,7 +15,7 @@ use Rattle.ppd_sem.specs.declared.proc.Proc.{Proc}
 use Rattle.ppd_sem.specs.declared.proc.Todo.{Todo}
 use Rattle.ppd_sem.specs.Deed.{Deed, set_local, set_shared, clear, branch, turn, leave, invoke, back, take, give, send, receive, print, pass, finish}
 use Rattle.ppd_sem.specs.Process.{call_unit, cost, entry_of, head_deed, need_of, offer_of, top_body, top_call}
-use Rattle.ppd_sem.specs.Tables.{block_of, capacity_of, or_zero, unit_of}
+use Rattle.ppd_sem.specs.Tables.{block_of, capacity_of, unit_of}
 
 -- what is done in the frame alone
 abbrev pub IsOwn : Deed → Type 0
@@ -88,7 +88,7 @@ pub data HeadNeeds (program : Program) (plan : Plan) (s : Proc) (t : Todo) : Nee
       → HeadNeeds program plan s t (Recv chan (unit_of plan (start.After t.stmt)))
   -- the process comes to its closing brace
   ends_process : Does program plan s t finish
-      → HeadNeeds program plan s t (End (or_zero (block_of plan (block.Process (top_body s.frames)))))
+      → HeadNeeds program plan s t (End (unwrap_or (block_of plan (block.Process (top_body s.frames))) 0))
   -- any other statement needs nothing but the process itself
   goes_on : (deed : Deed) → Does program plan s t deed → IsOwn deed → HeadNeeds program plan s t Plain
 

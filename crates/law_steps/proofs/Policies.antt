@@ -12,7 +12,9 @@ use Rattle.ppd_ast.specs.declared.program.Body.{Body}
 use Rattle.ppd_ast.specs.declared.program.Program.{Program}
 use Rattle.ppd_ast.specs.Numbered.{blocks_by}
 use Rattle.ppd_ast.specs.ValidPlan.{IsFunctionBlock, IsValidBlock, IsValidPlan}
-use Rattle.ppd_blocks.specs.Blocks.{block_of, params_of, plan_of}
+use Rattle.ppd_blocks.specs.Blocks.{plan_of}
+use Rattle.ppd_blocks.proofs.Vocabulary.{block_of}
+use Rattle.ppd_blocks.proofs.Vocabulary.{params_of}
 use Rattle.ppd_blocks.proofs.Validity.{plan_valid}
 use Rattle.ppd_model.specs.Costs.{HasWholePrelogs, IsWholeBlock}
 use Rattle.ppd_model.proofs.Costs.{logs_paid, steps_cost}

@@ -16,7 +16,8 @@ use Rattle.ppd_sem.specs.declared.proc.Todo.{Todo}
 use Rattle.ppd_sem.specs.Ask.{ask}
 use Rattle.ppd_sem.specs.Asked.{Asked, and_then, gives}
 use Rattle.ppd_sem.specs.Deed.{Deed, set_local, set_shared, clear, branch, turn, leave, invoke, back, take, give, send, receive, print, pass, finish, ask_deed}
-use Rattle.ppd_sem.specs.Described.{cleared, local_write, parameters, value_at, value_if, valued, writes_of_asked, writes_of_deed}
+use Rattle.ppd_sem.specs.Described.{cleared, local_write, parameters, value_at, valued, writes_of_deed}
+use Rattle.ppd_sem.proofs.EventWords.{value_if, writes_of_asked}
 use Rattle.ppd_sem.specs.Process.{act_by_deed, clear_top, new_frame, receive_at, returned, returned_from, top_call, write_top}
 use Rattle.ppd_sem.proofs.OfKind.{IsDeedOf, OfAsked, asked_holds, backs, backs_value, clears, deed_of, finishes, goes_first, goes_round, goes_second, invokes, leaves, passes, prints, receives, releases, sends, sets, sets_element, shares, shares_element, takes}
 use Rattle.ppd_model.specs.declared.tracing.Activation.{Activation}

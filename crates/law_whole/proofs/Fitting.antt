@@ -16,7 +16,8 @@ use Rattle.ppd_sem.specs.declared.proc.Proc.{Proc}
 use Rattle.ppd_sem.specs.declared.proc.Todo.{Todo}
 use Rattle.ppd_sem.specs.Asked.{Asked}
 use Rattle.ppd_sem.specs.Deed.{Deed, set_local, set_shared, clear, branch, turn, leave, invoke, back, take, give, send, receive, print, pass, finish}
-use Rattle.ppd_sem.specs.Process.{chan_of, entry_of, head_deed, need_by_entry, need_by_offer, need_by_status, need_of, need_of_asked, need_of_head, need_of_leaving, need_of_running, need_of_send, offer_of}
+use Rattle.ppd_sem.specs.Process.{chan_of, entry_of, head_deed, need_of, need_of_asked, need_of_head, need_of_leaving, need_of_send, offer_of}
+use Rattle.ppd_sem.proofs.NeedWords.{need_by_entry, need_by_offer, need_by_status, need_of_running}
 use Rattle.ppd_sem.specs.Tables.{capacity_of}
 use Rattle.ppd_sem.proofs.Offers.{offer_there}
 use Rattle.law_whole.proofs.Deeds.{is_frame}

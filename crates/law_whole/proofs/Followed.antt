@@ -18,8 +18,10 @@ use Rattle.ppd_sem.specs.declared.proc.Proc.{Proc}
 use Rattle.ppd_sem.specs.declared.proc.Todo.{Todo}
 use Rattle.ppd_sem.specs.Asked.{Asked}
 use Rattle.ppd_sem.specs.Deed.{Deed, send, ask_deed}
-use Rattle.ppd_sem.specs.Described.{evaluates, frame_of, is_event, trap_of, value_at, valued, writes_by, writes_of_asked}
-use Rattle.ppd_sem.specs.Process.{act, act_at, act_by_asked, act_by_need, cells_for, head_deed, need_of, started, top_call, top_cells}
+use Rattle.ppd_sem.specs.Described.{evaluates, frame_of, is_event, trap_of, value_at, valued, writes_by}
+use Rattle.ppd_sem.proofs.EventWords.{writes_of_asked}
+use Rattle.ppd_sem.specs.Process.{act, act_by_asked, act_by_need, head_deed, need_of, started, top_call, top_cells}
+use Rattle.ppd_sem.proofs.NeedWords.{act_at, cells_for}
 use Rattle.ppd_sem.specs.Runs.{size_if}
 use Rattle.ppd_sem.proofs.OfKind.{IsDeedOf, OfAsked, backs, backs_value, deed_of, invokes}
 use Rattle.ppd_model.specs.declared.trace.EventId.{EventId}
@@ -28,7 +30,8 @@ use Rattle.ppd_model.specs.declared.tracing.Story.{Story}
 use Rattle.ppd_model.specs.declared.tracing.Taken.{Taken}
 use Rattle.ppd_model.specs.declared.tracing.Tracing.{Tracing}
 use Rattle.ppd_model.specs.declared.tracing.Activation.{Activation}
-use Rattle.ppd_model.specs.FullTrace.{Tag, begun_tracing, event_of, me_in, parent_at, tagged_after, tagged_by, tagged_at, tags_of, top_tags, trace_by, tracing_of, trace_step, with_event, with_test}
+use Rattle.ppd_model.specs.FullTrace.{Tag, begun_tracing, event_of, me_in, parent_at, tagged_after, tagged_by, tags_of, top_tags, trace_by, tracing_of, trace_step, with_event, with_test}
+use Rattle.ppd_model.proofs.TraceWords.{tagged_at}
 use Rattle.ppd_model.specs.LocalTags.{AreOwn}
 use Rattle.law_flow_shared.proofs.Edges.Spans.Facts.{count_last, count_to}
 use Rattle.law_flow_shared.proofs.Edges.Spans.Steps.{headed, new_event, events_are, told_events}

@@ -12,7 +12,8 @@ use Rattle.ppd_graph.proofs.Leads.{length_mapped}
 use Rattle.ppd_model.specs.declared.flow.Item.{Item}
 use Rattle.ppd_model.specs.declared.flow.Item.TheVariants as item
 use Rattle.ppd_model.specs.declared.trace.TracedEvent.{TracedEvent}
-use Rattle.ppd_model.specs.Intervals.{Part, own, nested, Span, Split, is_closed, item_of, item_of_event, item_of_span, items_of}
+use Rattle.ppd_model.specs.Intervals.{Part, own, nested, Span, Split, is_closed, item_of, items_of}
+use Rattle.ppd_model.proofs.IntervalWords.{item_of_event, item_of_span}
 use Rattle.ppd_model.specs.Logs.{closed_logs}
 use Rattle.ppd_model.proofs.Lists.{left_from, map_get}
 use Rattle.ppd_flow_model.specs.Seen.{Seen, items_at, seen_of}

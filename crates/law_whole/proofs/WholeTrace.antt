@@ -16,8 +16,10 @@ use Rattle.ppd_model.specs.declared.trace.TracedEvent.{TracedEvent}
 use Rattle.ppd_model.specs.declared.tracing.Story.{Story}
 use Rattle.ppd_model.specs.declared.tracing.Taken.{Taken}
 use Rattle.ppd_model.specs.declared.tracing.Tracing.{Tracing}
-use Rattle.ppd_model.specs.FullTrace.{Tag, answers_past, events_from, full_trace, tag_at, tags_of, top_tags, tracing_of}
-use Rattle.ppd_model.specs.Intervals.{Split, split_of, splits, splits_from}
+use Rattle.ppd_model.specs.FullTrace.{Tag, answers_past, full_trace, tag_at, tags_of, top_tags, tracing_of}
+use Rattle.ppd_model.proofs.TraceWords.{events_from}
+use Rattle.ppd_model.specs.Intervals.{Split, split_of, splits}
+use Rattle.ppd_model.proofs.IntervalWords.{splits_from}
 use Rattle.ppd_model.specs.Logs.{closed_logs}
 use Rattle.ppd_model.specs.Races.{races}
 use Rattle.ppd_model.specs.Schedule.{run}

@@ -13,7 +13,9 @@ use Rattle.ppd_model.specs.declared.trace.EventId.{EventId}
 use Rattle.ppd_model.specs.declared.tracing.Activation.{Activation}
 use Rattle.ppd_model.specs.declared.tracing.Test.{Test}
 use Rattle.ppd_model.specs.FullTrace as trace
-use Rattle.ppd_model.specs.FullTrace.{Tag, latest, of_run, or_else}
+use Rattle.ppd_model.proofs.TraceWords as words
+use Rattle.ppd_model.specs.FullTrace.{Tag, latest, of_run}
+use Rattle.std.specs.Option.{option_or}
 use Rattle.ppd_activations.specs.Runs.{latest_of, of_outer, parent_in, run_of, tagged, tagged_into, tests_after, top_tags, with_test}
 use Rattle.ppd_activations.proofs.Kept.{same_number}
 
@@ -35,15 +37,15 @@ pub with_test_as : (program : Program) (me : EventId) (e : Event) (xs : List Act
 with_test_as program me e [] = refl
 with_test_as program me e (x ∷ xs) = ap (λ l. record { call = x.call; tags = x.tags; latest = l } ∷ map run_of xs) (tests_as (kind_of program e.stmt) e.stmt me e.value x.tests)
 
-outer_as : (s : Option ℕ) (tests : List Test) → of_outer s (latest_of tests) ≡ trace.of_outer s tests
+outer_as : (s : Option ℕ) (tests : List Test) → of_outer s (latest_of tests) ≡ words.of_outer s tests
 outer_as None tests = refl
 outer_as (Some s) tests = ap (λ (o : Option Test). option_map (λ x. x.event) o) (found_latest s tests)
 
 pub parent_in_as : (program : Program) (s : ℕ) (x : Activation) → parent_in program s (run_of x) ≡ trace.parent_in program s x
 parent_in_as program s x =
     let outer : Option EventId = of_outer (parent_if (slice_get program.stmts s)) (latest_of x.tests) in
-    ap (λ (o : Option Test). or_else (of_run (kind_of program s) o) (or_else outer x.call)) (found_latest s x.tests)
-    ∙ ap (λ (o : Option EventId). or_else (of_run (kind_of program s) (latest s x.tests)) (or_else o x.call)) (outer_as (parent_if (slice_get program.stmts s)) x.tests)
+    ap (λ (o : Option Test). option_or (of_run (kind_of program s) o) (option_or outer x.call)) (found_latest s x.tests)
+    ∙ ap (λ (o : Option EventId). option_or (of_run (kind_of program s) (latest s x.tests)) (option_or o x.call)) (outer_as (parent_if (slice_get program.stmts s)) x.tests)
 
 -- ---- tags
 

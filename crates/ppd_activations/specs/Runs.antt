@@ -1,5 +1,5 @@
 -- What is kept of an activation while its process is followed: of its tests the latest of each statement.
-use Rattle.std.specs.Prelude.{ℕ, ℤ, List, [], ◌∷◌, replicate, slice_get, slice_set, Option, Some, None, option_map, if◌then◌else◌}
+use Rattle.std.specs.Prelude.{ℕ, ◌-◌, ℤ, ◌++◌, List, [], ◌∷◌, replicate, slice_get, slice_set, Option, Some, None, option_map, if◌then◌else◌}
 use Rattle.std.specs.FinMap.{FinMap, empty, get, insert}
 use Rattle.std.specs.Ordering.{nat_cmp}
 use Rattle.ppd_ast.specs.declared.program.Kind.{Kind}
@@ -7,10 +7,12 @@ use Rattle.ppd_ast.specs.declared.program.Kind.TheVariants.{If, While}
 use Rattle.ppd_ast.specs.declared.program.Program.{Program}
 use Rattle.ppd_ast.specs.Lookups.{kind_of, parent_if}
 use Rattle.ppd_sem.specs.declared.event.Event.{Event}
+use Rattle.ppd_sem.specs.Runs.{size_if}
 use Rattle.ppd_model.specs.declared.trace.EventId.{EventId}
 use Rattle.ppd_model.specs.declared.tracing.Activation.{Activation}
 use Rattle.ppd_model.specs.declared.tracing.Test.{Test}
-use Rattle.ppd_model.specs.FullTrace.{Tag, called_tags, is_passed, of_run, or_else}
+use Rattle.ppd_model.specs.FullTrace.{Tag, is_passed, of_run}
+use Rattle.std.specs.Option.{option_or}
 use Rattle.ppd_activations.specs.declared.runs.Run.{Run}
 
 -- the latest test of each statement
@@ -32,7 +34,11 @@ begun_run n = record { call = None; tags = replicate n None; latest = empty }
 
 -- the run that a call begins, which writes so many parameters
 abbrev pub called : Program → ℕ → ℕ → Option EventId → Run
-called program f count me = record { call = me; tags = called_tags program f count me; latest = empty }
+called program f count me = record {
+  call = me;
+  tags = replicate count me ++ replicate (size_if (slice_get program.bodies f) - count) None;
+  latest = empty;
+}
 
 -- ---- the tags
 
@@ -66,8 +72,8 @@ of_outer (Some s) tests = option_map (λ x. x.event) (get tests s)
 -- the control parent of statement s in its run
 abbrev pub parent_in : Program → ℕ → Run → Option EventId
 parent_in program s x =
-    or_else (of_run (kind_of program s) (get x.latest s))
-    (or_else (of_outer (parent_if (slice_get program.stmts s)) x.latest) x.call)
+    option_or (of_run (kind_of program s) (get x.latest s))
+    (option_or (of_outer (parent_if (slice_get program.stmts s)) x.latest) x.call)
 
 -- the control parent of an event of statement s, and None in a process by itself
 abbrev pub parent_of : Program → List Run → ℕ → Option EventId

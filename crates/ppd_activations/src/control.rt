@@ -2,7 +2,8 @@
 ghost use Rattle.std.specs.Prelude.{◌≡◌, ◌+◌, ◌≤◌, slice_get, OnOk};
 ghost use Rattle.std.specs.FinMap as map;
 ghost use Rattle.ppd_ast.specs.Lookups.{kind_of, parent_if};
-ghost use Rattle.ppd_model.specs.FullTrace.{is_passed as is_passed_of, of_run as of_run_tests, or_else as or_else_of};
+ghost use Rattle.ppd_model.specs.FullTrace.{is_passed as is_passed_of, of_run as of_run_tests};
+ghost use Rattle.std.specs.Option.{option_or};
 ghost use Rattle.ppd_activations.specs.Runs.{of_outer as of_outer_tests, parent_in as parent_in_run, parent_of as parent_of_runs, passed_event as passed_event_of, tests_after, with_test};
 
 use crate::by_number::ByNumber;
@@ -87,7 +88,7 @@ fn of_outer<L: Ledger>(
 
 /// The first that is there.
 fn or_else(first: Option<EventId>, second: Option<EventId>) -> Option<EventId>
-    ensures { result ≡ or_else_of first second }
+    ensures { result ≡ option_or first second }
 {
     match first {
         Some(event) => Some(event),

@@ -12,8 +12,9 @@ use Rattle.ppd_ast.specs.declared.plan.BlockKind.{BlockKind}
 use Rattle.ppd_ast.specs.declared.plan.BlockKind.TheVariants.{Function, Process, Loop}
 use Rattle.ppd_ast.specs.declared.plan.Start.{Start}
 use Rattle.ppd_ast.specs.declared.plan.Unit.{Unit as UnitOf}
-use Rattle.ppd_ast.specs.Bare.{bare, bare_block, bare_unit, gives}
-use Rattle.ppd_ast.specs.Numbered.{is_block_loop, is_block_body, body_kind, loops_of, loops_at, blocks_of, blocks_by, starts_by, numbers_of, each_from}
+use Rattle.ppd_ast.specs.Bare.{bare, bare_block, bare_unit}
+use Rattle.ppd_ast.proofs.Vocabulary.{gives, loops_of, body_kind}
+use Rattle.ppd_ast.specs.Numbered.{is_block_loop, is_block_body, loops_at, blocks_of, blocks_by, starts_by, numbers_of, each_from}
 use Rattle.ppd_ast.specs.Valid.{IsValid}
 use Rattle.ppd_ast.specs.ValidPlan.{AreCells, IsValidBlock, IsValidPlan, IsValidPolicy, IsFunctionBlock, IsLoopBlock}
 use Rattle.ppd_ast.proofs.ValidLaws.{stmt_in_body}

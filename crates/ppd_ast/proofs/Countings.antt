@@ -6,7 +6,8 @@ use Rattle.std.proofs.lemmas.Bool.Decides.{nat_tests}
 use Rattle.std.proofs.lemmas.Grind.{flat_map-append, common_steps}
 use Rattle.ppd_ast.specs.declared.program.Stmt.{Stmt}
 use Rattle.ppd_ast.specs.Counting.{counted}
-use Rattle.ppd_ast.specs.Order.{preorder, inner_at}
+use Rattle.ppd_ast.specs.Order.{preorder}
+use Rattle.ppd_ast.proofs.Vocabulary.{inner_at}
 use Rattle.ppd_ast.proofs.Walks.{flat_more}
 
 pub counted_some : (xs ys : List ℕ) (n m : ℕ) → counted xs n ≡ Some m → counted (xs ++ ys) n ≡ counted ys m

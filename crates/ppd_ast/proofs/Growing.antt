@@ -8,7 +8,8 @@ use Rattle.ppd_ast.specs.declared.program.Body.{Body}
 use Rattle.ppd_ast.specs.declared.plan.Policy.{Policy}
 use Rattle.ppd_ast.specs.declared.plan.BlockKind.TheVariants.{Loop}
 use Rattle.ppd_ast.specs.declared.plan.Start.TheVariants.{After, Enter, Exit}
-use Rattle.ppd_ast.specs.Numbered.{is_left, is_block_loop, loops_of, loops_at, starts_of, starts_at, each_from}
+use Rattle.ppd_ast.specs.Numbered.{is_left, is_block_loop, loops_at, starts_of, starts_at, each_from}
+use Rattle.ppd_ast.proofs.Vocabulary.{loops_of}
 use Rattle.ppd_ast.proofs.Ranges.{range_more, flat_one, each_more}
 use Rattle.ppd_ast.proofs.Walks.{got_some}
 

@@ -12,7 +12,9 @@ use Rattle.ppd_ast.specs.declared.plan.Block.{Block}
 use Rattle.ppd_ast.specs.declared.plan.BlockKind.TheVariants.{Loop}
 use Rattle.ppd_ast.specs.declared.plan.Start.TheVariants.{After, Enter, Exit}
 use Rattle.ppd_ast.specs.declared.plan.Unit.{Unit as UnitOf}
-use Rattle.ppd_ast.specs.Numbered.{is_left, is_block_loop, is_block_body, body_kind, loops_of, loops_at, starts_of, starts_at, blocks_of, blocks_by, body_starts, starts_by, numbers_of, each_from}
+use Rattle.ppd_ast.specs.Numbered.{is_left, is_block_loop, is_block_body, loops_at, starts_of, starts_at, blocks_of, blocks_by, body_starts, starts_by, numbers_of, each_from}
+use Rattle.ppd_ast.proofs.Vocabulary.{body_kind}
+use Rattle.ppd_ast.proofs.Vocabulary.{loops_of}
 use Rattle.ppd_ast.specs.Valid.{IsValid, Follow}
 use Rattle.ppd_ast.specs.ValidPlan.{IsValidPlan}
 

@@ -6,7 +6,8 @@ use Rattle.std.proofs.Math.ListN.{get_or-append}
 use Rattle.std.proofs.Math.Seq.{get_or-append_seam}
 use Rattle.ppd_ast.specs.declared.program.Expr.{Expr}
 use Rattle.ppd_ast.specs.declared.program.Expr.TheVariants.{Const, Local, LocalAt, Shared, SharedAt, Neg, Not, Two, And, Or}
-use Rattle.ppd_ast.specs.Term.{Term, const, term_at, node, terms_after, terms, term}
+use Rattle.ppd_ast.specs.Term.{Term, const, term_at, node, terms, term}
+use Rattle.ppd_ast.proofs.Vocabulary.{terms_after}
 use Rattle.ppd_ast.specs.Table.{AreChildrenBelow, EachAt}
 
 -- what is done stays

@@ -4,8 +4,9 @@ use Rattle.std.specs.Prelude.{slice_get}
 use Rattle.std.specs.List.{flat_map}
 use Rattle.std.proofs.lemmas.Grind.{flat_map-append, common_steps}
 use Rattle.ppd_ast.specs.declared.program.Stmt.{Stmt}
-use Rattle.ppd_ast.specs.Order.{preorder, inner_at}
-use Rattle.ppd_ast.specs.Numbered.{in_while, while_or}
+use Rattle.ppd_ast.specs.Order.{preorder}
+use Rattle.ppd_ast.proofs.Vocabulary.{inner_at, while_or}
+use Rattle.ppd_ast.specs.Numbered.{in_while}
 use Rattle.ppd_ast.proofs.Walks.{flat_more}
 use Rattle.ppd_ast.proofs.Countings.{preorder_some}
 

@@ -1,5 +1,6 @@
 -- The plan of a policy whose lists of cells are all empty.
-use Rattle.std.specs.Prelude.{Bool, false, List, [], map, Option, Some, None, slice_get}
+use Rattle.std.specs.Prelude.{Bool, false, List, [], map, slice_get}
+use Rattle.std.specs.Option.{option_map_or}
 use Rattle.ppd_ast.specs.declared.program.Body.{Body}
 use Rattle.ppd_ast.specs.declared.program.Program.{Program}
 use Rattle.ppd_ast.specs.declared.plan.Plan.{Plan}
@@ -11,13 +12,9 @@ use Rattle.ppd_ast.specs.declared.plan.Start.{Start}
 use Rattle.ppd_ast.specs.declared.plan.Unit.{Unit as UnitOf}
 use Rattle.ppd_ast.specs.Numbered.{blocks_by, starts_by}
 
-abbrev pub gives : Option Body → Bool
-gives None = false
-gives (Some b) = b.value
-
 -- a postlog holds a returned value where the block is a function's and its body gives one
 abbrev pub gives_value : List Body → BlockKind → Bool
-gives_value bodies (Function f) = gives (slice_get bodies f)
+gives_value bodies (Function f) = option_map_or (λ b. b.value) (slice_get bodies f) false
 gives_value bodies (Process f) = false
 gives_value bodies (Loop k) = false
 

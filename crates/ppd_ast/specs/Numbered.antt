@@ -1,6 +1,7 @@
 -- How blocks and units are numbered for a policy.
 use Rattle.std.specs.Prelude.{ℕ, zero, suc, ◌+◌, ◌-◌, min, nat_lt, nat_le, Bool, true, false, not, ◌&&◌, ◌||◌, List, [], ◌∷◌, ◌++◌, length, Option, Some, None, slice_get, if◌then◌else◌}
 use Rattle.std.specs.List.{flat_map, range_with_len, list_any}
+use Rattle.std.specs.Option.{option_map_or}
 use Rattle.ppd_ast.specs.declared.program.Kind.{Kind}
 use Rattle.ppd_ast.specs.declared.program.Kind.TheVariants as K
 use Rattle.ppd_ast.specs.declared.program.Stmt.{Stmt}
@@ -34,53 +35,36 @@ is_left _ = false
 abbrev pub numbers_of : List Stmt → Body → List ℕ
 numbers_of stmts b = range_with_len b.first (min b.end (length stmts) - b.first)
 
-abbrev pub while_or : (Option ℕ → Bool) → Option Stmt → Bool
-while_or further None = false
-while_or further (Some s) = is_while s.kind || further s.parent
-
 -- whether a `while` is among this parent and those that it stands in, so many of them
 unfoldable pub in_while : (depth : ℕ) → List Stmt → Option ℕ → Bool
 in_while zero stmts parent = false
 in_while (suc depth) stmts None = false
-in_while (suc depth) stmts (Some n) = while_or (in_while depth stmts) (slice_get stmts n)
-
--- how many statements stand in one of this kind, directly or not
-abbrev pub inside_count : List Stmt → Kind → ℕ
-inside_count stmts kind = length (flat_map (preorder MOST_NESTING stmts) (inner kind))
+in_while (suc depth) stmts (Some n) =
+    option_map_or (λ s. is_while s.kind || in_while depth stmts s.parent) (slice_get stmts n) false
 
 -- a `while` that lies in no other `while` of its body and has at least `loops` statements inside, where
 -- `loops` is not 0
 abbrev pub is_block_loop : List Stmt → Policy → Stmt → Bool
 is_block_loop stmts policy s =
     is_while s.kind && nat_lt 0 policy.loops && not (in_while MOST_NESTING stmts s.parent)
-    && nat_le policy.loops (inside_count stmts s.kind)
-
-abbrev pub is_call_of : Option Stmt → Bool
-is_call_of None = false
-is_call_of (Some s) = is_call s.kind
+    && nat_le policy.loops (length (flat_map (preorder MOST_NESTING stmts) (inner s.kind)))
 
 abbrev pub has_call : List Stmt → Body → Bool
-has_call stmts b = list_any (λ k. is_call_of (slice_get stmts k)) (numbers_of stmts b)
+has_call stmts b = list_any (λ k. option_map_or (λ s. is_call s.kind) (slice_get stmts k) false) (numbers_of stmts b)
 
 -- a process; or a function but one that has no call and fewer than `leaf` statements
 abbrev pub is_block_body : List Stmt → Policy → Body → Bool
 is_block_body stmts policy b = b.process || has_call stmts b || nat_le policy.leaf (b.end - b.first)
 
-abbrev pub body_kind : ℕ → Body → BlockKind
-body_kind j b = if b.process then Process j else Function j
-
-abbrev pub loops_of : List Stmt → Policy → ℕ → Option Stmt → List BlockKind
-loops_of stmts policy k None = []
-loops_of stmts policy k (Some s) = if is_block_loop stmts policy s then Loop k ∷ [] else []
-
 -- the block that statement k is, if it is one
 abbrev pub loops_at : List Stmt → Policy → ℕ → List BlockKind
-loops_at stmts policy k = loops_of stmts policy k (slice_get stmts k)
+loops_at stmts policy k =
+    option_map_or (λ s. if is_block_loop stmts policy s then Loop k ∷ [] else []) (slice_get stmts k) []
 
 -- the blocks of body j: itself where it is one, then its block loops
 abbrev pub blocks_of : List Stmt → Policy → ℕ → Body → List BlockKind
 blocks_of stmts policy j b =
-    (if is_block_body stmts policy b then body_kind j b ∷ [] else [])
+    (if is_block_body stmts policy b then (if b.process then Process j else Function j) ∷ [] else [])
     ++ flat_map (loops_at stmts policy) (numbers_of stmts b)
 
 abbrev pub starts_of : List Stmt → Policy → ℕ → Option Stmt → List Start
@@ -103,10 +87,10 @@ abbrev pub of_body : {X : Type 0} → (List Stmt → Policy → ℕ → Body →
     → List Stmt → Policy → ℕ → Body → List X
 of_body own at stmts policy j b = own stmts policy j b ++ flat_map (at stmts policy) (numbers_of stmts b)
 
--- what there is for each body and its number, one after another, from number j on
-abbrev pub each_from : {X : Type 0} → (ℕ → Body → List X) → ℕ → List Body → List X
+-- what there is for each item and its number, one after another, from number j on
+abbrev pub each_from : {X Y : Type 0} → (ℕ → Y → List X) → ℕ → List Y → List X
 each_from f j [] = []
-each_from f j (b ∷ bs) = f j b ++ each_from f (j + 1) bs
+each_from f j (y ∷ ys) = f j y ++ each_from f (j + 1) ys
 
 abbrev pub blocks_by : List Stmt → Policy → List Body → List BlockKind
 blocks_by stmts policy bodies = each_from (blocks_of stmts policy) 0 bodies

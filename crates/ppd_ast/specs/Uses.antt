@@ -3,7 +3,6 @@ use Rattle.std.specs.Prelude.{ℕ, ◌+◌, max, List, [], ◌∷◌, ◌++◌, 
 use Rattle.std.specs.List.{flat_map}
 use Rattle.ppd_ast.specs.declared.program.Expr.{Expr}
 use Rattle.ppd_ast.specs.declared.program.Expr.TheVariants as E
-use Rattle.ppd_ast.specs.declared.program.Target.{Target}
 use Rattle.ppd_ast.specs.declared.program.Target.TheVariants as T
 use Rattle.ppd_ast.specs.declared.program.Kind.{Kind}
 use Rattle.ppd_ast.specs.declared.program.Kind.TheVariants as K
@@ -24,15 +23,12 @@ children (E.Two op a b) = a ∷ b ∷ []
 children (E.And a b) = a ∷ b ∷ []
 children (E.Or a b) = a ∷ b ∷ []
 
-abbrev pub target_uses : Target → List ℕ
-target_uses (T.Local c) = []
-target_uses (T.LocalAt base len i) = i ∷ []
-target_uses (T.Shared c) = []
-target_uses (T.SharedAt base len i) = i ∷ []
-
 -- the expressions that a statement uses, in order of evaluation
 abbrev pub kind_uses : Kind → List ℕ
-kind_uses (K.Set t e) = target_uses t ++ e ∷ []
+kind_uses (K.Set (T.Local c) e) = e ∷ []
+kind_uses (K.Set (T.LocalAt base len i) e) = i ∷ e ∷ []
+kind_uses (K.Set (T.Shared c) e) = e ∷ []
+kind_uses (K.Set (T.SharedAt base len i) e) = i ∷ e ∷ []
 kind_uses (K.Zero base len) = []
 kind_uses (K.If e first second) = e ∷ []
 kind_uses (K.While e body) = e ∷ []

@@ -1,8 +1,8 @@
 // The plan without cells.
-ghost use Rattle.std.specs.Prelude.{◌≡◌, ◌<◌, ◌^◌, [], ◌∷◌, ◌++◌, IfOk, OnOk, length, map};
+ghost use Rattle.std.specs.Prelude.{◌≡◌, ◌<◌, ◌^◌, [], ◌∷◌, ◌++◌, IfOk, OnOk, length, map, if◌then◌else◌};
 ghost use Rattle.std.specs.List.{flat_map};
 ghost use Rattle.ppd_ast.specs.Bare.{bare, bare_block, bare_unit, gives_value};
-ghost use Rattle.ppd_ast.specs.Numbered.{body_kind, each_from, is_block_loop, numbers_of, of_body};
+ghost use Rattle.ppd_ast.specs.Numbered.{each_from, is_block_loop, numbers_of, of_body};
 ghost use Rattle.ppd_ast.specs.Valid.{IsValid};
 ghost use Rattle.ppd_ast.specs.ValidPlan.{IsValidPlan, IsValidPolicy};
 
@@ -83,7 +83,7 @@ trait Bare: Numbered + Drop {
 }
 
 fn kind_of_body(number: u16, body: &Body) -> BlockKind
-    ensures { result ≡ body_kind number body.now }
+    ensures { result ≡ (if body.now.process then BlockKind.Process number else BlockKind.Function number) }
 {
     if body.process {
         BlockKind::Process(number)

@@ -1,7 +1,8 @@
 ghost use Rattle.std.specs.Prelude.{◌≡◌, ◌↔◌, ◌<◌, ◌-◌, [], ◌∷◌, IsTrue, length, map, min, if◌then◌else◌};
 ghost use Rattle.std.specs.List.{flat_map};
 ghost use Rattle.ppd_ast.specs.Begins.{Begins};
-ghost use Rattle.ppd_ast.specs.Numbered.{is_while, is_call, is_left, numbers_of, in_while, is_block_loop, has_call, is_block_body, body_kind, loops_at, starts_at, of_body, each_from};
+ghost use Rattle.ppd_ast.specs.declared.plan.BlockKind.TheVariants.{Function, Process};
+ghost use Rattle.ppd_ast.specs.Numbered.{is_while, is_call, is_left, numbers_of, in_while, is_block_loop, has_call, is_block_body, loops_at, starts_at, of_body, each_from};
 ghost use Rattle.ppd_ast.specs.Order.{inner, preorder};
 
 use crate::limits::MOST_NESTING;
@@ -256,7 +257,8 @@ fn loop_at(blocks: &[Block], place: usize, number: u32) -> Option<usize>
 }
 
 fn body_at(blocks: &[Block], place: usize, number: usize, body: &Body) -> Option<usize>
-    ensures { Begins result (map (λ block. block.kind) blocks.now) place (body_kind number body.now ∷ []) }
+    ensures { Begins result (map (λ block. block.kind) blocks.now) place
+        ((if body.now.process then BlockKind.Process number else BlockKind.Function number) ∷ []) }
 {
     match blocks.get(place) {
         None => None,
@@ -289,7 +291,8 @@ impl Numbered for Block {
 
     ghost at_stmt = { loops_at };
 
-    ghost own = { λ stmts policy number body. if is_block_body stmts policy body then body_kind number body ∷ [] else [] };
+    ghost own = { λ stmts policy number body. if is_block_body stmts policy body
+        then (if body.process then Process number else Function number) ∷ [] else [] };
 
     fn past_stmt(
         list: &[Block],

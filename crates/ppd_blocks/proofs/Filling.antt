@@ -15,7 +15,7 @@ use Rattle.ppd_ast.specs.Bare.{bare_block}
 use Rattle.ppd_cfg.specs.Lists.{row}
 use Rattle.ppd_cfg.proofs.Rows.{row_at, length_rows}
 use Rattle.ppd_ast.proofs.Walks.{got_none}
-use Rattle.ppd_ast.specs.Lookups.{kind_of_stmt}
+use Rattle.ppd_ast.proofs.Vocabulary.{kind_of_stmt}
 use Rattle.ppd_sets.specs.SetsOf.{AreSetsOf}
 use Rattle.ppd_sets.specs.Used.{loop_used_of, loop_defined_of, loop_stmts, reads_at, writes_at, sorted}
 use Rattle.ppd_sets.specs.declared.var_sets.VarSets.{VarSets}

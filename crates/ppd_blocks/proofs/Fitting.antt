@@ -11,11 +11,14 @@ use Rattle.ppd_ast.specs.Order.{inner}
 use Rattle.ppd_ast.specs.Valid.{IsValid}
 use Rattle.ppd_ast.proofs.ValidLaws.{inner_below, top_below, slice_get_below}
 use Rattle.ppd_ast.specs.Members.{has, AreBelow}
-use Rattle.ppd_ast.specs.Lookups.{kind_of_stmt, top_of_body, top_of}
+use Rattle.ppd_ast.specs.Lookups.{top_of_body, top_of}
+use Rattle.ppd_ast.proofs.Vocabulary.{kind_of_stmt}
 use Rattle.ppd_ast.proofs.Members.{has_first, has_later, has_cons, has_left, has_right, all_has}
 use Rattle.ppd_ast.specs.declared.limits.TheConstants.{MOST_NESTING}
-use Rattle.ppd_cfg.specs.Lists.{first_or, rising, rising_pair}
-use Rattle.ppd_cfg.specs.Flow.{next_in, follow_within, follow_under, follow_of, follow_at, follow, successors, next_of}
+use Rattle.ppd_cfg.specs.Lists.{first_or, rising}
+use Rattle.ppd_cfg.proofs.Vocabulary.{rising_pair}
+use Rattle.ppd_cfg.specs.Flow.{next_in, follow_within, follow_under, follow_at, follow, successors, next_of}
+use Rattle.ppd_cfg.proofs.Vocabulary.{follow_of}
 use Rattle.ppd_sets.proofs.Calling.{one_below}
 
 -- the number, if there is one, is below n

@@ -6,3 +6,4 @@ pub mod Listing
 pub mod Looping
 pub mod Filling
 pub mod Validity
+pub mod Vocabulary

@@ -10,13 +10,16 @@ use Rattle.ppd_ast.specs.declared.program.Program.{Program}
 use Rattle.ppd_ast.specs.declared.plan.Policy.{Policy}
 use Rattle.ppd_ast.specs.declared.plan.BlockKind.TheVariants.{Function, Process, Loop}
 use Rattle.ppd_ast.specs.declared.plan.Start.TheVariants.{Entry, After, Enter, Exit}
-use Rattle.ppd_ast.specs.Numbered.{is_left, is_block_loop, is_block_body, body_kind, loops_of, loops_at, blocks_of, starts_of, body_starts, starts_by, numbers_of, each_from}
+use Rattle.ppd_ast.specs.Numbered.{is_left, is_block_loop, is_block_body, loops_at, blocks_of, starts_of, body_starts, starts_by, numbers_of, each_from}
+use Rattle.ppd_ast.proofs.Vocabulary.{body_kind}
+use Rattle.ppd_ast.proofs.Vocabulary.{loops_of}
 use Rattle.ppd_ast.specs.Numbered.{starts_at as starts_of_policy}
 use Rattle.ppd_ast.specs.Members.{has}
-use Rattle.ppd_ast.specs.Lookups.{kind_of_stmt}
+use Rattle.ppd_ast.proofs.Vocabulary.{kind_of_stmt}
 use Rattle.ppd_ast.proofs.Members.{has_first, has_cons, has_left, has_right, has_cases}
-use Rattle.ppd_blocks.specs.Starts.{unit_starts_at, starts_in, all_starts}
-use Rattle.ppd_blocks.specs.Blocks.{loop_in, block_loops}
+use Rattle.ppd_blocks.specs.Starts.{unit_starts_at}
+use Rattle.ppd_blocks.proofs.Vocabulary.{starts_in, all_starts, block_loops}
+use Rattle.ppd_blocks.specs.Blocks.{loop_in}
 
 module _ (p : Program) (policy : Policy) where
   -- statement k is a block loop

@@ -11,7 +11,7 @@ use Rattle.ppd_ast.specs.Valid.{IsValid}
 use Rattle.ppd_ast.proofs.ValidLaws.{AreBelow, stmt_in_body, uses_below}
 use Rattle.ppd_ast.proofs.Walks.{got_none}
 use Rattle.ppd_ast.specs.Members.{has, those}
-use Rattle.ppd_ast.specs.Lookups.{kind_of_stmt}
+use Rattle.ppd_ast.proofs.Vocabulary.{kind_of_stmt}
 use Rattle.ppd_ast.proofs.Members.{has_cases, below_range, flat_gives, all_has}
 use Rattle.ppd_ast.specs.declared.limits.TheConstants.{MOST_SHARED_CELLS}
 use Rattle.ppd_cfg.specs.Reach.{closure, leads}
@@ -20,7 +20,7 @@ use Rattle.ppd_sets.specs.Named.{shared_cells, cells_in, reads}
 use Rattle.ppd_sets.specs.Used.{reads_at, sorted}
 use Rattle.ppd_sets.proofs.Gaining.{gains_none, gains_as}
 use Rattle.ppd_sets.proofs.Meeting.{sorted_is}
-use Rattle.ppd_blocks.specs.Walk.{cells_along}
+use Rattle.ppd_blocks.proofs.Vocabulary.{cells_along}
 
 pub reads_past : (a : List ℕ) (p : Program) (s : ℕ) → slice_get p.stmts s ≡ None → Gains a a (reads_at true p s)
 reads_past a p s at = gains_as [] (reads_at true p s) (sym (ap (λ (o : Option Stmt). reads true p.exprs (kind_of_stmt o)) at)) (gains_none a)

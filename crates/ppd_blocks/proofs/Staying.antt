@@ -14,7 +14,8 @@ use Rattle.ppd_cfg.specs.WorkList.{AreRowsBelow}
 use Rattle.ppd_cfg.specs.Flow.{next_of, flow_rows}
 use Rattle.ppd_cfg.proofs.Rows.{row_at, rows_are, length_rows}
 use Rattle.ppd_cfg.proofs.Leading.{row_there}
-use Rattle.ppd_blocks.specs.Walk.{stands_at, enters, is_between, unit_next, unit_rows, unless, begin_of}
+use Rattle.ppd_blocks.specs.Walk.{stands_at, enters, is_between, unit_rows, unless, begin_of}
+use Rattle.ppd_blocks.proofs.Vocabulary.{unit_next}
 use Rattle.ppd_blocks.proofs.Fitting.{Fits, listed_below, next_below, follow_fits, first_of_body_fits}
 
 -- ---- what a statement stands in

@@ -18,9 +18,10 @@ use Rattle.ppd_ast.specs.ValidPlan.{AreCells, IsValidBlock, IsValidPlan, IsValid
 use Rattle.ppd_ast.proofs.BareValid.{bare_valid, some_and_is}
 use Rattle.ppd_ast.proofs.ValidLaws.{some_and}
 use Rattle.ppd_ast.proofs.Members.{below_range}
-use Rattle.ppd_blocks.specs.Starts.{all_starts, unit_of, units_of}
+use Rattle.ppd_blocks.specs.Starts.{unit_of, units_of}
+use Rattle.ppd_blocks.proofs.Vocabulary.{all_starts, params_of, block_loops, block_of}
 use Rattle.ppd_blocks.proofs.Paths.{range_rises, all_from, cells_are_shared}
-use Rattle.ppd_blocks.specs.Blocks.{params_of, loop_in, block_of, filled, block_loops, plan_of}
+use Rattle.ppd_blocks.specs.Blocks.{loop_in, filled, plan_of}
 use Rattle.ppd_blocks.proofs.Filling.{loops_of_kinds}
 use Rattle.ppd_blocks.proofs.Listing.{starts_are}
 use Rattle.ppd_blocks.proofs.Looping.{prelog_cells, postlog_cells}

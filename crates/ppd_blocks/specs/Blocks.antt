@@ -1,7 +1,6 @@
 -- The plan of a policy: its blocks with what their prelogs and postlogs hold, and its units.
-use Rattle.std.specs.Prelude.{ℕ, List, [], ◌∷◌, ◌++◌, map, Option, Some, None, slice_get}
+use Rattle.std.specs.Prelude.{ℕ, List, [], ◌∷◌, ◌++◌, map}
 use Rattle.std.specs.List.{flat_map, range_with_len}
-use Rattle.ppd_ast.specs.declared.program.Body.{Body}
 use Rattle.ppd_ast.specs.declared.program.Program.{Program}
 use Rattle.ppd_ast.specs.declared.plan.Plan.{Plan}
 use Rattle.ppd_ast.specs.declared.plan.Policy.{Policy}
@@ -9,17 +8,14 @@ use Rattle.ppd_ast.specs.declared.plan.Block.{Block}
 use Rattle.ppd_ast.specs.declared.plan.BlockKind.{BlockKind}
 use Rattle.ppd_ast.specs.declared.plan.BlockKind.TheVariants.{Function, Process, Loop}
 use Rattle.ppd_ast.specs.Bare.{gives_value}
+use Rattle.ppd_ast.specs.Lookups.{params_of}
 use Rattle.ppd_ast.specs.Numbered.{blocks_by}
 use Rattle.ppd_sets.specs.Used.{loop_used_of, loop_defined_of, sorted}
 use Rattle.ppd_blocks.specs.Starts.{units_of}
 
-abbrev pub params_of : Option Body → List ℕ
-params_of None = []
-params_of (Some b) = range_with_len 0 b.params
-
 -- what a prelog holds: of a function its parameters, of a loop the local cells that it may read or write, rising
 abbrev pub prelog_of : Program → BlockKind → List ℕ
-prelog_of p (Function f) = params_of (slice_get p.bodies f)
+prelog_of p (Function f) = range_with_len 0 (params_of p f)
 prelog_of p (Process f) = []
 prelog_of p (Loop q) = sorted (loop_used_of p q ++ loop_defined_of p q)
 
@@ -28,10 +24,6 @@ abbrev pub postlog_of : Program → BlockKind → List ℕ
 postlog_of p (Function f) = []
 postlog_of p (Process f) = []
 postlog_of p (Loop q) = loop_defined_of p q
-
-abbrev pub block_of : Program → BlockKind → Block
-block_of p kind =
-    record { kind = kind; prelog = prelog_of p kind; postlog = postlog_of p kind; value = gives_value p.bodies kind }
 
 -- a block with its cells in place of those that it has
 abbrev pub filled : Program → Block → Block
@@ -48,14 +40,19 @@ loop_in (Function f) = []
 loop_in (Process f) = []
 loop_in (Loop q) = q ∷ []
 
--- the loops that are blocks of the policy
-abbrev pub block_loops : Program → Policy → List ℕ
-block_loops p policy = flat_map loop_in (blocks_by p.stmts policy p.bodies)
-
 -- the blocks and the units of the policy, in the order of their numbers
 abbrev pub plan_of : Program → Policy → Plan
 plan_of p policy = record {
   policy = policy;
-  blocks = map (block_of p) (blocks_by p.stmts policy p.bodies);
-  units = units_of p (block_loops p policy);
+  blocks =
+      map
+      (λ kind.
+      record {
+        kind = kind;
+        prelog = prelog_of p kind;
+        postlog = postlog_of p kind;
+        value = gives_value p.bodies kind;
+      })
+      (blocks_by p.stmts policy p.bodies);
+  units = units_of p (flat_map loop_in (blocks_by p.stmts policy p.bodies));
 }

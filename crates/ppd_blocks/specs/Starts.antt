@@ -1,7 +1,6 @@
 -- The units in the order of their numbers.
 use Rattle.std.specs.Prelude.{ℕ, List, [], ◌∷◌, map, if◌then◌else◌}
 use Rattle.std.specs.List.{flat_map}
-use Rattle.ppd_ast.specs.declared.program.Body.{Body}
 use Rattle.ppd_ast.specs.declared.program.Program.{Program}
 use Rattle.ppd_ast.specs.declared.plan.Start.{Start}
 use Rattle.ppd_ast.specs.declared.plan.Start.TheVariants.{Entry, After, Enter, Exit}
@@ -18,17 +17,11 @@ unit_starts_at p loops k =
     else if has loops k then Enter k ∷ Exit k ∷ []
     else []
 
--- the starts of body j: its entry, then those at its statements
-abbrev pub starts_in : Program → (loops : List ℕ) → ℕ → Body → List Start
-starts_in p loops j b = Entry j ∷ flat_map (unit_starts_at p loops) (numbers_of p.stmts b)
-
--- the starts of all bodies
-abbrev pub all_starts : Program → (loops : List ℕ) → List Start
-all_starts p loops = each_from (starts_in p loops) 0 p.bodies
-
 abbrev pub unit_of : Program → (loops : List ℕ) → Start → UnitOf
 unit_of p loops start = record { start = start; cells = unit_cells p loops start }
 
--- the units of a program with these block loops
+-- the units of a program with these block loops: of each body that of its entry, then those at its statements
 abbrev pub units_of : Program → (loops : List ℕ) → List UnitOf
-units_of p loops = map (unit_of p loops) (all_starts p loops)
+units_of p loops =
+    map (unit_of p loops)
+    (each_from (λ j b. Entry j ∷ flat_map (unit_starts_at p loops) (numbers_of p.stmts b)) 0 p.bodies)

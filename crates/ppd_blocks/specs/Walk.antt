@@ -39,13 +39,10 @@ leaves p loops s t = has loops s && not (stands_in p t s)
 abbrev pub is_between : Program → (loops : List ℕ) → (s t : ℕ) → Bool
 is_between p loops s t = is_left (kind_of p s) || (enters p loops s t || leaves p loops s t)
 
--- the successors of statement s that are in its unit
-abbrev pub unit_next : Program → (loops : List ℕ) → ℕ → List ℕ
-unit_next p loops s = filter (λ t. not (is_between p loops s t)) (next_of p s)
-
--- the same of each statement
+-- the successors of each statement that are in its unit
 abbrev pub unit_rows : Program → (loops : List ℕ) → List (List ℕ)
-unit_rows p loops = map (unit_next p loops) (range_with_len 0 (length p.stmts))
+unit_rows p loops =
+    map (λ s. filter (λ t. not (is_between p loops s t)) (next_of p s)) (range_with_len 0 (length p.stmts))
 
 -- ---- where a unit begins
 
@@ -64,10 +61,10 @@ begin_of p loops (Exit s) = unless (enters p loops s) (follow p s)
 
 -- ---- what it reads
 
--- the shared cells that the statements may read to which these rows lead from these starts, rising, each once
-abbrev pub cells_along : Program → (rows : List (List ℕ)) → (starts : List ℕ) → List ℕ
-cells_along p rows starts = sorted (flat_map (reads_at true p) (those (length p.stmts) (leads (closure rows) starts)))
-
--- the shared cells that a unit may read
+-- the shared cells that a unit may read: those of the statements to which the ways in it lead from where it begins,
+-- rising, each once
 abbrev pub unit_cells : Program → (loops : List ℕ) → Start → List ℕ
-unit_cells p loops start = cells_along p (unit_rows p loops) (option_to_list (begin_of p loops start))
+unit_cells p loops start =
+    sorted
+    (flat_map (reads_at true p)
+    (those (length p.stmts) (leads (closure (unit_rows p loops)) (option_to_list (begin_of p loops start)))))

@@ -4,7 +4,8 @@ ghost use Rattle.std.specs.List.{flat_map, range_with_len};
 ghost use Rattle.ppd_sets.specs.Gained.{Gains};
 ghost use Rattle.ppd_sets.specs.SetsOf.{AreSetsOf};
 ghost use Rattle.ppd_sets.specs.Used.{loop_used_of, loop_defined_of, sorted};
-ghost use Rattle.ppd_blocks.specs.Blocks.{params_of, prelog_of, postlog_of, filled, loop_in};
+ghost use Rattle.ppd_ast.specs.Lookups.{params_of};
+ghost use Rattle.ppd_blocks.specs.Blocks.{prelog_of, postlog_of, filled, loop_in};
 
 use ppd_ast::{Block, BlockKind, Cells, Ids, Memory, Program, Seq};
 use ppd_sets::{CellSet, VarSets, add_cell};
@@ -44,7 +45,7 @@ fn first_cells(alloc: Global, count: u16) -> Result<Cells, Memory>
 
 // The cells of a function's parameters.
 fn params_of(alloc: Global, program: &Program, body: u16) -> Result<Cells, Memory>
-    ensures { IfOk result (λ cells. cells ≡ params_of (slice_get program.now.bodies body)) }
+    ensures { IfOk result (λ cells. cells ≡ range_with_len 0 (params_of program.now body)) }
 {
     match program.body(body) {
         None => Ok(Cells::new(alloc)),

@@ -2,11 +2,11 @@
 ghost use Rattle.std.specs.Prelude.{◌≡◌, true, length, IfOk, option_to_list};
 ghost use Rattle.std.specs.List.{flat_map};
 ghost use Rattle.ppd_ast.specs.Valid.{IsValid};
-ghost use Rattle.ppd_ast.specs.Members.{AreBelow};
+ghost use Rattle.ppd_ast.specs.Members.{AreBelow, those};
+ghost use Rattle.ppd_cfg.specs.Reach.{closure, leads};
 ghost use Rattle.ppd_cfg.specs.WorkList.{AreRowsBelow};
 ghost use Rattle.ppd_sets.specs.Gained.{Gains, HasCells};
-ghost use Rattle.ppd_sets.specs.Used.{reads_at};
-ghost use Rattle.ppd_blocks.specs.Walk.{cells_along};
+ghost use Rattle.ppd_sets.specs.Used.{reads_at, sorted};
 
 use ppd_ast::{Cells, Ids, Memory, Program, Seq};
 use ppd_cfg::reached;
@@ -48,7 +48,8 @@ fn cells_from(
     requires rows { AreRowsBelow rows.now }
     requires long { length rows.now ≡ length program.now.stmts }
     requires starts { AreBelow (length program.now.stmts) starts.now }
-    ensures { IfOk result (λ cells. cells ≡ cells_along program.now rows.now starts.now) }
+    ensures { IfOk result (λ cells. cells ≡ sorted (flat_map (reads_at true program.now)
+        (those (length program.now.stmts) (leads (closure rows.now) starts.now)))) }
 {
     let stmts = reached(alloc, rows.as_slice(), starts)?;
     let set = read_by(program, stmts.as_slice());
@@ -67,7 +68,8 @@ pub(crate) fn cells_of(
     requires rows { AreRowsBelow rows.now }
     requires long { length rows.now ≡ length program.now.stmts }
     requires begin { AreBelow (length program.now.stmts) (option_to_list begin) }
-    ensures { IfOk result (λ cells. cells ≡ cells_along program.now rows.now (option_to_list begin)) }
+    ensures { IfOk result (λ cells. cells ≡ sorted (flat_map (reads_at true program.now)
+        (those (length program.now.stmts) (leads (closure rows.now) (option_to_list begin))))) }
 {
     match begin {
         None => cells_from(alloc, program, rows, &[]),

@@ -1,12 +1,13 @@
 // The ways that stay in a unit.
-ghost use Rattle.std.specs.Prelude.{◌≡◌, slice_get, IfOk, Some, None};
+ghost use Rattle.std.specs.Prelude.{◌≡◌, not, slice_get, IfOk, Some, None};
+ghost use Rattle.std.specs.List.{filter};
 ghost use Rattle.ppd_ast.specs.Numbered.{is_left};
 ghost use Rattle.ppd_ast.specs.Valid.{IsValid};
 ghost use Rattle.ppd_ast.specs.Members.{has};
 ghost use Rattle.ppd_ast.specs.Lookups.{kind_of, top_of, parent_if};
 ghost use Rattle.ppd_cfg.specs.Lists.{first_or};
-ghost use Rattle.ppd_cfg.specs.Flow.{follow};
-ghost use Rattle.ppd_blocks.specs.Walk.{stands_at, enters, leaves, is_between, unit_next, unit_rows, unless, begin_of};
+ghost use Rattle.ppd_cfg.specs.Flow.{follow, next_of};
+ghost use Rattle.ppd_blocks.specs.Walk.{stands_at, enters, leaves, is_between, unit_rows, unless, begin_of};
 
 use ppd_ast::limits::MOST_NESTING;
 use ppd_ast::{Ids, Kind, Memory, Program, Seq, Start, Stmt};
@@ -93,7 +94,8 @@ fn is_between(program: &Program, loops: &[u32], stmt: u32, next: u32) -> bool
 
 // The successors of a statement that are in its unit.
 fn unit_row(alloc: Global, program: &Program, loops: &[u32], stmt: u32) -> Result<Ids, Memory>
-    ensures { IfOk result (λ ids. ids ≡ unit_next program.now loops.now stmt) }
+    ensures { IfOk result
+        (λ ids. ids ≡ filter (λ t. not (is_between program.now loops.now stmt t)) (next_of program.now stmt)) }
 {
     let next = successors_of(alloc, program, stmt)?;
     let numbers = next.as_slice();

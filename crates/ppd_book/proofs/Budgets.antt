@@ -9,7 +9,8 @@ use Rattle.ppd_sem.specs.Process.{act}
 use Rattle.ppd_sem.specs.Runs.{IsRunning}
 use Rattle.ppd_sem.proofs.Progress.{IsWithinBudget, act-within}
 use Rattle.ppd_model.specs.declared.state.Logging.{Logging}
-use Rattle.ppd_model.specs.Logs.{begun_log, log_step, loggings, logs_from}
+use Rattle.ppd_model.specs.Logs.{begun_log, log_step, loggings}
+use Rattle.ppd_model.proofs.LogWords.{logs_from}
 use Rattle.ppd_model.specs.Story.{Moment, told}
 use Rattle.ppd_model.proofs.Changes.{some}
 use Rattle.ppd_model.proofs.Lists.{every_at}

@@ -12,7 +12,8 @@ use Rattle.ppd_sem.specs.Printed.{unprinted}
 use Rattle.ppd_sem.specs.Process.{act, need_of}
 use Rattle.ppd_sem.specs.Runs.{IsNumbered, IsRunnable, IsRunning}
 use Rattle.ppd_sem.proofs.Printed.{need_unprinted}
-use Rattle.ppd_model.specs.World.{need, need_at}
+use Rattle.ppd_model.specs.World.{need}
+use Rattle.ppd_model.proofs.WorldWords.{need_at}
 use Rattle.ppd_world.specs.Plain.{GoesPlainly}
 use Rattle.ppd_world.specs.Running.{IsHeld, Running}
 use Rattle.ppd_world.proofs.Processes.{reached_count}

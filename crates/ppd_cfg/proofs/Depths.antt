@@ -4,7 +4,8 @@ use Rattle.std.specs.Prelude.{slice_get}
 use Rattle.ppd_ast.specs.declared.program.Stmt.{Stmt}
 use Rattle.ppd_ast.specs.declared.program.Program.{Program}
 use Rattle.ppd_ast.specs.Lookups.{kind_of, top_of}
-use Rattle.ppd_cfg.specs.Flow.{follow_at, follow_of, follow_under, follow_within, next_in}
+use Rattle.ppd_cfg.specs.Flow.{follow_at, follow_under, follow_within, next_in}
+use Rattle.ppd_cfg.proofs.Vocabulary.{follow_of}
 
 pub follow_deep : (depth : ℕ) (p : Program) (s : ℕ) → depth ≡ 0 → follow_at depth p s ≡ None
 unfolding follow_at

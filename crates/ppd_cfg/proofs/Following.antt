@@ -6,14 +6,16 @@ use Rattle.std.proofs.lemmas.Bool.{cases_lt}
 use Rattle.ppd_ast.specs.declared.program.Stmt.{Stmt}
 use Rattle.ppd_ast.specs.declared.program.Body.{Body}
 use Rattle.ppd_ast.specs.declared.program.Program.{Program}
-use Rattle.ppd_ast.specs.Order.{preorder, inner, inner_of, inner_at}
+use Rattle.ppd_ast.specs.Order.{preorder, inner}
+use Rattle.ppd_ast.proofs.Vocabulary.{inner_of, inner_at}
 use Rattle.ppd_ast.specs.Valid.{IsValid, IsValidBody, Follow}
 use Rattle.ppd_ast.proofs.ValidLaws.{slice_get_below, valid_stmt, valid_body, some_and}
 use Rattle.ppd_ast.specs.Members.{has}
 use Rattle.ppd_ast.specs.Lookups.{kind_of}
 use Rattle.ppd_ast.proofs.Members.{has_cons, in_bounds_has, flat_gives, all_has}
 use Rattle.ppd_ast.specs.declared.limits.TheConstants.{MOST_NESTING}
-use Rattle.ppd_cfg.specs.Flow.{follow_at, follow_of, follow_under, follow_within}
+use Rattle.ppd_cfg.specs.Flow.{follow_at, follow_under, follow_within}
+use Rattle.ppd_cfg.proofs.Vocabulary.{follow_of}
 use Rattle.ppd_cfg.specs.Laws.{FollowsItsList}
 
 -- ---- in so few others

@@ -7,7 +7,9 @@ use Rattle.ppd_ast.specs.Members.{has, those}
 use Rattle.ppd_ast.proofs.Members.{has_cons, has_left, has_right, has_cases, has_filter, filter_has, any_from, any_gives, from_zero, filter_same_in}
 use Rattle.ppd_ast.proofs.Those.{both}
 use Rattle.ppd_cfg.specs.Lists.{row}
-use Rattle.ppd_cfg.specs.Reach.{Reached, start, next, through, closure_through, closure, leads}
+use Rattle.ppd_cfg.specs.Reach.{Reached, start, next, closure, leads}
+use Rattle.ppd_cfg.proofs.Vocabulary.{through}
+use Rattle.ppd_cfg.proofs.Vocabulary.{closure_through}
 use Rattle.ppd_cfg.specs.WorkList.{is_marked}
 
 -- only a row that is there has something

@@ -5,3 +5,4 @@ pub mod Rows
 pub mod Depths
 pub mod Paths
 pub mod Following
+pub mod Vocabulary

@@ -13,8 +13,10 @@ use Rattle.ppd_cfg.specs.Cfgs.{HasStmt, row_of, IsFlowGraph, IsGraphOf}
 use Rattle.ppd_ast.proofs.Walks.{got_none}
 use Rattle.ppd_ast.proofs.Ranges.{range_more}
 use Rattle.ppd_ast.specs.Members.{RisesFrom}
-use Rattle.ppd_ast.specs.Lookups.{kind_of_stmt, kind_of}
-use Rattle.ppd_cfg.specs.Lists.{row, first_or, rising, rising_pair}
+use Rattle.ppd_ast.specs.Lookups.{kind_of}
+use Rattle.ppd_ast.proofs.Vocabulary.{kind_of_stmt}
+use Rattle.ppd_cfg.specs.Lists.{row, first_or, rising}
+use Rattle.ppd_cfg.proofs.Vocabulary.{rising_pair}
 use Rattle.ppd_cfg.specs.Flow.{follow, successors, next_of, flow_rows}
 
 pub row_at : (f : ℕ → List ℕ) (a n k : ℕ) → k < n → row (map f (range_with_len a n)) k ≡ f (a + k)

@@ -1,9 +1,8 @@
 -- The successors of a statement, and flow paths.
-use Rattle.std.specs.Prelude.{◌≡◌, IsTrue, ℕ, zero, suc, nat_eq, List, [], ◌∷◌, length, map, Option, Some, None, if◌then◌else◌, slice_get, option_to_list}
+use Rattle.std.specs.Prelude.{◌≡◌, IsTrue, ℕ, zero, suc, nat_eq, List, [], ◌∷◌, length, map, Option, Some, None, if◌then◌else◌, slice_get, option_to_list, option_and_then}
 use Rattle.std.specs.List.{range_with_len}
 use Rattle.ppd_ast.specs.declared.program.Kind.{Kind}
 use Rattle.ppd_ast.specs.declared.program.Kind.TheVariants as K
-use Rattle.ppd_ast.specs.declared.program.Stmt.{Stmt}
 use Rattle.ppd_ast.specs.declared.program.Program.{Program}
 use Rattle.ppd_ast.specs.declared.limits.TheConstants.{MOST_NESTING}
 use Rattle.ppd_ast.specs.Members.{has}
@@ -26,14 +25,11 @@ abbrev pub follow_under : Program → (ℕ → Option ℕ) → ℕ → ℕ → O
 follow_under p outer body s None = next_in (top_of p body) s None
 follow_under p outer body s (Some q) = follow_within q (kind_of p q) s (outer q)
 
-abbrev pub follow_of : Program → (ℕ → Option ℕ) → ℕ → Option Stmt → Option ℕ
-follow_of p outer s None = None
-follow_of p outer s (Some x) = follow_under p outer x.body s x.parent
-
 -- what follows statement s, which stands in at most so many lists
 unfoldable pub follow_at : (depth : ℕ) → Program → ℕ → Option ℕ
 follow_at zero p s = None
-follow_at (suc depth) p s = follow_of p (follow_at depth p) s (slice_get p.stmts s)
+follow_at (suc depth) p s =
+    option_and_then (λ x. follow_under p (follow_at depth p) x.body s x.parent) (slice_get p.stmts s)
 
 -- what follows statement s, if anything does
 abbrev pub follow : Program → ℕ → Option ℕ

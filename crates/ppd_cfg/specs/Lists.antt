@@ -10,11 +10,8 @@ abbrev pub first_or : List ℕ → Option ℕ → Option ℕ
 first_or [] after = after
 first_or (x ∷ xs) after = Some x
 
--- both, rising, each once
-abbrev pub rising_pair : ℕ → ℕ → List ℕ
-rising_pair x y = if nat_lt x y then x ∷ y ∷ [] else if nat_eq x y then x ∷ [] else y ∷ x ∷ []
-
+-- the numbers that are there, rising, each once
 abbrev pub rising : Option ℕ → Option ℕ → List ℕ
 rising None b = option_to_list b
 rising (Some x) None = x ∷ []
-rising (Some x) (Some y) = rising_pair x y
+rising (Some x) (Some y) = if nat_lt x y then x ∷ y ∷ [] else if nat_eq x y then x ∷ [] else y ∷ x ∷ []

@@ -11,7 +11,7 @@ use Rattle.ppd_parse.specs.Limits.{IsTree}
 use Rattle.ppd_check_names.specs.Names.{Scope}
 use Rattle.ppd_check.specs.Read.{IsTreeOf, IsRead}
 use Rattle.ppd_check_names.specs.Reading.{source_of}
-use Rattle.ppd_check_bodies.specs.Sources.{heads, head_frame, head_code, vars, core, Accepted}
+use Rattle.ppd_check_bodies.specs.Sources.{heads, head_frame, head_code, vars, core_of, faults_in}
 use Rattle.ppd_check_names.specs.Globals.{Head, globals}
 use Rattle.ppd_check.proofs.Valid.Core.{core_valid}
 use Rattle.ppd_check.proofs.Named.Accepted.{IsNamedHead, accepted_heads, accepted_counted, accepted_cells}
@@ -32,19 +32,19 @@ heads_named p scope [] n = All-nil (HeadNames p scope)
 heads_named p scope (h ∷ hs) n =
     All-cons (HeadNames p scope) h hs (head_named p scope h (All-head (IsNamedHead p scope) h hs n)) (heads_named p scope hs (All-tail (IsNamedHead p scope) h hs n))
 
-source_names : (ts : List Token) (t : Shape) → IsTree ts (t ∷ []) → Accepted t → SourceNames t
+source_names : (ts : List Token) (t : Shape) → IsTree ts (t ∷ []) → (faults_in (source_of t) ≡ []) → SourceNames t
 source_names ts t tree a = record {
   counted = accepted_counted t a;
   cells = accepted_cells t a;
-  heads = heads_named (core t) (globals (source_of t)).scope (heads (globals (source_of t))) (accepted_heads ts t tree a);
+  heads = heads_named (core_of (source_of t)) (globals (source_of t)).scope (heads (globals (source_of t))) (accepted_heads ts t tree a);
 }
 
 -- the law
-pub accepted_valid : (bytes : List ℕ) (t : Shape) → IsTreeOf bytes t → Accepted t → IsValid (core t)
+pub accepted_valid : (bytes : List ℕ) (t : Shape) → IsTreeOf bytes t → (faults_in (source_of t) ≡ []) → IsValid (core_of (source_of t))
 accepted_valid bytes t p a =
     core_valid t a (source_names p.tokens t p.parsed a) (tree_fits (length bytes) p.tokens t (formed bytes p.tokens p.lexed) p.parsed)
 
-pub table_valid : (t : Shape) (p : Program) → Accepted t × (p ≡ core t) → (bytes : List ℕ) → IsTreeOf bytes t → IsValid p
+pub table_valid : (t : Shape) (p : Program) → (faults_in (source_of t) ≡ []) × (p ≡ core_of (source_of t)) → (bytes : List ℕ) → IsTreeOf bytes t → IsValid p
 table_valid t p a = λ bytes parsed. subst IsValid (sym a.1) (accepted_valid bytes t parsed a.0)
 
 pub read_valid : (bytes : List ℕ) (p : Program) → IsRead bytes p → IsValid p

@@ -1,5 +1,5 @@
 -- What a source declares and says in all, against the nodes of its table.
-use Rattle.std.proofs.Common.{◌≡◌, refl, ap, ◌∙◌, ℕ, ◌+◌, ◌*◌, ◌≤◌, arith, List, [], ◌++◌, length, map, Option, None, nat_lt}
+use Rattle.std.proofs.Common.{◌≡◌, refl, ap, ◌∙◌, ℕ, ◌+◌, ◌*◌, ◌≤◌, arith, List, [], ◌++◌, length, map, Option, None, nat_lt, not}
 use Rattle.ppd_ast.specs.declared.program.Stmt.{Stmt}
 use Rattle.ppd_parse.specs.declared.node.Node.{Node}
 use Rattle.ppd_parse.specs.Tree.{tree_of, IsTable}
@@ -20,12 +20,11 @@ use Rattle.ppd_check_names.specs.declared.fault.Cause.TheVariants.{NoProcess}
 use Rattle.ppd_check_names.specs.declared.fault.Fault.{Fault}
 use Rattle.ppd_check_names.specs.declared.writer.Writer.{Writer}
 use Rattle.ppd_check_bodies.specs.Bodies.{WroteHeads}
-use Rattle.ppd_check_names.specs.Faults.{first, first_of_both, unless}
+use Rattle.ppd_check_names.specs.Faults.{first, first_of_both, if_so}
 use Rattle.ppd_check_names.specs.Holding.{head_at, Holds}
 use Rattle.ppd_check_names.specs.Names.{innermost}
 use Rattle.ppd_check.specs.Placed.{place_of}
 use Rattle.ppd_check_names.specs.Syntax.{Source}
-use Rattle.ppd_check.proofs.Placing.{all_places}
 use Rattle.ppd_check.proofs.Sourced.{parts_of, parts_stmts}
 
 pub root_few : (ns : List Node) → IsTable ns → nodes_at ns 0 ≤ length ns
@@ -40,7 +39,7 @@ source_few ns table =
 -- the statements of all bodies, however many are too many
 stmts_told : (ns : List Node) (s : Source) (g : Globals) (w : Writer) (bs : List Body) (o p : Option Fault) (fs qs : List ℕ) (es : List Expr) (ts : List Stmt)
     → Holds ns g (globals s) → o ≡ first_of_both None (first (items_faults s.items no_globals ++ count_faults (globals s)))
-    → p ≡ first_of_both o (first (unless (nat_lt 0 (length (globals s).processes)) s.end NoProcess))
+    → p ≡ first_of_both o (first (if_so (not (nat_lt 0 (length (globals s).processes))) s.end NoProcess))
     → fs ≡ g.functions → qs ≡ g.processes → es ≡ [] → ts ≡ []
     → WroteHeads (innermost g.scopes) (map (head_at ns) fs ++ map (head_at ns) qs) (record { exprs = es; stmts = ts; found = p }) w [] bs
     → w.stmts ≡ all_stmts 0 0 0 (codes (globals s))
@@ -48,7 +47,7 @@ stmts_told ns s g w bs o p fs qs es ts held declared some f q e t wrote =
     let last : Option Fault = first_of_both w.found (first (past_statements (map place_of w.stmts))) in
     parts_stmts ns s g w bs last
     (parts_of ns s g w bs last o p fs qs es ts w.stmts held declared some f q e t refl wrote
-    (λ cs i. ap (λ l. first_of_both w.found (first (past_statements l))) (ap (map place_of) i ∙ all_places 0 0 0 cs)))
+    (λ cs i. ap (λ l. first_of_both w.found (first (past_statements l))) (ap (map place_of) i)))
 
 -- the statements and variables of a source, and the nodes of its functions and processes
 pub record AllFew (ns : List Node) (vars : List Variable) (fs qs : List ℕ) (stmts : List Stmt) : Type 0 where
@@ -58,7 +57,7 @@ pub record AllFew (ns : List Node) (vars : List Variable) (fs qs : List ℕ) (st
 pub all_few : (ns : List Node) → IsTable ns → (g : Globals) (w : Writer) (bs : List Body) (o p : Option Fault) (fs qs : List ℕ) (es : List Expr) (ts : List Stmt)
     → Holds ns g (globals (source_of (tree_of ns)))
     → o ≡ first_of_both None (first (items_faults (source_of (tree_of ns)).items no_globals ++ count_faults (globals (source_of (tree_of ns)))))
-    → p ≡ first_of_both o (first (unless (nat_lt 0 (length (globals (source_of (tree_of ns))).processes)) (source_of (tree_of ns)).end NoProcess))
+    → p ≡ first_of_both o (first (if_so (not (nat_lt 0 (length (globals (source_of (tree_of ns))).processes))) (source_of (tree_of ns)).end NoProcess))
     → fs ≡ g.functions → qs ≡ g.processes → es ≡ [] → ts ≡ []
     → WroteHeads (innermost g.scopes) (map (head_at ns) fs ++ map (head_at ns) qs) (record { exprs = es; stmts = ts; found = p }) w [] bs
     → (vars : List Variable) (stmts : List Stmt) → vars ≡ g.shared → stmts ≡ w.stmts → heads_nodes ns g ≤ nodes_at ns 0

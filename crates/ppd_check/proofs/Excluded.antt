@@ -16,7 +16,8 @@ use Rattle.ppd_check.specs.declared.error.SourceError.TheVariants as S
 use Rattle.ppd_check_names.specs.declared.fault.Fault.{Fault}
 use Rattle.ppd_check_names.specs.Faults.{first}
 use Rattle.ppd_check.specs.Read.{IsTreeOf, IsRead, IsRefused}
-use Rattle.ppd_check_bodies.specs.Sources.{Accepted, core, faults, first_fault}
+use Rattle.ppd_check_bodies.specs.Sources.{core_of, faults_in}
+use Rattle.ppd_check_names.specs.Reading.{source_of}
 
 abbrev head_or : Shape → List Shape → Shape
 head_or t [] = t
@@ -30,12 +31,12 @@ tree_unique bytes t u h k =
     ap (head_or t) both
 
 pub program_unique : (bytes : List ℕ) (p q : Program) → IsRead bytes p → IsRead bytes q → p ≡ q
-program_unique bytes p q h k = h.table ∙ sym (ap core (tree_unique bytes h.tree k.tree h.parsed k.parsed)) ∙ sym k.table
+program_unique bytes p q h k = h.table ∙ sym (ap (λ t. core_of (source_of t)) (tree_unique bytes h.tree k.tree h.parsed k.parsed)) ∙ sym k.table
 
 -- an accepted tree has no first fault
-none_first : (t u : Shape) (f : Fault) → u ≡ t → Accepted t → first_fault u ≡ Some f → ⊥
+none_first : (t u : Shape) (f : Fault) → u ≡ t → (faults_in (source_of t) ≡ []) → first (faults_in (source_of u)) ≡ Some f → ⊥
 none_first t u f e a h =
-    let n : None ≡ Some f = sym (ap first (ap faults e ∙ a)) ∙ h in
+    let n : None ≡ Some f = sym (ap first (ap (λ t. faults_in (source_of t)) e ∙ a)) ∙ h in
     cc
 
 no_tree_refused : (bytes : List ℕ) (p : Program) (e : SyntaxError) → (e ≡ Y.Memory → ⊥) → IsRead bytes p → (tokens : List Token) → IsTokens bytes tokens → Parsing.IsRefused tokens e → ⊥

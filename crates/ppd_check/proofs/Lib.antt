@@ -7,7 +7,6 @@ pub mod LinearNodes
 pub mod Named
 pub mod PastMost
 pub mod Phrases
-pub mod Placing
 pub mod Sourced
 pub mod Valid
 pub mod Vocabulary

@@ -18,13 +18,15 @@ use Rattle.ppd_check_names.specs.declared.frame.Frame.{Frame}
 use Rattle.ppd_check_names.specs.Names.{Scope}
 use Rattle.ppd_check.specs.Read.{IsTreeOf}
 use Rattle.ppd_check_names.specs.Reading.{source_of}
-use Rattle.ppd_check_names.specs.Fitted.{as_short}
+use Rattle.ppd_check_names.specs.Fitted.{fitted}
 use Rattle.ppd_check_stmts.specs.Statements.{row_code}
 use Rattle.ppd_check_names.specs.Frames.{variable_of}
 use Rattle.ppd_check_names.specs.Syntax.{Item, shared, shared_array, semaphore, channel, function, process}
 use Rattle.ppd_check_stmts.specs.Table.{terms}
-use Rattle.ppd_check_bodies.specs.Sources.{outer, entry, ends_with_return, close_code, head_code, head_frame, heads, codes, core, Accepted}
-use Rattle.ppd_check_names.specs.Globals.{Head, Globals, no_globals, with_item, with_items, globals, sem, chan}
+use Rattle.ppd_check_bodies.specs.Sources.{outer, entry, ends_with_return, head_code, head_frame, heads, codes, core_of, faults_in}
+use Rattle.ppd_check_bodies.specs.Bodies.{close_code}
+use Rattle.ppd_check_names.specs.Globals.{Head, Globals, no_globals, with_item, globals}
+use Rattle.ppd_check_names.specs.Holding.{with_items, sem, chan}
 use Rattle.ppd_check_bodies.proofs.Filling.{params_count}
 use Rattle.ppd_check_stmts.proofs.Table.Writing.{length_flats}
 use Rattle.ppd_check_stmts.specs.Elements.{elements_of}
@@ -74,7 +76,7 @@ globals_size g = length g.shared + length g.semaphores + length g.channels + hea
 
 item_more : (i : Item) (g : Globals) → globals_size (with_item i g) ≡ globals_size g + item_size i
 item_more (shared x v) g = omega (arith, length-append g.shared (variable_of x None ∷ []))
-item_more (shared_array x n) g = omega (arith, length-append g.shared (variable_of x (Some (as_short n.value)) ∷ []))
+item_more (shared_array x n) g = omega (arith, length-append g.shared (variable_of x (Some (fitted 16 n.value)) ∷ []))
 item_more (semaphore x n) g = omega (arith, length-append g.semaphores (record { name = x; number = n.value } ∷ []))
 item_more (channel x n) g = omega (arith, length-append g.channels (record { name = x; number = n.value } ∷ []))
 item_more (function gives x params b) g = omega (arith, heads_append g.functions (record { process = false; gives = gives; name = x; params = params; block = b } ∷ []))
@@ -86,7 +88,7 @@ items_more (i ∷ is) g = omega (arith, item_more i g, items_more is (with_item 
 
 -- The laws.
 
-core_holds : (t : Shape) → elements_of (core t) ≤ globals_size (globals (source_of t))
+core_holds : (t : Shape) → elements_of (core_of (source_of t)) ≤ globals_size (globals (source_of t))
 core_holds t =
     let g : Globals = globals (source_of t) in
     omega (
@@ -101,13 +103,13 @@ core_holds t =
     )
 
 -- a table against its tree
-pub core_few : (t : Shape) → elements_of (core t) ≤ 9 * size_of (t ∷ [])
+pub core_few : (t : Shape) → elements_of (core_of (source_of t)) ≤ 9 * size_of (t ∷ [])
 core_few t = omega (arith, core_holds t, items_more (source_of t).items no_globals, items_few t)
 
-pub table_few : (t : Shape) (p : Program) → Accepted t × (p ≡ core t) → elements_of p ≤ 9 * size_of (t ∷ [])
+pub table_few : (t : Shape) (p : Program) → (faults_in (source_of t) ≡ []) × (p ≡ core_of (source_of t)) → elements_of p ≤ 9 * size_of (t ∷ [])
 table_few t p a = omega (arith, ap elements_of a.1, core_few t)
 
-pub nodes_few : (ns : List Node) (p : Program) → IsTable ns → Accepted (tree_of ns) × (p ≡ core (tree_of ns)) → elements_of p ≤ 9 * length ns
+pub nodes_few : (ns : List Node) (p : Program) → IsTable ns → (faults_in (source_of (tree_of ns)) ≡ []) × (p ≡ core_of (source_of (tree_of ns))) → elements_of p ≤ 9 * length ns
 nodes_few ns p table a = omega (arith, table_few (tree_of ns) p a, tree_within ns table)
 
 -- a tree against its tokens, and these against the bytes

@@ -12,8 +12,9 @@ use Rattle.ppd_ast.specs.Counting.{one_if}
 use Rattle.ppd_check_names.specs.declared.fault.Cause.TheVariants.{TooMany}
 use Rattle.ppd_check_names.specs.declared.fault.Limit.TheVariants as L
 use Rattle.ppd_check_names.specs.declared.fault.Fault.{Fault}
-use Rattle.ppd_check_names.specs.Faults.{at, by_then, is_before, first, first_of_two, first_of_both}
-use Rattle.ppd_check_bodies.specs.Sources.{is_up_to}
+use Rattle.ppd_check_names.specs.Faults.{at, by_then, is_before, first, first_of_both}
+use Rattle.ppd_check_names.proofs.Words.{first_of_two}
+use Rattle.ppd_check.proofs.Vocabulary.{is_up_to}
 use Rattle.ppd_check_names.proofs.Found.First.{first_of_both_assoc, first_of_both_swap}
 
 abbrev too_many : Place → Fault

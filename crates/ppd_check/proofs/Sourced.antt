@@ -1,5 +1,5 @@
 -- A whole source: what was found in its parts, and its table from them.
-use Rattle.std.proofs.Common.{◌≡◌, refl, sym, ap, subst, ◌∙◌, ℕ, ℤ, ◌≤◌, arith, Bool, true, false, nat_lt, if◌then◌else◌, List, [], ◌∷◌, ◌++◌, map, length, Option, None, Some}
+use Rattle.std.proofs.Common.{◌≡◌, refl, sym, ap, subst, ◌∙◌, ℕ, ℤ, ◌≤◌, arith, Bool, true, false, nat_lt, if◌then◌else◌, List, [], ◌∷◌, ◌++◌, map, length, Option, None, Some, not}
 use Rattle.std.specs.List.{flat_map}
 use Rattle.std.proofs.lemmas.List.{append_assoc, length-map}
 use Rattle.std.proofs.lemmas.Bool.{ltb-false}
@@ -13,6 +13,7 @@ use Rattle.ppd_ast.specs.declared.program.Sem.{Sem}
 use Rattle.ppd_ast.specs.declared.program.Chan.{Chan}
 use Rattle.ppd_parse.specs.declared.node.Node.{Node}
 use Rattle.ppd_parse.specs.Tree.{tree_of}
+use Rattle.ppd_check.specs.Placed.{place_of}
 use Rattle.ppd_check_names.specs.declared.fault.Cause.TheVariants.{NoProcess, TooMany}
 use Rattle.ppd_check_names.specs.declared.fault.Fault.{Fault}
 use Rattle.ppd_check_names.specs.declared.fault.Limit.{Limit}
@@ -21,14 +22,17 @@ use Rattle.ppd_check_names.specs.declared.frame.Variable.{Variable}
 use Rattle.ppd_check_names.specs.declared.globals.Globals.{Globals}
 use Rattle.ppd_check_names.specs.declared.writer.Writer.{Writer}
 use Rattle.ppd_check_bodies.specs.Bodies.{WroteHeads}
-use Rattle.ppd_check_stmts.specs.Code.{Code, places}
-use Rattle.ppd_check_names.specs.Faults.{at, unless, if_so, first_of_two, is_before, first, first_of_both}
-use Rattle.ppd_check_names.specs.Fitted.{as_short}
+use Rattle.ppd_check_stmts.specs.Code.{Code}
+use Rattle.ppd_check_names.specs.Faults.{at, if_so, is_before, first, first_of_both}
+use Rattle.ppd_check_names.proofs.Words.{first_of_two, head_name, object_name}
+use Rattle.ppd_check_names.specs.Fitted.{fitted}
 use Rattle.ppd_check_names.specs.Holding.{head_at, Holds}
 use Rattle.ppd_check_names.specs.Names.{innermost}
 use Rattle.ppd_check_names.specs.Globals as S
-use Rattle.ppd_check_bodies.specs.Sources.{past_statements, head_faults, heads, codes, faults_in, vars, bodies, all_stmts, core_of, Accepted, core, faults, first_fault}
-use Rattle.ppd_check_names.specs.Globals.{no_globals, globals, with_item, with_items, items_faults, count_faults, past, past_cells, sem}
+use Rattle.ppd_check_bodies.specs.Sources.{past_statements, head_faults, heads, codes, faults_in, vars, bodies, all_stmts, core_of}
+use Rattle.ppd_check_names.specs.Reading.{source_of}
+use Rattle.ppd_check_names.specs.Globals.{no_globals, globals, with_item, items_faults, count_faults, past, past_cells}
+use Rattle.ppd_check_names.specs.Holding.{with_items, sem}
 use Rattle.ppd_check_names.specs.Frames.{after_cells}
 use Rattle.ppd_check_names.specs.Syntax.{Item, Source}
 use Rattle.ppd_check_stmts.specs.Table.{flats, terms}
@@ -82,10 +86,10 @@ celled_items (i ∷ is) s h = celled_items is (with_item i s) (celled_item i s h
 
 few_counted : (g : S.Globals) → count_faults g ≡ [] → past_cells MOST_SHARED_CELLS L.Shared 0 g.shared ≡ []
 few_counted g h =
-    let functions : List Fault = past MOST_FUNCTIONS L.Functions (map S.head_name g.functions) in
-    let processes : List Fault = past MOST_PROCESSES L.Processes (map S.head_name g.processes) in
-    let semaphores : List Fault = past MOST_SEMAPHORES L.Semaphores (map S.object_name g.semaphores) in
-    let channels : List Fault = past MOST_CHANNELS L.Channels (map S.object_name g.channels) in
+    let functions : List Fault = past MOST_FUNCTIONS L.Functions (map head_name g.functions) in
+    let processes : List Fault = past MOST_PROCESSES L.Processes (map head_name g.processes) in
+    let semaphores : List Fault = past MOST_SEMAPHORES L.Semaphores (map object_name g.semaphores) in
+    let channels : List Fault = past MOST_CHANNELS L.Channels (map object_name g.channels) in
     let cells : List Fault = past_cells MOST_SHARED_CELLS L.Shared 0 g.shared in
     none_right channels cells
     (none_right semaphores (channels ++ cells)
@@ -94,7 +98,7 @@ few_counted g h =
 
 few_shared : (s : Source) → faults_in s ≡ [] → (globals s).cells ≤ MOST_SHARED_CELLS
 few_shared s h =
-    let rest : List Fault = unless (nat_lt 0 (length (globals s).processes)) s.end NoProcess ++ (flat_map (head_faults (globals s).scope) (heads (globals s)) ++ past_statements (flat_map places (codes (globals s)))) in
+    let rest : List Fault = if_so (not (nat_lt 0 (length (globals s).processes))) s.end NoProcess ++ (flat_map (head_faults (globals s).scope) (heads (globals s)) ++ past_statements (map place_of (all_stmts 0 0 0 (codes (globals s))))) in
     let counted : count_faults (globals s) ≡ [] = none_left (count_faults (globals s)) rest (none_right (items_faults s.items no_globals) (count_faults (globals s) ++ rest) h) in
     let few : end_cells 0 (globals s).shared ≤ MOST_SHARED_CELLS = few_cells MOST_SHARED_CELLS L.Shared 0 (globals s).shared (omega arith) (few_counted (globals s) counted) in
     subst (λ n. n ≤ MOST_SHARED_CELLS) (sym (celled_items s.items no_globals refl)) few
@@ -113,9 +117,9 @@ pub record Parts (ns : List Node) (s : Source) (g : Globals) (w : Writer) (bs : 
   pub first_found : Option Fault
   pub declared : first_found ≡ first_of_both None (first (items_faults s.items no_globals ++ count_faults (globals s)))
   pub next_found : Option Fault
-  pub some : next_found ≡ first_of_both first_found (first (unless (nat_lt 0 (length (globals s).processes)) s.end NoProcess))
+  pub some : next_found ≡ first_of_both first_found (first (if_so (not (nat_lt 0 (length (globals s).processes))) s.end NoProcess))
   pub wrote : WroteHeads (innermost g.scopes) (map (head_at ns) g.functions ++ map (head_at ns) g.processes) (record { exprs = []; stmts = []; found = next_found }) w [] bs
-  pub counted : (cs : List Code) → w.stmts ≡ all_stmts 0 0 0 cs → last ≡ first_of_both w.found (first (past_statements (flat_map places cs)))
+  pub counted : (cs : List Code) → w.stmts ≡ all_stmts 0 0 0 cs → last ≡ first_of_both w.found (first (past_statements (map place_of (all_stmts 0 0 0 cs))))
 
 heads_held : (ns : List Node) (s : Source) (g : Globals) → Holds ns g (globals s) → map (head_at ns) g.functions ++ map (head_at ns) g.processes ≡ heads (globals s)
 heads_held ns s g h = ap (λ l. l ++ map (head_at ns) g.processes) h.functions ∙ ap (λ l. (globals s).functions ++ l) h.processes
@@ -134,9 +138,9 @@ parts_found ns s g w bs last x =
     let y : WroteHeads (globals s).scope (heads (globals s)) (record { exprs = []; stmts = []; found = x.next_found }) w [] bs = all_wrote ns s g w bs last x in
     let i : List Fault = items_faults s.items no_globals in
     let c : List Fault = count_faults (globals s) in
-    let n : List Fault = unless (nat_lt 0 (length (globals s).processes)) s.end NoProcess in
+    let n : List Fault = if_so (not (nat_lt 0 (length (globals s).processes))) s.end NoProcess in
     let h : List Fault = flat_map (head_faults (globals s).scope) (heads (globals s)) in
-    let p : List Fault = past_statements (flat_map places (codes (globals s))) in
+    let p : List Fault = past_statements (map place_of (all_stmts 0 0 0 (codes (globals s)))) in
     found_in_both None w.found last (((i ++ c) ++ n) ++ h) p
     (found_in_both None x.next_found w.found ((i ++ c) ++ n) h
     (found_in_both None x.first_found x.next_found (i ++ c) n x.declared x.some) y.found)
@@ -150,18 +154,18 @@ abbrev table_of : List Expr → List Stmt → List Body → ℕ → List Var →
 table_of e t b f v z m d = record { exprs = e; stmts = t; bodies = b; functions = f; shared = v; starts = z; sems = m; chans = d }
 
 pub parts_table : (ns : List Node) (s : Source) (g : Globals) (w : Writer) (bs : List Body) (last : Option Fault) (functions : ℕ) (shared : List Var) → Parts ns s g w bs last
-    → functions ≡ as_short (length g.functions) → shared ≡ vars 0 g.shared → faults_in s ≡ [] → table_of w.exprs w.stmts bs functions shared g.starts g.sems g.chans ≡ core_of s
+    → functions ≡ fitted 16 (length g.functions) → shared ≡ vars 0 g.shared → faults_in s ≡ [] → table_of w.exprs w.stmts bs functions shared g.starts g.sems g.chans ≡ core_of s
 parts_table ns s g w bs last functions shared x f v h =
     let y : WroteHeads (globals s).scope (heads (globals s)) (record { exprs = []; stmts = []; found = x.next_found }) w [] bs = all_wrote ns s g w bs last x in
     let e : List Expr = flats 0 (flat_map terms (codes (globals s))) in
     let t : List Stmt = all_stmts 0 0 0 (codes (globals s)) in
     let b : List Body = bodies (globals s).scope 0 (heads (globals s)) in
-    let n : ℕ = as_short (length (globals s).functions) in
+    let n : ℕ = fitted 16 (length (globals s).functions) in
     let many : length g.functions ≡ length (globals s).functions = sym (length-map g.functions (head_at ns)) ∙ ap length x.held.functions in
     ap (λ i. table_of i w.stmts bs functions shared g.starts g.sems g.chans) y.exprs
     ∙ ap (λ i. table_of e i bs functions shared g.starts g.sems g.chans) y.stmts
     ∙ ap (λ i. table_of e t i functions shared g.starts g.sems g.chans) y.bodies
-    ∙ ap (λ i. table_of e t b i shared g.starts g.sems g.chans) (f ∙ ap as_short many)
+    ∙ ap (λ i. table_of e t b i shared g.starts g.sems g.chans) (f ∙ ap (fitted 16) many)
     ∙ ap (λ i. table_of e t b n i g.starts g.sems g.chans) (v ∙ ap (vars 0) x.held.shared)
     ∙ ap (λ i. table_of e t b n (vars 0 (globals s).shared) i g.sems g.chans) (x.held.starts (few_shared s h))
     ∙ ap (λ i. table_of e t b n (vars 0 (globals s).shared) (globals s).starts i g.chans) x.held.sems
@@ -170,10 +174,10 @@ parts_table ns s g w bs last functions shared x f v h =
 -- the parts as the code has them
 pub parts_of : (ns : List Node) (s : Source) (g : Globals) (w : Writer) (bs : List Body) (last o p : Option Fault) (fs qs : List ℕ) (es : List Expr) (ts ss : List Stmt)
     → Holds ns g (globals s) → o ≡ first_of_both None (first (items_faults s.items no_globals ++ count_faults (globals s)))
-    → p ≡ first_of_both o (first (unless (nat_lt 0 (length (globals s).processes)) s.end NoProcess))
+    → p ≡ first_of_both o (first (if_so (not (nat_lt 0 (length (globals s).processes))) s.end NoProcess))
     → fs ≡ g.functions → qs ≡ g.processes → es ≡ [] → ts ≡ [] → ss ≡ w.stmts
     → WroteHeads (innermost g.scopes) (map (head_at ns) fs ++ map (head_at ns) qs) (record { exprs = es; stmts = ts; found = p }) w [] bs
-    → ((cs : List Code) → ss ≡ all_stmts 0 0 0 cs → last ≡ first_of_both w.found (first (past_statements (flat_map places cs))))
+    → ((cs : List Code) → ss ≡ all_stmts 0 0 0 cs → last ≡ first_of_both w.found (first (past_statements (map place_of (all_stmts 0 0 0 cs)))))
     → Parts ns s g w bs last
 parts_of ns s g w bs last o p fs qs es ts ss held declared some f q e t l wrote counted =
     record {
@@ -191,8 +195,8 @@ parts_of ns s g w bs last o p fs qs es ts ss held declared some f q e t l wrote 
     }
 
 -- where nothing was found, no rule is broken and the table is the tree's
-pub accepted_told : (ns ms : List Node) (p : Program) (f : Option Fault) → ms ≡ ns → f ≡ first_fault (tree_of ms) → (Accepted (tree_of ms) → p ≡ core (tree_of ms)) → f ≡ None
-    → Accepted (tree_of ns) × (p ≡ core (tree_of ns))
+pub accepted_told : (ns ms : List Node) (p : Program) (f : Option Fault) → ms ≡ ns → f ≡ first (faults_in (source_of (tree_of ms))) → ((faults_in (source_of (tree_of ms)) ≡ []) → p ≡ core_of (source_of (tree_of ms))) → f ≡ None
+    → (faults_in (source_of (tree_of ns)) ≡ []) × (p ≡ core_of (source_of (tree_of ns)))
 accepted_told ns ms p f e g h n =
-    let a : Accepted (tree_of ms) = none_broken (faults (tree_of ms)) (sym g ∙ n) in
-    subst (λ (l : List Node). Accepted (tree_of l) × (p ≡ core (tree_of l))) e (a, h a)
+    let a : (faults_in (source_of (tree_of ms)) ≡ []) = none_broken (faults_in (source_of (tree_of ms))) (sym g ∙ n) in
+    subst (λ (l : List Node). (faults_in (source_of (tree_of l)) ≡ []) × (p ≡ core_of (source_of (tree_of l)))) e (a, h a)

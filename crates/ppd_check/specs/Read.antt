@@ -15,7 +15,8 @@ use Rattle.ppd_check.specs.declared.error.CheckError.{CheckError}
 use Rattle.ppd_check.specs.declared.error.CheckError.TheVariants as C
 use Rattle.ppd_check.specs.declared.error.SourceError.{SourceError}
 use Rattle.ppd_check.specs.declared.error.SourceError.TheVariants as S
-use Rattle.ppd_check_bodies.specs.Sources.{Accepted, core}
+use Rattle.ppd_check_bodies.specs.Sources.{core_of, faults_in}
+use Rattle.ppd_check_names.specs.Reading.{source_of}
 use Rattle.ppd_check.specs.Refused as Checking
 
 -- the bytes have tokens, and these have this tree
@@ -28,8 +29,8 @@ pub record IsTreeOf (bytes : List ℕ) (tree : Shape) : Type 0 where
 pub record IsRead (bytes : List ℕ) (p : Program) : Type 0 where
   pub tree : Shape
   pub parsed : IsTreeOf bytes tree
-  pub accepted : Accepted tree
-  pub table : p ≡ core tree
+  pub accepted : faults_in (source_of tree) ≡ []
+  pub table : p ≡ core_of (source_of tree)
 
 -- Why the bytes have no program: the first lexical fault, or the first of their tokens that breaks the grammar or a
 -- limit, or the first rule that their tree breaks. Want of memory may come at any, and is the outer one alone.

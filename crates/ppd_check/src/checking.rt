@@ -1,17 +1,17 @@
 // The table of a tree, or the first rule that its source breaks.
-ghost use Rattle.std.specs.Prelude.{◌≡◌, ◌<◌, ◌≤◌, ◌*◌, true, false, [], ◌∷◌, ◌++◌, length, None, Some, IfOk, OnOk, map, nat_lt, ◌+◌};
+ghost use Rattle.std.specs.Prelude.{◌≡◌, ◌<◌, ◌≤◌, ◌*◌, true, false, [], ◌∷◌, ◌++◌, length, None, Some, IfOk, OnOk, map, nat_lt, ◌+◌, not};
 ghost use Rattle.ppd_check.specs.Answer.{IsCheckOf};
 ghost use Rattle.std.specs.List.{All};
 ghost use Rattle.ppd_parse.specs.Grammar.{Shape};
 ghost use Rattle.ppd_parse.specs.Tree.{tree_of, IsTable};
 ghost use Rattle.ppd_check_bodies.specs.Bodies.{WroteHeads};
 ghost use Rattle.ppd_check_names.specs.declared.fault.Cause.TheVariants.{NoProcess};
-ghost use Rattle.ppd_check_names.specs.Faults.{first, first_of_both, unless};
+ghost use Rattle.ppd_check_names.specs.Faults.{first, first_of_both, if_so};
 ghost use Rattle.ppd_check_names.specs.Globals.{globals as declared_by, no_globals, items_faults, count_faults};
 ghost use Rattle.ppd_check_names.specs.Holding.{head_at, Holds, IsHeadAt};
 ghost use Rattle.ppd_check_names.specs.Names.{innermost};
-ghost use Rattle.ppd_check_bodies.specs.Sources.{Accepted, core, first_fault, vars};
-ghost use Rattle.ppd_check_names.specs.Fitted.{as_short};
+ghost use Rattle.ppd_check_bodies.specs.Sources.{vars, core_of, faults_in};
+ghost use Rattle.ppd_check_names.specs.Fitted.{fitted};
 ghost use Rattle.ppd_check.specs.Refused.{IsRefused};
 ghost use Rattle.ppd_check_names.specs.Cost.{heads_nodes, nodes_at, total};
 ghost use Rattle.ppd_check_names.specs.Reading.{source_of};
@@ -46,7 +46,7 @@ struct Lists {
 
 // Why a source is refused, by the first rule that it breaks.
 fn error_of(fault: Fault) -> CheckError
-    ensures { (tree : Shape) → first_fault tree ≡ Some fault → IsRefused tree result }
+    ensures { (tree : Shape) → first (faults_in (source_of tree)) ≡ Some fault → IsRefused tree result }
 {
     let place = fault.place;
     match fault.cause {
@@ -136,7 +136,7 @@ fn checked_of(globals: Globals, lists: Lists) -> Checked
             exprs = lists.out.table.exprs;
             stmts = lists.out.table.stmts;
             bodies = lists.bodies;
-            functions = as_short (length globals.functions);
+            functions = fitted 16 (length globals.functions);
             shared = lists.shared;
             starts = globals.starts;
             sems = globals.sems;
@@ -196,22 +196,22 @@ fn write_table<L: Ledger>(
           stmts = [];
           found = first_of_both
               (first_of_both None (first (items_faults s.items no_globals ++ count_faults (declared_by s))))
-              (first (unless (nat_lt 0 (length (declared_by s).processes)) s.end NoProcess));
+              (first (if_so (not (nat_lt 0 (length (declared_by s).processes))) s.end NoProcess));
         } }
     requires heads { heads_nodes source.nodes.now globals.old ≤ nodes_at source.nodes.now 0 }
     ensures program { OnOk result
-        (Accepted (tree_of source.entry.nodes.now)
+        ((faults_in (source_of (tree_of source.entry.nodes.now)) ≡ [])
         → record {
           exprs = lists.new.out.table.exprs;
           stmts = lists.new.out.table.stmts;
           bodies = lists.new.bodies;
-          functions = as_short (length globals.new.functions);
+          functions = fitted 16 (length globals.new.functions);
           shared = lists.new.shared;
           starts = globals.new.starts;
           sems = globals.new.sems;
           chans = globals.new.chans;
-        } ≡ core (tree_of source.entry.nodes.now)) }
-    ensures found { OnOk result (lists.new.out.table.found ≡ first_fault (tree_of source.entry.nodes.now)) }
+        } ≡ core_of (source_of (tree_of source.entry.nodes.now))) }
+    ensures found { OnOk result (lists.new.out.table.found ≡ first (faults_in (source_of (tree_of source.entry.nodes.now)))) }
     ensures cost { steps.new ≤ steps.old + 140 * length source.entry.nodes.now + 1 }
 {
     write_lists(alloc, source, globals, lists, steps)?;
@@ -225,9 +225,9 @@ fn check_nodes<L: Ledger>(
     source: Source<'_>,
     steps: &mut Steps<L>,
 ) -> Result<Checked, Memory>
-    ensures program { IfOk result (λ checked. Accepted (tree_of source.entry.nodes.now) → checked.program ≡ core
-        (tree_of source.entry.nodes.now)) }
-    ensures found { IfOk result (λ checked. checked.found ≡ first_fault (tree_of source.entry.nodes.now)) }
+    ensures program { IfOk result (λ checked. (faults_in (source_of (tree_of source.entry.nodes.now)) ≡ []) → checked.program ≡ core_of
+        (source_of (tree_of source.entry.nodes.now))) }
+    ensures found { IfOk result (λ checked. checked.found ≡ first (faults_in (source_of (tree_of source.entry.nodes.now)))) }
     ensures cost { steps.new ≤ steps.old + 150 * length source.entry.nodes.now + 2048 }
 {
     let mut found = None;

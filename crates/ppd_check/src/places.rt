@@ -1,9 +1,8 @@
 // The statements past the most that there may be.
 ghost use Rattle.std.specs.Prelude.{◌≡◌, map, List, OnOk, IfOk, ◌≤◌, ◌+◌, ◌*◌, length};
-ghost use Rattle.std.specs.List.{flat_map};
 ghost use Rattle.ppd_check_names.specs.Faults.{first, first_of_both};
 ghost use Rattle.ppd_check_bodies.specs.Sources.{past_statements, all_stmts};
-ghost use Rattle.ppd_check_stmts.specs.Code.{Code, places};
+ghost use Rattle.ppd_check_stmts.specs.Code.{Code};
 ghost use Rattle.ppd_check.specs.Placed.{place_of};
 
 use ppd_ast::limits::MOST_STATEMENTS;
@@ -59,7 +58,7 @@ pub fn note_statements<L: Ledger>(
 ) -> Result<(), Memory>
     ensures faults { OnOk result
         ((cs : List Code) → stmts.now ≡ all_stmts 0 0 0 cs
-        → found.new ≡ first_of_both found.old (first (past_statements (flat_map places cs)))) }
+        → found.new ≡ first_of_both found.old (first (past_statements (map place_of (all_stmts 0 0 0 cs))))) }
     ensures cost { steps.new ≤ steps.old + 2 * length stmts.now + 1 }
 {
     let mut places = places_of(alloc, stmts, steps)?;

@@ -21,12 +21,13 @@ use Rattle.ppd_check_bodies.specs.Bodies.{entered, Parametered, Filled, WroteHea
 use Rattle.ppd_check_stmts.specs.Code.{Code, join, count}
 use Rattle.ppd_check_bodies.specs.Endings.{ending, body_returns, close_by}
 use Rattle.ppd_check_names.specs.Faults.{first, first_of_both, if_so}
-use Rattle.ppd_check_names.specs.Fitted.{as_short}
+use Rattle.ppd_check_names.specs.Fitted.{fitted}
 use Rattle.ppd_check_names.specs.Holding.{head_said}
 use Rattle.ppd_check_names.specs.Names.{Scope, innermost}
 use Rattle.ppd_check_names.specs.Nodes.{phrase_of, phrases_of, phrases_below, children_of}
 use Rattle.ppd_check_names.specs.Reading.{Phrase, token, nowhere, phrase, last, kind, is_name, as_token, as_names, as_block, name_of, params}
-use Rattle.ppd_check_bodies.specs.Sources.{with_params, params_faults, return_faults, close_code, head_code, head_frame, head_faults, entry, outer, vars}
+use Rattle.ppd_check_bodies.specs.Sources.{params_faults, head_code, head_frame, head_faults, entry, outer, vars}
+use Rattle.ppd_check_bodies.specs.Bodies.{with_params, return_faults, close_code}
 use Rattle.ppd_check_names.specs.Globals.{Head, past_cells}
 use Rattle.ppd_check_stmts.specs.Statements.{row_code, row_faults, after_row}
 use Rattle.ppd_check_names.specs.Frames.{after_cells, declared, twice_faults}
@@ -253,7 +254,7 @@ parts_joined p r t c = append_assoc p (r ++ t) c ∙ ap (λ l. p ++ l) (append_a
 pub body_wrote : (scopes : List Scope) (h : Head) (site : Site) (f g k : Frame) (u v : Writer) (x z : Option Fault) (top : List ℕ) (bs cs : List Body) (b : Body) (p n e : ℕ)
     → scopes ≡ innermost scopes ∷ [] → f ≡ entered scopes → Parametered h.params f g u.found x → Filled site h g k (record u { found = x }) v [] top
     → z ≡ first_of_both v.found (first (past_cells MOST_LOCAL_CELLS L.Locals 0 k.variables))
-    → site ≡ record { body = as_short (length bs); parent = None } → p ≡ as_short (length g.variables) → n ≡ length u.stmts → e ≡ length v.stmts
+    → site ≡ record { body = fitted 16 (length bs); parent = None } → p ≡ fitted 16 (length g.variables) → n ≡ length u.stmts → e ≡ length v.stmts
     → b ≡ entry_of h p k.cells n e (vars 0 k.variables) top → cs ≡ bs ++ b ∷ []
     → WroteHeads (innermost scopes) (h ∷ []) u (record v { found = z }) bs cs
 body_wrote scopes h site f g k u v x z top bs cs b p n e one begun pm fl cells at pe ne ee be ce = go (subst (λ (i : Frame). Filled site h i k (record u { found = x }) v [] top) entered_as fl)
@@ -282,14 +283,14 @@ body_wrote scopes h site f g k u v x z top bs cs b p n e one begun pm fl cells a
           stmts =
               w.stmts
               ∙ ap (λ (i : Site). u.stmts ++ stmts i.body i.parent (length u.stmts) (length u.exprs) code) at
-              ∙ ap (λ l. u.stmts ++ l) (sym (append-nil (stmts (as_short (length bs)) None (length u.stmts) (length u.exprs) code)));
+              ∙ ap (λ l. u.stmts ++ l) (sym (append-nil (stmts (fitted 16 (length bs)) None (length u.stmts) (length u.exprs) code)));
           bodies =
               ce
               ∙ ap (λ i. bs ++ i ∷ [])
               (be
-              ∙ entry_same h p (as_short (length h.params)) k.cells (head_frame scope h).cells n (length u.stmts) e (length u.stmts + count code)
+              ∙ entry_same h p (fitted 16 (length h.params)) k.cells (head_frame scope h).cells n (length u.stmts) e (length u.stmts + count code)
               (vars 0 k.variables) (vars 0 (head_frame scope h).variables) top (numbers (length u.stmts) code)
-              (pe ∙ ap as_short known) (ap (λ (i : Frame). i.cells) y.frame) ne (ee ∙ long) (ap (λ (i : Frame). vars 0 i.variables) y.frame) w.row);
+              (pe ∙ ap (fitted 16) known) (ap (λ (i : Frame). i.cells) y.frame) ne (ee ∙ long) (ap (λ (i : Frame). vars 0 i.variables) y.frame) w.row);
           found =
               found_in_both u.found v.found z
               (params_faults h.params (outer scope) ++ (row_faults h.block.row (entry scope h) ++ return_faults h)) (past_cells MOST_LOCAL_CELLS L.Locals 0 k.variables)
@@ -308,7 +309,7 @@ filled_row site h f g u v ids a b e x = subst (λ (l : List ℕ). Filled site h 
 pub body_from : (scopes : List Scope) (h : Head) (site : Site) (f g k : Frame) (u v : Writer) (x z : Option Fault) (start top : List ℕ) (bs cs : List Body) (p n e : ℕ) (name : List ℕ) (value : Bool) (locals : List Var)
     → scopes ≡ innermost scopes ∷ [] → f ≡ entered scopes → Parametered h.params f g u.found x → start ≡ [] → Filled site h g k (record u { found = x }) v start top
     → z ≡ first_of_both v.found (first (past_cells MOST_LOCAL_CELLS L.Locals 0 k.variables))
-    → site ≡ record { body = as_short (length bs); parent = None } → p ≡ as_short (length g.variables) → n ≡ length u.stmts → e ≡ length v.stmts
+    → site ≡ record { body = fitted 16 (length bs); parent = None } → p ≡ fitted 16 (length g.variables) → n ≡ length u.stmts → e ≡ length v.stmts
     → name ≡ h.name.text → value ≡ h.gives → locals ≡ vars 0 k.variables
     → cs ≡ bs ++ record { name = name; process = h.process; params = p; value = value; cells = k.cells; locals = locals; top = top; first = n; end = e } ∷ []
     → WroteHeads (innermost scopes) (h ∷ []) u (record v { found = z }) bs cs

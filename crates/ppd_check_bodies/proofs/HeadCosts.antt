@@ -23,7 +23,7 @@ use Rattle.ppd_check_stmts.proofs.Costs.Tables.{row_holds}
 use Rattle.ppd_check_names.proofs.Table.Trees.{all_said_forest}
 use Rattle.ppd_check_bodies.specs.Bodies.{entered}
 use Rattle.ppd_check_names.specs.Names.{Scope}
-use Rattle.ppd_check_bodies.specs.Sources.{with_params}
+use Rattle.ppd_check_bodies.specs.Bodies.{with_params}
 use Rattle.ppd_check_names.specs.Globals.{Head}
 use Rattle.ppd_check_bodies.proofs.Filling.{params_count}
 

@@ -10,7 +10,7 @@ use Rattle.ppd_check_names.specs.declared.writer.Writer.{Writer}
 use Rattle.ppd_check_bodies.specs.Bodies.{WroteHeads}
 use Rattle.ppd_check_stmts.specs.Code.{Code, count}
 use Rattle.ppd_check_names.specs.Faults.{first, first_of_both}
-use Rattle.ppd_check_names.specs.Fitted.{as_short}
+use Rattle.ppd_check_names.specs.Fitted.{fitted}
 use Rattle.ppd_check_names.specs.Holding.{head_at, head_said, IsHeadAt}
 use Rattle.ppd_check_names.specs.Names.{Scope}
 use Rattle.ppd_check_names.specs.Nodes.{phrases_below}
@@ -29,8 +29,8 @@ counts (c ∷ cs) = count c + counts cs
 length_all : (b n m : ℕ) (cs : List Code) → length (all_stmts b n m cs) ≡ counts cs
 length_all b n m [] = refl
 length_all b n m (c ∷ cs) =
-    length-append (stmts (as_short b) None n m c) (all_stmts (b + 1) (n + count c) (m + weights (terms c)) cs)
-    ∙ ap (λ k. k + length (all_stmts (b + 1) (n + count c) (m + weights (terms c)) cs)) (length_stmts (as_short b) None n m c)
+    length-append (stmts (fitted 16 b) None n m c) (all_stmts (b + 1) (n + count c) (m + weights (terms c)) cs)
+    ∙ ap (λ k. k + length (all_stmts (b + 1) (n + count c) (m + weights (terms c)) cs)) (length_stmts (fitted 16 b) None n m c)
     ∙ ap (λ k. count c + k) (length_all (b + 1) (n + count c) (m + weights (terms c)) cs)
 
 all_at : (b c n o m p : ℕ) (cs : List Code) → b ≡ c → n ≡ o → m ≡ p → all_stmts b n m cs ≡ all_stmts c o p cs
@@ -39,7 +39,7 @@ all_at b c n o m p cs e f g = ap (λ k. all_stmts k n m cs) e ∙ ap (λ k. all_
 all_append : (b n m : ℕ) (cs ds : List Code) → all_stmts b n m (cs ++ ds) ≡ all_stmts b n m cs ++ all_stmts (b + length cs) (n + counts cs) (m + weights (flat_map terms cs)) ds
 all_append b n m [] ds = all_at b (b + 0) n (n + 0) m (m + 0) ds (omega arith) (omega arith) (omega arith)
 all_append b n m (c ∷ cs) ds =
-    let xs : List Stmt = stmts (as_short b) None n m c in
+    let xs : List Stmt = stmts (fitted 16 b) None n m c in
     let ys : List Stmt = all_stmts (b + 1) (n + count c) (m + weights (terms c)) cs in
     let w : weights (flat_map terms (c ∷ cs)) ≡ weights (terms c) + weights (flat_map terms cs) = ap weights (flat_map-cons terms c cs) ∙ weights_append (terms c) (flat_map terms cs) in
     ap (λ l. xs ++ l)

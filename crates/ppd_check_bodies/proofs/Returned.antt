@@ -25,12 +25,15 @@ use Rattle.ppd_check_stmts.specs.Code.{Spot, Act, Code, done, act, choice, loop,
 use Rattle.ppd_check_stmts.specs.Code as C
 use Rattle.ppd_check_bodies.specs.Endings.{with_rest, simple_ending, ending, kind_returned, returned, function_returns, body_returns}
 use Rattle.ppd_check_stmts.specs.Expressions.{term_of}
-use Rattle.ppd_check_names.specs.Faults.{at, unless, if_so, first, first_of_both}
+use Rattle.ppd_check_names.specs.Faults.{at, if_so, first, first_of_both}
 use Rattle.ppd_check_names.specs.Nodes.{tree_at, phrase_of}
 use Rattle.ppd_check_names.specs.Reading.{Phrase, token, goal, calling, changing, row, body, phrase, last, kind, is_semicolon, is_int, is_bracket, as_row, as_block, as_value, name_at, number_at, formula_at, rows, locals, local_item, changed, statement, worded, followed, before, beyond, for_start, for_row, some_change, made, said, all_said}
-use Rattle.ppd_check_bodies.specs.Sources.{simple_returns, returns, last_return, return_faults}
+use Rattle.ppd_check_bodies.specs.Sources.{simple_returns, returns, last_return}
+use Rattle.ppd_check_bodies.specs.Bodies.{return_faults}
 use Rattle.ppd_check_names.specs.Globals.{Head}
-use Rattle.ppd_check_stmts.specs.Statements.{put, store_acts, spot_of, code_of, code_of_any, after, after_any, after_row, row_code, opened, with_scopes_of}
+use Rattle.ppd_check_stmts.specs.Statements.{put, store_acts, spot_of, code_of, after, after_row, row_code, opened, with_scopes_of}
+use Rattle.ppd_check_stmts.proofs.Vocabulary.{after_any}
+use Rattle.ppd_check_stmts.specs.Plain.{code_of_any}
 use Rattle.ppd_check_names.specs.Syntax.{number, Value, plain, result, received, Simple, fresh, array, store, change, call, give_back, take as take_sem, give, send, print, assert, Row, stop, simple, block, repeat}
 use Rattle.ppd_check_names.specs.Syntax as S
 use Rattle.ppd_check_stmts.specs.Table.{weight, weights, root, terms, act_terms, numbers, stmts, kind as kind_of}
@@ -338,7 +341,7 @@ returned_row (S.count p i e t b r) f h =
 -- A row that ends with a `return`.
 
 abbrev fit : Bool → Bool → Place → List Fault
-fit v gives p = unless (v && gives || not v && not gives) p ReturnPlace
+fit v gives p = if_so (not (v && gives || not v && not gives)) p ReturnPlace
 
 record Ended (r : Row) (f : Frame) (p : Place) (v : Bool) : Type 0 where
   pub code : Code

@@ -3,7 +3,7 @@ use Rattle.std.proofs.Common.{◌≡◌, refl, ap, ◌∙◌, ℕ, suc, ◌+◌,
 use Rattle.std.specs.List.{flat_map}
 use Rattle.std.proofs.lemmas.List.Concat.{flat_map-cons}
 use Rattle.ppd_check_names.specs.declared.frame.Variable.{Variable}
-use Rattle.ppd_check_names.specs.Fitted.{as_short}
+use Rattle.ppd_check_names.specs.Fitted.{fitted}
 use Rattle.ppd_check_names.specs.Names.{Scope}
 use Rattle.ppd_check_names.specs.Frames.{after_cells}
 use Rattle.ppd_check_names.specs.Globals.{Head}
@@ -33,8 +33,8 @@ heads_hold scope b n m (h ∷ hs) =
     omega (
       arith,
       w,
-      elements_append (stmts (as_short b) None n m c) (all_stmts (b + 1) (n + count c) (m + weights (terms c)) cs),
-      row_holds (as_short b) None n m c,
+      elements_append (stmts (fitted 16 b) None n m c) (all_stmts (b + 1) (n + count c) (m + weights (terms c)) cs),
+      row_holds (fitted 16 b) None n m c,
       length_vars 0 (head_frame scope h).variables,
       heads_hold scope (b + 1) (n + count c) (m + weights (terms c)) hs,
     )

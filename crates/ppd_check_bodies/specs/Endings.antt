@@ -9,7 +9,7 @@ use Rattle.ppd_check_names.specs.declared.fault.Cause.TheVariants.{ReturnPlace}
 use Rattle.ppd_check_names.specs.declared.fault.Fault.{Fault}
 use Rattle.ppd_check_bodies.specs.declared.endings.Ending.{Ending}
 use Rattle.ppd_check_bodies.specs.declared.endings.Ending.TheVariants.{Empty, Return, Other}
-use Rattle.ppd_check_names.specs.Faults.{at, unless, if_so}
+use Rattle.ppd_check_names.specs.Faults.{at, if_so}
 use Rattle.ppd_check_stmts.specs.Code.{Code, done, act}
 use Rattle.ppd_check_stmts.specs.Code as C
 use Rattle.ppd_check_names.specs.Syntax.{Simple, give_back, Row, stop, simple, block, choice, repeat, count}
@@ -49,7 +49,7 @@ returned s = kind_returned s.place s.kind
 -- what is wrong with the returns among the statements of a body up to its closing brace
 abbrev pub function_returns : (gives : Bool) → (close : Place) → Ending → List Stmt → List Fault
 function_returns gives close (Return p v) ss =
-    flat_map returned (take (length ss - 1) ss) ++ unless (v && gives || not v && not gives) p ReturnPlace
+    flat_map returned (take (length ss - 1) ss) ++ if_so (not (v && gives || not v && not gives)) p ReturnPlace
 function_returns gives close e ss = flat_map returned ss ++ if_so gives close ReturnPlace
 
 abbrev pub body_returns : (process gives : Bool) → (close : Place) → Ending → List Stmt → List Fault

@@ -1,5 +1,5 @@
 -- A whole source: what it declares, the rules that it breaks, and its program.
-use Rattle.std.specs.Prelude.{◌≡◌, ℕ, ◌+◌, Bool, true, false, not, ◌&&◌, ◌||◌, nat_lt, nat_le, List, [], ◌∷◌, ◌++◌, map, length, Option, None, is_some, if◌then◌else◌}
+use Rattle.std.specs.Prelude.{◌≡◌, ℕ, ◌+◌, Bool, true, false, not, ◌&&◌, ◌||◌, nat_lt, nat_le, List, [], ◌∷◌, ◌++◌, map, fold, length, Option, None, is_some, if◌then◌else◌}
 use Rattle.std.specs.List.{flat_map, filter, count_by}
 use Rattle.ppd_ast.specs.declared.limits.TheConstants.{MOST_STATEMENTS, MOST_LOCAL_CELLS}
 use Rattle.ppd_ast.specs.declared.program.Place.{Place}
@@ -7,31 +7,27 @@ use Rattle.ppd_ast.specs.declared.program.Var.{Var}
 use Rattle.ppd_ast.specs.declared.program.Body.{Body}
 use Rattle.ppd_ast.specs.declared.program.Stmt.{Stmt}
 use Rattle.ppd_ast.specs.declared.program.Program.{Program}
-use Rattle.ppd_parse.specs.Grammar.{Shape}
 use Rattle.ppd_check_names.specs.declared.fault.Cause.TheVariants.{ReturnPlace, NoProcess, TooMany}
 use Rattle.ppd_check_names.specs.declared.fault.Limit.TheVariants as L
 use Rattle.ppd_check_names.specs.declared.fault.Fault.{Fault}
 use Rattle.ppd_check_names.specs.declared.frame.Variable.{Variable}
 use Rattle.ppd_check_names.specs.declared.frame.Frame.{Frame}
-use Rattle.ppd_check_names.specs.Fitted.{as_short}
-use Rattle.ppd_check_names.specs.Faults.{at, unless, if_so, by_then, first}
+use Rattle.ppd_check_names.specs.Fitted.{fitted}
+use Rattle.ppd_check_names.specs.Faults.{at, if_so, by_then}
 use Rattle.ppd_check_names.specs.Names.{Scope, innermost}
-use Rattle.ppd_check_stmts.specs.Code.{Code, done, act, join, places}
+use Rattle.ppd_check_stmts.specs.Code.{Code, done, act, join}
 use Rattle.ppd_check_stmts.specs.Code as C
 use Rattle.ppd_check_stmts.specs.Table.{stmts, numbers, terms, flats, weights}
 use Rattle.ppd_check_stmts.specs.Statements.{after_row, row_code, row_faults}
 use Rattle.ppd_check_names.specs.Frames.{after_cells, declared, twice_faults}
 use Rattle.ppd_check_names.specs.Syntax.{Name, Simple, Row, stop, simple, block, choice, repeat, count, give_back, shared, process, Source}
-use Rattle.ppd_check_names.specs.Reading.{source_of}
-use Rattle.ppd_check_names.specs.Globals.{Head, Globals, no_globals, globals, items_faults, past_cells, count_faults, sem, chan}
-
-abbrev pub is_up_to : Place → Place → Bool
-is_up_to q p = by_then p.line q.line (nat_le p.column q.column)
+use Rattle.ppd_check_names.specs.Globals.{Head, Globals, no_globals, globals, items_faults, past_cells, count_faults}
 
 -- the places up to which more statements stand than there may be
 abbrev pub past_statements : List Place → List Fault
 past_statements ps =
-    map (λ q. at q (TooMany L.Statements)) (filter (λ q. nat_lt MOST_STATEMENTS (count_by (is_up_to q) ps)) ps)
+    map (λ q. at q (TooMany L.Statements))
+    (filter (λ q. nat_lt MOST_STATEMENTS (count_by (λ p. by_then p.line q.line (nat_le p.column q.column)) ps)) ps)
 
 -- Returns.
 
@@ -53,21 +49,14 @@ returns (count p start e step b r) = returns b ++ returns r
 abbrev pub last_return : (gives : Bool) → (close : Place) → Row → List Fault
 last_return gives close stop = if_so gives close ReturnPlace
 last_return gives close (simple (give_back p v) stop) =
-    unless (is_some v && gives || not (is_some v) && not gives) p ReturnPlace
+    if_so (not (is_some v && gives || not (is_some v) && not gives)) p ReturnPlace
 last_return gives close (simple s r) = simple_returns s ++ last_return gives close r
 last_return gives close (block b r) = returns b ++ last_return gives close r
 last_return gives close (choice p e a b r) = returns a ++ (returns b ++ last_return gives close r)
 last_return gives close (repeat p e b r) = returns b ++ last_return gives close r
 last_return gives close (count p start e step b r) = returns b ++ last_return gives close r
 
-abbrev pub return_faults : Head → List Fault
-return_faults h = if h.process then returns h.block.row else last_return h.gives h.block.close h.block.row
-
 -- Bodies.
-
-abbrev pub with_params : List Name → Frame → Frame
-with_params [] f = f
-with_params (x ∷ xs) f = with_params xs (declared x None f)
 
 abbrev pub params_faults : List Name → Frame → List Fault
 params_faults [] f = []
@@ -78,7 +67,7 @@ abbrev pub outer : Scope → Frame
 outer scope = record { scopes = [] ∷ scope ∷ []; variables = []; cells = 0; hidden = 0 }
 
 abbrev pub entry : Scope → Head → Frame
-entry scope h = with_params h.params (outer scope)
+entry scope h = fold (λ f x. declared x None f) (outer scope) h.params
 
 abbrev pub ends_with_return : Row → Bool
 ends_with_return stop = false
@@ -89,15 +78,13 @@ ends_with_return (choice p e a b r) = ends_with_return r
 ends_with_return (repeat p e b r) = ends_with_return r
 ends_with_return (count p start e step b r) = ends_with_return r
 
--- what stands at the closing brace
-abbrev pub close_code : Head → Code
-close_code h =
-    if h.process then act h.block.close C.finish done
-    else if ends_with_return h.block.row then done
-    else act h.block.close (C.give_back None) done
-
+-- the core statements of a body, with what stands at its closing brace
 abbrev pub head_code : Scope → Head → Code
-head_code scope h = join (row_code h.block.row (entry scope h)) (close_code h)
+head_code scope h =
+    join (row_code h.block.row (entry scope h))
+    (if h.process then act h.block.close C.finish done
+    else if ends_with_return h.block.row then done
+    else act h.block.close (C.give_back None) done)
 
 -- the frame at the closing brace
 abbrev pub head_frame : Scope → Head → Frame
@@ -107,7 +94,7 @@ abbrev pub head_faults : Scope → Head → List Fault
 head_faults scope h =
     params_faults h.params (outer scope)
     ++ (row_faults h.block.row (entry scope h)
-    ++ (return_faults h
+    ++ ((if h.process then returns h.block.row else last_return h.gives h.block.close h.block.row)
     ++ past_cells MOST_LOCAL_CELLS L.Locals 0 (head_frame scope h).variables))
 
 -- functions in order, then processes in order
@@ -116,16 +103,6 @@ heads g = g.functions ++ g.processes
 
 abbrev pub codes : Globals → List Code
 codes g = map (head_code g.scope) (heads g)
-
--- every broken rule with its place
-abbrev pub faults_in : Source → List Fault
-faults_in s =
-    let g : Globals = globals s in
-    items_faults s.items no_globals
-    ++ (count_faults g
-    ++ (unless (nat_lt 0 (length g.processes)) s.end NoProcess
-    ++ (flat_map (head_faults g.scope) (heads g)
-    ++ past_statements (flat_map places (codes g)))))
 
 -- The program.
 
@@ -140,7 +117,7 @@ body scope n h =
     record {
       name = h.name.text;
       process = h.process;
-      params = as_short (length h.params);
+      params = fitted 16 (length h.params);
       value = h.gives;
       cells = (head_frame scope h).cells;
       locals = vars 0 (head_frame scope h).variables;
@@ -156,7 +133,7 @@ bodies scope n (h ∷ hs) = body scope n h ∷ bodies scope (n + C.count (head_c
 -- the statements of bodies from number b on
 abbrev pub all_stmts : (b n m : ℕ) → List Code → List Stmt
 all_stmts b n m [] = []
-all_stmts b n m (c ∷ cs) = stmts (as_short b) None n m c ++ all_stmts (b + 1) (n + C.count c) (m + weights (terms c)) cs
+all_stmts b n m (c ∷ cs) = stmts (fitted 16 b) None n m c ++ all_stmts (b + 1) (n + C.count c) (m + weights (terms c)) cs
 
 -- the table of a source
 abbrev pub core_of : Source → Program
@@ -166,25 +143,19 @@ core_of s =
       exprs = flats 0 (flat_map terms (codes g));
       stmts = all_stmts 0 0 0 (codes g);
       bodies = bodies g.scope 0 (heads g);
-      functions = as_short (length g.functions);
+      functions = fitted 16 (length g.functions);
       shared = vars 0 g.shared;
       starts = g.starts;
-      sems = map sem g.semaphores;
-      chans = map chan g.channels;
+      sems = map (λ o. record { name = o.name.text; start = fitted 32 o.number }) g.semaphores;
+      chans = map (λ o. record { name = o.name.text; capacity = fitted 8 o.number }) g.channels;
     }
 
--- What is answered for a tree.
-
--- the table of a tree, the rules that it breaks, and the first of them
-abbrev pub core : Shape → Program
-core t = core_of (source_of t)
-
-abbrev pub faults : Shape → List Fault
-faults t = faults_in (source_of t)
-
-abbrev pub first_fault : Shape → Option Fault
-first_fault t = first (faults t)
-
--- no rule is broken
-abbrev pub Accepted : Shape → Type 0
-Accepted t = faults t ≡ []
+-- every broken rule with its place
+abbrev pub faults_in : Source → List Fault
+faults_in s =
+    let g : Globals = globals s in
+    items_faults s.items no_globals
+    ++ (count_faults g
+    ++ (if_so (not (nat_lt 0 (length g.processes))) s.end NoProcess
+    ++ (flat_map (head_faults g.scope) (heads g)
+    ++ past_statements (map (λ x. x.place) (core_of s).stmts))))

@@ -3,7 +3,7 @@ ghost use Rattle.std.specs.Prelude.{◌≡◌, ◌-◌, [], ◌++◌, OnOk, drop
 ghost use Rattle.std.specs.List.{flat_map};
 ghost use Rattle.ppd_check_bodies.specs.Endings.{returned, function_returns, body_returns, close_by};
 ghost use Rattle.ppd_check_names.specs.declared.fault.Cause.TheVariants.{ReturnPlace};
-ghost use Rattle.ppd_check_names.specs.Faults.{first, first_of_both, if_so, unless};
+ghost use Rattle.ppd_check_names.specs.Faults.{first, first_of_both, if_so};
 ghost use Rattle.ppd_check_stmts.specs.Writing.{Wrote};
 
 use crate::endings::{Closing, Ending};
@@ -74,7 +74,7 @@ fn note_ended<L: Ledger>(
     ensures faults { found.new
         ≡ first_of_both found.old
         (first (flat_map returned (take (length stmts.now - 1) stmts.now)
-        ++ unless (value && gives || not value && not gives) place ReturnPlace)) }
+        ++ if_so (not (value && gives || not value && not gives)) place ReturnPlace)) }
     ensures cost { steps.new ≤ steps.old + length stmts.now }
 {
     note_returns(but_last(stmts), found, steps);

@@ -1,3 +1,4 @@
 pub mod Declared
 pub mod Found
 pub mod Table
+pub mod Words

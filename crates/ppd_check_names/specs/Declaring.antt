@@ -1,6 +1,6 @@
 -- What a source has declared so far, as the code keeps it: semaphores and channels as in the table, functions and
 -- processes by their nodes. Start values are kept as far as the shared cells are not too many.
-use Rattle.std.specs.Prelude.{ℕ, ℤ, pos, Bool, nat_le, nat_lt, List, [], ◌∷◌, ◌++◌, length, replicate, Option, Some, if◌then◌else◌}
+use Rattle.std.specs.Prelude.{ℕ, ℤ, pos, Bool, nat_le, nat_lt, List, [], ◌∷◌, ◌++◌, map, take, drop, length, replicate, Option, Some, if◌then◌else◌}
 use Rattle.ppd_ast.specs.declared.limits.TheConstants.{MOST_SHARED_CELLS, MOST_SEMAPHORES, MOST_CHANNELS}
 use Rattle.ppd_ast.specs.declared.program.Place.{Place}
 use Rattle.ppd_check_names.specs.declared.fault.Cause.TheVariants.{TooMany}
@@ -11,8 +11,8 @@ use Rattle.ppd_check_names.specs.declared.globals.Globals.{Globals}
 use Rattle.ppd_check_names.specs.Faults.{if_so}
 use Rattle.ppd_check_names.specs.declared.globals.Sort.{Sort}
 use Rattle.ppd_check_names.specs.declared.globals.Sort.TheVariants.{Array, Semaphore, Channel}
-use Rattle.ppd_check_names.specs.Fitted.{as_byte, as_short, as_word}
-use Rattle.ppd_check_names.specs.Names.{Meaning, Scope, declare, innermost, in_innermost}
+use Rattle.ppd_check_names.specs.Fitted.{fitted}
+use Rattle.ppd_check_names.specs.Names.{Meaning, Scope, declare, innermost}
 use Rattle.ppd_check_names.specs.Names as N
 use Rattle.ppd_check_names.specs.Frames.{after_cells, variable_of, twice_faults}
 use Rattle.ppd_check_names.specs.Syntax.{Name}
@@ -29,6 +29,10 @@ nothing = record {
   functions = [];
   processes = [];
 }
+
+-- a change of the innermost scope
+abbrev pub in_innermost : (Scope → Scope) → List Scope → List Scope
+in_innermost f scopes = map f (take 1 scopes) ++ drop 1 scopes
 
 -- a name with its meaning
 abbrev pub named : Name → Meaning → List Scope → List Scope
@@ -51,22 +55,22 @@ with_shared x n more g = record (placed x n g) { starts = kept (after_cells g.ce
 
 -- what is declared with a number; the elements of an array start at 0
 abbrev pub with_numbered : Sort → Name → ℕ → Globals → Globals
-with_numbered Array x n g = with_shared x (Some (as_short n)) (replicate (as_short n) (pos 0)) g
+with_numbered Array x n g = with_shared x (Some (fitted 16 n)) (replicate (fitted 16 n) (pos 0)) g
 with_numbered Semaphore x n g =
     record g {
-      scopes = named x (N.semaphore (as_byte (length g.sems))) g.scopes;
-      sems = g.sems ++ record { name = x.text; start = as_word n } ∷ [];
+      scopes = named x (N.semaphore (fitted 8 (length g.sems))) g.scopes;
+      sems = g.sems ++ record { name = x.text; start = fitted 32 n } ∷ [];
     }
 with_numbered Channel x n g =
     record g {
-      scopes = named x (N.channel (as_byte (length g.chans))) g.scopes;
-      chans = g.chans ++ record { name = x.text; capacity = as_byte n } ∷ [];
+      scopes = named x (N.channel (fitted 8 (length g.chans))) g.scopes;
+      chans = g.chans ++ record { name = x.text; capacity = fitted 8 n } ∷ [];
     }
 
 abbrev pub with_function : ℕ → Name → ℕ → Bool → Globals → Globals
 with_function i x params gives g =
     record g {
-      scopes = named x (N.function (as_short (length g.functions)) params gives) g.scopes;
+      scopes = named x (N.function (fitted 16 (length g.functions)) params gives) g.scopes;
       functions = g.functions ++ i ∷ [];
     }
 
@@ -88,6 +92,6 @@ celled x n g = if_so (nat_lt MOST_SHARED_CELLS (after_cells g.cells n)) x.place 
 
 -- whether what is declared with a number is one too many
 abbrev pub numbered_over : Sort → Name → ℕ → Globals → List Fault
-numbered_over Array x n g = celled x (Some (as_short n)) g
+numbered_over Array x n g = celled x (Some (fitted 16 n)) g
 numbered_over Semaphore x n g = counted MOST_SEMAPHORES (length g.sems) L.Semaphores x.place
 numbered_over Channel x n g = counted MOST_CHANNELS (length g.chans) L.Channels x.place

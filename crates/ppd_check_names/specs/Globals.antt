@@ -1,14 +1,12 @@
 -- What a source declares in the scope that all of it sees, and the rules for it.
-use Rattle.std.specs.Prelude.{ℕ, ℤ, pos, ◌+◌, Bool, true, false, nat_lt, List, [], ◌∷◌, ◌++◌, map, drop, replicate, length, Option, Some, None}
+use Rattle.std.specs.Prelude.{ℕ, ℤ, pos, ◌+◌, Bool, true, false, nat_lt, List, [], ◌∷◌, ◌++◌, map, fold, drop, replicate, length, Option, Some, None}
 use Rattle.ppd_ast.specs.declared.limits.TheConstants.{MOST_FUNCTIONS, MOST_PROCESSES, MOST_SHARED_CELLS, MOST_SEMAPHORES, MOST_CHANNELS, MOST_START, LEAST_CAPACITY, MOST_CAPACITY}
-use Rattle.ppd_ast.specs.declared.program.Sem.{Sem}
-use Rattle.ppd_ast.specs.declared.program.Chan.{Chan}
 use Rattle.ppd_check_names.specs.declared.fault.Cause.TheVariants.{TooMany}
 use Rattle.ppd_check_names.specs.declared.fault.Limit.{Limit}
 use Rattle.ppd_check_names.specs.declared.fault.Limit.TheVariants as L
 use Rattle.ppd_check_names.specs.declared.fault.Fault.{Fault}
 use Rattle.ppd_check_names.specs.declared.frame.Variable.{Variable}
-use Rattle.ppd_check_names.specs.Fitted.{as_byte, as_short, as_word}
+use Rattle.ppd_check_names.specs.Fitted.{fitted}
 use Rattle.ppd_check_names.specs.Faults.{at, if_so}
 use Rattle.ppd_check_names.specs.Names.{Meaning, Scope, declare}
 use Rattle.ppd_check_names.specs.Names as N
@@ -63,10 +61,10 @@ item_name (process x b) = x
 -- what an item's name means: shared cells and semaphores, channels and functions are numbered in order
 abbrev pub item_meaning : Globals → Item → Meaning
 item_meaning g (shared x v) = N.shared g.cells None
-item_meaning g (shared_array x n) = N.shared g.cells (Some (as_short n.value))
-item_meaning g (semaphore x n) = N.semaphore (as_byte (length g.semaphores))
-item_meaning g (channel x n) = N.channel (as_byte (length g.channels))
-item_meaning g (function gives x params b) = N.function (as_short (length g.functions)) (length params) gives
+item_meaning g (shared_array x n) = N.shared g.cells (Some (fitted 16 n.value))
+item_meaning g (semaphore x n) = N.semaphore (fitted 8 (length g.semaphores))
+item_meaning g (channel x n) = N.channel (fitted 8 (length g.channels))
+item_meaning g (function gives x params b) = N.function (fitted 16 (length g.functions)) (length params) gives
 item_meaning g (process x b) = N.process
 
 abbrev pub with_shared : Name → Option ℕ → List ℤ → Globals → Globals
@@ -79,7 +77,7 @@ with_shared x length starts g =
 
 abbrev pub listed : Item → Globals → Globals
 listed (shared x v) g = with_shared x None (v ∷ []) g
-listed (shared_array x n) g = with_shared x (Some (as_short n.value)) (replicate (as_short n.value) (pos 0)) g
+listed (shared_array x n) g = with_shared x (Some (fitted 16 n.value)) (replicate (fitted 16 n.value) (pos 0)) g
 listed (semaphore x n) g = record g { semaphores = g.semaphores ++ record { name = x; number = n.value } ∷ [] }
 listed (channel x n) g = record g { channels = g.channels ++ record { name = x; number = n.value } ∷ [] }
 listed (function gives x params b) g =
@@ -96,12 +94,8 @@ listed (process x b) g =
 abbrev pub with_item : Item → Globals → Globals
 with_item i g = record (listed i g) { scope = declare (item_name i).text (item_meaning g i) g.scope }
 
-abbrev pub with_items : List Item → Globals → Globals
-with_items [] g = g
-with_items (i ∷ is) g = with_items is (with_item i g)
-
 abbrev pub globals : Source → Globals
-globals s = with_items s.items no_globals
+globals s = fold (λ g i. with_item i g) no_globals s.items
 
 abbrev pub item_size_faults : Item → List Fault
 item_size_faults (shared_array x n) = size_faults 1 MOST_SHARED_CELLS n
@@ -124,22 +118,10 @@ past_cells most limit n (v ∷ vs) =
     if_so (nat_lt most (after_cells n v.length)) v.place (TooMany limit)
     ++ past_cells most limit (after_cells n v.length) vs
 
-abbrev pub head_name : Head → Name
-head_name h = h.name
-
-abbrev pub object_name : Object → Name
-object_name o = o.name
-
 abbrev pub count_faults : Globals → List Fault
 count_faults g =
-    past MOST_FUNCTIONS L.Functions (map head_name g.functions)
-    ++ (past MOST_PROCESSES L.Processes (map head_name g.processes)
-    ++ (past MOST_SEMAPHORES L.Semaphores (map object_name g.semaphores)
-    ++ (past MOST_CHANNELS L.Channels (map object_name g.channels)
+    past MOST_FUNCTIONS L.Functions (map (λ h. h.name) g.functions)
+    ++ (past MOST_PROCESSES L.Processes (map (λ h. h.name) g.processes)
+    ++ (past MOST_SEMAPHORES L.Semaphores (map (λ o. o.name) g.semaphores)
+    ++ (past MOST_CHANNELS L.Channels (map (λ o. o.name) g.channels)
     ++ past_cells MOST_SHARED_CELLS L.Shared 0 g.shared)))
-
-abbrev pub sem : Object → Sem
-sem o = record { name = o.name.text; start = as_word o.number }
-
-abbrev pub chan : Object → Chan
-chan o = record { name = o.name.text; capacity = as_byte o.number }

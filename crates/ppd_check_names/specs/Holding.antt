@@ -1,7 +1,9 @@
 -- What the items of a source declare, as the code keeps it and as it is defined.
-use Rattle.std.specs.Prelude.{◌≡◌, ◌≤◌, ◌<◌, ℕ, ℤ, pos, neg_ℤ, if◌then◌else◌, Bool, true, false, not, ◌&&◌, List, [], ◌∷◌, ◌++◌, map, length, Option, Some, None, nat_lt}
+use Rattle.std.specs.Prelude.{◌≡◌, ◌≤◌, ◌<◌, ℕ, ℤ, pos, neg_ℤ, if◌then◌else◌, Bool, true, false, not, ◌&&◌, List, [], ◌∷◌, ◌++◌, map, fold, length, Option, Some, None, nat_lt}
 use Rattle.std.specs.List.{All, flat_map}
 use Rattle.ppd_ast.specs.declared.limits.TheConstants.{MOST_SHARED_CELLS, MOST_SEMAPHORES, MOST_CHANNELS, MOST_FUNCTIONS, MOST_PROCESSES}
+use Rattle.ppd_ast.specs.declared.program.Sem.{Sem}
+use Rattle.ppd_ast.specs.declared.program.Chan.{Chan}
 use Rattle.ppd_parse.specs.declared.node.Node.{Node}
 use Rattle.ppd_check_names.specs.declared.fault.Cause.TheVariants.{TooMany}
 use Rattle.ppd_check_names.specs.declared.fault.Limit.TheVariants as L
@@ -9,14 +11,25 @@ use Rattle.ppd_check_names.specs.declared.fault.Fault.{Fault}
 use Rattle.ppd_check_names.specs.declared.globals.Globals.{Globals}
 use Rattle.ppd_check_names.specs.declared.level.Source.{Source}
 use Rattle.ppd_check_names.specs.Faults.{if_so, first, first_of_both}
-use Rattle.ppd_check_names.specs.Fitted.{as_short}
+use Rattle.ppd_check_names.specs.Fitted.{fitted}
 use Rattle.ppd_check_names.specs.Frames.{after_cells, twice_faults}
 use Rattle.ppd_check_names.specs.Syntax.{stop, Item, shared, shared_array, semaphore, channel, function, process}
 use Rattle.ppd_check_names.specs.Reading.{Phrase, phrase, last, kind, is_minus, is_int, number_at, name_at, value_of, as_token, nowhere, name_of, as_names, as_block, as_items}
 use Rattle.ppd_check_names.specs.Nodes.{phrase_of, phrases_below}
 use Rattle.ppd_check_names.specs.Declaring.{counted}
 use Rattle.ppd_check_names.specs.Globals as S
-use Rattle.ppd_check_names.specs.Globals.{Head, sem, chan, item_name, item_size_faults, with_item, with_items}
+use Rattle.ppd_check_names.specs.Globals.{Head, item_name, item_size_faults, with_item}
+
+-- a semaphore and a channel of the table
+abbrev pub sem : S.Object → Sem
+sem o = record { name = o.name.text; start = fitted 32 o.number }
+
+abbrev pub chan : S.Object → Chan
+chan o = record { name = o.name.text; capacity = fitted 8 o.number }
+
+-- what is declared after more items
+abbrev pub with_items : List Item → S.Globals → S.Globals
+with_items is g = fold (λ g i. with_item i g) g is
 
 -- the function or process that an item is
 abbrev pub head_of : List Item → Head
@@ -68,7 +81,7 @@ pub record Holds (ns : List Node) (g : Globals) (s : S.Globals) : Type 0 where
 abbrev pub item_counted : Item → S.Globals → List Fault
 item_counted (shared x v) s = if_so (nat_lt MOST_SHARED_CELLS (after_cells s.cells None)) x.place (TooMany L.Shared)
 item_counted (shared_array x n) s =
-    if_so (nat_lt MOST_SHARED_CELLS (after_cells s.cells (Some (as_short n.value)))) x.place (TooMany L.Shared)
+    if_so (nat_lt MOST_SHARED_CELLS (after_cells s.cells (Some (fitted 16 n.value)))) x.place (TooMany L.Shared)
 item_counted (semaphore x n) s = counted MOST_SEMAPHORES (length s.semaphores) L.Semaphores x.place
 item_counted (channel x n) s = counted MOST_CHANNELS (length s.channels) L.Channels x.place
 item_counted (function gives x params b) s = counted MOST_FUNCTIONS (length s.functions) L.Functions x.place

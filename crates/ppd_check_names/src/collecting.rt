@@ -1,13 +1,14 @@
 // What a source declares, with the rules that its declarations break.
-ghost use Rattle.std.specs.Prelude.{◌≡◌, ◌<◌, ◌++◌, OnOk, IfOk, length, slice_index_or, option_copied, nat_lt, ◌≤◌, ◌+◌, ◌*◌};
+ghost use Rattle.std.specs.Prelude.{◌≡◌, ◌<◌, ◌++◌, OnOk, IfOk, length, slice_index_or, option_copied, nat_lt, ◌≤◌, ◌+◌, ◌*◌, not};
 ghost use Rattle.std.specs.List.{flat_map};
 ghost use Rattle.ppd_parse.specs.Tree.{tree_of};
-ghost use Rattle.ppd_check_names.specs.Faults.{first, first_of_both, unless};
+ghost use Rattle.ppd_check_names.specs.Faults.{first, first_of_both, if_so};
 ghost use Rattle.ppd_check_names.specs.declared.fault.Cause.TheVariants.{NoProcess};
 ghost use Rattle.ppd_check_names.specs.Reading.{as_items, last_place, source_of};
 ghost use Rattle.ppd_check_names.specs.Nodes.{phrase_of, no_node, below};
 ghost use Rattle.ppd_check_names.specs.Holding.{Holds, Declares, DeclaresAt};
-ghost use Rattle.ppd_check_names.specs.Globals.{Globals as Held, globals, no_globals, with_items, items_faults, count_faults};
+ghost use Rattle.ppd_check_names.specs.Globals.{Globals as Held, globals, no_globals, items_faults, count_faults};
+ghost use Rattle.ppd_check_names.specs.Holding.{with_items};
 ghost use Rattle.ppd_check_names.specs.Cost.{nodes_at, nested_below, plain_below, heads_nodes, starts_left};
 
 use crate::fault::{Cause, Fault, note_unless};
@@ -148,7 +149,7 @@ fn has_process(globals: &Globals) -> bool
 pub fn note_no_process(source: Source<'_>, globals: &Globals, found: &mut Option<Fault>)
     ensures { (held : Held) → Holds source.entry.nodes.now globals.now held
         → found.new ≡ first_of_both found.old
-        (first (unless (nat_lt 0 (length held.processes)) (last_place (tree_of source.entry.nodes.now)) NoProcess)) }
+        (first (if_so (not (nat_lt 0 (length held.processes))) (last_place (tree_of source.entry.nodes.now)) NoProcess)) }
 {
     let end = end_at(source);
     note_unless(found, has_process(globals), end, Cause::NoProcess);

@@ -1,6 +1,6 @@
 // The rules that a source can break.
-ghost use Rattle.std.specs.Prelude.{◌≡◌, Some};
-ghost use Rattle.ppd_check_names.specs.Faults.{is_before, first, first_of_both, unless, if_so};
+ghost use Rattle.std.specs.Prelude.{◌≡◌, Some, not};
+ghost use Rattle.ppd_check_names.specs.Faults.{is_before, first, first_of_both, if_so};
 
 use ppd_ast::Place;
 
@@ -67,7 +67,7 @@ pub fn note(found: &mut Option<Fault>, place: Place, cause: Cause)
 /// Notes a rule unless the test holds.
 #[tactic(auto, using(crate::proofs::Found::First::first_of_both_none))]
 pub fn note_unless(found: &mut Option<Fault>, holds: bool, place: Place, cause: Cause)
-    ensures { found.new ≡ first_of_both found.old (first (unless holds place cause)) }
+    ensures { found.new ≡ first_of_both found.old (first (if_so (not holds) place cause)) }
 {
     if !holds {
         note(found, place, cause);

@@ -1,8 +1,8 @@
 // What a body has declared so far.
-ghost use Rattle.std.specs.Prelude.{◌≡◌, ◌++◌, [], ◌∷◌, OnOk, IfOk, ◌≤◌, ◌+◌};
+ghost use Rattle.std.specs.Prelude.{◌≡◌, ◌++◌, [], ◌∷◌, OnOk, IfOk, ◌≤◌, ◌+◌, decimal};
 ghost use Rattle.ppd_check_names.specs.Faults.{first, first_of_both};
 ghost use Rattle.ppd_check_names.specs.Names.{innermost};
-ghost use Rattle.ppd_check_names.specs.Frames.{after_cells, declared, hidden_name, twice_faults, variable_of, with_hidden};
+ghost use Rattle.ppd_check_names.specs.Frames.{after_cells, declared, twice_faults, variable_of, with_hidden};
 ghost use Rattle.ppd_check_names.specs.Nodes.{label_name};
 
 use crate::fault::{Cause, Fault, note};
@@ -57,7 +57,7 @@ pub fn bytes_of<L: Ledger>(
 
 // The name of a body's hidden variable with this number.
 fn hidden_name<L: Ledger>(alloc: Global, number: u16, steps: &mut Steps<L>) -> Result<Bytes, Memory>
-    ensures value { IfOk result (λ name. name ≡ hidden_name number) }
+    ensures value { IfOk result (λ name. name ≡ 37 ∷ decimal number) }
     ensures cost { steps.new ≤ steps.old + 1 }
 {
     steps.tick();

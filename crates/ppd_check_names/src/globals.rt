@@ -3,7 +3,7 @@ ghost use Rattle.std.specs.Prelude.{◌≡◌, ◌++◌, OnOk, IfOk, nat_le, pos
 ghost use Rattle.ppd_ast.specs.declared.limits.TheConstants.{MOST_FUNCTIONS, MOST_PROCESSES, MOST_SEMAPHORES, MOST_CHANNELS};
 ghost use Rattle.ppd_check_names.specs.Faults.{first, first_of_both, if_so};
 ghost use Rattle.ppd_check_names.specs.Names.{innermost, semaphore, channel};
-ghost use Rattle.ppd_check_names.specs.Fitted.{as_byte, as_word};
+ghost use Rattle.ppd_check_names.specs.Fitted.{fitted};
 ghost use Rattle.ppd_check_names.specs.Nodes.{label_name};
 ghost use Rattle.ppd_check_names.specs.Frames.{twice_faults};
 ghost use Rattle.ppd_check_names.specs.Declaring.{nothing, named, placed, with_shared, with_numbered, with_function, with_process, twice, counted, celled, numbered_over};
@@ -173,7 +173,7 @@ pub fn add_scalar<L: Ledger>(
 // The next semaphore, after so many.
 fn next_semaphore(count: usize) -> Next
     ensures { result ≡ record {
-      meaning = semaphore (as_byte count);
+      meaning = semaphore (fitted 8 count);
       over = nat_le MOST_SEMAPHORES count;
       limit = Semaphores;
     } }
@@ -188,7 +188,7 @@ fn next_semaphore(count: usize) -> Next
 // The next channel, after so many.
 fn next_channel(count: usize) -> Next
     ensures { result ≡ record {
-      meaning = channel (as_byte count);
+      meaning = channel (fitted 8 count);
       over = nat_le MOST_CHANNELS count;
       limit = Channels;
     } }
@@ -209,7 +209,7 @@ fn push_semaphore<L: Ledger>(
     steps: &mut Steps<L>,
 ) -> Result<(), Memory>
     ensures pushed { OnOk result
-        (sems.new ≡ sems.old ++ record { name = name.now; start = as_word number } ∷ []) }
+        (sems.new ≡ sems.old ++ record { name = name.now; start = fitted 32 number } ∷ []) }
     ensures cost { steps.new ≤ steps.old + 2 }
 {
     steps.tick();
@@ -229,7 +229,7 @@ fn push_channel<L: Ledger>(
     steps: &mut Steps<L>,
 ) -> Result<(), Memory>
     ensures pushed { OnOk result
-        (chans.new ≡ chans.old ++ record { name = name.now; capacity = as_byte number } ∷ []) }
+        (chans.new ≡ chans.old ++ record { name = name.now; capacity = fitted 8 number } ∷ []) }
     ensures cost { steps.new ≤ steps.old + 2 }
 {
     steps.tick();

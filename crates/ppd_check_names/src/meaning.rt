@@ -1,6 +1,6 @@
 // What a name stands for.
-ghost use Rattle.std.specs.Prelude.{◌≡◌};
-ghost use Rattle.ppd_check_names.specs.Names.{is_scalar, is_array, is_semaphore, is_channel, fits_index};
+ghost use Rattle.std.specs.Prelude.{◌≡◌, true, false};
+ghost use Rattle.ppd_check_names.specs.Names.{is_semaphore, is_channel, fits_index};
 
 /// What a name can mean. Variables have their first cell and, as arrays, their length.
 #[derive(Clone, Copy)]
@@ -16,13 +16,13 @@ pub enum Meaning {
 
 impl Meaning {
     fn is_scalar(&self) -> bool
-        ensures { result ≡ is_scalar self.now }
+        ensures { result ≡ fits_index false self.now }
     {
         matches!(*self, Meaning::Shared(_, None) | Meaning::Local(_, None))
     }
 
     fn is_array(&self) -> bool
-        ensures { result ≡ is_array self.now }
+        ensures { result ≡ fits_index true self.now }
     {
         matches!(
             *self,

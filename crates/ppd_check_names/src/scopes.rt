@@ -1,6 +1,8 @@
 // What names mean where they stand.
 ghost use Rattle.std.specs.Prelude.{◌≡◌, [], ◌∷◌, reverse, map, drop, is_some, OnOk, OnErr, IfOk, ◌≤◌, ◌+◌};
-ghost use Rattle.ppd_check_names.specs.Names.{meaning, declare, found, scope_of, innermost, in_innermost};
+ghost use Rattle.ppd_check_names.specs.Names.{meaning, declare, scope_of, innermost};
+ghost use Rattle.ppd_check_names.specs.Declaring.{in_innermost};
+ghost use Rattle.ppd_lex.specs.Front.{looked_up};
 
 use crate::meaning::Meaning;
 use indexmap::IndexMap;
@@ -65,7 +67,7 @@ impl Scopes {
         meaning: Meaning,
         steps: &mut Steps<L>,
     ) -> Result<bool, Memory>
-        ensures twice { IfOk result (λ twice. twice ≡ is_some (found (innermost self.old) name.now)) }
+        ensures twice { IfOk result (λ twice. twice ≡ is_some (looked_up (innermost self.old) name.now)) }
         ensures ok { OnOk result (self.new ≡ in_innermost (declare name.now meaning) self.old) }
         ensures cost { steps.new ≤ steps.old + 3 }
     {
@@ -107,7 +109,7 @@ fn declare_in<L: Ledger>(
     meaning: Meaning,
     steps: &mut Steps<L>,
 ) -> Result<bool, Memory>
-    ensures twice { IfOk result (λ twice. twice ≡ is_some (found (scope_of scope.old) name.now)) }
+    ensures twice { IfOk result (λ twice. twice ≡ is_some (looked_up (scope_of scope.old) name.now)) }
     ensures ok { OnOk result (scope_of scope.new ≡ declare name.now meaning (scope_of scope.old)) }
     ensures err { OnErr result (scope_of scope.new ≡ scope_of scope.old) }
     ensures cost { steps.new ≤ steps.old + 3 }
@@ -125,7 +127,7 @@ fn declare_in<L: Ledger>(
 
 // What a name means in one scope.
 fn found_in(scope: &IndexMap<Vec<u8>, Meaning>, name: &[u8]) -> Option<Meaning>
-    ensures { result ≡ found (scope_of scope.now) name.now }
+    ensures { result ≡ looked_up (scope_of scope.now) name.now }
 {
     scope.get(name).copied()
 }

@@ -1,5 +1,5 @@
 -- A body's core statements as a tree, before they are numbered.
-use Rattle.std.specs.Prelude.{ℕ, suc, ◌+◌, List, [], ◌∷◌, ◌++◌, Option}
+use Rattle.std.specs.Prelude.{ℕ, suc, ◌+◌, List, [], ◌∷◌, Option}
 use Rattle.ppd_ast.specs.declared.program.Place.{Place}
 use Rattle.ppd_ast.specs.Term.{Term}
 
@@ -42,13 +42,6 @@ join (loop p e inside c) d = loop p e inside (join c d)
 abbrev pub acts : Place → List Act → Code
 acts p [] = done
 acts p (a ∷ rest) = act p a (acts p rest)
-
--- the places of the statements, with those inside them
-abbrev pub places : Code → List Place
-places done = []
-places (act p a c) = p ∷ places c
-places (choice p e a b c) = p ∷ (places a ++ (places b ++ places c))
-places (loop p e inside c) = p ∷ (places inside ++ places c)
 
 -- how many statements these are, with those inside them
 abbrev pub count : Code → ℕ

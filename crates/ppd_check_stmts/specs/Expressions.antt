@@ -1,12 +1,13 @@
 -- What an expression means in the scopes round it, and the rules that it breaks.
 use Rattle.std.specs.Prelude.{ℕ, pos, Bool, true, false, not, ◌&&◌, nat_eq, List, [], ◌∷◌, ◌++◌, length, Option, Some, None}
 use Rattle.std.specs.List.{flat_map}
+use Rattle.std.specs.Option.{option_map_or}
 use Rattle.ppd_ast.specs.declared.program.Place.{Place}
 use Rattle.ppd_ast.specs.Term as T
 use Rattle.ppd_ast.specs.Term.{Term}
 use Rattle.ppd_check_names.specs.declared.fault.Cause.TheVariants.{Unknown, WrongKind, Arity, VoidValue}
 use Rattle.ppd_check_names.specs.declared.fault.Fault.{Fault}
-use Rattle.ppd_check_names.specs.Faults.{at, unless, if_so}
+use Rattle.ppd_check_names.specs.Faults.{at, if_so}
 use Rattle.ppd_check_names.specs.declared.meaning.Meaning.{Meaning}
 use Rattle.ppd_check_names.specs.declared.meaning.Meaning.TheVariants.{Shared as shared, Local as local, Function as function}
 use Rattle.ppd_check_names.specs.Names.{Scope, meaning, fits_index, is_semaphore, is_channel}
@@ -38,12 +39,9 @@ term_of s (both a b) = T.and (term_of s a) (term_of s b)
 term_of s (either a b) = T.or (term_of s a) (term_of s b)
 
 -- a name must mean something that passes the test
-abbrev pub wrong_use : (Meaning → Bool) → Option Meaning → Place → List Fault
-wrong_use test None place = at place Unknown ∷ []
-wrong_use test (Some m) place = unless (test m) place WrongKind
-
 abbrev pub name_faults : (Meaning → Bool) → List Scope → Name → List Fault
-name_faults test s x = wrong_use test (meaning s x.text) x.place
+name_faults test s x =
+    option_map_or (λ m. if_so (not (test m)) x.place WrongKind) (meaning s x.text) (at x.place Unknown ∷ [])
 
 -- what a name is used as, as a test of what it means
 abbrev pub is_use : Use → Meaning → Bool
@@ -67,7 +65,7 @@ formula_faults s (either a b) = formula_faults s a ++ formula_faults s b
 abbrev pub wrong_call : Option Meaning → Place → ℕ → Bool → List Fault
 wrong_call None place n used = at place Unknown ∷ []
 wrong_call (Some (function k params gives)) place n used =
-    unless (nat_eq n params) place Arity ++ if_so (used && not gives) place VoidValue
+    if_so (not (nat_eq n params)) place Arity ++ if_so (used && not gives) place VoidValue
 wrong_call (Some m) place n used = at place WrongKind ∷ []
 
 abbrev pub call_faults : List Scope → Bool → Name → List Formula → List Fault

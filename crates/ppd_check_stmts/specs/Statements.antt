@@ -1,12 +1,13 @@
 -- What statements declare, their core statements, and the rules that they break.
-use Rattle.std.specs.Prelude.{ℕ, ◌+◌, Bool, true, false, List, [], ◌∷◌, ◌++◌, map, Option, Some, None}
+use Rattle.std.specs.Prelude.{ℕ, ◌+◌, Bool, true, false, List, [], ◌∷◌, ◌++◌, map, Option, Some, None, if◌then◌else◌}
+use Rattle.std.specs.Option.{option_map_or}
 use Rattle.ppd_ast.specs.declared.program.Place.{Place}
 use Rattle.ppd_ast.specs.Term as T
 use Rattle.ppd_ast.specs.Term.{Term}
 use Rattle.ppd_ast.specs.declared.limits.TheConstants.{MOST_LOCAL_CELLS}
 use Rattle.ppd_check_names.specs.declared.fault.Fault.{Fault}
 use Rattle.ppd_check_names.specs.declared.frame.Frame.{Frame}
-use Rattle.ppd_check_names.specs.Fitted.{as_short}
+use Rattle.ppd_check_names.specs.Fitted.{fitted}
 use Rattle.ppd_check_names.specs.Names.{Scope, meaning, innermost, semaphore_of, channel_of, function_of, is_semaphore, is_channel}
 use Rattle.ppd_check_stmts.specs.Code.{Spot, Act, Code, done, loop, join, acts}
 use Rattle.ppd_check_stmts.specs.Code as C
@@ -52,22 +53,14 @@ return_via_hidden None = false
 return_via_hidden (Some (plain e)) = false
 return_via_hidden (Some v) = true
 
-abbrev pub hidden_if : Bool → Place → Frame → Frame
-hidden_if true p f = with_hidden p f
-hidden_if false p f = f
-
 -- The frame after a statement, and after a row.
 
 abbrev pub after : Simple → Frame → Frame
 after (fresh x v) f = declared x None f
-after (array x n) f = declared x (Some (as_short n.value)) f
-after (store g v) f = hidden_if (via_hidden (spot_of f.scopes g) v) (goal_name g).place f
-after (give_back p v) f = hidden_if (return_via_hidden v) p f
+after (array x n) f = declared x (Some (fitted 16 n.value)) f
+after (store g v) f = if via_hidden (spot_of f.scopes g) v then with_hidden (goal_name g).place f else f
+after (give_back p v) f = if return_via_hidden v then with_hidden p f else f
 after _ f = f
-
-abbrev pub after_any : Option Simple → Frame → Frame
-after_any None f = f
-after_any (Some s) f = after s f
 
 abbrev pub after_row : Row → Frame → Frame
 after_row stop f = f
@@ -75,7 +68,8 @@ after_row (simple s r) f = after_row r (after s f)
 after_row (block b r) f = after_row r (with_scopes_of f (after_row b (opened f)))
 after_row (choice p e a b r) f = after_row r (after_row b (after_row a f))
 after_row (repeat p e b r) f = after_row r (after_row b f)
-after_row (count p start e step b r) f = after_row r (with_scopes_of f (after_row b (after_any start (opened f))))
+after_row (count p start e step b r) f =
+    after_row r (with_scopes_of f (after_row b (option_map_or (λ s. after s (opened f)) start (opened f))))
 
 -- The core statements.
 
@@ -113,7 +107,7 @@ return_acts (Some v) f = put f.scopes f.cells v ∷ C.give_back (Some (T.local f
 -- the core statements of a statement, all at its place
 abbrev pub acts_of : Simple → Frame → List Act
 acts_of (fresh x v) f = put (declared x None f).scopes f.cells v ∷ []
-acts_of (array x n) f = C.clear f.cells (as_short n.value) ∷ []
+acts_of (array x n) f = C.clear f.cells (fitted 16 n.value) ∷ []
 acts_of (store g v) f = store_acts (spot_of f.scopes g) v f
 acts_of (change g op e) f =
     C.set (spot_of f.scopes g) (T.two op (term_of f.scopes (goal_formula g)) (term_of f.scopes e)) ∷ []
@@ -128,10 +122,6 @@ acts_of (assert p e) f = C.assert (term_of f.scopes e) ∷ []
 abbrev pub code_of : Simple → Frame → Code
 code_of s f = acts (place_of s) (acts_of s f)
 
-abbrev pub code_of_any : Option Simple → Frame → Code
-code_of_any None f = done
-code_of_any (Some s) f = code_of s f
-
 -- the core statements of a row; a `for` is what comes first, then a loop at its place
 abbrev pub row_code : Row → Frame → Code
 row_code stop f = done
@@ -144,9 +134,9 @@ row_code (choice p e a b r) f =
 row_code (repeat p e b r) f =
     loop p (term_of f.scopes e) (row_code b f) (row_code r (after_row b f))
 row_code (count p start e step b r) f =
-    let g : Frame = after_any start (opened f) in
-    join (code_of_any start (opened f))
-    (loop p (term_of g.scopes e) (join (row_code b g) (code_of_any step (after_row b g)))
+    let g : Frame = option_map_or (λ s. after s (opened f)) start (opened f) in
+    join (option_map_or (λ s. code_of s (opened f)) start done)
+    (loop p (term_of g.scopes e) (join (row_code b g) (option_map_or (λ s. code_of s (after_row b g)) step done))
     (row_code r (with_scopes_of f (after_row b g))))
 
 -- The broken rules.
@@ -170,10 +160,6 @@ faults_of (send p x e) f = name_faults is_channel f.scopes x ++ formula_faults f
 faults_of (print p e) f = formula_faults f.scopes e
 faults_of (assert p e) f = formula_faults f.scopes e
 
-abbrev pub faults_of_any : Option Simple → Frame → List Fault
-faults_of_any None f = []
-faults_of_any (Some s) f = faults_of s f
-
 abbrev pub row_faults : Row → Frame → List Fault
 row_faults stop f = []
 row_faults (simple s r) f = faults_of s f ++ row_faults r (after s f)
@@ -185,7 +171,8 @@ row_faults (choice p e a b r) f =
 row_faults (repeat p e b r) f =
     formula_faults f.scopes e ++ (row_faults b f ++ row_faults r (after_row b f))
 row_faults (count p start e step b r) f =
-    let g : Frame = after_any start (opened f) in
-    faults_of_any start (opened f)
+    let g : Frame = option_map_or (λ s. after s (opened f)) start (opened f) in
+    option_map_or (λ s. faults_of s (opened f)) start []
     ++ (formula_faults g.scopes e
-    ++ (row_faults b g ++ (faults_of_any step (after_row b g) ++ row_faults r (with_scopes_of f (after_row b g)))))
+    ++ (row_faults b g
+    ++ (option_map_or (λ s. faults_of s (after_row b g)) step [] ++ row_faults r (with_scopes_of f (after_row b g)))))

@@ -1,5 +1,5 @@
 -- The numbers of statements and expressions: how many stand before.
-use Rattle.std.specs.Prelude.{ℕ, suc, ◌+◌, List, [], ◌∷◌, ◌++◌, Option, Some, None}
+use Rattle.std.specs.Prelude.{ℕ, suc, ◌+◌, List, [], ◌∷◌, ◌++◌, Option, Some, None, option_map, option_to_list}
 use Rattle.ppd_ast.specs.declared.program.Expr.{Expr}
 use Rattle.ppd_ast.specs.declared.program.Expr.TheVariants.{Const, Local, LocalAt, Shared, SharedAt, Neg, Not, Two, And, Or}
 use Rattle.ppd_ast.specs.declared.program.Target.{Target}
@@ -64,15 +64,11 @@ spot_terms (C.local_at base n i) = i ∷ []
 spot_terms (C.shared c) = []
 spot_terms (C.shared_at base n i) = i ∷ []
 
-abbrev pub some_term : Option Term → List Term
-some_term None = []
-some_term (Some t) = t ∷ []
-
 abbrev pub act_terms : Act → List Term
 act_terms (set m e) = spot_terms m ++ e ∷ []
 act_terms (clear base n) = []
 act_terms (call f args into) = args
-act_terms (give_back v) = some_term v
+act_terms (give_back v) = option_to_list v
 act_terms (take k) = []
 act_terms (give k) = []
 act_terms (send k e) = e ∷ []
@@ -94,16 +90,12 @@ target m (C.local_at base n i) = G.LocalAt base n (root m i)
 target m (C.shared c) = G.Shared c
 target m (C.shared_at base n i) = G.SharedAt base n (root m i)
 
-abbrev pub some_root : ℕ → Option Term → Option ℕ
-some_root m None = None
-some_root m (Some t) = Some (root m t)
-
 -- the kind of a statement whose first expression has number m
 abbrev pub kind : ℕ → Act → Kind
 kind m (set t e) = K.Set (target m t) (root (m + weights (spot_terms t)) e)
 kind m (clear base n) = K.Zero base n
 kind m (call f args into) = K.Call f (roots m args) into
-kind m (give_back v) = K.Return (some_root m v)
+kind m (give_back v) = K.Return (option_map (root m) v)
 kind m (take k) = K.P k
 kind m (give k) = K.V k
 kind m (send k e) = K.Send k (root m e)

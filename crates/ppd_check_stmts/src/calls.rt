@@ -2,7 +2,7 @@
 ghost use Rattle.std.specs.Prelude.{◌≡◌, ◌<◌, ◌++◌, [], ◌∷◌, OnOk, length, nat_eq, ◌&&◌, not, ◌≤◌, ◌+◌, ◌*◌};
 ghost use Rattle.ppd_check_names.specs.Nodes.{children_of, phrase_of, label_name};
 ghost use Rattle.ppd_check_names.specs.Reading.{is_formula};
-ghost use Rattle.ppd_check_names.specs.Faults.{first, first_of_both, unless, if_so};
+ghost use Rattle.ppd_check_names.specs.Faults.{first, first_of_both, if_so};
 ghost use Rattle.ppd_check_names.specs.Names.{meaning, semaphore_of, channel_of, function_of};
 ghost use Rattle.ppd_check_names.specs.declared.fault.Cause.TheVariants.{Arity, VoidValue};
 ghost use Rattle.ppd_check_stmts.specs.Expressions.{name_faults, is_use, wrong_call};
@@ -105,7 +105,7 @@ fn fit_call(
 )
     ensures { found.new
         ≡ first_of_both found.old
-        (first (unless (nat_eq count params) place Arity ++ if_so (used && not gives) place VoidValue)) }
+        (first (if_so (not (nat_eq count params)) place Arity ++ if_so (used && not gives) place VoidValue)) }
 {
     note_unless(found, count == params, place, Cause::Arity);
     note_if(found, lacks(used, gives), place, Cause::VoidValue);

@@ -1,9 +1,8 @@
 // The parts of a `for`, as statements.
 ghost use Rattle.std.specs.Prelude.{◌≡◌, ◌<◌, ◌≤◌, ◌-◌, OnOk, length, take, drop, ◌+◌, ◌*◌};
 ghost use Rattle.ppd_check_names.specs.Nodes.{operand_formula, IsOperand, below};
-ghost use Rattle.ppd_check_stmts.specs.Plain.{row_any};
+ghost use Rattle.ppd_check_stmts.specs.Plain.{row_any, code_of_any, faults_of_any};
 ghost use Rattle.ppd_check_names.specs.Reading.{phrase, before, beyond, last, formulas, for_start, for_test, some_change};
-ghost use Rattle.ppd_check_stmts.specs.Statements.{code_of_any, faults_of_any};
 ghost use Rattle.ppd_check_names.specs.Cost.{plain_below, operand_nodes};
 ghost use Rattle.ppd_check_stmts.specs.Outputs.{Keeps, Puts, Walks};
 

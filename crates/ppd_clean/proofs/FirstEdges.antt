@@ -5,7 +5,7 @@ use Rattle.std.proofs.lemmas.Bool.{leb-true, leb-false, or_left, or_right}
 use Rattle.std.proofs.lemmas.Option.{none-some}
 use Rattle.std.specs.List.{flat_map, list_any, range_with_len}
 use Rattle.std.specs.Prelude.{fold, nat_eq, nat_le}
-use Rattle.law_clean.specs.Pasts.{is_of_race, is_raced}
+use Rattle.law_clean.specs.Pasts.{is_raced}
 use Rattle.law_clean.proofs.Ordered.{any_in, in_flat_map}
 use Rattle.law_clean.proofs.PastRaces.{both, edge_of_race, either, race_of_edge}
 use Rattle.law_clean.proofs.PastsGrow.{any_found}
@@ -17,6 +17,7 @@ use Rattle.ppd_model.specs.declared.graph.Race.{Race}
 use Rattle.ppd_model.specs.HappenedBefore.{edge}
 use Rattle.ppd_model.proofs.Changes.{some}
 use Rattle.ppd_model.proofs.Tested.{In, from_zero, here}
+use Rattle.law_clean.proofs.PastWords.{is_of_race}
 
 -- ---- the lesser of two
 

@@ -1,7 +1,7 @@
 -- The edge in which an interval is left, as the index of a past has it.
 use Rattle.std.proofs.Common.{◌≡◌, ℕ, zero, suc, List, [], ◌∷◌, Option, Some, None, refl, ap, sym, ◌∙◌, get_or, length, map, if◌then◌else◌}
 use Rattle.std.specs.Prelude.{filter_map, option_map, slice_get, unwrap_or}
-use Rattle.law_clean.specs.Pasts.{left_edge, left_in}
+use Rattle.law_clean.specs.Pasts.{left_edge}
 use Rattle.ppd_clean.specs.ByOrder.{left_at}
 use Rattle.ppd_entry.specs.declared.entry.Entry.{Entry}
 use Rattle.ppd_entry.specs.declared.entry.Logs.{Logs}
@@ -14,6 +14,7 @@ use Rattle.ppd_index.specs.declared.row.Row.{Row}
 use Rattle.ppd_index.specs.Indexes.{IsIndexOf, interval_of, rows_at}
 use Rattle.ppd_index.specs.Tables.{extent_of}
 use Rattle.ppd_model.specs.RecordedSets.{sync_in}
+use Rattle.law_clean.proofs.PastWords.{left_in}
 
 syncs_at : (lists : List (List Entry)) (p : ℕ) → length (get_or (map (filter_map sync_in) lists) p []) ≡ length (filter_map sync_in (get_or lists p []))
 syncs_at [] p = refl

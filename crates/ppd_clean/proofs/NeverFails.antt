@@ -3,7 +3,7 @@ use Rattle.std.proofs.Common.{◌≡◌, ℕ, zero, suc, ◌+◌, ◌<◌, ◌�
 use Rattle.std.proofs.lemmas.Bool.{cases_lt}
 use Rattle.std.proofs.lemmas.Option.{none-some, slice_get-map}
 use Rattle.std.specs.Prelude.{option_map, option_to_list, slice_get, ⊤}
-use Rattle.law_clean.specs.Cuts.{cut, cut_from, stop}
+use Rattle.law_clean.specs.Cuts.{cut, stop}
 use Rattle.law_clean.specs.Ordered.{AreUnracedReads, IsUnracedIn}
 use Rattle.law_clean.proofs.CutEdges.{replays_of_cut}
 use Rattle.law_clean.proofs.CutIs.{log_tail}
@@ -32,17 +32,20 @@ use Rattle.ppd_blocks.specs.Blocks.{plan_of}
 use Rattle.ppd_entry.specs.declared.entry.Entry.{Entry}
 use Rattle.ppd_entry.specs.declared.entry.Entry.TheVariants as entry
 use Rattle.ppd_ast.specs.declared.status.Status.TheVariants as status
-use Rattle.ppd_flow_past.specs.SeenBy.{failed_at, failure_of}
+use Rattle.ppd_flow_past.specs.SeenBy.{failed_at}
 use Rattle.ppd_model.specs.declared.state.Logging.{Logging}
 use Rattle.ppd_model.specs.Forward.{edge_in}
 use Rattle.ppd_model.specs.Intervals.{Span, Split, split_of, splits}
-use Rattle.ppd_model.specs.Logs.{begun_log, closed_log, closed_logs, log_of, logs_from}
+use Rattle.ppd_model.specs.Logs.{begun_log, closed_log, closed_logs, log_of}
+use Rattle.ppd_model.proofs.LogWords.{logs_from}
 use Rattle.ppd_model.specs.Schedule.{IsWhole, run, started_world}
 use Rattle.ppd_model.specs.Story.{Moment, moment_of, own_moments, steps_of, story, told}
 use Rattle.ppd_model.specs.Synchronizations.{sync_of, syncs_of}
 use Rattle.ppd_model.proofs.Changes.{some}
 use Rattle.ppd_model.proofs.Forward.{fewer}
 use Rattle.ppd_sem.specs.declared.proc.Proc.{Proc}
+use Rattle.ppd_flow_past.proofs.SeenWords.{failure_of}
+use Rattle.law_clean.proofs.PastWords.{cut_from}
 
 no_failure : (x : Split) (o : Option Span) → failure_of (modelled_of x o) ≡ None
 no_failure x None = refl

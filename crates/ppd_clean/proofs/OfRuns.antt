@@ -6,11 +6,12 @@ use Rattle.std.proofs.lemmas.Bool.{and_from, cases_lt, false_from_ne_true, leb-f
 use Rattle.std.proofs.lemmas.Option.{none-some}
 use Rattle.std.specs.List.{range_with_len}
 use Rattle.std.specs.Prelude.{find, fold, nat_eq, slice_get, unwrap_or, ⊤}
-use Rattle.law_clean.specs.Answers.{CleanOr, answer_of, by_part, first_item, no_item, unclean_or, unwritten}
+use Rattle.law_clean.specs.Answers.{CleanOr, answer_of, by_part, no_item, unclean_or, unwritten}
 use Rattle.law_clean.specs.Laws.{AnswersAreOfRuns}
 use Rattle.law_clean.specs.Ordered.{IsUnracedIn}
-use Rattle.law_clean.specs.Pasts.{edges_between, first_unclean, is_clean, is_raced, is_same_edge, left_edge, lies, is_past}
+use Rattle.law_clean.specs.Pasts.{edges_between, is_clean, is_raced, left_edge, lies, is_past, is_same_edge}
 use Rattle.law_clean.specs.Search as sought
+use Rattle.law_clean.proofs.PastWords as words
 use Rattle.law_clean.proofs.PastRaces.{both, grows_to, not_raced, race_of_edge}
 use Rattle.law_clean.proofs.Places.{begun_left, left_all}
 use Rattle.law_clean.proofs.Ranges.{NonePasses, first_between}
@@ -42,7 +43,8 @@ use Rattle.ppd_model.specs.declared.tracing.Taken.{Taken}
 use Rattle.ppd_model.specs.FlowbackEdges.{edges}
 use Rattle.ppd_model.specs.Forward.{edge_in}
 use Rattle.ppd_model.specs.HappenedBefore.{Before, edge, is_edge_before, own_syncs}
-use Rattle.ppd_model.specs.Intervals.{Part, Span, Split, item_of, splits, splits_from}
+use Rattle.ppd_model.specs.Intervals.{Part, Span, Split, item_of, splits}
+use Rattle.ppd_model.proofs.IntervalWords.{splits_from}
 use Rattle.ppd_model.specs.Logs.{closed_logs}
 use Rattle.ppd_model.specs.Races.{races}
 use Rattle.ppd_model.specs.Record.{sync_record}
@@ -54,6 +56,7 @@ use Rattle.ppd_model.proofs.Accesses.{record_at}
 use Rattle.ppd_model.proofs.Changes.{some}
 use Rattle.ppd_model.proofs.RecordedSyncs.{record_syncs}
 use Rattle.ppd_race.specs.Races.{RunRacesAreOfLogs, races_of_logs}
+use Rattle.law_clean.proofs.PastWords.{first_unclean, first_item}
 
 -- ---- the last of a range
 
@@ -191,7 +194,7 @@ module _ (program : Program) (policy : Policy) (budget : ℕ) (h : List ℕ) (p 
         | inr found ↦ (let same : found.0 ≡ suc u = some (sym found.1 ∙ e) in subst (λ z. NonePasses Has begun z) same found.2.none)
       ]
 
-  other_clear : (q top : ℕ) (o : Option ℕ) → sought.other_last program Rec Rs p top q ≡ o → Clear q o
+  other_clear : (q top : ℕ) (o : Option ℕ) → words.other_last program Rec Rs p top q ≡ o → Clear q o
   other_clear q top None e = tt
   other_clear q top (Some i) e = λ n le up. not_raced program Rec Rs q i raced n le
     where
@@ -201,16 +204,16 @@ module _ (program : Program) (policy : Policy) (budget : ℕ) (h : List ℕ) (p 
         | inr passes ↦ passes
       ]
 
-      raced : sought.is_raced_to program Rec Rs q i ≡ false
-      raced = unnot (sought.is_raced_to program Rec Rs q i) (both (is_edge_before program Rec (edge q i) (edge p top)) (not (sought.is_raced_to program Rec Rs q i)) wanted).1
+      raced : words.is_raced_to program Rec Rs q i ≡ false
+      raced = unnot (words.is_raced_to program Rec Rs q i) (both (is_edge_before program Rec (edge q i) (edge p top)) (not (words.is_raced_to program Rec Rs q i)) wanted).1
 
   last_clear : (q : ℕ) → is_begun_unclean begun (find Has (edges_between begun far)) ≡ false
       → Clear q (sought.last_wanted program Rec Rs p (find Has (edges_between begun far)) q)
   last_clear q begins = by (nat_eq q p) refl
     where
-      by : (b : Bool) → nat_eq q p ≡ b → Clear q (if b then sought.own_last program Rec Rs p (find Has (edges_between begun far)) else sought.other_last program Rec Rs p (unwrap_or (find Has (edges_between begun far)) far) q)
+      by : (b : Bool) → nat_eq q p ≡ b → Clear q (if b then sought.own_last program Rec Rs p (find Has (edges_between begun far)) else words.other_last program Rec Rs p (unwrap_or (find Has (edges_between begun far)) far) q)
       by true is = subst (λ r. Clear r (sought.own_last program Rec Rs p (find Has (edges_between begun far)))) (sym (eqb-true q p is)) (own_clear (find Has (edges_between begun far)) refl begins)
-      by false is = other_clear q (unwrap_or (find Has (edges_between begun far)) far) (sought.other_last program Rec Rs p (unwrap_or (find Has (edges_between begun far)) far) q) refl
+      by false is = other_clear q (unwrap_or (find Has (edges_between begun far)) far) (words.other_last program Rec Rs p (unwrap_or (find Has (edges_between begun far)) far) q) refl
 
   as_clear : (q : ℕ) (y : Split) (at_q : slice_get (splits program (plan_of program policy) budget (story program (plan_of program policy) budget h)) q ≡ Some y)
       (o : Option ℕ) → Clear q o → IsClear program policy budget h v whole q y at_q o

@@ -3,7 +3,7 @@ use Rattle.std.proofs.Common.{◌≡◌, ℕ, zero, suc, ◌+◌, ◌-◌, ◌<�
 use Rattle.std.proofs.lemmas.Bool.{and_from, cases_eq, cases_lt, false_from_ne_true, le-ltb, leb-false, leb-true, lt-ltb, ltb-true, or_left, or_right}
 use Rattle.std.specs.List.{list_any}
 use Rattle.std.specs.Prelude.{IsTrue, find, is_some, nat_eq, nat_le, nat_lt}
-use Rattle.law_clean.specs.Pasts.{edges_between, is_raced, is_same_edge, is_past}
+use Rattle.law_clean.specs.Pasts.{edges_between, is_raced, is_past, is_same_edge}
 use Rattle.law_clean.specs.Search as sought
 use Rattle.law_clean.proofs.CleanCuts.{before_back, next_before}
 use Rattle.law_clean.proofs.PastClear.{some_there}

@@ -2,16 +2,18 @@
 use Rattle.std.proofs.Common.{◌≡◌, ℕ, zero, suc, ◌+◌, ◌-◌, ◌<◌, ◌≤◌, true, List, [], ◌∷◌, sym, subst, arith, inl, inr, eqb-true, map}
 use Rattle.std.specs.List.{flat_map, range_with_len}
 use Rattle.std.specs.Prelude.{nat_eq, ◌&&◌}
-use Rattle.law_clean.specs.Pasts.{is_of_race, is_raced}
+use Rattle.law_clean.specs.Pasts.{is_raced}
 use Rattle.law_clean.proofs.PastRaces.{both, either}
 use Rattle.law_clean.proofs.PastsGrow.{any_found}
 use Rattle.law_flow_shared.proofs.Edges.Sources.Members.{in_cases, in_either, in_filter, no_member}
 use Rattle.ppd_model.specs.declared.graph.EdgeId.{EdgeId}
 use Rattle.ppd_model.specs.declared.graph.Race.{Race}
 use Rattle.ppd_model.specs.HappenedBefore.{edge}
-use Rattle.ppd_model.specs.Races.{Edges, candidates, candidates_at, is_race, kinds, own_edges, race, races_among}
+use Rattle.ppd_model.specs.Races.{Edges, candidates, candidates_at, is_race, kinds, race, races_among}
+use Rattle.ppd_model.proofs.OrderWords.{own_edges}
 use Rattle.ppd_model.proofs.Tested.{In}
 use Rattle.ppd_race.specs.Races.{IsThere}
+use Rattle.law_clean.proofs.PastWords.{is_of_race}
 
 out_of : {A B : Type 0} (f : A → List B) (b : B) (xs : List A) → In b (flat_map f xs) → (a : A) × In a xs × In b (f a)
 out_of f b [] m = absurd (no_member m)

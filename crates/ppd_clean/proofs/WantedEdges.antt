@@ -3,9 +3,10 @@ use Rattle.std.proofs.Common.{◌≡◌, ℕ, zero, suc, ◌+◌, ◌-◌, ◌<�
 use Rattle.std.proofs.lemmas.Bool.{and_from, le-leb, leb-true}
 use Rattle.std.proofs.lemmas.Option.{none-some}
 use Rattle.std.specs.Prelude.{find, nat_eq, nat_le, unwrap_or}
-use Rattle.law_clean.specs.Cuts.{cut, cut_from, cut_logs}
+use Rattle.law_clean.specs.Cuts.{cut, cut_logs}
 use Rattle.law_clean.specs.Pasts.{edges_between}
 use Rattle.law_clean.specs.Search as sought
+use Rattle.law_clean.proofs.PastWords as words
 use Rattle.law_clean.proofs.PastRaces.{both}
 use Rattle.law_clean.proofs.Ranges.{first_between}
 use Rattle.ppd_ast.specs.declared.program.Program.{Program}
@@ -24,6 +25,7 @@ use Rattle.ppd_model.specs.HappenedBefore.{edge}
 use Rattle.ppd_model.specs.RecordedSets.{record_in}
 use Rattle.ppd_model.proofs.Changes.{some}
 use Rattle.ppd_race.specs.Races.{races_of_logs}
+use Rattle.law_clean.proofs.PastWords.{cut_from}
 
 same_cuts : (f g : ℕ → Option ℕ) → ((q : ℕ) → f q ≡ g q) → (p : ℕ) (lists : List (List Entry)) → cut_from f p lists ≡ cut_from g p lists
 same_cuts f g h p [] = refl
@@ -36,7 +38,7 @@ module _ (program : Program) (logs : Logs) (g : SyncGraph) (is : IsGraphOf progr
   abbrev firsts : List EdgeId
   firsts = firsts_of races (length logs.lists)
 
-  raced_to_is : (q i : ℕ) → is_raced_to (firsts_of races (length logs.lists)) (edge q i) ≡ sought.is_raced_to program (record_in logs) races q i
+  raced_to_is : (q i : ℕ) → is_raced_to (firsts_of races (length logs.lists)) (edge q i) ≡ words.is_raced_to program (record_in logs) races q i
   raced_to_is q i = any_first program logs g is races races_are (λ a. nat_eq a.process q && nat_le a.edge i) down
     where
       down : (a : EdgeId) (k : ℕ) → k ≤ a.edge → (nat_eq a.process q && nat_le a.edge i) ≡ true → (nat_eq a.process q && nat_le k i) ≡ true
@@ -50,7 +52,7 @@ module _ (program : Program) (logs : Logs) (g : SyncGraph) (is : IsGraphOf progr
   wanted_is p top q i x y = ap₂ (λ a b. a && not b) (before_same program logs g is (edge q i) (edge p top) y x) (raced_to_is q i)
 
   other_is : (p top q : ℕ) → IsIn program logs g is (edge p top)
-      → last_before g (firsts_of races (length logs.lists)) (edge p top) q (last_edge logs q) ≡ sought.other_last program (record_in logs) races p top q
+      → last_before g (firsts_of races (length logs.lists)) (edge p top) q (last_edge logs q) ≡ words.other_last program (record_in logs) races p top q
   other_is p top q x =
       fold_same (λ i. is_wanted g firsts (edge p top) (edge q i)) (sought.is_wanted program (record_in logs) races p top q) None 0 (last_edge logs q)
       (λ i low high. wanted_is p top q i x (ended program logs g is q i (omega (arith, high))).0)

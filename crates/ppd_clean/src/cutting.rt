@@ -1,7 +1,7 @@
 // Logs that are cut off after the last wanted edge of each process.
-ghost use Rattle.std.specs.Prelude.{◌≡◌, ◌≤◌, IfOk, false, length, slice_get};
+ghost use Rattle.std.specs.Prelude.{◌≡◌, ◌≤◌, IfOk, false, is_some, length, slice_get};
 ghost use Rattle.std.specs.Option.{option_map_or};
-ghost use Rattle.ppd_flow_model.specs.Ends.{is_sync};
+ghost use Rattle.ppd_model.specs.RecordedSets.{sync_in};
 ghost use Rattle.law_clean.specs.Cuts.{cut as cut_of, cut_at as cut_at_of, cut_logs as cut_logs_of, stop as stop_of};
 ghost use Rattle.ppd_ast.specs.declared.limits.TheConstants.{MOST_NAMED};
 ghost use Rattle.ppd_clean.specs.ByOrder.{last_wanted as last_wanted_of};
@@ -16,7 +16,7 @@ use ppd_flow_past::{Past, ending};
 use std::alloc::Global;
 
 fn is_sync_at(entries: &[Entry], n: usize) -> bool
-    ensures { result ≡ option_map_or is_sync (slice_get entries.now n) false }
+    ensures { result ≡ option_map_or (λ e. is_some (sync_in e)) (slice_get entries.now n) false }
 {
     match entries.get(n) {
         Some(Entry::Sync { .. }) => true,

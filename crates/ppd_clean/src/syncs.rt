@@ -1,18 +1,18 @@
-ghost use Rattle.std.specs.Prelude.{◌≡◌, count_by, filter_map, length};
-ghost use Rattle.ppd_flow_model.specs.Ends.{is_sync as is_sync_entry, syncs_before as syncs_before_in};
+ghost use Rattle.std.specs.Prelude.{◌≡◌, count_by, filter_map, is_some, length};
+ghost use Rattle.ppd_flow_model.specs.Ends.{syncs_before as syncs_before_in};
 ghost use Rattle.ppd_model.specs.RecordedSets.{sync_in};
 
 use ppd_clean_past::first_entries;
 use ppd_entry::Entry;
 
 fn is_sync(entry: &Entry) -> bool
-    ensures { result ≡ is_sync_entry entry.now }
+    ensures { result ≡ is_some (sync_in entry.now) }
 {
     matches!(entry, Entry::Sync { .. })
 }
 
 fn count_syncs(entries: &[Entry]) -> usize
-    ensures { result ≡ count_by is_sync_entry entries.now }
+    ensures { result ≡ count_by (λ e. is_some (sync_in e)) entries.now }
 {
     let mut count = 0;
     for entry in entries {

@@ -10,7 +10,8 @@ use Rattle.ppd_ast.specs.declared.program.Program.{Program}
 use Rattle.ppd_ast.specs.declared.program.Stmt.{Stmt}
 use Rattle.ppd_ast.proofs.ValidLaws.{slice_get_below, slice_get_there, stmt_in_body}
 use Rattle.ppd_ast.specs.Members.{has, those}
-use Rattle.ppd_ast.specs.Lookups.{kind_of_stmt, kind_of, top_of, body_of_stmt, body_of, params_of, locals_of}
+use Rattle.ppd_ast.specs.Lookups.{kind_of, top_of, body_of_stmt, body_of, params_of, locals_of}
+use Rattle.ppd_ast.proofs.Vocabulary.{kind_of_stmt}
 use Rattle.ppd_ast.proofs.Members.{has_filter, filter_has, filter_same_in}
 use Rattle.ppd_ast.proofs.Those.{those_yes, those_no, both}
 use Rattle.ppd_cfg.specs.Flow.{next_of}
@@ -18,7 +19,8 @@ use Rattle.ppd_cfg.specs.Lists.{first_or}
 use Rattle.ppd_cfg.specs.Reach.{closure, leads}
 use Rattle.ppd_sets.specs.Used.{callee, is_met, reads_at}
 use Rattle.ppd_deps.specs.declared.edges.StaticEdge.{StaticEdge}
-use Rattle.ppd_deps.specs.Edges.{begins, comes_to, kept_rows, local_edge, locals_from}
+use Rattle.ppd_deps.specs.Edges.{begins, comes_to, kept_rows, locals_from}
+use Rattle.ppd_deps.proofs.Vocabulary.{local_edge}
 use Rattle.ppd_deps.specs.Named.{local_reads, local_writes, places_by}
 use Rattle.ppd_deps.specs.Rows.{at_body, is_reader}
 

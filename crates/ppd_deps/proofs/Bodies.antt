@@ -26,7 +26,9 @@ use Rattle.ppd_sets.proofs.InBody.{InBody, inside_in}
 use Rattle.ppd_sets.proofs.Meeting.{vars_same, shared_small}
 use Rattle.ppd_sets.specs.Gained.{HasCells}
 use Rattle.ppd_sets.specs.SetsOf.{AreSetsOf}
-use Rattle.ppd_sets.specs.Used.{body_reads, called_from, is_met, numbers_in, reads_at, stmts_at, used_of}
+use Rattle.ppd_sets.specs.Used.{called_from, is_met, reads_at, stmts_at, used_of}
+use Rattle.ppd_sets.proofs.Vocabulary.{body_reads}
+use Rattle.ppd_sets.proofs.Vocabulary.{numbers_in}
 use Rattle.ppd_sets.specs.declared.var_sets.VarSets.{VarSets}
 use Rattle.ppd_deps.proofs.Arriving.{body_there, filter_twice, has_those}
 use Rattle.ppd_deps.specs.Named.{shared_reads}

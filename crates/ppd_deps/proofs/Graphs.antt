@@ -9,7 +9,8 @@ use Rattle.ppd_ast.specs.declared.program.Program.{Program}
 use Rattle.ppd_ast.proofs.Those.{counting_more}
 use Rattle.ppd_deps.specs.declared.edges.DepGraph.{DepGraph}
 use Rattle.ppd_deps.specs.declared.edges.StaticEdge.{StaticEdge}
-use Rattle.ppd_deps.specs.Edges.{data_from, edges_of}
+use Rattle.ppd_deps.specs.Edges.{edges_of}
+use Rattle.ppd_deps.proofs.Vocabulary.{data_from}
 use Rattle.ppd_deps.specs.Rows.{Adds, row_at}
 use Rattle.ppd_deps.specs.Tables.{IsDepGraph}
 

@@ -16,7 +16,8 @@ use Rattle.ppd_cfg.proofs.Leading.{leads-tests}
 use Rattle.ppd_deps.proofs.Reaching.{row_gives}
 use Rattle.ppd_deps.specs.declared.edges.StaticEdge.{StaticEdge}
 use Rattle.ppd_deps.specs.declared.edges.StaticEdge.TheVariants.{Data, ControlEntry, Control}
-use Rattle.ppd_deps.specs.Edges.{begins, comes_to, control_into, control_of, data_from, data_into, edges_of, ends_paths, kept_rows, local_edge, locals_from, outer_edge, shared_edge, shared_from}
+use Rattle.ppd_deps.specs.Edges.{begins, comes_to, control_into, data_into, edges_of, ends_paths, kept_rows, locals_from}
+use Rattle.ppd_deps.proofs.Vocabulary.{control_of, data_from, local_edge, outer_edge, shared_edge, shared_from}
 use Rattle.ppd_deps.specs.Laws.{IsKeptPath, NoEdgeIsInvented}
 use Rattle.ppd_deps.specs.Named.{local_reads, shared_reads, shared_writes}
 use Rattle.ppd_blocks.proofs.Paths.{not_true}

@@ -7,3 +7,4 @@ pub mod Naming
 pub mod Reaching
 pub mod Rows
 pub mod Tabled
+pub mod Vocabulary

@@ -8,7 +8,9 @@ use Rattle.ppd_ast.specs.declared.program.Var.{Var}
 use Rattle.ppd_ast.specs.Cells.{after}
 use Rattle.ppd_ast.specs.Valid.{IsValid}
 use Rattle.ppd_ast.proofs.ValidLaws.{valid_body}
-use Rattle.ppd_ast.specs.Lookups.{kind_of_stmt, locals_of_body, locals_of}
+use Rattle.ppd_ast.specs.Lookups.{locals_of}
+use Rattle.ppd_ast.proofs.Vocabulary.{locals_of_body}
+use Rattle.ppd_ast.proofs.Vocabulary.{kind_of_stmt}
 use Rattle.ppd_sets.specs.Gained.{Gains, HasCells}
 use Rattle.ppd_sets.specs.Named.{reads, writes}
 use Rattle.ppd_sets.specs.Used.{AreSmall, reads_at, vars_met, writes_at}

@@ -16,8 +16,9 @@ use Rattle.ppd_cfg.specs.WorkList.{AreRowsBelow, is_marked}
 use Rattle.ppd_cfg.proofs.Leading.{leads-tests, row_there}
 use Rattle.ppd_cfg.proofs.Rows.{length_rows, row_at}
 use Rattle.ppd_blocks.proofs.Fitting.{first_of_body_fits, listed_below, next_below}
-use Rattle.ppd_deps.specs.Edges.{begins, ends_paths, kept_next, kept_rows}
-use Rattle.ppd_deps.specs.Named.{local_writes, passes, places}
+use Rattle.ppd_deps.specs.Edges.{begins, ends_paths, kept_rows}
+use Rattle.ppd_deps.proofs.Vocabulary.{kept_next, passes}
+use Rattle.ppd_deps.specs.Named.{local_writes, places}
 
 pub kept_long : (p : Program) (b : ℕ) (x : Option Var) → length (kept_rows p b x) ≡ length p.stmts
 kept_long p b x = length_rows (kept_next p b x) 0 (length p.stmts)

@@ -12,21 +12,24 @@ use Rattle.ppd_ast.specs.declared.program.Body.{Body}
 use Rattle.ppd_ast.specs.declared.program.Stmt.{Stmt}
 use Rattle.ppd_deps.specs.declared.edges.StaticEdge.{StaticEdge}
 use Rattle.ppd_deps.specs.declared.edges.StaticEdge.TheVariants.{Control}
-use Rattle.ppd_deps.specs.Edges.{control_into, control_of, outer_edge}
+use Rattle.ppd_deps.specs.Edges.{control_into}
+use Rattle.ppd_deps.proofs.Vocabulary.{control_of, outer_edge, processes}
 use Rattle.ppd_ast.specs.declared.program.Kind.{Kind}
 use Rattle.ppd_ast.specs.declared.program.Kind.TheVariants as K
 use Rattle.ppd_ast.specs.declared.program.Program.{Program}
 use Rattle.ppd_ast.specs.Members.{has, AreBelow}
-use Rattle.ppd_ast.specs.Lookups.{kind_of_stmt, kind_of, body_of_stmt, body_of}
+use Rattle.ppd_ast.specs.Lookups.{kind_of, body_of_stmt, body_of}
+use Rattle.ppd_ast.proofs.Vocabulary.{kind_of_stmt}
 use Rattle.ppd_ast.proofs.Members.{has_first, has_later, has_filter, below_range}
 use Rattle.ppd_cfg.specs.Flow.{next_of}
 use Rattle.ppd_deps.proofs.Arriving.{IsOwn}
 use Rattle.ppd_cfg.specs.Lists.{row}
 use Rattle.ppd_cfg.proofs.Rows.{length_rows, row_at}
-use Rattle.ppd_sets.specs.Used.{numbers_in, stmts_at}
+use Rattle.ppd_sets.specs.Used.{stmts_at}
+use Rattle.ppd_sets.proofs.Vocabulary.{numbers_in}
 use Rattle.ppd_sets.proofs.Calling.{one_below}
 use Rattle.ppd_blocks.proofs.Fitting.{none_below}
-use Rattle.ppd_deps.specs.Named.{calls, local_writes, places, places_by, processes}
+use Rattle.ppd_deps.specs.Named.{calls, local_writes, places, places_by}
 
 pub table_long : (f : ℕ → List ℕ) (rows : List (List ℕ)) (n s : ℕ) → rows ≡ map f (range_with_len 0 n) → s < n → s < length rows
 table_long f rows n s is lt = let long : length rows ≡ n = ap length is ∙ length_rows f 0 n in omega (arith, long, lt)

@@ -1,22 +1,21 @@
 -- The variables that a statement reads and writes, by their numbers.
-use Rattle.std.specs.Prelude.{ℕ, ◌-◌, nat_eq, nat_lt, Bool, true, false, ◌&&◌, List, [], ◌∷◌, length, if◌then◌else◌}
+use Rattle.std.specs.Prelude.{ℕ, ◌-◌, nat_eq, Bool, true, false, List, [], ◌∷◌, length, if◌then◌else◌}
 use Rattle.std.specs.List.{filter, range_with_len}
 use Rattle.ppd_ast.specs.declared.program.Kind.{Kind}
 use Rattle.ppd_ast.specs.declared.program.Kind.TheVariants as K
 use Rattle.ppd_ast.specs.declared.program.Program.{Program}
 use Rattle.ppd_ast.specs.Members.{has, those}
-use Rattle.ppd_ast.specs.Lookups.{kind_of, body_of, params_of, locals_of}
+use Rattle.ppd_ast.specs.Lookups.{kind_of, body_of, locals_of}
 use Rattle.ppd_cfg.specs.Reach.{closure, leads}
 use Rattle.ppd_sets.specs.Used.{call_rows, callee, reads_at, stmts_at, vars_met, writes_at}
 
 -- ---- bodies
 
-abbrev pub processes : Program → List ℕ
-processes p = range_with_len p.functions (length p.bodies - p.functions)
-
 -- the bodies that run: a chain of calls reaches them from a process
 abbrev pub running : Program → List ℕ
-running p = those (length p.bodies) (leads (closure (call_rows p)) (processes p))
+running p =
+    those (length p.bodies)
+    (leads (closure (call_rows p)) (range_with_len p.functions (length p.bodies - p.functions)))
 
 -- ---- variables
 
@@ -49,7 +48,3 @@ places_by p b s k = if nat_eq (body_of p s) b then s ∷ [] else []
 
 abbrev pub places : Program → (b s : ℕ) → List ℕ
 places p b s = places_by p b s (kind_of p s)
-
--- whether statement s calls body b, of which variable v is a parameter
-abbrev pub passes : Program → (b s v : ℕ) → Bool
-passes p b s v = calls p s b && nat_lt v (params_of p b)

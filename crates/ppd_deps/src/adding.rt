@@ -1,10 +1,12 @@
 // Adding edges to the rows of the statements into which they lead.
-ghost use Rattle.std.specs.Prelude.{◌≡◌, ◌<◌, ◌^◌, ◌&&◌, [], ◌∷◌, ◌++◌, map, length, OnOk, IfOk, if◌then◌else◌};
+ghost use Rattle.std.specs.Prelude.{◌≡◌, ◌<◌, ◌^◌, ◌&&◌, [], ◌∷◌, ◌++◌, map, length, OnOk, IfOk, if◌then◌else◌, true, false};
 ghost use Rattle.std.specs.List.{filter};
+ghost use Rattle.std.specs.Option.{option_map_or};
 ghost use Rattle.ppd_ast.specs.Valid.{IsValid};
 ghost use Rattle.ppd_ast.specs.Members.{has, AreBelow};
 ghost use Rattle.ppd_cfg.specs.WorkList.{is_marked};
-ghost use Rattle.ppd_deps.specs.Edges.{comes_to, control_into, data_into, edges_of, local_edge, locals_from, outer_edge, shared_edge};
+ghost use Rattle.ppd_deps.specs.Edges.{comes_to, control_into, data_into, edges_of, locals_from};
+ghost use Rattle.ppd_deps.specs.declared.edges.StaticEdge.TheVariants.{Control, ControlEntry, Data};
 ghost use Rattle.ppd_deps.specs.Named.{places, shared_reads, shared_writes};
 ghost use Rattle.ppd_deps.specs.Rows.{Adds, at_body, is_reader};
 ghost use Rattle.ppd_deps.specs.Tables.{AreTables};
@@ -40,7 +42,7 @@ fn add_shared_edge(
     requires long { length rows.old ≡ length program.now.stmts }
     ensures { OnOk result
         (Adds rows.old rows.new
-        (λ t. if has (shared_reads program.now t) var then shared_edge stmt var ∷ [] else [])) }
+        (λ t. if has (shared_reads program.now t) var then Data stmt true var ∷ [] else [])) }
 {
     let edge = StaticEdge::Data {
         from: stmt,
@@ -66,7 +68,7 @@ fn add_shared_edges(
     requires tables { AreTables program.now tables.now }
     requires long { length rows.old ≡ length program.now.stmts }
     ensures { OnOk result
-        (Adds rows.old rows.new (λ t. map (shared_edge stmt) (filter (has (shared_reads program.now t)) vars.now))) }
+        (Adds rows.old rows.new (λ t. map (Data stmt true) (filter (has (shared_reads program.now t)) vars.now))) }
 {
     for var in vars {
         add_shared_edge(rows, program, tables, stmt, *var)?;
@@ -120,7 +122,8 @@ fn add_local_edge(
     requires long { length rows.old ≡ length program.now.stmts }
     requires marks { length marks.now ≡ length program.now.stmts }
     ensures { OnOk result (Adds rows.old rows.new (λ t.
-        if is_reader program.now local.body local.var t && is_marked marks.now t then local_edge stmt local.var ∷ [] else [])) }
+        if is_reader program.now local.body local.var t && is_marked marks.now t
+        then Data stmt false local.var ∷ [] else [])) }
 {
     let edge = StaticEdge::Data {
         from: stmt,
@@ -150,7 +153,7 @@ fn add_local_edges(
     requires there { AreBelow (length program.now.stmts) writer.now.places }
     ensures { OnOk result (Adds rows.old rows.new (λ t.
         if is_reader program.now local.body local.var t && comes_to program.now local.body writer.now.stmt local.var t
-        then local_edge writer.now.stmt local.var ∷ [] else [])) }
+        then Data writer.now.stmt false local.var ∷ [] else [])) }
 {
     let starts = begins(alloc, program, tables, local, writer)?;
     if starts.len() == 0 {
@@ -176,7 +179,7 @@ fn add_locals(
     requires there { stmt < length program.now.stmts }
     ensures { OnOk result
         (Adds rows.old rows.new
-        (λ t. at_body program.now body t (map (local_edge stmt) (locals_from program.now stmt t)))) }
+        (λ t. at_body program.now body t (map (Data stmt false) (locals_from program.now stmt t)))) }
 {
     let places = places(alloc, program, stmt, body)?;
     let writer = Writer { stmt, places };
@@ -203,7 +206,7 @@ fn add_locals_from(
     requires tables { AreTables program.now tables.now }
     requires long { length rows.old ≡ length program.now.stmts }
     requires there { stmt < length program.now.stmts }
-    ensures { OnOk result (Adds rows.old rows.new (λ t. map (local_edge stmt) (locals_from program.now stmt t))) }
+    ensures { OnOk result (Adds rows.old rows.new (λ t. map (Data stmt false) (locals_from program.now stmt t))) }
 {
     let found = &program.stmts.as_slice()[stmt as usize];
     match &found.kind {
@@ -247,7 +250,7 @@ fn add_data(
 
 // The edge from the statement round this one, or from the entry.
 fn outer_edge(parent: Option<u32>) -> StaticEdge
-    ensures { result ≡ outer_edge parent }
+    ensures { result ≡ option_map_or Control parent ControlEntry }
 {
     match parent {
         None => StaticEdge::ControlEntry,

@@ -1,16 +1,16 @@
 // The paths of a local variable's values.
-ghost use Rattle.std.specs.Prelude.{◌≡◌, ◌<◌, ◌^◌, ◌&&◌, ℕ, nat_eq, not, [], ◌∷◌, length, slice_get, None, IfOk, if◌then◌else◌, option_to_list};
+ghost use Rattle.std.specs.Prelude.{◌≡◌, ◌<◌, ◌^◌, ◌&&◌, ℕ, nat_eq, nat_lt, not, [], ◌∷◌, length, slice_get, None, IfOk, if◌then◌else◌, option_to_list};
 ghost use Rattle.std.specs.List.{filter, flat_map};
 ghost use Rattle.ppd_ast.specs.Numbered.{numbers_of};
 ghost use Rattle.ppd_ast.specs.Valid.{IsValid};
 ghost use Rattle.ppd_ast.specs.Members.{has, AreBelow};
-ghost use Rattle.ppd_ast.specs.Lookups.{kind_of, top_of, body_of, locals_of};
+ghost use Rattle.ppd_ast.specs.Lookups.{kind_of, top_of, body_of, params_of, locals_of};
 ghost use Rattle.ppd_cfg.specs.Flow.{next_of};
 ghost use Rattle.ppd_cfg.specs.Lists.{first_or};
 ghost use Rattle.ppd_cfg.specs.Reach.{closure, leads};
 ghost use Rattle.ppd_cfg.specs.WorkList.{is_marked};
-ghost use Rattle.ppd_deps.specs.Edges.{begins, ends_paths, kept_next, kept_rows, scalar_written};
-ghost use Rattle.ppd_deps.specs.Named.{calls, local_writes, passes, places};
+ghost use Rattle.ppd_deps.specs.Edges.{begins, ends_paths, kept_rows, scalar_written};
+ghost use Rattle.ppd_deps.specs.Named.{calls, local_writes, places};
 ghost use Rattle.ppd_deps.specs.Tables.{AreTables};
 ghost use Rattle.ppd_sets.specs.Used.{stmts_at};
 
@@ -88,8 +88,9 @@ fn kept_row(
     requires tables { AreTables program.now tables.now }
     requires there { stmt < length program.now.stmts }
     ensures { IfOk result
-        (λ ids. ids ≡ kept_next program.now local.body
-        (slice_get (locals_of program.now local.body) local.var) stmt) }
+        (λ ids. ids ≡ (if nat_eq (body_of program.now stmt) local.body
+        && not (ends_paths (slice_get (locals_of program.now local.body) local.var) (kind_of program.now stmt))
+        then next_of program.now stmt else [])) }
 {
     if is_kept(program, local, stmt) {
         return copy(alloc, tables.next_at(program, stmt));
@@ -131,7 +132,7 @@ fn entry(alloc: Global, program: &Program, body: u16) -> Result<Ids, Memory>
 
 // Whether the statement calls the body, of which the variable is a parameter.
 fn does_pass(program: &Program, local: Local, stmt: u32) -> bool
-    ensures { result ≡ passes program.now local.body stmt local.var }
+    ensures { result ≡ (calls program.now stmt local.body && nat_lt local.var (params_of program.now local.body)) }
 {
     does_call(program, stmt, local.body) && local.var < params(program, local.body)
 }

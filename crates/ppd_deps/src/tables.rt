@@ -1,10 +1,11 @@
 // What the search for static edges is given: successors, bodies that run, and what is read.
-ghost use Rattle.std.specs.Prelude.{◌≡◌, ◌<◌, ◌^◌, length, true, false, IfOk};
+ghost use Rattle.std.specs.Prelude.{◌≡◌, ◌-◌, ◌<◌, ◌^◌, length, true, false, IfOk};
+ghost use Rattle.std.specs.List.{range_with_len};
 ghost use Rattle.ppd_ast.specs.Valid.{IsValid};
 ghost use Rattle.ppd_ast.specs.Members.{has};
 ghost use Rattle.ppd_cfg.specs.Flow.{next_of};
 ghost use Rattle.ppd_sets.specs.SetsOf.{AreSetsOf};
-ghost use Rattle.ppd_deps.specs.Named.{local_reads, local_writes, processes, running, shared_reads};
+ghost use Rattle.ppd_deps.specs.Named.{local_reads, local_writes, running, shared_reads};
 ghost use Rattle.ppd_deps.specs.Tables.{AreTables};
 
 use crate::vars::{body_at, locals, read_cells, vars_of, written_cells};
@@ -70,7 +71,8 @@ impl Tables {
 
 fn process_numbers(alloc: Global, program: &Program) -> Result<Ids, Memory>
     requires { length program.now.bodies < 2 ^ 32 }
-    ensures { IfOk result (λ ids. ids ≡ processes program.now) }
+    ensures { IfOk result
+        (λ ids. ids ≡ range_with_len program.now.functions (length program.now.bodies - program.now.functions)) }
 {
     let mut ids = Ids::new(alloc);
     for body in program.functions as usize..program.bodies.len() {

@@ -24,7 +24,9 @@ use Rattle.ppd_emul_model.specs.declared.trace.EmulError.{EmulError}
 use Rattle.ppd_emul_model.specs.declared.wanted.Wanted.{Wanted}
 use Rattle.ppd_emul_model.specs.declared.wanted.Wanted.TheVariants as wanted
 use Rattle.ppd_emul_model.specs.Fits.{found_of, wanted_of, same_trap, fits}
-use Rattle.ppd_emul_model.specs.Replay.{Replaying, Turn, more, done, counted, end_here, fail, finished, goes_on, is_budget, next_piece, past_piece, received, skip_nested, step_with, step_without, stepped, synchronize, take_unit, take_unit_if, turn, turn_at_end, turn_at_trap, turn_by_end, turn_by_wanted, turn_within, unit_taken, with_call, with_event, with_event_of, with_item, with_write}
+use Rattle.ppd_emul_model.specs.Replay.{Replaying, Turn, more, done, counted, end_here, fail, finished, goes_on, is_budget, next_piece, past_piece, received, step_with, step_without, stepped, take_unit, take_unit_if, turn, turn_at_end, turn_by_end, turn_by_wanted, unit_taken, with_call, with_event, with_item, with_write}
+use Rattle.ppd_emul_model.proofs.Vocabulary.{skip_nested, synchronize}
+use Rattle.ppd_emul_model.proofs.Vocabulary.{turn_at_trap, turn_within, with_event_of}
 
 -- an answer's items, by the counts of steps and items before and the count of steps after
 abbrev pub Few : (steps items after : ℕ) → Result BlockTrace EmulError → Type 0

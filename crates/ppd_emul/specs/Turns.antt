@@ -1,5 +1,6 @@
 -- What turns of a replay come to.
 use Rattle.std.specs.Prelude.{◌≡◌, true, Option, None, Result, Ok, Err, IsSomeAnd, if◌then◌else◌}
+use Rattle.std.specs.Option.{option_map_or}
 use Rattle.ppd_ast.specs.declared.plan.Plan.{Plan}
 use Rattle.ppd_ast.specs.declared.program.Program.{Program}
 use Rattle.ppd_ast.specs.declared.status.Status.{Status}
@@ -10,7 +11,7 @@ use Rattle.ppd_model.specs.Story.{unit_started}
 use Rattle.ppd_emul_model.specs.declared.trace.EmulError.{EmulError}
 use Rattle.ppd_emul_model.specs.declared.wanted.Wanted.TheVariants as wanted
 use Rattle.ppd_emul_model.specs.Fits.{found_of, fits, wanted_of}
-use Rattle.ppd_emul_model.specs.Replay.{Replaying, Replayed, Turn, fail, is_budget, stepped, take_unit_if, turn_within, with_event, with_write}
+use Rattle.ppd_emul_model.specs.Replay.{Replaying, Replayed, Turn, fail, is_budget, stepped, take_unit_if, turn_at_end, turn_by_wanted, with_event, with_write}
 use Rattle.ppd_emul_values.specs.declared.replayer.Code.{Code}
 use Rattle.ppd_emul_values.specs.declared.replayer.Replayer.{Replayer}
 
@@ -35,4 +36,7 @@ alone program plan need r =
 -- a turn where the process does not stop for its budget
 abbrev pub unstopped : Program → Plan → Option Status → Need → Replaying → Turn
 unstopped program plan how need r =
-    if is_budget need then fail r wanted.Fewer else turn_within program plan how need r
+    if is_budget need then fail r wanted.Fewer
+    else
+    option_map_or (λ s. turn_at_end program plan s need r) how
+    (turn_by_wanted program plan need (wanted_of program plan r.proc need) r)

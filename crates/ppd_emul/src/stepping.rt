@@ -1,10 +1,11 @@
-ghost use Rattle.std.specs.Prelude.{◌≡◌, ◌+◌, ◌<◌, ◌≤◌, ◌^◌, true, false, None, OnOk};
+ghost use Rattle.std.specs.Prelude.{◌≡◌, ◌+◌, ◌<◌, ◌≤◌, ◌^◌, true, false, None, Some, OnOk};
 ghost use Rattle.ppd_emul.specs.Turns.{Meets, alone};
 ghost use Rattle.ppd_emul_values.specs.Emulated.{IfMore, IfTold, IsAtNeed, IsGoing, IsSound, IsTurn, replaying, turned};
 ghost use Rattle.ppd_emul_model.specs.Fits.{wanted_of as wanted_of_need};
-ghost use Rattle.ppd_emul_model.specs.Replay.{counted, finished, is_budget, received as received_by, skip_nested as skip_nested_of, step_with as step_with_of, step_without as step_without_of, stepped, synchronize as synchronize_of, take_unit_if as take_unit_if_of, with_call, with_event, with_item};
-ghost use Rattle.ppd_entry.specs.Pieces.{piece_of, unfinished};
+ghost use Rattle.ppd_emul_model.specs.Replay.{counted, finished, is_budget, past_piece, received as received_by, step_with as step_with_of, step_without as step_without_of, stepped, take_unit_if as take_unit_if_of, with_call, with_event, with_item};
+ghost use Rattle.ppd_entry.specs.Pieces.{nested as nested_piece, piece_of, unfinished};
 ghost use Rattle.ppd_model.specs.declared.flow.Item.TheVariants.{Nested};
+ghost use Rattle.ppd_model.specs.Story.{unit_started as unit_started_by};
 ghost use Rattle.ppd_sem.specs.Described.{is_event};
 ghost use Rattle.ppd_sem.specs.Entries.{Begins};
 ghost use Rattle.ppd_sem.specs.Process.{need_of};
@@ -102,7 +103,10 @@ fn synchronize<L: Ledger>(
     requires next { IsAtNeed code.now state.old need }
     requires event { is_event need ≡ true }
     ensures { IsTurn code.now state.old state.new steps.old steps.new result
-        (synchronize_of code.now.program.now code.now.plan.now need number value (replaying state.old)) }
+        (take_unit_if_of code.now.plan.now (unit_started_by need)
+        (past_piece (stepped code.now.program.now code.now.plan.now (received_by need value)
+        (with_event code.now.program.now code.now.plan.now (received_by need value) (Some number)
+        (replaying state.old))))) }
 {
     let answer = received(need, value);
     add_event(code, state, answer, Some(number))?;
@@ -159,8 +163,8 @@ fn skip_nested<L: Ledger>(
     requires next { IsAtNeed code.now state.old need }
     requires begins { Begins need }
     ensures { IsTurn code.now state.old state.new steps.old steps.new result
-        (skip_nested_of code.now.program.now code.now.plan.now need
-        nested.entry.0 nested.entry.1 nested.entry.2.now (replaying state.old)) }
+        (step_with_of code.now.program.now code.now.plan.now need
+        (nested_piece nested.entry.0 nested.entry.1 nested.entry.2.now) (replaying state.old)) }
 {
     let (interval, block, values) = nested;
     add_call(code, state, need)?;

@@ -1,5 +1,6 @@
-ghost use Rattle.std.specs.Prelude.{◌≡◌, is_some, IfOk};
-ghost use Rattle.ppd_emul_model.specs.Fits.{postlog_wanted, wanted_of as wanted_of_need};
+ghost use Rattle.std.specs.Prelude.{◌≡◌, is_some, option_map, IfOk};
+ghost use Rattle.ppd_emul_model.specs.declared.wanted.Wanted.TheVariants as WantedOf;
+ghost use Rattle.ppd_emul_model.specs.Fits.{wanted_of as wanted_of_need};
 ghost use Rattle.ppd_model.specs.Marks.{closed};
 ghost use Rattle.ppd_model.specs.Synchronizations.{kind_of_sync};
 ghost use Rattle.ppd_sem.specs.Runs.{IsRunnable, IsRunning};
@@ -20,7 +21,8 @@ fn postlog_of(
 ) -> Result<Option<Wanted>, Memory>
     requires program { IsRunnable program.now }
     requires proc { IsRunning program.now proc.now }
-    ensures { IfOk result (λ wanted. wanted ≡ postlog_wanted (closed program.now plan.now proc.now need)) }
+    ensures { IfOk result (λ wanted. wanted
+        ≡ option_map (λ m. WantedOf.Postlog m.values) (closed program.now plan.now proc.now need)) }
 {
     match closed_block(alloc, program, plan, proc, need)? {
         Some((_, values)) => Ok(Some(Wanted::Postlog(values))),

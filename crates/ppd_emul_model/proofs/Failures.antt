@@ -30,7 +30,8 @@ use Rattle.ppd_emul_model.specs.declared.wanted.Found.TheVariants as found
 use Rattle.ppd_emul_model.specs.declared.wanted.Wanted.{Wanted}
 use Rattle.ppd_emul_model.specs.declared.wanted.Wanted.TheVariants as wanted
 use Rattle.ppd_emul_model.specs.Fits.{found_of, wanted_of, same_trap, fits}
-use Rattle.ppd_emul_model.specs.Replay.{Replaying, Replayed, Turn, more, done, begun_replay, counted, end_here, fail, finished, go_on, goes_on, is_budget, next_piece, replay, replay_from, step_with, step_without, take_unit, take_unit_if, turn, turn_at_end, turn_at_trap, turn_by_end, turn_by_wanted, turn_within, unit_taken, with_event, with_call, with_item, with_write, past_piece, received, stepped}
+use Rattle.ppd_emul_model.specs.Replay.{Replaying, Replayed, Turn, more, done, begun_replay, counted, end_here, fail, finished, go_on, goes_on, is_budget, next_piece, replay, replay_from, step_with, step_without, take_unit, take_unit_if, turn, turn_at_end, turn_by_end, turn_by_wanted, unit_taken, with_event, with_call, with_item, with_write, past_piece, received, stepped}
+use Rattle.ppd_emul_model.proofs.Vocabulary.{turn_at_trap, turn_within}
 use Rattle.ppd_emul_model.specs.Laws.{as_found, FailuresDiffer, IsTrap}
 use Rattle.ppd_sem.specs.declared.proc.Answer.TheVariants.{Go}
 

@@ -1,3 +1,4 @@
 pub mod Turns
 pub mod Failures
 pub mod Ending
+pub mod Vocabulary

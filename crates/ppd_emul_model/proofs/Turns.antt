@@ -15,7 +15,8 @@ use Rattle.ppd_sem.specs.declared.proc.Proc.{Proc}
 use Rattle.ppd_sem.specs.declared.proc.Todo.{Todo}
 use Rattle.ppd_sem.specs.Blocks.{block_kind, block_unit, skipped, unit_past}
 use Rattle.ppd_sem.specs.Described.{trap_of}
-use Rattle.ppd_sem.specs.Process.{act, act_at, act_by_asked, act_by_need, charged, cost, head_deed, need_of}
+use Rattle.ppd_sem.specs.Process.{act, act_by_asked, act_by_need, charged, cost, head_deed, need_of}
+use Rattle.ppd_sem.proofs.NeedWords.{act_at}
 use Rattle.ppd_sem.proofs.Paid.{need-paid}
 use Rattle.ppd_sem.proofs.Progress.{SamePurse, asked_purse, need_at_status, need_at_todo}
 use Rattle.ppd_model.specs.declared.flow.Item.TheVariants as item
@@ -24,7 +25,9 @@ use Rattle.ppd_model.specs.Synchronizations.{kind_of_sync}
 use Rattle.ppd_emul_model.specs.declared.wanted.Wanted.{Wanted}
 use Rattle.ppd_emul_model.specs.declared.wanted.Wanted.TheVariants as wanted
 use Rattle.ppd_emul_model.specs.Fits.{found_of, wanted_of, same_trap, fits}
-use Rattle.ppd_emul_model.specs.Replay.{Replaying, Replayed, Turn, more, done, begun_replay, counted, end_here, fail, finished, go_on, goes_on, is_budget, next_piece, past_piece, received, replay, replay_from, skip_nested, step_with, step_without, stepped, synchronize, take_unit, take_unit_if, turn, turn_at_end, turn_at_trap, turn_by_end, turn_by_wanted, turn_within, unit_taken, value_in_force, with_call, with_event, with_event_of, with_item, with_write}
+use Rattle.ppd_emul_model.specs.Replay.{Replaying, Replayed, Turn, more, done, begun_replay, counted, end_here, fail, finished, go_on, goes_on, is_budget, next_piece, past_piece, received, replay, replay_from, step_with, step_without, stepped, take_unit, take_unit_if, turn, turn_at_end, turn_by_end, turn_by_wanted, unit_taken, value_in_force, with_call, with_event, with_item, with_write}
+use Rattle.ppd_emul_model.proofs.Vocabulary.{skip_nested, synchronize}
+use Rattle.ppd_emul_model.proofs.Vocabulary.{turn_at_trap, turn_within, with_event_of}
 use Rattle.ppd_emul_model.specs.Laws.{IsLast, IsOneStep, ReplaysAreWithinBudget, TakesOneStep, TurnsAreSteps, TurnsSuffice}
 
 module _ (program : Program) (plan : Plan) where

@@ -1,5 +1,5 @@
 -- What a replay needs of the next piece, and whether the piece is that.
-use Rattle.std.specs.Prelude.{ℕ, nat_eq, pos, Bool, true, false, ◌&&◌, Option, Some, None}
+use Rattle.std.specs.Prelude.{nat_eq, pos, Bool, true, false, ◌&&◌, Option, Some, option_map}
 use Rattle.std.specs.Cmp.Lexicographic.{pointwise}
 use Rattle.std.specs.Ordering.{int_eq}
 use Rattle.ppd_ast.specs.declared.plan.Plan.{Plan}
@@ -13,7 +13,7 @@ use Rattle.ppd_model.specs.Entries.{same_kind}
 use Rattle.ppd_sem.specs.declared.proc.Need.{Need}
 use Rattle.ppd_sem.specs.declared.proc.Need.TheVariants.{Enter, Invoke, P, V, Send, Offer, Done, Recv, Trap}
 use Rattle.ppd_sem.specs.declared.proc.Proc.{Proc}
-use Rattle.ppd_model.specs.Marks.{Mark, closed}
+use Rattle.ppd_model.specs.Marks.{closed}
 use Rattle.ppd_emul_model.specs.declared.wanted.Found.{Found}
 use Rattle.ppd_emul_model.specs.declared.wanted.Found.TheVariants as found
 use Rattle.ppd_emul_model.specs.declared.wanted.Wanted.{Wanted}
@@ -33,17 +33,8 @@ found_of (finish s rest) = found.End s
 
 -- ---- the piece that is needed
 
--- the postlog of the block that the step leaves, if it leaves one
-abbrev pub postlog_wanted : Option Mark → Option Wanted
-postlog_wanted None = None
-postlog_wanted (Some m) = Some (wanted.Postlog m.values)
-
--- the interval of the block that the step enters, if it enters one
-abbrev pub nested_wanted : Option ℕ → Option Wanted
-nested_wanted None = None
-nested_wanted (Some b) = Some (wanted.Nested b)
-
--- what a step of this need needs the next piece to be, if it needs one
+-- what a step of this need needs the next piece to be, if it needs one: of a block that it enters the interval, of a
+-- block that it leaves the postlog
 abbrev pub wanted_of : Program → Plan → Proc → Need → Option Wanted
 wanted_of program plan s (P o u) = Some (wanted.Sync sync_kind.P o (pos 0))
 wanted_of program plan s (V o u) = Some (wanted.Sync sync_kind.V o (pos 0))
@@ -51,10 +42,10 @@ wanted_of program plan s (Send o v u) = Some (wanted.Sync sync_kind.Send o v)
 wanted_of program plan s (Offer o v) = Some (wanted.Sync sync_kind.Send o v)
 wanted_of program plan s (Done o u) = Some (wanted.Sync sync_kind.Done o (pos 0))
 wanted_of program plan s (Recv o u) = Some (wanted.Sync sync_kind.Recv o (pos 0))
-wanted_of program plan s (Enter b u) = nested_wanted (Some b)
-wanted_of program plan s (Invoke b u) = nested_wanted b
+wanted_of program plan s (Enter b u) = Some (wanted.Nested b)
+wanted_of program plan s (Invoke b u) = option_map wanted.Nested b
 wanted_of program plan s (Trap t) = Some (wanted.End (status.Trap t))
-wanted_of program plan s need = postlog_wanted (closed program plan s need)
+wanted_of program plan s need = option_map (λ m. wanted.Postlog m.values) (closed program plan s need)
 
 -- ---- whether they are one
 

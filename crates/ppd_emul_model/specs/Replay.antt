@@ -1,10 +1,10 @@
 -- The replay of an interval: steps of a process state at its block, which take the pieces of its log in order.
 use Rattle.std.specs.Prelude.{ℕ, zero, suc, ◌+◌, nat_eq, ℤ, pos, Bool, true, false, List, [], ◌∷◌, ◌++◌, zip, drop, get_or, slice_get, Option, Some, None, is_some, unwrap_or, Result, Ok, Err, if◌then◌else◌}
+use Rattle.std.specs.Option.{option_map_or}
 use Rattle.ppd_ast.specs.declared.plan.Plan.{Plan}
 use Rattle.ppd_ast.specs.declared.program.Program.{Program}
 use Rattle.ppd_ast.specs.declared.status.Status.{Status}
 use Rattle.ppd_ast.specs.declared.status.Status.TheVariants as status
-use Rattle.ppd_ast.specs.declared.status.Trap.{Trap as TrapOf}
 use Rattle.ppd_model.specs.IntervalLogs.{IntervalLog}
 use Rattle.ppd_model.specs.Pieces.{Piece, unit, sync, nested, unfinished, finish}
 use Rattle.ppd_sem.specs.declared.proc.Answer.{Answer}
@@ -12,7 +12,6 @@ use Rattle.ppd_sem.specs.declared.proc.Answer.TheVariants.{Value, Go}
 use Rattle.ppd_sem.specs.declared.proc.Need.{Need}
 use Rattle.ppd_sem.specs.declared.proc.Need.TheVariants.{Read, Write, Invoke, Recv, Budget, Stopped}
 use Rattle.ppd_sem.specs.declared.proc.Proc.{Proc}
-use Rattle.ppd_sem.specs.declared.proc.Todo.{Todo}
 use Rattle.ppd_sem.specs.Blocks.{at_block, block_kind, block_unit, skipped, unit_past}
 use Rattle.ppd_sem.specs.Described.{described, trap_of}
 use Rattle.ppd_sem.specs.Process.{act, need_of}
@@ -102,15 +101,11 @@ stepped program plan a r = counted (record r { proc = act program plan r.proc a 
 abbrev pub with_item : Item → Replaying → Replaying
 with_item i r = record r { items = r.items ++ i ∷ [] }
 
--- the event of the next step is an item
-abbrev pub with_event_of : Program → Plan → Answer → Option ℕ → List Todo → Replaying → Replaying
-with_event_of program plan a number [] r = r
-with_event_of program plan a number (t ∷ ts) r =
-    with_item (item.Own (record (described program plan r.proc t a) { number = number })) r
-
--- the same, with the number of a synchronization
+-- the event of the next step is an item, with the number of a synchronization
 abbrev pub with_event : Program → Plan → Answer → Option ℕ → Replaying → Replaying
-with_event program plan a number r = with_event_of program plan a number r.proc.todo r
+with_event program plan a number r =
+    option_map_or (λ t. with_item (item.Own (record (described program plan r.proc t a) { number = number })) r)
+    (slice_get r.proc.todo 0) r
 
 -- an own write is in force
 abbrev pub with_write : Need → Replaying → Replaying
@@ -129,24 +124,18 @@ abbrev pub with_call : Program → Plan → Need → Replaying → Replaying
 with_call program plan (Invoke b u) r = with_event program plan Go None r
 with_call program plan need r = r
 
--- a synchronization, with its number and the value of its piece
-abbrev pub synchronize : Program → Plan → Need → ℕ → ℤ → Replaying → Turn
-synchronize program plan need number value r =
+-- a step whose piece is there: a synchronization, with its number and the value of its piece; a nested interval that
+-- was left, whose postlog is applied in its place, and the unit after it starts; an interval that was not left and the
+-- own postlog end the replay
+abbrev pub step_with : Program → Plan → Need → Piece → Replaying → Turn
+step_with program plan need (sync kind object number value) r =
     let a = received need value in
     take_unit_if plan (unit_started need)
     (past_piece (stepped program plan a (with_event program plan a (Some number) r)))
-
--- a nested interval that was left: its postlog is applied in its place, and the unit after it starts
-abbrev pub skip_nested : Program → Plan → Need → ℕ → ℕ → List ℤ → Replaying → Turn
-skip_nested program plan need k b values r =
+step_with program plan need (nested k b values) r =
     let after = with_item (item.Nested k b values true) (with_call program plan need r) in
     take_unit plan (unit_past plan r.proc.todo need)
     (past_piece (counted (record after { proc = skipped program plan values r.proc })))
-
--- a step whose piece is there: an interval that was not left and the own postlog end the replay
-abbrev pub step_with : Program → Plan → Need → Piece → Replaying → Turn
-step_with program plan need (sync kind object number value) r = synchronize program plan need number value r
-step_with program plan need (nested k b values) r = skip_nested program plan need k b values r
 step_with program plan need (unfinished k b) r =
     finished (counted (with_item (item.Nested k b [] false) (with_call program plan need r)))
 step_with program plan need piece r = finished (counted (with_event program plan Go None r))
@@ -173,29 +162,22 @@ turn_by_wanted program plan need (Some w) r =
 abbrev pub goes_on : Program → Plan → Need → Replaying → Turn
 goes_on program plan need r = fail r (unwrap_or (wanted_of program plan r.proc need) wanted.Fewer)
 
--- the process traps here, after its steps: its next step traps so
-abbrev pub turn_at_trap : Program → Plan → TrapOf → Option TrapOf → Need → Replaying → Turn
-turn_at_trap program plan t None need r = goes_on program plan need r
-turn_at_trap program plan t (Some t') need r =
-    if same_trap t t' then finished (counted (with_event program plan Go None r))
-    else fail r (wanted.End (status.Trap t'))
-
--- the process ends here, after its steps: it traps, or was blocked at a synchronization
+-- the process ends here, after its steps: it was blocked at a synchronization, or it traps, as its next step does
 abbrev pub turn_at_end : Program → Plan → Status → Need → Replaying → Turn
 turn_at_end program plan status.Blocked need r =
     if is_some (kind_of_sync need) then finished r else goes_on program plan need r
-turn_at_end program plan (status.Trap t) need r = turn_at_trap program plan t (trap_of need) need r
+turn_at_end program plan (status.Trap t) need r =
+    option_map_or
+    (λ t'.
+    if same_trap t t' then finished (counted (with_event program plan Go None r))
+    else fail r (wanted.End (status.Trap t')))
+    (trap_of need) (goes_on program plan need r)
 turn_at_end program plan s need r = goes_on program plan need r
 
 -- how the process ended, where the piece is its end and these steps are those before it
 abbrev pub end_here : ℕ → Piece → Option Status
 end_here since (finish s rest) = if nat_eq since rest then Some s else None
 end_here since piece = None
-
--- a turn that the budget allows
-abbrev pub turn_within : Program → Plan → Option Status → Need → Replaying → Turn
-turn_within program plan (Some s) need r = turn_at_end program plan s need r
-turn_within program plan None need r = turn_by_wanted program plan need (wanted_of program plan r.proc need) r
 
 -- the step costs more than is left
 abbrev pub is_budget : Need → Bool
@@ -206,7 +188,10 @@ is_budget need = false
 abbrev pub turn_by_end : Program → Plan → Option Status → Need → Replaying → Turn
 turn_by_end program plan (Some status.Budget) need r = finished r
 turn_by_end program plan how need r =
-    if is_budget need then fail r wanted.Fewer else turn_within program plan how need r
+    if is_budget need then fail r wanted.Fewer
+    else
+    option_map_or (λ s. turn_at_end program plan s need r) how
+    (turn_by_wanted program plan need (wanted_of program plan r.proc need) r)
 
 -- one turn takes one step, or ends the replay
 abbrev pub turn : Program → Plan → Replaying → Turn
@@ -219,14 +204,10 @@ abbrev pub go_on : Turn → (Replaying → Replayed) → Replayed
 go_on (more r) next = next r
 go_on (done x) next = x
 
--- a replay that is out of turns
-abbrev pub out_of_turns : Replaying → Replayed
-out_of_turns r =
-    record { steps = r.steps; answer = Err (Diverged (next_piece r).0 wanted.Fewer (found_of (next_piece r).1)) }
-
 -- so many turns at most; each that goes on costs at least 1, so one more than the budget are enough
 abbrev pub replay_from : Program → Plan → ℕ → Replaying → Replayed
-replay_from program plan zero r = out_of_turns r
+replay_from program plan zero r =
+    record { steps = r.steps; answer = Err (Diverged (next_piece r).0 wanted.Fewer (found_of (next_piece r).1)) }
 replay_from program plan (suc turns) r = go_on (turn program plan r) (replay_from program plan turns)
 
 -- before the first piece

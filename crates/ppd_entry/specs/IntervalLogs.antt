@@ -1,5 +1,5 @@
 -- The log of each interval of a process, from the process's entries.
-use Rattle.std.specs.Prelude.{ℕ, zero, suc, ◌+◌, ℤ, List, [], ◌∷◌, ◌++◌, drop, fold, length, get_or, slice_get, Option, Some, None, if◌then◌else◌}
+use Rattle.std.specs.Prelude.{ℕ, zero, suc, ◌+◌, ℤ, List, [], ◌∷◌, ◌++◌, drop, fold, length, get_or, slice_get, Option, if◌then◌else◌, option_map}
 use Rattle.ppd_sem.specs.Blocks.{block_kind, is_function}
 use Rattle.ppd_sem.specs.Plan.{Plan}
 use Rattle.ppd_entry.specs.declared.entry.Entry.{Entry}
@@ -29,22 +29,15 @@ pub record Indexing : Type 0 where
 
 -- ---- intervals
 
--- an interval that is not there
-abbrev pub no_interval : Indexed
-no_interval = record { first = 0; log = record { block = 0; values = []; depth = 0; pieces = [] } }
-
--- interval k
+-- interval k, and one of nothing where it is not there
 abbrev pub interval_at : List Indexed → ℕ → Indexed
-interval_at intervals k = get_or intervals k no_interval
+interval_at intervals k =
+    get_or intervals k (record { first = 0; log = record { block = 0; values = []; depth = 0; pieces = [] } })
 
--- an interval with one more piece, of the entry of this number
-abbrev pub with_piece : ℕ → Piece → Indexed → Indexed
-with_piece n piece i = record i { log = record i.log { pieces = i.log.pieces ++ (n, piece) ∷ [] } }
-
--- the same for interval k of these
+-- interval k of these with one more piece, of the entry of this number
 abbrev pub add_piece_at : ℕ → Piece → ℕ → List Indexed → List Indexed
 add_piece_at n piece k [] = []
-add_piece_at n piece zero (i ∷ is) = with_piece n piece i ∷ is
+add_piece_at n piece zero (i ∷ is) = record i { log = record i.log { pieces = i.log.pieces ++ (n, piece) ∷ [] } } ∷ is
 add_piece_at n piece (suc k) (i ∷ is) = i ∷ add_piece_at n piece k is
 
 -- the same for the first of the running intervals, if one runs
@@ -114,11 +107,6 @@ begun_indexing = record { intervals = []; running = []; entry = 0 }
 abbrev pub indexed : Plan → List Entry → List Indexed
 indexed plan entries = (fold (index_step plan) begun_indexing entries).intervals
 
--- the log of the interval, if it is there
-abbrev pub log_in : Option Indexed → Option IntervalLog
-log_in None = None
-log_in (Some i) = Some i.log
-
 -- the log of interval k
 abbrev pub interval_log : Plan → List Entry → ℕ → Option IntervalLog
-interval_log plan entries k = log_in (slice_get (indexed plan entries) k)
+interval_log plan entries k = option_map (λ i. i.log) (slice_get (indexed plan entries) k)

@@ -12,8 +12,10 @@ use Rattle.ppd_model.specs.declared.flow.FlowEdge.{FlowEdge}
 use Rattle.ppd_model.specs.declared.flow.Origin.{Origin}
 use Rattle.ppd_model.specs.declared.tracing.Story.{Story}
 use Rattle.ppd_model.specs.FlowbackEdges.{edges, last}
-use Rattle.ppd_model.specs.Intervals.{Split, split_of, splits, splits_from}
-use Rattle.ppd_model.specs.Logs.{closed_log, closed_logs, logs_from}
+use Rattle.ppd_model.specs.Intervals.{Split, split_of, splits}
+use Rattle.ppd_model.proofs.IntervalWords.{splits_from}
+use Rattle.ppd_model.specs.Logs.{closed_log, closed_logs}
+use Rattle.ppd_model.proofs.LogWords.{logs_from}
 use Rattle.ppd_model.specs.Races.{races}
 use Rattle.ppd_model.specs.Schedule.{IsWhole}
 use Rattle.ppd_model.specs.Story.{Moment, steps_of, story, told}

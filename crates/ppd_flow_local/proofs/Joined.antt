@@ -6,7 +6,7 @@ use Rattle.ppd_flow_tables.specs.FlowError.TheVariants.{Diverged, NoEvent, Sets,
 use Rattle.ppd_flow_tables.specs.ByReplays.{IsFoundBy}
 use Rattle.ppd_flow_tables.proofs.Found.{found_err, found_none, found_then}
 use Rattle.ppd_model.specs.declared.flow.Origin.{Origin}
-use Rattle.ppd_model.specs.FullTrace.{or_else}
+use Rattle.std.specs.Option.{option_or}
 use Rattle.ppd_flow_model.specs.Seen.{unless}
 use Rattle.ppd_flow_model.specs.Shared.{of_process}
 use Rattle.ppd_flow_local.specs.declared.search.Search.{Search}
@@ -68,14 +68,14 @@ module _ (s : Search) where
       subst (λ z. IsFound s (ms ++ unless z ns) (unwrap_or z y) n k r) (sym (none_is ms o n m f)) (joined ms ns o None y n m k r f g)
 
   pub else_either : (ms ns : List ℕ) (o y : Option Origin) (n m k : ℕ) (r : Result (Option Origin) FlowError)
-      → IsFound s ms o n m (Ok None) → IsFound s ns y m k r → IsFound s (ms ++ unless o ns) (or_else o y) n k r
+      → IsFound s ms o n m (Ok None) → IsFound s ns y m k r → IsFound s (ms ++ unless o ns) (option_or o y) n k r
   else_either ms ns o y n m k r f g =
-      subst (λ z. IsFound s (ms ++ unless z ns) (or_else z y) n k r) (sym (none_is ms o n m f)) (joined ms ns o None y n m k r f g)
+      subst (λ z. IsFound s (ms ++ unless z ns) (option_or z y) n k r) (sym (none_is ms o n m f)) (joined ms ns o None y n m k r f g)
 
   pub some_either : (ms ns : List ℕ) (o y : Option Origin) (x : Origin) (n m : ℕ) → IsFound s ms o n m (Ok (Some x))
-      → IsFound s (ms ++ unless o ns) (or_else o y) n m (Ok (Some x))
+      → IsFound s (ms ++ unless o ns) (option_or o y) n m (Ok (Some x))
   some_either ms ns o y x n m f =
-      subst (λ z. IsFound s (ms ++ unless z ns) (or_else z y) n m (Ok (Some x))) (sym (is_given ms o (Some x) n m f))
+      subst (λ z. IsFound s (ms ++ unless z ns) (option_or z y) n m (Ok (Some x))) (sym (is_given ms o (Some x) n m f))
       (joined ms [] o (Some x) (Some x) n m m (Ok (Some x)) f (nothing (Some x) (Some x) m refl))
 
   -- where the origin is known without replays

@@ -4,7 +4,7 @@ use Rattle.std.specs.Prelude.{unwrap_or}
 use Rattle.ppd_ast.specs.declared.plan.BlockKind.TheVariants as block
 use Rattle.ppd_model.specs.declared.flow.Item.{Item}
 use Rattle.ppd_model.specs.declared.flow.Origin.{Origin}
-use Rattle.ppd_model.specs.FullTrace.{or_else}
+use Rattle.std.specs.Option.{option_or}
 use Rattle.ppd_flow_tables.specs.FlowError.{FlowError}
 use Rattle.ppd_flow_model.specs.Control.{call_or_entry, call_replays, control_above, control_above_replays, control_in}
 use Rattle.ppd_flow_model.specs.Locals.{Scan, in_loops, local_in, local_in_replays, local_outside, loop_replays, outer_frame, outside_replays, scan, writer_at, writer_replays}
@@ -20,15 +20,15 @@ module _ (s : Search) where
   pub by_scan : (k j frame c : ℕ) (items : List Item) (st : Scan) (n o : ℕ) (r : Result (Option Origin) FlowError)
       → items ≡ items_at (seen s) k → st ≡ scan (program_in s) (plan_in s) frame c (take j items)
       → IsFound s (loop_replays (program_in s) (plan_in s) (seen s) s.process c st.loops ++ unless (in_loops (program_in s) (plan_in s) (seen s) s.process c st.loops) (writer_replays st.writer))
-      (or_else (in_loops (program_in s) (plan_in s) (seen s) s.process c st.loops) (writer_at (seen s) s.process k st.writer)) n o r
+      (option_or (in_loops (program_in s) (plan_in s) (seen s) s.process c st.loops) (writer_at (seen s) s.process k st.writer)) n o r
       → IsFound s (local_in_replays (program_in s) (plan_in s) (seen s) s.process k j frame c) (local_in (program_in s) (plan_in s) (seen s) s.process k j frame c) n o r
   by_scan k j frame c items st n o r i e f =
       subst (λ (z : List Item). IsFound s
       (loop_replays (program_in s) (plan_in s) (seen s) s.process c (scan (program_in s) (plan_in s) frame c (take j z)).loops ++ unless (in_loops (program_in s) (plan_in s) (seen s) s.process c (scan (program_in s) (plan_in s) frame c (take j z)).loops) (writer_replays (scan (program_in s) (plan_in s) frame c (take j z)).writer))
-      (or_else (in_loops (program_in s) (plan_in s) (seen s) s.process c (scan (program_in s) (plan_in s) frame c (take j z)).loops) (writer_at (seen s) s.process k (scan (program_in s) (plan_in s) frame c (take j z)).writer)) n o r) i
+      (option_or (in_loops (program_in s) (plan_in s) (seen s) s.process c (scan (program_in s) (plan_in s) frame c (take j z)).loops) (writer_at (seen s) s.process k (scan (program_in s) (plan_in s) frame c (take j z)).writer)) n o r) i
       (subst (λ (z : Scan). IsFound s
       (loop_replays (program_in s) (plan_in s) (seen s) s.process c z.loops ++ unless (in_loops (program_in s) (plan_in s) (seen s) s.process c z.loops) (writer_replays z.writer))
-      (or_else (in_loops (program_in s) (plan_in s) (seen s) s.process c z.loops) (writer_at (seen s) s.process k z.writer)) n o r) e f)
+      (option_or (in_loops (program_in s) (plan_in s) (seen s) s.process c z.loops) (writer_at (seen s) s.process k z.writer)) n o r) e f)
 
   -- the same by what is known of the scan
   pub by_last : (k j frame c : ℕ) (items : List Item) (st : Scan) (loops : List ℕ) (writer : Writer) (n o : ℕ)

@@ -1,11 +1,11 @@
 -- What the searches within one process answer.
-use Rattle.std.specs.Prelude.{◌≡◌, ℕ, ◌+◌, ◌<◌, ◌≤◌, ◌++◌, ℤ, List, length, Option, Result, Ok, Some}
+use Rattle.std.specs.Prelude.{◌≡◌, ℕ, ◌+◌, ◌<◌, ◌≤◌, ◌++◌, ℤ, List, length, Option, Result, Ok}
 use Rattle.ppd_ast.specs.declared.plan.Plan.{Plan}
 use Rattle.ppd_ast.specs.declared.program.Program.{Program}
 use Rattle.ppd_sem.specs.declared.event.Spot.TheVariants.{Local}
 use Rattle.ppd_model.specs.declared.flow.FlowEdge.{FlowEdge}
 use Rattle.ppd_model.specs.declared.flow.Origin.{Origin}
-use Rattle.ppd_model.specs.FullTrace.{or_else}
+use Rattle.std.specs.Option.{option_or}
 use Rattle.ppd_flow_model.specs.declared.writer.Writer.{Writer}
 use Rattle.ppd_flow_model.specs.Control.{control_origin, control_replays}
 use Rattle.ppd_flow_model.specs.Locals.{in_loops, local_origin, local_replays, loop_replays, writer_at, writer_replays}
@@ -53,7 +53,7 @@ pub record IsItemPlace (s : Search) (place : Place) : Type 0 where
 -- the last write in one of these loops, else that of this writer among the items of interval k, if there is one
 abbrev pub written_in : Search → (k c : ℕ) → List ℕ → Writer → Option Origin
 written_in s k c loops w =
-    or_else (in_loops (program_in s) (plan_in s) (seen s) s.process c loops) (writer_at (seen s) s.process k w)
+    option_or (in_loops (program_in s) (plan_in s) (seen s) s.process c loops) (writer_at (seen s) s.process k w)
 
 abbrev pub written_replays : Search → ℕ → List ℕ → Writer → List ℕ
 written_replays s c loops w =

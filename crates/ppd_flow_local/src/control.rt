@@ -2,7 +2,7 @@ ghost use Rattle.std.specs.Prelude.{◌≡◌, [], IfOk, slice_get, take};
 ghost use Rattle.ppd_ast.specs.declared.plan.BlockKind.TheVariants as block;
 ghost use Rattle.ppd_ast.specs.Lookups.{kind_of, parent_if};
 ghost use Rattle.ppd_flow_local.specs.Searches.{IsControlFound, IsFound, IsPlace, IsSearch, plan_in, program_in, seen};
-ghost use Rattle.ppd_model.specs.FullTrace.{or_else};
+ghost use Rattle.std.specs.Option.{option_or};
 ghost use Rattle.ppd_flow_model.specs.Control.{call_or_entry as call_or_entry_of, call_replays, control_above as control_above_of, control_above_replays, control_in as control_in_of, last_test as last_test_among, leaf_call_at, test_of_run as test_of_run_by, test_round as test_round_by};
 ghost use Rattle.ppd_flow_model.specs.Seen.{kind_at};
 
@@ -16,7 +16,7 @@ use ppd_model::Origin;
 use std::sync::ledger::Ledger;
 
 fn first_of(first: Option<Origin>, second: Option<Origin>) -> Option<Origin>
-    ensures { result ≡ or_else first second }
+    ensures { result ≡ option_or first second }
 {
     match first {
         Some(_) => first,

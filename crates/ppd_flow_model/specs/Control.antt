@@ -13,7 +13,8 @@ use Rattle.ppd_model.specs.declared.flow.Item.{Item}
 use Rattle.ppd_model.specs.declared.flow.Item.TheVariants as item
 use Rattle.ppd_model.specs.declared.flow.Origin.{Origin}
 use Rattle.ppd_model.specs.declared.flow.Origin.TheVariants as origin
-use Rattle.ppd_model.specs.FullTrace.{is_passed, or_else}
+use Rattle.ppd_model.specs.FullTrace.{is_passed}
+use Rattle.std.specs.Option.{option_or}
 use Rattle.ppd_flow_model.specs.declared.last_test.LastTest.{LastTest}
 use Rattle.ppd_flow_model.specs.declared.leaf_call.LeafCall.{LeafCall}
 use Rattle.ppd_flow_model.specs.Locals.{begins_leaf, frame_in, leaf_at}
@@ -67,8 +68,8 @@ leaf_call_at p k leaf = option_map (λ call. origin.Item p k call.item) leaf
 -- the parent of statement s after these items of interval k
 abbrev pub control_among : Program → Plan → ℕ → ℕ → ℕ → List Item → Option LeafCall → Option Origin
 control_among program plan p k s items leaf =
-    or_else (test_of_run p k (kind_of program s) (last_test program plan (frame_in leaf) s items))
-    (or_else (test_round program plan p k (frame_in leaf) items (parent_if (slice_get program.stmts s)))
+    option_or (test_of_run p k (kind_of program s) (last_test program plan (frame_in leaf) s items))
+    (option_or (test_round program plan p k (frame_in leaf) items (parent_if (slice_get program.stmts s)))
     (leaf_call_at p k leaf))
 
 -- the parent of statement s in interval k before place j

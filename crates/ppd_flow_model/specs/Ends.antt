@@ -1,5 +1,6 @@
 -- The internal edge in which an item lies, and the place at which an internal edge ends, by the process's entries.
 use Rattle.std.specs.Prelude.{ℕ, zero, suc, ◌+◌, ◌-◌, nat_eq, nat_le, nat_lt, Bool, true, false, ◌&&◌, List, [], ◌∷◌, length, take, slice_get, sum_by, filter_map, unwrap_or, Option, Some, None, is_some, if◌then◌else◌}
+use Rattle.std.specs.Option.{option_map_or}
 use Rattle.ppd_graph.specs.Entry.{Entry}
 use Rattle.ppd_graph.specs.Entry.TheVariants as entry
 use Rattle.ppd_model.specs.declared.flow.Item.{Item}
@@ -14,11 +15,6 @@ use Rattle.ppd_flow_model.specs.Seen.{Seen, items_at}
 abbrev pub syncs_before : List Entry → ℕ → ℕ
 syncs_before entries n = length (filter_map sync_in (take n entries))
 
--- the edge in which an interval begins: that of its prelog
-abbrev pub begins_in : List Entry → Option Extent → ℕ
-begins_in entries None = 0
-begins_in entries (Some x) = syncs_before entries x.prelog
-
 -- how many synchronizations an interval has, with those of the intervals inside it
 abbrev pub syncs_inside : List Entry → Option Extent → ℕ
 syncs_inside entries None = 0
@@ -29,19 +25,15 @@ abbrev pub syncs_of_item : List Entry → Item → ℕ
 syncs_of_item entries (item.Own e) = if is_some e.number then 1 else 0
 syncs_of_item entries (item.Nested m b values closed) = syncs_inside entries (slice_get (extents entries) m)
 
--- the edge in which interval k begins
+-- the edge in which interval k begins: that of its prelog
 abbrev pub first_edge : List Entry → ℕ → ℕ
-first_edge entries k = begins_in entries (slice_get (extents entries) k)
+first_edge entries k = option_map_or (λ x. syncs_before entries x.prelog) (slice_get (extents entries) k) 0
 
 -- the internal edge in which place j of interval k lies: how many synchronizations the process did before it
 abbrev pub edge_at : List Entry → Seen → ℕ → ℕ → ℕ
 edge_at entries x k j = first_edge entries k + sum_by (syncs_of_item entries) (take j (items_at x k))
 
 -- ---- the end of an edge
-
-abbrev pub is_sync : Entry → Bool
-is_sync (entry.Sync kind object number value reads writes) = true
-is_sync e = false
 
 -- a synchronization ends an edge, and the end of the process its last one
 abbrev pub ends_edge : Entry → Bool
@@ -53,16 +45,14 @@ ends_edge e = false
 abbrev pub ending : ℕ → List Entry → ℕ
 ending i [] = 0
 ending zero (e ∷ es) = if ends_edge e then 0 else suc (ending zero es)
-ending (suc i) (e ∷ es) = if is_sync e then suc (ending i es) else suc (ending (suc i) es)
+ending (suc i) (e ∷ es) = if is_some (sync_in e) then suc (ending i es) else suc (ending (suc i) es)
 
--- entry n stands in the interval: after its prelog and not after its postlog, or the end inside it
-abbrev pub is_in_extent : ℕ → Extent → Bool
-is_in_extent n x = nat_lt x.prelog n && nat_le n (unwrap_or x.last 0)
-
--- the last of these intervals, which are numbered from k on, that entry n stands in, and m where there is none
+-- the last of these intervals, which are numbered from k on, in which entry n stands, and m where there is none: it
+-- stands after the prelog and not after the postlog, or the end inside it
 abbrev pub innermost_from : ℕ → ℕ → ℕ → List Extent → ℕ
 innermost_from n m k [] = m
-innermost_from n m k (x ∷ xs) = innermost_from n (if is_in_extent n x then k else m) (k + 1) xs
+innermost_from n m k (x ∷ xs) =
+    innermost_from n (if nat_lt x.prelog n && nat_le n (unwrap_or x.last 0) then k else m) (k + 1) xs
 
 -- the innermost interval at entry n, and interval 0 where the entry stands in none
 abbrev pub innermost_at : List Entry → ℕ → ℕ

@@ -20,7 +20,7 @@ use Rattle.ppd_model.specs.declared.flow.Item.{Item}
 use Rattle.ppd_model.specs.declared.flow.Item.TheVariants as item
 use Rattle.ppd_model.specs.declared.flow.Origin.{Origin}
 use Rattle.ppd_model.specs.declared.flow.Origin.TheVariants as origin
-use Rattle.ppd_model.specs.FullTrace.{or_else}
+use Rattle.std.specs.Option.{option_or}
 use Rattle.ppd_model.specs.NearIntervals.{is_in}
 use Rattle.ppd_model.specs.Synchronizations.{is_number}
 use Rattle.ppd_flow_model.specs.declared.leaf_call.LeafCall.{LeafCall}
@@ -139,13 +139,13 @@ writer_at x p m (Of k) = Some (last_item x p k)
 abbrev pub in_loops : Program → Plan → Seen → ℕ → ℕ → List ℕ → Option Origin
 in_loops program plan x p c [] = None
 in_loops program plan x p c (m ∷ ms) =
-    or_else (writer_at x p m (scan program plan 0 c (items_at x m)).writer) (in_loops program plan x p c ms)
+    option_or (writer_at x p m (scan program plan 0 c (items_at x m)).writer) (in_loops program plan x p c ms)
 
 -- the last write in interval k before place j
 abbrev pub local_in : Program → Plan → Seen → ℕ → ℕ → ℕ → ℕ → ℕ → Option Origin
 local_in program plan x p k j frame c =
     let s = scan program plan frame c (take j (items_at x k)) in
-    or_else (in_loops program plan x p c s.loops) (writer_at x p k s.writer)
+    option_or (in_loops program plan x p c s.loops) (writer_at x p k s.writer)
 
 -- ---- outside it
 

@@ -10,7 +10,8 @@ use Rattle.ppd_emul.specs.Found.{Found}
 use Rattle.ppd_emul.specs.Wanted.{Wanted}
 use Rattle.ppd_emul.specs.Replay.{Replayed, replay}
 use Rattle.ppd_entry.specs.declared.entry.Entry.{Entry}
-use Rattle.ppd_entry.specs.IntervalLogs.{Indexed, IntervalLog, indexed, interval_log, log_in}
+use Rattle.ppd_entry.specs.IntervalLogs.{Indexed, IntervalLog, indexed, interval_log}
+use Rattle.ppd_entry.proofs.Vocabulary.{log_in}
 use Rattle.ppd_entry.specs.Entries.{entries_at}
 use Rattle.ppd_emul.specs.Row.{Row}
 use Rattle.ppd_emul.specs.Indexes.{AreIntervals, IsIndexOf, rows_at}
@@ -19,8 +20,9 @@ use Rattle.ppd_model.specs.Bounds.{AreEach}
 use Rattle.ppd_model.specs.declared.flow.Item.{Item}
 use Rattle.ppd_flow_past.specs.declared.past.Past.{Past}
 use Rattle.ppd_flow_past.specs.ByReplays.{AreReplayed}
-use Rattle.ppd_flow_past.specs.SeenBy.{failed_in, failure_by, failure_of, items_by, items_in, seen_in, steps_in, steps_of}
+use Rattle.ppd_flow_past.specs.SeenBy.{failed_in, failure_by, items_by, items_in, seen_in, steps_in, steps_of}
 use Rattle.ppd_emul.specs.Laws.{replay_of}
+use Rattle.ppd_flow_past.proofs.SeenWords.{failure_of}
 
 found_at : (f : IntervalLog → List Item) (is : List Indexed) (k : ℕ) (log : IntervalLog)
     → log_in (slice_get is k) ≡ Some log

@@ -1,4 +1,5 @@
 pub use Rattle.ppd_emul.proofs.Replays
+pub mod SeenWords
 pub mod Lists
 pub mod Rounds
 pub mod Runs

@@ -5,10 +5,12 @@ use Rattle.std.proofs.lemmas.List.{get_or_append_left, get_or_at, length-append,
 use Rattle.std.proofs.lemmas.Option.{none-some, same_Some, slice_get_past, unwrap_or-slice_get}
 use Rattle.ppd_entry.specs.declared.entry.Entry.{Entry}
 use Rattle.ppd_entry.specs.declared.entry.Entry.TheVariants as entry
-use Rattle.ppd_model.specs.Extents.{Extending, Extent, begun_extents, ended_by, extend, extents, first_of, left_by}
+use Rattle.ppd_model.specs.Extents.{Extending, Extent, extend, extents, first_of}
+use Rattle.ppd_model.proofs.ExtentWords.{begun_extents, ended_by, left_by}
 use Rattle.ppd_model.specs.World.{change}
 use Rattle.ppd_model.proofs.Items.{rest_below, AreBelow}
-use Rattle.ppd_flow_past.specs.SeenBy.{round_by, rounds_by}
+use Rattle.ppd_flow_past.specs.SeenBy.{rounds_by}
+use Rattle.ppd_flow_past.proofs.SeenWords.{round_by}
 
 abbrev pub Rounds : Type 0
 Rounds = List (List ℕ)

@@ -11,18 +11,21 @@ use Rattle.ppd_sem.specs.declared.proc.Need.TheVariants as n
 use Rattle.ppd_sem.specs.Described.{frame_of, is_event}
 use Rattle.ppd_ast.specs.declared.plan.BlockKind.TheVariants as block
 use Rattle.ppd_sem.specs.Process.{started}
-use Rattle.ppd_sem.specs.Tables.{block_of, or_zero}
+use Rattle.ppd_sem.specs.Tables.{block_of}
+use Rattle.ppd_sem.proofs.TableWords.{or_zero}
 use Rattle.ppd_model.specs.declared.trace.EventId.{EventId}
 use Rattle.ppd_model.specs.declared.tracing.Story.{Story}
 use Rattle.ppd_model.specs.declared.tracing.Taken.{Taken}
 use Rattle.ppd_model.specs.Extents.{first_of}
 use Rattle.ppd_model.specs.FullTrace.{Tag, begun_tracing, me_in, top_tags}
-use Rattle.ppd_model.specs.Intervals.{own, Span, Split, begin_if, begin_span, begun_split, change_first, control_by, end_if, innermost, left_by, split_of, split_step, with_own, with_part, with_step}
+use Rattle.ppd_model.specs.Intervals.{own, Span, Split, begin_span, begun_split, change_first, control_by, innermost, left_by, split_of, split_step, with_own, with_part, with_step}
+use Rattle.ppd_model.proofs.IntervalWords.{begin_if, end_if}
 use Rattle.ppd_model.specs.Marks.{Mark, closed, opened}
 use Rattle.ppd_model.specs.World.{change}
 use Rattle.ppd_model.proofs.CountedOn.{kept_at, last_at}
-use Rattle.ppd_flow_past.specs.SeenBy.{round_by, rounds_by}
+use Rattle.ppd_flow_past.specs.SeenBy.{rounds_by}
 use Rattle.ppd_flow_past.proofs.Parents.{Rounds}
+use Rattle.ppd_flow_past.proofs.SeenWords.{round_by}
 
 abbrev rounds_in : List Span → Rounds
 rounds_in spans = map (λ (i : Span). i.round) spans

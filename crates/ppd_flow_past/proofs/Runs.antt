@@ -9,14 +9,17 @@ use Rattle.ppd_ast.specs.declared.program.Program.{Program}
 use Rattle.ppd_blocks.specs.Blocks.{plan_of}
 use Rattle.ppd_emul.specs.Replay.{Replayed, replay}
 use Rattle.ppd_entry.specs.declared.entry.Entry.{Entry}
-use Rattle.ppd_entry.specs.IntervalLogs.{Indexed, indexed, log_in}
+use Rattle.ppd_entry.specs.IntervalLogs.{Indexed, indexed}
+use Rattle.ppd_entry.proofs.Vocabulary.{log_in}
 use Rattle.ppd_model.specs.declared.flow.Item.{Item}
 use Rattle.ppd_model.specs.declared.state.Logging.{Logging}
 use Rattle.ppd_model.specs.declared.tracing.Story.{Story}
 use Rattle.ppd_model.specs.Bounds.{AreEach}
 use Rattle.ppd_model.specs.Extents.{Extent, IsSameInterval, extents, first_of}
-use Rattle.ppd_model.specs.Intervals.{Span, Split, items_of, split_of, splits, splits_from}
-use Rattle.ppd_model.specs.Logs.{closed_log, closed_logs, logs_from}
+use Rattle.ppd_model.specs.Intervals.{Span, Split, items_of, split_of, splits}
+use Rattle.ppd_model.proofs.IntervalWords.{splits_from}
+use Rattle.ppd_model.specs.Logs.{closed_log, closed_logs}
+use Rattle.ppd_model.proofs.LogWords.{logs_from}
 use Rattle.ppd_model.specs.Races.{races}
 use Rattle.ppd_model.specs.Schedule.{IsWhole}
 use Rattle.ppd_model.specs.Story.{Moment, own_steps, steps_of as steps_of_moments, story, told}
@@ -24,7 +27,7 @@ use Rattle.ppd_model.proofs.Items.{split_found}
 use Rattle.ppd_model.proofs.LoggedSpans.{intervals_of_logs}
 use Rattle.ppd_model.proofs.OneHistory.{map-map}
 use Rattle.ppd_flow_past.specs.Honest.{IsSeen, ReplaysAreSeen}
-use Rattle.ppd_flow_past.specs.SeenBy.{failure_of, items_by, rounds_by, steps_of}
+use Rattle.ppd_flow_past.specs.SeenBy.{items_by, rounds_by, steps_of}
 use Rattle.ppd_flow_past.proofs.Lists.{same_lists}
 use Rattle.ppd_flow_past.proofs.Rounds.{rounds_of_split}
 use Rattle.ppd_emul.specs.Laws.{modelled_in, modelled_of, replay_of}
@@ -32,6 +35,7 @@ use Rattle.ppd_emul.proofs.Replays.{replays_give_intervals}
 use Rattle.ppd_emul.proofs.Emulated.{replayed}
 use Rattle.ppd_flow_model.specs.Seen.{Seen}
 use Rattle.ppd_flow_model.specs.Spans.{steps_of_span}
+use Rattle.ppd_flow_past.proofs.SeenWords.{failure_of}
 
 -- ---- items
 

@@ -1,5 +1,6 @@
 -- What replays of a process's intervals give, of any logs.
-use Rattle.std.specs.Prelude.{ℕ, List, [], ◌∷◌, ◌++◌, fold, get_or, map, Option, Some, None, Result, Ok, Err}
+use Rattle.std.specs.Prelude.{ℕ, List, [], ◌∷◌, ◌++◌, fold, get_or, map, option_and_then, Option, Some, None, Result, Ok, Err}
+use Rattle.std.specs.Option.{option_map_or}
 use Rattle.ppd_ast.specs.declared.plan.Plan.{Plan}
 use Rattle.ppd_ast.specs.declared.program.Program.{Program}
 use Rattle.ppd_emul.specs.BlockTrace.{BlockTrace}
@@ -28,36 +29,25 @@ failure_by (Ok trace) = None
 failure_by (Err (Diverged n w f)) = Some n
 failure_by (Err Memory) = None
 
-abbrev pub failure_of : Option Replayed → Option ℕ
-failure_of None = None
-failure_of (Some r) = failure_by r.answer
-
 abbrev pub steps_of : Option Replayed → ℕ
 steps_of None = 0
 steps_of (Some r) = r.steps
 
--- the replay of interval k of these entries, if it is there
-abbrev pub replay_in : Program → Plan → ℕ → List Entry → ℕ → Option Replayed
-replay_in program plan budget entries k = replay_of program plan budget (interval_log plan entries k)
-
--- the entry at which the replay of interval k fails
+-- the entry at which the replay of interval k of these entries fails, if it is there
 abbrev pub failed_at : Program → Plan → ℕ → List Entry → ℕ → Option ℕ
-failed_at program plan budget entries k = failure_of (replay_in program plan budget entries k)
+failed_at program plan budget entries k =
+    option_and_then (λ r. failure_by r.answer) (replay_of program plan budget (interval_log plan entries k))
 
 -- the steps that the replay of interval k takes
 abbrev pub own_steps_of : Program → Plan → ℕ → List Entry → ℕ → ℕ
-own_steps_of program plan budget entries k = steps_of (replay_in program plan budget entries k)
+own_steps_of program plan budget entries k = steps_of (replay_of program plan budget (interval_log plan entries k))
 
 -- ---- all of a process
 
--- the intervals round one, the innermost first, from the one directly round it and from those round each before
-abbrev pub round_by : List (List ℕ) → Option ℕ → List ℕ
-round_by rounds None = []
-round_by rounds (Some k) = k ∷ get_or rounds k []
-
--- the intervals round each
+-- the intervals round each, the innermost first: from the one directly round it, and from those round each before
 abbrev pub rounds_by : List (Option ℕ) → List (List ℕ)
-rounds_by parents = fold (λ rounds parent. rounds ++ round_by rounds parent ∷ []) [] parents
+rounds_by parents =
+    fold (λ rounds parent. rounds ++ option_map_or (λ k. k ∷ get_or rounds k []) parent [] ∷ []) [] parents
 
 -- the items of each interval by its replay, its block, and the intervals round it
 abbrev pub seen_by : Program → Plan → ℕ → List Entry → Seen

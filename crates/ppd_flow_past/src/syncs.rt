@@ -1,6 +1,6 @@
-ghost use Rattle.std.specs.Prelude.{◌≡◌, ◌-◌, count_by, drop, filter_map, length, take};
+ghost use Rattle.std.specs.Prelude.{◌≡◌, ◌-◌, count_by, drop, filter_map, is_some, length, take};
 ghost use Rattle.ppd_entry.specs.Entries.{entries_at};
-ghost use Rattle.ppd_flow_model.specs.Ends.{is_sync as is_sync_entry, syncs_before as syncs_before_in};
+ghost use Rattle.ppd_flow_model.specs.Ends.{syncs_before as syncs_before_in};
 ghost use Rattle.ppd_model.specs.RecordedSets.{sync_in};
 
 use ppd_entry::{Entry, Logs};
@@ -16,13 +16,13 @@ pub fn entries_of(logs: &Logs, process: u8) -> &[Entry]
 }
 
 pub(crate) fn is_sync(entry: &Entry) -> bool
-    ensures { result ≡ is_sync_entry entry.now }
+    ensures { result ≡ is_some (sync_in entry.now) }
 {
     matches!(entry, Entry::Sync { .. })
 }
 
 fn count_syncs(entries: &[Entry]) -> usize
-    ensures { result ≡ count_by is_sync_entry entries.now }
+    ensures { result ≡ count_by (λ e. is_some (sync_in e)) entries.now }
 {
     let mut count = 0;
     for entry in entries {

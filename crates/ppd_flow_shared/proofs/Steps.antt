@@ -1,6 +1,7 @@
 -- The steps of a walk, by what the replays on its way answer.
 use Rattle.std.proofs.Common.{◌≡◌, ℕ, suc, ◌+◌, ◌-◌, ◌<◌, true, false, List, [], ◌∷◌, ◌++◌, Some, None, Result, Ok, Err, ap, sym, subst, ◌∙◌, arith, length, take}
-use Rattle.std.specs.Prelude.{slice_get}
+use Rattle.std.specs.Prelude.{get_or, slice_get}
+use Rattle.std.specs.Option.{option_map_or}
 use Rattle.std.proofs.lemmas.List.{take_all}
 use Rattle.ppd_entry.specs.Entries.{entries_at}
 use Rattle.ppd_model.specs.declared.flow.Item.{Item}
@@ -8,7 +9,7 @@ use Rattle.ppd_model.specs.Extents.{first_of}
 use Rattle.ppd_flow_tables.specs.FlowError.{FlowError}
 use Rattle.ppd_flow_tables.specs.Past.{Past}
 use Rattle.ppd_flow_tables.specs.ByReplays.{IsFoundBy}
-use Rattle.ppd_flow_tables.specs.SeenBy.{items_in, round_by, seen_in}
+use Rattle.ppd_flow_tables.specs.SeenBy.{items_in, seen_in}
 use Rattle.ppd_flow_tables.proofs.Found.{found_err, found_none, found_then}
 use Rattle.ppd_flow_tables.specs.Stops.{ArePassed}
 use Rattle.ppd_flow_tables.proofs.Parents.{round_goes_on, round_is_before}
@@ -154,10 +155,10 @@ module _ (past : Past) (p c : ℕ) where
   outer_below k m e = round_is_before (entries_at past.cut.now p) k m (sym e)
 
   round_next : (k m : ℕ) → Some m ≡ first_of (round_at x k) → round_at x k ≡ m ∷ round_at x m
-  round_next k m e = round_goes_on (entries_at past.cut.now p) k ∙ ap (round_by x.rounds) (sym e)
+  round_next k m e = round_goes_on (entries_at past.cut.now p) k ∙ ap (λ o. option_map_or (λ m. m ∷ get_or x.rounds m []) o []) (sym e)
 
   round_none : (k : ℕ) → None ≡ first_of (round_at x k) → round_at x k ≡ []
-  round_none k e = round_goes_on (entries_at past.cut.now p) k ∙ ap (round_by x.rounds) (sym e)
+  round_none k e = round_goes_on (entries_at past.cut.now p) k ∙ ap (λ o. option_map_or (λ m. m ∷ get_or x.rounds m []) o []) (sym e)
 
   module _ (ms : List ℕ) (v : Walked) (before : ℕ) where
     abbrev Out : ℕ → ℕ → Type 0

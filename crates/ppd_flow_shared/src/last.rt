@@ -7,7 +7,9 @@ ghost use Rattle.ppd_flow_tables.specs.Tabled.{IsOfInterval};
 use crate::search::CellSearch;
 use crate::written::written_before;
 use ppd_ast::{Memory, Steps};
-use ppd_flow_tables::{FlowError, Past, TabledItems, end_interval, greatest_writing, sync_item};
+use ppd_flow_tables::{
+    FlowError, Past, TabledItems, greatest_writing, sought_end_interval, sync_item,
+};
 use ppd_model::{EdgeId, Origin};
 use std::alloc::Global;
 use std::sync::ledger::Ledger;
@@ -28,7 +30,7 @@ pub fn last_edge(past: &Past, cell: u16) -> Result<Option<LastEdge>, Memory>
     match greatest_writing(past, cell)? {
         Some(edge) => Ok(Some(LastEdge {
             edge,
-            interval: end_interval(past, edge.process, edge.edge),
+            interval: sought_end_interval(past, edge.process, edge.edge),
         })),
         None => Ok(None),
     }

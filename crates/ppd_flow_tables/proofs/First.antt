@@ -10,7 +10,8 @@ use Rattle.ppd_entry.specs.declared.entry.Entry.{Entry}
 use Rattle.ppd_entry.specs.declared.entry.Entry.TheVariants as entry
 use Rattle.ppd_model.specs.declared.flow.Item.{Item}
 use Rattle.ppd_model.specs.declared.flow.Item.TheVariants as item
-use Rattle.ppd_flow_model.specs.Ends.{ending, ends_edge, is_sync, is_sync_item, sync_item, syncs_before, syncs_of_item}
+use Rattle.ppd_flow_model.specs.Ends.{ending, ends_edge, is_sync_item, sync_item, syncs_before, syncs_of_item}
+use Rattle.ppd_flow_model.proofs.Vocabulary.{is_sync}
 use Rattle.ppd_flow_model.specs.Seen.{is_item_of, place_of}
 use Rattle.ppd_flow_tables.specs.Listed.{IsFirstUnder}
 use Rattle.ppd_flow_tables.specs.Tables.{AreWhere, ends_there, passes}

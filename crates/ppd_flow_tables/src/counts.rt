@@ -1,6 +1,7 @@
 // The synchronizations of a process by the edges that they end.
-ghost use Rattle.std.specs.Prelude.{◌≡◌, ◌+◌, ◌<◌, ◌^◌, IfOk, length, if◌then◌else◌};
-ghost use Rattle.ppd_flow_model.specs.Ends.{ends_edge as ends_an_edge, is_sync as is_sync_entry};
+ghost use Rattle.std.specs.Prelude.{◌≡◌, ◌+◌, ◌<◌, ◌^◌, IfOk, is_some, length, if◌then◌else◌};
+ghost use Rattle.ppd_flow_model.specs.Ends.{ends_edge as ends_an_edge};
+ghost use Rattle.ppd_model.specs.RecordedSets.{sync_in};
 ghost use Rattle.ppd_flow_tables.specs.Counts.{AreCounts};
 ghost use Rattle.ppd_flow_tables.specs.Tables.{AreWhere, ends_there};
 
@@ -10,7 +11,7 @@ use ppd_entry::Entry;
 use std::alloc::Global;
 
 fn is_sync(entry: &Entry) -> bool
-    ensures { result ≡ is_sync_entry entry.now }
+    ensures { result ≡ is_some (sync_in entry.now) }
 {
     matches!(entry, Entry::Sync { .. })
 }
@@ -24,7 +25,7 @@ fn ends_edge(entry: &Entry) -> bool
 /// One more where the entry is a synchronization.
 fn count_with(count: u32, entry: &Entry) -> u32
     requires { count + 1 < 2 ^ 32 }
-    ensures { result ≡ (if is_sync_entry entry.now then count + 1 else count) }
+    ensures { result ≡ (if is_some (sync_in entry.now) then count + 1 else count) }
 {
     if is_sync(entry) { count + 1 } else { count }
 }

@@ -30,8 +30,8 @@ pub use laws::latest_is_greatest;
 pub use lookups::{edge_at, end_interval, greatest_before, place_of, stop_before, sync_item};
 pub use place_table::PlaceTable;
 pub use ppd_flow_past::{
-    FlowError, Items, Past, block_of, count_of, ending, entries_of, greatest_writing,
-    interval_items, number, outer_of,
+    FlowError, Items, Past, block_of, count_of, end_interval as sought_end_interval, ending,
+    entries_of, greatest_writing, interval_items, number, outer_of,
 };
 pub use process::ProcessTables;
 pub use tables::{TabledItems, Tables};

@@ -15,7 +15,9 @@ use Rattle.ppd_ast.specs.declared.limits.TheConstants.{MOST_NAMED}
 use Rattle.ppd_graph.specs.declared.paired.Paired.{Paired}
 use Rattle.ppd_graph.specs.declared.placed.Placed.{Placed}
 use Rattle.ppd_graph.specs.Partners.{pairs_of, partner_of}
-use Rattle.ppd_graph.specs.Refusals.{count_on, place, placed_from, placed_lists}
+use Rattle.ppd_graph.specs.Refusals.{place, placed_from}
+use Rattle.ppd_graph.proofs.Vocabulary.{placed_lists}
+use Rattle.ppd_graph.proofs.Vocabulary.{count_on}
 use Rattle.ppd_graph.specs.Spending.{entries_in, graph_cost, list_cost, pairing_cost, pass_cost, times_cost}
 use Rattle.ppd_graph.proofs.Vocabulary.{untimed}
 

@@ -9,14 +9,17 @@ use Rattle.ppd_ast.specs.declared.status.SyncKind.{SyncKind}
 use Rattle.ppd_ast.specs.declared.status.SyncKind.TheVariants.{P, V, Send, Recv, Done}
 use Rattle.ppd_ast.specs.Members.{has}
 use Rattle.ppd_ast.specs.Counting.{one_if}
-use Rattle.ppd_model.specs.FullTrace.{or_else}
+use Rattle.std.specs.Option.{option_or as or_else}
 use Rattle.ppd_model.specs.Synchronizations.{Sync}
 use Rattle.ppd_model.specs.Tables.{capacity_of}
 use Rattle.ppd_graph.specs.declared.greatest.Greatest.{Greatest}
 use Rattle.ppd_graph.specs.declared.missing.Objects.TheVariants.{Semaphores, Channels}
 use Rattle.ppd_graph.specs.declared.placed.Placed.{Placed}
 use Rattle.ppd_graph.specs.ByNumber.{AllGreatest, greatest_kept}
-use Rattle.ppd_graph.specs.Refusals.{Missing, Numbered, absent, chan_misses, first_missing, greatest, missing, missing_of_chan, missing_of_places, missing_of_sem, numbered_in, numbers_of, of_kind, sem_misses, start_of, sync_placed}
+use Rattle.ppd_graph.specs.Refusals.{Missing, Numbered, absent, first_missing, missing, missing_of_chan, missing_of_places, missing_of_sem, numbers_of, of_kind, start_of, sync_placed}
+use Rattle.ppd_graph.proofs.Vocabulary.{chan_misses, sem_misses}
+use Rattle.ppd_graph.proofs.Vocabulary.{greatest}
+use Rattle.ppd_graph.proofs.Vocabulary.{numbered_in}
 use Rattle.ppd_graph.specs.Spending.{done_numbers, missing_cost, object_cost}
 use Rattle.ppd_graph.proofs.Counted.{sum_more}
 

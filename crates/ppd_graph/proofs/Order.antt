@@ -6,7 +6,8 @@ use Rattle.ppd_ast.specs.declared.program.Program.{Program}
 use Rattle.ppd_model.specs.declared.graph.EdgeId.{EdgeId}
 use Rattle.ppd_model.specs.declared.graph.NodeId.{NodeId}
 use Rattle.ppd_model.specs.Synchronizations.{Sync, leads_at}
-use Rattle.ppd_model.specs.HappenedBefore.{Before, EdgeBefore, across, earlier, is_direct, is_next, node, own_syncs, sync_at, through}
+use Rattle.ppd_model.specs.HappenedBefore.{Before, EdgeBefore, across, earlier, is_direct, node, own_syncs, sync_at, through}
+use Rattle.ppd_model.proofs.OrderWords.{is_next}
 use Rattle.ppd_model.proofs.Tested.{leads_there}
 use Rattle.ppd_graph.specs.declared.paired.Paired.{Paired}
 use Rattle.ppd_graph.specs.Graphs.{before_by, count_at}

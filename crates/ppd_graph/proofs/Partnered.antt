@@ -9,7 +9,7 @@ use Rattle.ppd_entry.specs.declared.entry.Entry.{Entry}
 use Rattle.ppd_entry.specs.declared.entry.Logs.{Logs}
 use Rattle.ppd_entry.specs.Entries.{same_kind}
 use Rattle.ppd_model.specs.declared.graph.NodeId.{NodeId}
-use Rattle.ppd_model.specs.FullTrace.{or_else}
+use Rattle.std.specs.Option.{option_or as or_else}
 use Rattle.ppd_model.specs.HappenedBefore.{node}
 use Rattle.ppd_model.specs.Numbers.{sync}
 use Rattle.ppd_model.specs.Synchronizations.{Sync}
@@ -19,7 +19,9 @@ use Rattle.ppd_graph.specs.declared.placed.Placed.{Placed}
 use Rattle.ppd_graph.specs.ByNumber.{AllGreatest, KeepsAll, node_among, node_wanted, numbered_kept, partner_kept}
 use Rattle.ppd_model.specs.RecordedSets.{record_in, sync_in}
 use Rattle.ppd_graph.specs.Partners.{found, found_from, found_in_row, paired_by, pairs_of, partner_of, wanted}
-use Rattle.ppd_graph.specs.Refusals.{Numbered, count_on, missing, missing_by, numbered_in, numbers_of, place, placed, placed_from, placed_lists, sync_placed}
+use Rattle.ppd_graph.specs.Refusals.{Numbered, missing, missing_by, numbers_of, place, placed, placed_from, sync_placed}
+use Rattle.ppd_graph.proofs.Vocabulary.{placed_lists}
+use Rattle.ppd_graph.proofs.Vocabulary.{count_on, numbered_in}
 use Rattle.ppd_model.specs.SameSyncs.{same_sync}
 
 -- ---- where the first stands

@@ -4,10 +4,12 @@ use Rattle.std.specs.Prelude.{is_some, IfNone}
 use Rattle.std.specs.List.{cons_option, range_with_len}
 use Rattle.std.proofs.lemmas.List.{drop_more}
 use Rattle.ppd_ast.specs.declared.status.SyncKind.{SyncKind}
-use Rattle.ppd_model.specs.FullTrace.{or_else}
+use Rattle.std.specs.Option.{option_or as or_else}
 use Rattle.ppd_model.specs.Synchronizations.{Sync}
 use Rattle.ppd_graph.specs.declared.placed.Placed.{Placed}
-use Rattle.ppd_graph.specs.Refusals.{Missing, absent, first_missing, greatest, number_in, numbers_of, sync_placed}
+use Rattle.ppd_graph.specs.Refusals.{Missing, absent, first_missing, numbers_of, sync_placed}
+use Rattle.ppd_graph.proofs.Vocabulary.{greatest}
+use Rattle.ppd_graph.proofs.Vocabulary.{number_in}
 
 -- ---- the first number that is not there
 

@@ -6,7 +6,8 @@ use Rattle.std.proofs.lemmas.Bool.{and_from, and_parts, cases_eq, cases_lt, cond
 use Rattle.ppd_ast.specs.declared.program.Program.{Program}
 use Rattle.ppd_model.specs.declared.graph.NodeId.{NodeId}
 use Rattle.ppd_model.specs.Synchronizations.{Sync, leads_at}
-use Rattle.ppd_model.specs.HappenedBefore.{Before, direct, is_direct, is_next, node, own_syncs, sync_at, through}
+use Rattle.ppd_model.specs.HappenedBefore.{Before, direct, is_direct, node, own_syncs, sync_at, through}
+use Rattle.ppd_model.proofs.OrderWords.{is_next}
 use Rattle.ppd_model.specs.World.{change}
 use Rattle.ppd_model.proofs.Changes.{length-change}
 use Rattle.ppd_graph.specs.declared.paired.Paired.{Paired}

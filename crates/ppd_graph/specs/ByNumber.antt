@@ -1,5 +1,5 @@
 -- The synchronizations of logs kept by kind, object and number.
-use Rattle.std.specs.Prelude.{◌≡◌, ℕ, nat_eq, Bool, ◌&&◌, ◌||◌, List, [], ◌∷◌, map, get_or, Option, Some, None, is_some, ⊤, if◌then◌else◌}
+use Rattle.std.specs.Prelude.{◌≡◌, ℕ, nat_eq, Bool, ◌&&◌, ◌||◌, List, [], ◌∷◌, map, get_or, Option, Some, None, is_some, ⊤, if◌then◌else◌, fold, max}
 use Rattle.std.specs.HashMap.{HashMap, get}
 use Rattle.ppd_ast.specs.declared.program.Program.{Program}
 use Rattle.ppd_ast.specs.declared.status.SyncKind.{SyncKind}
@@ -14,7 +14,7 @@ use Rattle.ppd_graph.specs.declared.placed.Placed.{Placed}
 use Rattle.ppd_graph.specs.declared.refusal.BadSync.{BadSync}
 use Rattle.ppd_graph.specs.declared.refusal.BadSync.TheVariants.{NumberTwice, Memory}
 use Rattle.ppd_graph.specs.Partners.{paired_by, wanted}
-use Rattle.ppd_graph.specs.Refusals.{Numbered, greatest, is_from_start, numbers_of, sync_placed, twice_after}
+use Rattle.ppd_graph.specs.Refusals.{Numbered, is_from_start, numbers_of, sync_placed, twice_after}
 use Rattle.ppd_model.specs.SameSyncs.{same_sync}
 
 module _ {S : Type 0} where
@@ -74,7 +74,7 @@ IsTwice program xs e = ⊥
 
 -- the greatest number of each object of a kind
 abbrev pub AreGreatest : SyncKind → List Placed → List ℕ → Type 0
-AreGreatest kind xs numbers = (o : ℕ) → get_or numbers o 0 ≡ greatest 0 (numbers_of kind o (map sync_placed xs))
+AreGreatest kind xs numbers = (o : ℕ) → get_or numbers o 0 ≡ fold max 0 (numbers_of kind o (map sync_placed xs))
 
 abbrev pub greatest_kept : Greatest → SyncKind → ℕ → ℕ
 greatest_kept g P o = get_or g.takes o 0
@@ -85,7 +85,7 @@ greatest_kept g Done o = get_or g.completions o 0
 
 abbrev pub AllGreatest : List Placed → Greatest → Type 0
 AllGreatest xs g =
-    (kind : SyncKind) (o : ℕ) → greatest_kept g kind o ≡ greatest 0 (numbers_of kind o (map sync_placed xs))
+    (kind : SyncKind) (o : ℕ) → greatest_kept g kind o ≡ fold max 0 (numbers_of kind o (map sync_placed xs))
 
 -- which numbers are kept, and the greatest
 abbrev pub numbered_kept : ByNumber → Greatest → SyncKind → ℕ → Numbered

@@ -5,7 +5,7 @@ use Rattle.ppd_ast.specs.declared.status.SyncKind.{SyncKind}
 use Rattle.ppd_ast.specs.declared.status.SyncKind.TheVariants.{P}
 use Rattle.ppd_entry.specs.declared.entry.Logs.{Logs}
 use Rattle.ppd_model.specs.declared.graph.NodeId.{NodeId}
-use Rattle.ppd_model.specs.FullTrace.{or_else}
+use Rattle.std.specs.Option.{option_or as or_else}
 use Rattle.ppd_model.specs.HappenedBefore.{node, sync_at}
 use Rattle.ppd_model.specs.Synchronizations.{Sync}
 use Rattle.ppd_model.specs.Tables.{capacity_of}

@@ -1,17 +1,18 @@
 -- Why logs have no graph, the first reason in order.
-use Rattle.std.specs.Prelude.{◌≡◌, ℕ, zero, suc, ◌+◌, ◌-◌, max, nat_eq, nat_lt, nat_le, Bool, not, ◌&&◌, ◌||◌, List, [], ◌∷◌, ◌++◌, map, find, filter_map, length, slice_get, Option, Some, None, ⊤, if◌then◌else◌}
+use Rattle.std.specs.Prelude.{◌≡◌, ℕ, zero, suc, ◌+◌, ◌-◌, max, nat_eq, nat_lt, nat_le, Bool, not, ◌&&◌, ◌||◌, List, [], ◌∷◌, ◌++◌, map, find, filter_map, length, slice_get, Option, Some, None, ⊤, if◌then◌else◌, is_some, fold}
 use Rattle.std.specs.List.{list_any, range_with_len}
+use Rattle.std.specs.Option.{option_map_or}
 use Rattle.ppd_ast.specs.declared.program.Program.{Program}
-use Rattle.ppd_ast.specs.declared.program.Sem.{Sem}
 use Rattle.ppd_ast.specs.declared.status.SyncKind.{SyncKind}
 use Rattle.ppd_ast.specs.declared.status.SyncKind.TheVariants.{P, V, Send, Recv, Done}
+use Rattle.ppd_ast.specs.Numbered.{each_from}
 use Rattle.ppd_ast.specs.Members.{has}
 use Rattle.ppd_entry.specs.declared.entry.At.{At}
 use Rattle.ppd_entry.specs.declared.entry.Entry.{Entry}
 use Rattle.ppd_entry.specs.declared.entry.Logs.{Logs}
 use Rattle.ppd_entry.specs.Entries.{same_kind, at_entry}
 use Rattle.ppd_model.specs.declared.graph.NodeId.{NodeId}
-use Rattle.ppd_model.specs.FullTrace.{or_else}
+use Rattle.std.specs.Option.{option_or as or_else}
 use Rattle.ppd_model.specs.HappenedBefore.{Before, node}
 use Rattle.ppd_model.specs.Numbers.{sync}
 use Rattle.ppd_model.specs.SameSyncs.{same_sync}
@@ -37,23 +38,15 @@ place p e i None = []
 place p e i (Some s) =
     record { at = at_entry p e; node = node p i; kind = s.kind; object = s.object; number = s.number } ∷ []
 
--- one more where the entry is one
-abbrev pub count_on : ℕ → Option Sync → ℕ
-count_on i None = i
-count_on i (Some s) = i + 1
-
 -- those among the entries of process p from entry e and synchronization i on
 abbrev pub placed_from : ℕ → ℕ → ℕ → List Entry → List Placed
 placed_from p e i [] = []
-placed_from p e i (x ∷ xs) = place p e i (sync_in x) ++ placed_from p (e + 1) (count_on i (sync_in x)) xs
-
-abbrev pub placed_lists : ℕ → List (List Entry) → List Placed
-placed_lists p [] = []
-placed_lists p (xs ∷ lists) = placed_from p 0 0 xs ++ placed_lists (p + 1) lists
+placed_from p e i (x ∷ xs) =
+    place p e i (sync_in x) ++ placed_from p (e + 1) (if is_some (sync_in x) then i + 1 else i) xs
 
 -- all synchronizations of logs, in order of process and entry
 abbrev pub placed : Logs → List Placed
-placed logs = placed_lists 0 logs.lists
+placed logs = each_from (λ p. placed_from p 0 0) 0 logs.lists
 
 -- ---- no object
 
@@ -72,13 +65,9 @@ without_object program (x ∷ xs) = if has_object program x.kind x.object then w
 
 -- ---- a number twice
 
-abbrev pub start_in : Option Sem → ℕ
-start_in None = 0
-start_in (Some s) = s.start
-
 -- the initial value of semaphore s
 abbrev pub start_of : Program → ℕ → ℕ
-start_of program s = start_in (slice_get program.sems s)
+start_of program s = option_map_or (λ x. x.start) (slice_get program.sems s) 0
 
 -- a `V` whose number the semaphore has from the start
 abbrev pub is_from_start : Program → Sync → Bool
@@ -93,18 +82,10 @@ twice_after program seen (x ∷ xs) =
 
 -- ---- a missing number
 
--- the number, where it is of this kind and object
-abbrev pub number_in : SyncKind → ℕ → Sync → Option ℕ
-number_in kind object s = if same_kind s.kind kind && nat_eq s.object object then Some s.number else None
-
 -- the numbers of this kind and object
 abbrev pub numbers_of : SyncKind → ℕ → List Sync → List ℕ
-numbers_of kind object syncs = filter_map (number_in kind object) syncs
-
--- the greatest of them, or at least this
-abbrev pub greatest : ℕ → List ℕ → ℕ
-greatest least [] = least
-greatest least (n ∷ ns) = greatest (max least n) ns
+numbers_of kind object syncs =
+    filter_map (λ s. if same_kind s.kind kind && nat_eq s.object object then Some s.number else None) syncs
 
 -- the first of the numbers after `first` through `last` that is not there
 abbrev pub absent : ℕ → ℕ → (ℕ → Bool) → Option ℕ
@@ -163,37 +144,30 @@ abbrev pub first_missing : (ℕ → Option Missing) → List ℕ → Option Miss
 first_missing f [] = None
 first_missing f (o ∷ os) = or_else (f o) (first_missing f os)
 
--- those of a kind and object among these
-abbrev pub numbered_in : List Sync → SyncKind → ℕ → Numbered
-numbered_in syncs kind object =
-    record { is_there = has (numbers_of kind object syncs); greatest = greatest 0 (numbers_of kind object syncs) }
-
--- what is missing of a semaphore, and what of a channel
-abbrev pub sem_misses : Program → (SyncKind → ℕ → Numbered) → ℕ → Option Missing
-sem_misses program numbered o = missing_of_sem o (start_of program o) (numbered P o) (numbered V o)
-
-abbrev pub chan_misses : Program → (SyncKind → ℕ → Numbered) → ℕ → Option Missing
-chan_misses program numbered o =
-    missing_of_chan o (capacity_of program o) (numbered Send o) (numbered Recv o) (numbered Done o)
-
--- how many objects of a sort the program has, and what is missing of one of them
+-- how many objects of a sort the program has
 abbrev pub object_count : Objects → Program → ℕ
 object_count Semaphores program = length program.sems
 object_count Channels program = length program.chans
 
+-- what is missing of one of them
 abbrev pub object_misses : Objects → Program → (SyncKind → ℕ → Numbered) → ℕ → Option Missing
-object_misses Semaphores program numbered o = sem_misses program numbered o
-object_misses Channels program numbered o = chan_misses program numbered o
+object_misses Semaphores program numbered o = missing_of_sem o (start_of program o) (numbered P o) (numbered V o)
+object_misses Channels program numbered o =
+    missing_of_chan o (capacity_of program o) (numbered Send o) (numbered Recv o) (numbered Done o)
 
 -- the first missing synchronization, semaphores before channels
 abbrev pub missing_by : Program → (SyncKind → ℕ → Numbered) → Option Missing
 missing_by program numbered =
     or_else
-    (first_missing (sem_misses program numbered) (range_with_len 0 (length program.sems)))
-    (first_missing (chan_misses program numbered) (range_with_len 0 (length program.chans)))
+    (first_missing (object_misses Semaphores program numbered) (range_with_len 0 (length program.sems)))
+    (first_missing (object_misses Channels program numbered) (range_with_len 0 (length program.chans)))
 
+-- the same by the numbers of each kind and object among these
 abbrev pub missing : Program → List Sync → Option Missing
-missing program syncs = missing_by program (numbered_in syncs)
+missing program syncs =
+    missing_by program
+    (λ kind object.
+    record { is_there = has (numbers_of kind object syncs); greatest = fold max 0 (numbers_of kind object syncs) })
 
 -- ---- the first reason
 

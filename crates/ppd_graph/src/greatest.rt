@@ -1,6 +1,6 @@
-ghost use Rattle.std.specs.Prelude.{◌≡◌, ◌≤◌, ◌+◌, ◌*◌, ℕ, ◌∷◌, [], get_or, length, IfOk, OnOk};
+ghost use Rattle.std.specs.Prelude.{◌≡◌, ◌≤◌, ◌+◌, ◌*◌, ℕ, ◌∷◌, [], fold, get_or, length, max, IfOk, OnOk};
 ghost use Rattle.ppd_graph.specs.ByNumber.{AllGreatest, AreGreatest, greatest_kept};
-ghost use Rattle.ppd_graph.specs.Refusals.{greatest as greatest_among, numbers_of, sync_placed};
+ghost use Rattle.ppd_graph.specs.Refusals.{numbers_of, sync_placed};
 
 use crate::placed::Placed;
 use ppd_ast::limits::MOST_NAMED;
@@ -40,7 +40,7 @@ fn raise(numbers: &mut Ids, kind: SyncKind, one: &Placed)
     ensures long { length numbers.new ≡ MOST_NAMED }
     ensures raised { (o : ℕ)
         → get_or numbers.new o 0
-        ≡ greatest_among (get_or numbers.old o 0) (numbers_of kind o (sync_placed one.now ∷ [])) }
+        ≡ fold max (get_or numbers.old o 0) (numbers_of kind o (sync_placed one.now ∷ [])) }
 {
     if !same_kind(one.kind, kind) {
         return;

@@ -1,9 +1,10 @@
-ghost use Rattle.std.specs.Prelude.{◌≡◌, ◌<◌, ◌≤◌, ◌+◌, ◌^◌, ◌++◌, [], length, IfOk, OnOk};
+ghost use Rattle.std.specs.Prelude.{◌≡◌, ◌<◌, ◌≤◌, ◌+◌, ◌^◌, ◌++◌, [], is_some, length, IfOk, OnOk, if◌then◌else◌};
+ghost use Rattle.ppd_ast.specs.Numbered.{each_from};
 ghost use Rattle.ppd_graph.specs.LogRecord.{AreFew};
 ghost use Rattle.ppd_model.specs.RecordedSets.{sync_in};
 ghost use Rattle.std.specs.List.{sum_by};
 ghost use Rattle.ppd_graph.specs.Spending.{list_cost};
-ghost use Rattle.ppd_graph.specs.Refusals.{count_on, place, placed_from, placed_lists};
+ghost use Rattle.ppd_graph.specs.Refusals.{place, placed_from};
 
 use ppd_ast::limits::MOST_NAMED;
 use ppd_ast::{Memory, Seq, Steps, SyncKind};
@@ -32,7 +33,7 @@ fn place_one(
 ) -> Result<u32, Memory>
     requires { sync + 1 < 2 ^ 32 }
     ensures placed { IfOk result (λ now. placed.new ≡ placed.old ++ place process index sync (sync_in entry.now)) }
-    ensures next { IfOk result (λ now. now ≡ count_on sync (sync_in entry.now)) }
+    ensures next { IfOk result (λ now. now ≡ (if is_some (sync_in entry.now) then sync + 1 else sync)) }
 {
     match entry {
         Entry::Sync {
@@ -84,7 +85,7 @@ pub(crate) fn all_placed<L: Ledger>(
 ) -> Result<Seq<Placed>, Memory>
     requires processes { length lists.now ≤ MOST_NAMED }
     requires few { AreFew lists.now }
-    ensures placed { IfOk result (λ placed. placed ≡ placed_lists 0 lists.now) }
+    ensures placed { IfOk result (λ placed. placed ≡ each_from (λ p. placed_from p 0 0) 0 lists.now) }
     ensures cost { steps.new ≤ steps.old + sum_by list_cost lists.now }
     ensures taken { OnOk result (steps.new ≡ steps.old + sum_by list_cost lists.now) }
 {

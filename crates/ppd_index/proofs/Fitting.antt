@@ -6,13 +6,16 @@ use Rattle.ppd_ast.specs.declared.plan.Plan.{Plan}
 use Rattle.ppd_ast.specs.declared.limits.TheConstants.{MOST_CALLS}
 use Rattle.ppd_entry.specs.declared.entry.Entry.{Entry}
 use Rattle.ppd_entry.specs.declared.entry.Entry.TheVariants as entry
-use Rattle.ppd_entry.specs.IntervalLogs.{IntervalLog, Indexed, Indexing, add_piece, add_piece_at, begun_indexing, depth_of, index_step, indexed, inner, interval_at, left_interval, left_open, log_in, new_interval, interval_log}
+use Rattle.ppd_entry.specs.IntervalLogs.{IntervalLog, Indexed, Indexing, add_piece, add_piece_at, begun_indexing, depth_of, index_step, indexed, inner, interval_at, left_interval, left_open, new_interval, interval_log}
+use Rattle.ppd_entry.proofs.Vocabulary.{log_in}
 use Rattle.ppd_entry.specs.Pieces.{Piece, finish, nested, postlog, sync, unfinished, unit}
 use Rattle.ppd_entry.specs.Entries.{is_end}
 use Rattle.ppd_sem.specs.Blocks.{block_kind, is_function}
-use Rattle.ppd_model.specs.FullTrace.{or_else}
+use Rattle.std.specs.Option.{option_or as or_else}
 use Rattle.ppd_index.specs.Fitting.{AreFittingPieces, IsFittingLog, fits_piece}
-use Rattle.ppd_index.specs.Refusals.{bad, fault_of, first_from, fits_postlog, innermost_of, is_same, refusal, standing}
+use Rattle.ppd_index.specs.Refusals.{bad, fault_of, first_from, refusal, standing}
+use Rattle.ppd_index.proofs.Vocabulary.{fits_postlog}
+use Rattle.ppd_index.proofs.Vocabulary.{innermost_of, is_same}
 use Rattle.ppd_index.proofs.Passed.{HasPassed, mapped_none, passed, room}
 
 -- each of these intervals' logs fits

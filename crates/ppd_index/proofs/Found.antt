@@ -7,13 +7,14 @@ use Rattle.ppd_ast.specs.declared.plan.Plan.{Plan}
 use Rattle.ppd_ast.specs.declared.program.Program.{Program}
 use Rattle.ppd_entry.specs.declared.entry.Entry.{Entry}
 use Rattle.ppd_entry.specs.Entries.{is_end}
-use Rattle.ppd_model.specs.FullTrace.{or_else}
+use Rattle.std.specs.Option.{option_or as or_else}
 use Rattle.ppd_model.proofs.Extents.{one_longer}
 use Rattle.ppd_index.specs.declared.refusal.BadLog.{BadLog}
 use Rattle.ppd_index.specs.declared.refusal.BadLog.TheVariants.{Unpaired, NoEnd, AfterEnd, WrongValues, Memory}
 use Rattle.ppd_index.specs.declared.row.Row.{Row}
 use Rattle.ppd_index.specs.declared.standing.Standing.{Standing}
-use Rattle.ppd_index.specs.Refusals.{IsRefused, first_bad, first_from, first_in_lists, refusal, standing, unended}
+use Rattle.ppd_index.specs.Refusals.{IsRefused, first_bad, first_from, first_in_lists, refusal, standing}
+use Rattle.ppd_index.proofs.Vocabulary.{unended}
 use Rattle.ppd_index.specs.Tables.{Tabled, begun_table, rows_of, standing_in, table_step}
 use Rattle.ppd_index.proofs.Rows.{depth_same, innermost_same}
 use Rattle.ppd_index.proofs.Tabled.{here, indexed_step, indexing_of, shifted}

@@ -6,7 +6,8 @@ use Rattle.ppd_ast.specs.declared.program.Program.{Program}
 use Rattle.ppd_ast.proofs.Walks.{got_some}
 use Rattle.ppd_entry.specs.declared.entry.Entry.{Entry}
 use Rattle.ppd_entry.specs.declared.entry.Logs.{Logs}
-use Rattle.ppd_entry.specs.IntervalLogs.{IntervalLog, Indexed, interval_log, log_in}
+use Rattle.ppd_entry.specs.IntervalLogs.{IntervalLog, Indexed, interval_log}
+use Rattle.ppd_entry.proofs.Vocabulary.{log_in}
 use Rattle.ppd_entry.specs.Entries.{entries_at}
 use Rattle.ppd_model.specs.Bounds.{AreEach}
 use Rattle.ppd_model.proofs.Lists.{map_get}

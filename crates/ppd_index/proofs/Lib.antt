@@ -7,3 +7,4 @@ pub mod Found
 pub mod Passed
 pub mod Fitting
 pub mod Lent
+pub mod Vocabulary

@@ -9,10 +9,12 @@ use Rattle.ppd_ast.specs.declared.plan.Plan.{Plan}
 use Rattle.ppd_ast.specs.declared.limits.TheConstants.{MOST_CALLS}
 use Rattle.ppd_entry.specs.declared.entry.Entry.{Entry}
 use Rattle.ppd_entry.specs.declared.entry.Entry.TheVariants as entry
-use Rattle.ppd_sem.specs.Blocks.{block_kind, is_function, kind_in}
+use Rattle.ppd_sem.specs.Blocks.{block_kind, is_function}
+use Rattle.ppd_sem.proofs.TableWords.{kind_in}
 use Rattle.ppd_index.specs.declared.standing.Fault.{Fault}
 use Rattle.ppd_index.specs.declared.standing.Standing.{Standing}
-use Rattle.ppd_index.specs.Refusals.{fault_of, is_body, is_fitting, is_of_function, is_paired, is_process, kind_at, kind_there}
+use Rattle.ppd_index.specs.Refusals.{fault_of, is_body, is_fitting, is_of_function, is_process, kind_at}
+use Rattle.ppd_index.proofs.Vocabulary.{is_paired, kind_there}
 
 pub record HasPassed (plan : Plan) (body : ℕ) (s : Standing) (e : Entry) : Type 0 where
   pub paired : is_paired plan body s e ≡ true

@@ -3,16 +3,18 @@ use Rattle.std.proofs.Common.{◌≡◌, ℕ, zero, suc, ℤ, List, [], ◌∷�
 use Rattle.std.specs.Prelude.{slice_get}
 use Rattle.std.proofs.lemmas.List.{map-append}
 use Rattle.ppd_entry.specs.declared.entry.Entry.{Entry}
-use Rattle.ppd_entry.specs.IntervalLogs.{Indexed, Indexing, add_piece, add_piece_at, depth_of, interval_at, left_interval, left_open, with_piece}
+use Rattle.ppd_entry.specs.IntervalLogs.{Indexed, Indexing, add_piece, add_piece_at, depth_of, interval_at, left_interval, left_open}
+use Rattle.ppd_entry.proofs.Vocabulary.{with_piece}
 use Rattle.ppd_entry.specs.Pieces.{Piece, nested, postlog, unfinished}
-use Rattle.ppd_model.specs.Extents.{Extent, ended_by as ends_by, first_of, left_by}
+use Rattle.ppd_model.specs.Extents.{Extent, first_of}
+use Rattle.ppd_model.proofs.ExtentWords.{ended_by as ends_by, left_by}
 use Rattle.ppd_model.specs.World.{change}
 use Rattle.ppd_model.proofs.Lists.{map_change}
 use Rattle.ppd_model.proofs.Extents.{close_by, last_by}
 use Rattle.ppd_index.specs.declared.row.Mark.{Mark}
 use Rattle.ppd_index.specs.declared.row.Mark.TheVariants as mark
 use Rattle.ppd_index.specs.declared.row.Row.{Row}
-use Rattle.ppd_index.specs.Refusals.{innermost_of}
+use Rattle.ppd_index.proofs.Vocabulary.{innermost_of}
 use Rattle.ppd_index.specs.Tables.{add_mark, add_mark_to, block_in, block_there, closed_by, depth_at, depth_in, ended_by, extent_of, first_in, indexed_of, left_rows, open_one, open_rows, piece_at, with_mark}
 
 -- ---- changes of a list, seen through a function

@@ -9,7 +9,8 @@ use Rattle.ppd_entry.specs.IntervalLogs.{Indexed, Indexing, index_step, left_ope
 use Rattle.ppd_entry.specs.Pieces.{Piece, finish, nested, postlog, sync, unit}
 use Rattle.ppd_sem.specs.Blocks.{block_kind, is_function}
 use Rattle.ppd_model.specs.Bounds.{AreEach}
-use Rattle.ppd_model.specs.Extents.{Extent, Extending, ended_by as ends_by, extend}
+use Rattle.ppd_model.specs.Extents.{Extent, Extending, extend}
+use Rattle.ppd_model.proofs.ExtentWords.{ended_by as ends_by}
 use Rattle.ppd_model.proofs.Extents.{one_longer}
 use Rattle.ppd_index.specs.declared.row.Mark.TheVariants as mark
 use Rattle.ppd_index.specs.declared.row.Row.{Row}

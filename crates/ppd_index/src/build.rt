@@ -1,9 +1,10 @@
-ghost use Rattle.std.specs.Prelude.{◌≡◌, ◌+◌, ◌*◌, ◌≤◌, ◌<◌, ◌^◌, ◌||◌, [], None, length, IfOk, IfErr, OnOk};
+ghost use Rattle.std.specs.Prelude.{◌≡◌, ◌+◌, ◌*◌, ◌≤◌, ◌<◌, ◌^◌, ◌||◌, [], None, length, IfOk, IfErr, OnOk, Some, if◌then◌else◌};
 ghost use Rattle.ppd_ast.specs.declared.limits.TheConstants.{MOST_NAMED};
-ghost use Rattle.ppd_entry.specs.Entries.{is_end};
+ghost use Rattle.ppd_entry.specs.Entries.{at_entry, is_end};
 ghost use Rattle.ppd_index.specs.Fitting.{AreFittingLogs};
 ghost use Rattle.ppd_index.specs.Indexes.{IsIndexOf};
-ghost use Rattle.ppd_index.specs.Refusals.{IsRefused, bad as bad_at, first_bad, first_in_lists, refusal, unended};
+ghost use Rattle.ppd_index.specs.declared.refusal.BadLog.TheVariants.{NoEnd};
+ghost use Rattle.ppd_index.specs.Refusals.{IsRefused, bad as bad_at, first_bad, first_in_lists, refusal};
 ghost use Rattle.ppd_index.specs.Spending.{index_cost, index_least, still_open};
 ghost use Rattle.ppd_index.specs.Tables.{rows_of, standing_in, table_step, tabled};
 
@@ -70,8 +71,8 @@ fn take_entry<L: Ledger>(
 
 /// A list that is over after so many entries has an End. `Memory` is the answer for a count of more than 32 bits.
 fn check_end(process: u8, entries: usize, ended: bool) -> Result<(), BadLog>
-    ensures passed { OnOk result (unended process entries ended ≡ None) }
-    ensures refused { IfErr result (IsRefused (unended process entries ended)) }
+    ensures passed { OnOk result ((if ended then None else Some (NoEnd (at_entry process entries))) ≡ None) }
+    ensures refused { IfErr result (IsRefused (if ended then None else Some (NoEnd (at_entry process entries)))) }
     ensures large { IfErr result (λ e. e ≡ BadLog.Memory → 2 ^ 32 ≤ entries) }
 {
     if ended {

@@ -1,6 +1,8 @@
-ghost use Rattle.std.specs.Prelude.{◌≡◌, ◌||◌, slice_get};
+ghost use Rattle.std.specs.Prelude.{◌≡◌, ◌||◌, nat_eq, slice_get, Some, if◌then◌else◌};
+ghost use Rattle.std.specs.Option.{option_eq};
+ghost use Rattle.ppd_entry.specs.declared.entry.Entry.TheVariants as entry_of;
 ghost use Rattle.ppd_entry.specs.Entries.{is_end as is_end_of};
-ghost use Rattle.ppd_index.specs.Refusals.{begins as begins_in, continues as continues_in, ends_there as may_end, fault_of, fits_postlog as does_fit_postlog, fits_prelog as does_fit_prelog, fits_unit as does_fit_unit, is_body as is_body_of, is_fitting as is_fitting_in, is_of_function as is_function_of, is_paired as is_paired_in, is_process as is_process_of, is_same as is_same_as, kind_at as kind_in_plan};
+ghost use Rattle.ppd_index.specs.Refusals.{begins as begins_in, continues as continues_in, ends_there as may_end, fault_of, is_body as is_body_of, is_fitting as is_fitting_in, is_of_function as is_function_of, is_process as is_process_of, kind_at as kind_in_plan};
 
 use ppd_ast::limits::MOST_CALLS;
 use ppd_ast::{BlockKind, Plan, Status};
@@ -55,7 +57,7 @@ fn is_of_function(kind: Option<BlockKind>) -> bool
 }
 
 fn fits_prelog(plan: &Plan, block: u16, values: &[i64]) -> bool
-    ensures { result ≡ does_fit_prelog (slice_get plan.now.blocks block) values.now }
+    ensures { result ≡ is_fitting_in plan.now (entry_of.Prelog block values.now) }
 {
     match plan.blocks.get(block as usize) {
         Some(block) => values.len() == block.prelog.len(),
@@ -64,7 +66,7 @@ fn fits_prelog(plan: &Plan, block: u16, values: &[i64]) -> bool
 }
 
 fn fits_postlog(plan: &Plan, block: u16, values: &[i64]) -> bool
-    ensures { result ≡ does_fit_postlog (slice_get plan.now.blocks block) values.now }
+    ensures { result ≡ is_fitting_in plan.now (entry_of.Postlog block values.now) }
 {
     let Some(block) = plan.blocks.get(block as usize) else {
         return false;
@@ -78,7 +80,7 @@ fn fits_postlog(plan: &Plan, block: u16, values: &[i64]) -> bool
 }
 
 fn fits_unit(plan: &Plan, unit: u16, values: &[i64]) -> bool
-    ensures { result ≡ does_fit_unit (slice_get plan.now.units unit) values.now }
+    ensures { result ≡ is_fitting_in plan.now (entry_of.Unit unit values.now) }
 {
     match plan.units.get(unit as usize) {
         Some(unit) => values.len() == unit.cells.len(),
@@ -120,7 +122,7 @@ fn begins(plan: &Plan, body: u32, entry: &Entry) -> bool
 }
 
 fn is_same(block: u16, innermost: Option<u16>) -> bool
-    ensures { result ≡ is_same_as block innermost }
+    ensures { result ≡ option_eq nat_eq innermost (Some block) }
 {
     match innermost {
         Some(own) => own == block,
@@ -153,7 +155,9 @@ fn continues(plan: &Plan, standing: &Standing, entry: &Entry) -> bool
 }
 
 fn is_paired(plan: &Plan, body: u32, standing: &Standing, entry: &Entry) -> bool
-    ensures { result ≡ is_paired_in plan.now body standing.now entry.now }
+    ensures { result
+        ≡ (if nat_eq standing.now.entry 0 then begins_in plan.now body entry.now
+        else continues_in plan.now standing.now entry.now) }
 {
     if standing.entry == 0 {
         begins(plan, body, entry)

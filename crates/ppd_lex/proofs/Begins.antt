@@ -4,7 +4,8 @@ use Rattle.std.specs.Prelude.{codes}
 use Rattle.std.specs.List.{starts_with, prefix_len}
 use Rattle.ppd_lex.specs.declared.scan.Piece.TheVariants.{Gap}
 use Rattle.ppd_ast.specs.Digits.{is_digit}
-use Rattle.ppd_lex.specs.Front.{front, is_space, is_letter, is_name_byte, read_word, read_number, read_block, read_mark, close_from}
+use Rattle.ppd_lex.specs.Front.{front, is_space, is_letter, is_name_byte, read_word, read_number, read_mark, close_from}
+use Rattle.ppd_lex.proofs.Words.{read_block}
 
 pub data Begins (b : ℕ) (bs : List ℕ) : Type 0 where
   space : is_space b ≡ true → Begins b bs

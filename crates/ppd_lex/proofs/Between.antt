@@ -8,7 +8,8 @@ use Rattle.ppd_ast.specs.declared.limits.TheConstants.{MOST_NAME_BYTES}
 use Rattle.ppd_lex.specs.declared.token.Kind.{Kind}
 use Rattle.ppd_lex.specs.declared.scan.Fault.TheVariants as F
 use Rattle.ppd_lex.specs.declared.scan.Piece.TheVariants.{Gap, Read, Bad}
-use Rattle.ppd_lex.specs.Front.{front, is_name_byte, kind_in, keywords, marks, number_of, close_from, word_kind, read_word, read_value, read_number, read_block, read_single, read_pair, read_mark}
+use Rattle.ppd_lex.specs.Front.{front, is_name_byte, looked_up, keywords, marks, number_of, close_from, read_word, read_number, read_mark}
+use Rattle.ppd_lex.proofs.Words.{word_kind, read_value, read_block, read_single, read_pair}
 use Rattle.ppd_lex.specs.Gaps.{IsBlank, AreApart}
 use Rattle.ppd_lex.specs.Tokens.{Lexes, end, gap, token, IsTokens}
 use Rattle.ppd_lex.specs.declared.token.Token.{Token}
@@ -21,7 +22,7 @@ use Rattle.ppd_lex.proofs.Fronts.{close_bound, line_least}
 word_no_gap : (text : List ℕ) (n : ℕ) → read_word text ≡ Gap n → ⊥
 word_no_gap text n h = go (nat_lt MOST_NAME_BYTES (length text)) h
   where
-    go : (t : Bool) → cond t (Bad F.LongName) (Read (length text) (word_kind (kind_in keywords text) text)) ≡ Gap n → ⊥
+    go : (t : Bool) → cond t (Bad F.LongName) (Read (length text) (word_kind (looked_up keywords text) text)) ≡ Gap n → ⊥
     go true h = cc
     go false h = cc
 
@@ -37,12 +38,12 @@ single_no_gap (Some v) n h = cc
 single_no_gap None n h = cc
 
 mark_no_gap : (b : ℕ) (bs : List ℕ) (n : ℕ) → read_mark b bs ≡ Gap n → ⊥
-mark_no_gap b [] n h = single_no_gap (kind_in marks (b ∷ [])) n h
-mark_no_gap b (c ∷ cs) n h = go (kind_in marks (b ∷ c ∷ [])) h
+mark_no_gap b [] n h = single_no_gap (looked_up marks (b ∷ [])) n h
+mark_no_gap b (c ∷ cs) n h = go (looked_up marks (b ∷ c ∷ [])) h
   where
     go : (o : Option Kind) → read_pair o b ≡ Gap n → ⊥
     go (Some v) h = cc
-    go None h = single_no_gap (kind_in marks (b ∷ [])) n h
+    go None h = single_no_gap (looked_up marks (b ∷ [])) n h
 
 -- the elements as far as a test goes pass it
 front_passes : (test : ℕ → Bool) (xs : List ℕ) → list_all test (take (prefix_len test xs) xs) ≡ true

@@ -13,7 +13,8 @@ use Rattle.ppd_lex.specs.declared.scan.Piece.{Piece}
 use Rattle.ppd_lex.specs.declared.scan.Piece.TheVariants.{Gap, Read, Bad}
 use Rattle.ppd_lex.specs.declared.token.TokenKind.TheVariants.{End}
 use Rattle.ppd_ast.specs.Digits.{is_digit}
-use Rattle.ppd_lex.specs.Front.{front, is_space, is_letter, is_name_byte, kind_in, keywords, marks, number_of, value_of, close_from, word_kind, read_word, read_value, read_number, read_block, read_single, read_pair, read_mark}
+use Rattle.ppd_lex.specs.Front.{front, is_space, is_letter, is_name_byte, looked_up, keywords, marks, number_of, value_of, close_from, read_word, read_number, read_mark}
+use Rattle.ppd_lex.proofs.Words.{word_kind, read_value, read_block, read_single, read_pair}
 use Rattle.ppd_lex.specs.Formed.{IsKind}
 
 -- a piece of at most m bytes
@@ -53,9 +54,9 @@ close_bound before (b ∷ bs) n h = go (starts_with nat_eq (b ∷ bs) (codes "*/
     go false e h more = let k = more h in (omega (arith, k.0), omega (arith, k.1))
 
 word_proper : (m : ℕ) (text : List ℕ) → 0 < length text → length text ≤ m → IsProper m (read_word text)
-word_proper m text l h = by_test (IsProper m) (nat_lt MOST_NAME_BYTES (length text)) _ _ (λ t. tt) (λ t. (l, h, (go (kind_in keywords text) refl t).0, (go (kind_in keywords text) refl t).1))
+word_proper m text l h = by_test (IsProper m) (nat_lt MOST_NAME_BYTES (length text)) _ _ (λ t. tt) (λ t. (l, h, (go (looked_up keywords text) refl t).0, (go (looked_up keywords text) refl t).1))
   where
-    go : (o : Option Kind) → o ≡ kind_in keywords text → nat_lt MOST_NAME_BYTES (length text) ≡ false → IsKind (word_kind o text) × (word_kind o text ≢ End)
+    go : (o : Option Kind) → o ≡ looked_up keywords text → nat_lt MOST_NAME_BYTES (length text) ≡ false → IsKind (word_kind o text) × (word_kind o text ≢ End)
     go (Some kind) e t = ((text, sym e), λ x. cc)
     go None e t = ((l, grind (arith, nat_tests)), λ x. cc)
 
@@ -73,18 +74,18 @@ block_proper m bs h = go (close_from 2 bs) refl
     go (Some n) e = let k = close_bound 2 bs n (sym e) in (omega (arith, k.0), omega (arith, k.1))
     go None e = tt
 
-single_proper : (m b : ℕ) → 1 ≤ m → IsProper m (read_single (kind_in marks (b ∷ [])))
-single_proper m b h = go (kind_in marks (b ∷ [])) refl
+single_proper : (m b : ℕ) → 1 ≤ m → IsProper m (read_single (looked_up marks (b ∷ [])))
+single_proper m b h = go (looked_up marks (b ∷ [])) refl
   where
-    go : (o : Option Kind) → o ≡ kind_in marks (b ∷ []) → IsProper m (read_single o)
+    go : (o : Option Kind) → o ≡ looked_up marks (b ∷ []) → IsProper m (read_single o)
     go (Some n) e = (omega arith, h, (b ∷ [], sym e), λ x. cc)
     go None e = tt
 
 mark_proper : (b : ℕ) (bs : List ℕ) → IsProper (length (b ∷ bs)) (read_mark b bs)
 mark_proper b [] = single_proper 1 b (omega arith)
-mark_proper b (c ∷ cs) = go (kind_in marks (b ∷ c ∷ [])) refl
+mark_proper b (c ∷ cs) = go (looked_up marks (b ∷ c ∷ [])) refl
   where
-    go : (o : Option Kind) → o ≡ kind_in marks (b ∷ c ∷ []) → IsProper (length (b ∷ (c ∷ cs))) (read_pair o b)
+    go : (o : Option Kind) → o ≡ looked_up marks (b ∷ c ∷ []) → IsProper (length (b ∷ (c ∷ cs))) (read_pair o b)
     go (Some n) e = (omega arith, omega arith, (b ∷ c ∷ [], sym e), λ x. cc)
     go None e = single_proper (length (b ∷ (c ∷ cs))) b (omega arith)
 
@@ -131,7 +132,7 @@ front_proper (b ∷ bs) h =
 -- what a text of letters and digits is, by its length and by what the table of keywords has for it
 
 pub word_long : (text : List ℕ) → MOST_NAME_BYTES < length text → Bad LongName ≡ read_word text
-word_long text h = cond_below MOST_NAME_BYTES (length text) (Bad LongName) (Read (length text) (word_kind (kind_in keywords text) text)) h
+word_long text h = cond_below MOST_NAME_BYTES (length text) (Bad LongName) (Read (length text) (word_kind (looked_up keywords text) text)) h
 
-pub word_short : (text : List ℕ) (k : Option Kind) → length text ≤ MOST_NAME_BYTES → k ≡ kind_in keywords text → Read (length text) (word_kind k text) ≡ read_word text
-word_short text k h e = cond_above MOST_NAME_BYTES (length text) (Bad LongName) (Read (length text) (word_kind (kind_in keywords text) text)) (Read (length text) (word_kind k text)) h (ap (λ (o : Option Kind). Read (length text) (word_kind o text)) e)
+pub word_short : (text : List ℕ) (k : Option Kind) → length text ≤ MOST_NAME_BYTES → k ≡ looked_up keywords text → Read (length text) (word_kind k text) ≡ read_word text
+word_short text k h e = cond_above MOST_NAME_BYTES (length text) (Bad LongName) (Read (length text) (word_kind (looked_up keywords text) text)) (Read (length text) (word_kind k text)) h (ap (λ (o : Option Kind). Read (length text) (word_kind o text)) e)

@@ -12,3 +12,4 @@ pub mod Munch
 pub mod Numbers
 pub mod Places
 pub mod Unique
+pub mod Words

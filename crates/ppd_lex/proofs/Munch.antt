@@ -8,7 +8,8 @@ use Rattle.ppd_lex.specs.declared.token.Kind.{Kind}
 use Rattle.ppd_lex.specs.declared.scan.Piece.TheVariants.{Read, Bad}
 use Rattle.ppd_lex.specs.declared.scan.Fault.TheVariants as F
 use Rattle.ppd_lex.specs.declared.token.TokenKind.{TokenKind}
-use Rattle.ppd_lex.specs.Front.{front, is_name_byte, kind_in, keywords, marks, number_of, close_from, word_kind, read_word, read_value, read_number, read_block, read_single, read_pair, read_mark}
+use Rattle.ppd_lex.specs.Front.{front, is_name_byte, looked_up, keywords, marks, number_of, close_from, read_word, read_number, read_mark}
+use Rattle.ppd_lex.proofs.Words.{word_kind, read_value, read_block, read_single, read_pair}
 use Rattle.ppd_lex.proofs.Begins.{Begins, begins, space, word, number, line, block, mark, front_space, front_word, front_number, front_line, front_block, front_mark}
 
 pub take_after : (k x : ℕ) (xs : List ℕ) → take (1 + k) (x ∷ xs) ≡ x ∷ take k xs
@@ -41,7 +42,7 @@ starts_cut a c b (d ∷ ds) (suc m) h = h
 word_length : (text : List ℕ) (n : ℕ) (kind : TokenKind) → read_word text ≡ Read n kind → length text ≡ n
 word_length text n kind h = go (nat_lt MOST_NAME_BYTES (length text)) h
   where
-    go : (t : Bool) → cond t (Bad F.LongName) (Read (length text) (word_kind (kind_in keywords text) text)) ≡ Read n kind → length text ≡ n
+    go : (t : Bool) → cond t (Bad F.LongName) (Read (length text) (word_kind (looked_up keywords text) text)) ≡ Read n kind → length text ≡ n
     go true h = cc
     go false h = cc
 
@@ -55,9 +56,9 @@ number_length text n kind h = go (number_of text) h
 mark_cut : (b : ℕ) (bs : List ℕ) (m n : ℕ) (kind : TokenKind) → n ≤ suc m → read_mark b bs ≡ Read n kind → read_mark b (take m bs) ≡ Read n kind
 mark_cut b [] m n kind l h = ap (read_mark b) (take-nil m) ∙ h
 mark_cut b (c ∷ cs) (suc m) n kind l h = h
-mark_cut b (c ∷ cs) zero n kind l h = go (kind_in marks (b ∷ c ∷ [])) h
+mark_cut b (c ∷ cs) zero n kind l h = go (looked_up marks (b ∷ c ∷ [])) h
   where
-    go : (o : Option Kind) → read_pair o b ≡ Read n kind → read_single (kind_in marks (b ∷ [])) ≡ Read n kind
+    go : (o : Option Kind) → read_pair o b ≡ Read n kind → read_single (looked_up marks (b ∷ [])) ≡ Read n kind
     go (Some found) h = let two : 2 ≡ n = cc in absurd (omega arith)
     go None h = h
 

@@ -2,7 +2,8 @@
 use Rattle.std.proofs.Common.{◌≡◌, ◌<◌, ◌≤◌, ℕ, ◌+◌, ◌-◌, List, [], ◌∷◌, ◌++◌, length, drop, take, get_or, Bool, true, false, cond, refl, sym, ◌∙◌, ap, arith, drop-cons, add-one, nat_eq, length-take}
 use Rattle.std.proofs.Math.Seq.{take-add}
 use Rattle.ppd_ast.specs.declared.program.Place.{Place}
-use Rattle.ppd_lex.specs.Tokens.{after_bytes, after_byte, place_of, origin}
+use Rattle.ppd_lex.specs.Tokens.{after_byte, place_of, origin}
+use Rattle.ppd_lex.proofs.Words.{after_bytes}
 
 pub after_more : (p : Place) (bs : List ℕ) (i : ℕ) → i < length bs → after_bytes p (drop i bs) ≡ after_bytes (after_byte p (get_or bs i 0)) (drop (i + 1) bs)
 after_more p bs i h = let e : drop i bs ≡ get_or bs i 0 ∷ drop (i + 1) bs = rw (add-one, drop-cons bs i 0) in ap (after_bytes p) e

@@ -5,15 +5,15 @@ use Rattle.ppd_ast.specs.declared.program.Place.{Place}
 use Rattle.ppd_lex.specs.declared.token.Token.{Token}
 use Rattle.ppd_lex.specs.declared.token.TokenKind.{TokenKind}
 use Rattle.ppd_lex.specs.declared.token.TokenKind.TheVariants.{Name, Number, Word, Mark, End}
-use Rattle.ppd_lex.specs.Front.{keywords, marks, kind_in}
+use Rattle.ppd_lex.specs.Front.{keywords, marks, looked_up}
 
 -- a name of at least a byte that is not too long, a number of 0 to 9223372036854775807, the kind of a keyword or a mark, or the end
 abbrev pub IsKind : TokenKind → Type 0
 IsKind (Name text) = (1 ≤ length text) × (length text ≤ MOST_NAME_BYTES)
 IsKind (Number (pos n)) = n < 2 ^ 63
 IsKind (Number (negsuc n)) = ⊥
-IsKind (Word kind) = (text : List ℕ) × (kind_in keywords text ≡ Some kind)
-IsKind (Mark kind) = (text : List ℕ) × (kind_in marks text ≡ Some kind)
+IsKind (Word kind) = (text : List ℕ) × (looked_up keywords text ≡ Some kind)
+IsKind (Mark kind) = (text : List ℕ) × (looked_up marks text ≡ Some kind)
 IsKind End = Unit {0}
 
 -- lines and columns count from 1, and fit i32

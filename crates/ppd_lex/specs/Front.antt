@@ -1,6 +1,7 @@
 -- What stands at the front of some bytes: a gap, a token or a fault.
 use Rattle.std.specs.Prelude.{ℕ, pos, ◌+◌, ◌^◌, List, [], ◌∷◌, length, drop, Bool, not, ◌&&◌, ◌||◌, nat_eq, nat_lt, nat_le, if◌then◌else◌, Option, Some, None, take_while, codes}
 use Rattle.std.specs.List.{list_all, prefix_len, starts_with}
+use Rattle.std.specs.Option.{option_map_or}
 use Rattle.std.specs.Str.{bytes_eq}
 use Rattle.ppd_ast.specs.declared.limits.TheConstants.{MOST_NAME_BYTES}
 use Rattle.ppd_ast.specs.Digits.{is_digit, value_from}
@@ -41,14 +42,10 @@ marks =
     ∷ (codes "(", K.LeftParen) ∷ (codes ")", K.RightParen) ∷ (codes "{", K.LeftBrace) ∷ (codes "}", K.RightBrace)
     ∷ (codes "[", K.LeftBracket) ∷ (codes "]", K.RightBracket) ∷ (codes ";", K.Semicolon) ∷ (codes ",", K.Comma) ∷ []
 
--- the kind of the first entry of a table that passes
-abbrev pub kind_by : {X : Type 0} → (X → Bool) → (X → Kind) → List X → Option Kind
-kind_by passes kind [] = None
-kind_by passes kind (x ∷ xs) = if passes x then Some (kind x) else kind_by passes kind xs
-
--- the kind of the table's first entry of this text
-abbrev pub kind_in : List (List ℕ × Kind) → List ℕ → Option Kind
-kind_in table text = kind_by (λ entry. bytes_eq entry.0 text) (λ entry. entry.1) table
+-- what stands beside the first of the names that is this text
+abbrev pub looked_up : {A : Type 0} → List (List ℕ × A) → List ℕ → Option A
+looked_up [] text = None
+looked_up (e ∷ es) text = if bytes_eq text e.0 then Some e.1 else looked_up es text
 
 -- the number that digits write, where it is at most 9223372036854775807
 abbrev pub value_of : List ℕ → Option ℕ
@@ -65,46 +62,24 @@ abbrev pub close_from : ℕ → List ℕ → Option ℕ
 close_from n [] = None
 close_from n (b ∷ bs) = if starts_with nat_eq (b ∷ bs) (codes "*/") then Some (n + 2) else close_from (n + 1) bs
 
--- the keyword or the name that this text is
-abbrev pub word_kind : Option Kind → List ℕ → TokenKind
-word_kind (Some kind) text = Word kind
-word_kind None text = Name text
-
--- letters, digits and _ that begin with no digit
+-- letters, digits and _ that begin with no digit: a keyword or a name
 abbrev pub read_word : List ℕ → Piece
 read_word text =
-    if nat_lt MOST_NAME_BYTES (length text) then Bad LongName else Read (length text) (word_kind (kind_in keywords text) text)
-
--- a number of n bytes
-abbrev pub read_value : ℕ → Option ℕ → Piece
-read_value n (Some value) = Read n (Number (pos value))
-read_value n None = Bad BadNumber
+    if nat_lt MOST_NAME_BYTES (length text) then Bad LongName
+    else Read (length text) (option_map_or Word (looked_up keywords text) (Name text))
 
 -- letters, digits and _ that begin with a digit
 abbrev pub read_number : List ℕ → Piece
-read_number text = read_value (length text) (number_of text)
+read_number text = option_map_or (λ value. Read (length text) (Number (pos value))) (number_of text) (Bad BadNumber)
 
--- a comment up to its end
-abbrev pub read_block : Option ℕ → Piece
-read_block (Some n) = Gap n
-read_block None = Bad OpenComment
-
--- the mark of this one byte
-abbrev pub read_single : Option Kind → Piece
-read_single (Some kind) = Read 1 (Mark kind)
-read_single None = Bad BadByte
-
--- the mark of two bytes, or else that of the first of them
-abbrev pub read_pair : Option Kind → ℕ → Piece
-read_pair (Some kind) b = Read 2 (Mark kind)
-read_pair None b = read_single (kind_in marks (b ∷ []))
-
--- the longest mark that begins with b
+-- the longest mark that begins with b: of two bytes, or else of b alone
 abbrev pub read_mark : ℕ → List ℕ → Piece
-read_mark b [] = read_single (kind_in marks (b ∷ []))
-read_mark b (c ∷ cs) = read_pair (kind_in marks (b ∷ c ∷ [])) b
+read_mark b [] = option_map_or (λ kind. Read 1 (Mark kind)) (looked_up marks (b ∷ [])) (Bad BadByte)
+read_mark b (c ∷ cs) =
+    option_map_or (λ kind. Read 2 (Mark kind)) (looked_up marks (b ∷ c ∷ []))
+    (option_map_or (λ kind. Read 1 (Mark kind)) (looked_up marks (b ∷ [])) (Bad BadByte))
 
--- What stands at the front. No byte is no token.
+-- What stands at the front; a comment from `/*` on ends at the first `*/`. No byte is no token.
 abbrev pub front : List ℕ → Piece
 front [] = Bad BadByte
 front (b ∷ bs) =
@@ -112,5 +87,5 @@ front (b ∷ bs) =
     else (if is_letter b then read_word (take_while is_name_byte (b ∷ bs))
     else (if is_digit b then read_number (take_while is_name_byte (b ∷ bs))
     else (if starts_with nat_eq (b ∷ bs) (codes "//") then Gap (prefix_len (λ c. not (nat_eq c 10)) (b ∷ bs))
-    else (if starts_with nat_eq (b ∷ bs) (codes "/*") then read_block (close_from 2 (drop 2 (b ∷ bs)))
+    else (if starts_with nat_eq (b ∷ bs) (codes "/*") then option_map_or Gap (close_from 2 (drop 2 (b ∷ bs))) (Bad OpenComment)
     else read_mark b bs))))

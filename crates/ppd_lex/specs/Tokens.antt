@@ -1,5 +1,5 @@
 -- The tokens of a source, or the first fault in it.
-use Rattle.std.specs.Prelude.{◌≡◌, ◌<◌, ◌≤◌, ℕ, ◌+◌, ◌^◌, List, [], ◌∷◌, length, take, drop, nat_eq, if◌then◌else◌}
+use Rattle.std.specs.Prelude.{◌≡◌, ◌<◌, ◌≤◌, ℕ, ◌+◌, ◌^◌, List, [], ◌∷◌, length, take, drop, fold, nat_eq, if◌then◌else◌}
 use Rattle.ppd_ast.specs.declared.program.Place.{Place}
 use Rattle.ppd_lex.specs.declared.token.Token.{Token}
 use Rattle.ppd_lex.specs.declared.token.TokenKind.{TokenKind}
@@ -14,18 +14,14 @@ use Rattle.ppd_lex.specs.Front.{front}
 abbrev pub origin : Place
 origin = record { line = 1; column = 1 }
 
--- the place after a byte, and after bytes: byte 10 ends a line
+-- the place after a byte: byte 10 ends a line
 abbrev pub after_byte : Place → ℕ → Place
 after_byte p b =
     if nat_eq b 10 then record { line = p.line + 1; column = 1 } else record { line = p.line; column = p.column + 1 }
 
-abbrev pub after_bytes : Place → List ℕ → Place
-after_bytes p [] = p
-after_bytes p (b ∷ bs) = after_bytes (after_byte p b) bs
-
 -- the place of the byte with this number from 0
 abbrev pub place_of : List ℕ → ℕ → Place
-place_of bytes i = after_bytes origin (take i bytes)
+place_of bytes i = fold after_byte origin (take i bytes)
 
 -- the token of n bytes from byte i on
 abbrev pub token_at : List ℕ → ℕ → ℕ → TokenKind → Token

@@ -1,8 +1,8 @@
 //! The tokens of a source, or its first lexical fault.
 #![tactic(auto)]
 
-ghost use Rattle.std.specs.Prelude.{◌≡◌, ◌<◌, ◌≤◌, ◌+◌, ◌^◌, length, IfOk, IfErr, IsErrOf};
-ghost use Rattle.ppd_lex.specs.Tokens.{after_byte, after_bytes, origin, IsTokens, IsRefused, error_of};
+ghost use Rattle.std.specs.Prelude.{◌≡◌, ◌<◌, ◌≤◌, ◌+◌, ◌^◌, length, fold, IfOk, IfErr, IsErrOf};
+ghost use Rattle.ppd_lex.specs.Tokens.{after_byte, origin, IsTokens, IsRefused, error_of};
 ghost use Rattle.ppd_lex.specs.Formed.{AreFormed};
 
 mod laws;
@@ -39,7 +39,7 @@ fn after_byte(place: Place, b: u8) -> Place
 fn after(place: Place, bytes: &[u8]) -> Place
     requires sum { place.line + place.column + length bytes.now < 2 ^ 31 }
     requires column { 1 ≤ place.column }
-    ensures { result ≡ after_bytes place bytes.now }
+    ensures { result ≡ fold after_byte place bytes.now }
 {
     let mut place = place;
     for b in bytes {

@@ -1,6 +1,9 @@
 // What stands at the front of some bytes.
 ghost use Rattle.std.specs.Prelude.{◌≡◌, ◌<◌, ◌+◌, ◌^◌, length, IfOk};
-ghost use Rattle.ppd_lex.specs.Front.{front, read_word, read_number, read_block, read_mark, close_from};
+ghost use Rattle.ppd_lex.specs.Front.{front, read_word, read_number, read_mark, close_from};
+ghost use Rattle.std.specs.Option.{option_map_or};
+ghost use Rattle.ppd_lex.specs.declared.scan.Fault.TheVariants.{OpenComment};
+ghost use Rattle.ppd_lex.specs.declared.scan.Piece.TheVariants.{Gap, Bad};
 
 use crate::text::{close_from, is_letter, is_space, keyword, line_len, mark, name_len, number_of};
 use crate::token::TokenKind;
@@ -57,7 +60,7 @@ fn read_number(text: &[u8]) -> Piece
 // A block comment, by what follows its `/*`.
 fn read_block(rest: &[u8]) -> Piece
     requires { 2 + length rest.now < 2 ^ 63 }
-    ensures { result ≡ read_block (close_from 2 rest.now) }
+    ensures { result ≡ option_map_or Gap (close_from 2 rest.now) (Bad OpenComment) }
 {
     match close_from(2, rest) {
         Some(n) => Piece::Gap(n),

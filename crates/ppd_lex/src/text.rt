@@ -1,9 +1,9 @@
 // Classes of bytes, the tables of keywords and marks, and what some bytes are.
-ghost use Rattle.std.specs.Prelude.{◌≡◌, ◌<◌, ◌≤◌, ◌+◌, ◌^◌, length, not, nat_eq, position, IfSome};
+ghost use Rattle.std.specs.Prelude.{◌≡◌, ◌<◌, ◌≤◌, ◌+◌, ◌^◌, length, map, not, nat_eq, position, IfSome};
 ghost use Rattle.std.specs.List.{prefix_len};
 ghost use Rattle.std.specs.Str.{bytes_eq};
 ghost use Rattle.ppd_ast.specs.Digits.{is_digit};
-ghost use Rattle.ppd_lex.specs.Front.{is_space, is_letter, is_name_byte, keywords, marks, kind_by, kind_in, value_of, number_of, close_from};
+ghost use Rattle.ppd_lex.specs.Front.{is_space, is_letter, is_name_byte, keywords, marks, looked_up, value_of, number_of, close_from};
 
 use crate::token::Kind;
 use ppd_ast::is_digit;
@@ -96,14 +96,14 @@ pub fn line_len(bytes: &[u8]) -> usize
 
 // Where the table's first entry of this text stands.
 fn index_in(table: &[(&str, Kind)], text: &[u8]) -> Option<usize>
-    ensures { result ≡ position (λ entry. bytes_eq entry.0.now text.now) table.now }
+    ensures { result ≡ position (λ entry. bytes_eq text.now entry.0.now) table.now }
 {
-    table.iter().position(|entry| entry.0.as_bytes() == text)
+    table.iter().position(|entry| text == entry.0.as_bytes())
 }
 
 // The kind of the table's first entry of this text.
 fn kind_in(table: &[(&str, Kind)], text: &[u8]) -> Option<Kind>
-    ensures { result ≡ kind_by (λ entry. bytes_eq entry.0.now text.now) (λ entry. entry.1) table.now }
+    ensures { result ≡ looked_up (map (λ entry. (entry.0.now, entry.1)) table.now) text.now }
 {
     match index_in(table, text) {
         Some(index) => Some(table[index].1),
@@ -113,14 +113,14 @@ fn kind_in(table: &[(&str, Kind)], text: &[u8]) -> Option<Kind>
 
 // The keyword that these bytes are.
 pub fn keyword(text: &[u8]) -> Option<Kind>
-    ensures { result ≡ kind_in keywords text.now }
+    ensures { result ≡ looked_up keywords text.now }
 {
     kind_in(&KEYWORDS, text)
 }
 
 // The mark that these bytes are.
 pub fn mark(text: &[u8]) -> Option<Kind>
-    ensures { result ≡ kind_in marks text.now }
+    ensures { result ≡ looked_up marks text.now }
 {
     kind_in(&MARKS, text)
 }

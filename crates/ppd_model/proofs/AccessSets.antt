@@ -1,6 +1,6 @@
 -- The cells of an edge's accesses, rising.
 use Rattle.std.proofs.Common.{◌≡◌, ℕ, zero, suc, ◌+◌, ◌<◌, ◌≤◌, Bool, true, false, cond, ◌&&◌, ◌||◌, List, [], ◌∷◌, ◌++◌, Some, refl, ap, sym, subst, ◌∙◌, arith, length, map, get_or, nat_eq, nat_lt, eqb-true, ne_eqb, ltb-true}
-use Rattle.std.specs.Prelude.{filter, fold, slice_get, ⊤}
+use Rattle.std.specs.Prelude.{filter, fold, slice_get}
 use Rattle.std.specs.List.{list_any}
 use Rattle.std.specs.List.Sorted.{IsStrictlyIncreasing}
 use Rattle.std.proofs.lemmas.Bool.Decides.{nat_tests}

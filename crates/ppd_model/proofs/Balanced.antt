@@ -10,7 +10,8 @@ use Rattle.ppd_sem.specs.declared.proc.Need.{Need}
 use Rattle.ppd_sem.specs.declared.proc.Need.TheVariants.{Write, P, V, Send, Offer, Done, Recv}
 use Rattle.ppd_model.specs.Bounds.{AreEach, CountsAreBalanced, IsBalanced, IsBalancedChan, IsBalancedSem}
 use Rattle.ppd_model.specs.Schedule.{run_from, started_world}
-use Rattle.ppd_model.specs.World.{World, Channel, Counts, can, can_complete, can_receive, can_send, can_take, change, effect, need, room, room_of, step}
+use Rattle.ppd_model.specs.World.{World, Channel, Counts, can, change, effect, need, room, room_of, step}
+use Rattle.ppd_model.proofs.WorldWords.{can_complete, can_receive, can_send, can_take}
 use Rattle.ppd_model.proofs.Bounded.{Goes, goes}
 use Rattle.ppd_model.proofs.Changes.{some}
 

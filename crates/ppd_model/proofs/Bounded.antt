@@ -16,8 +16,9 @@ use Rattle.ppd_sem.specs.Measure.{measure}
 use Rattle.ppd_sem.specs.Process.{act, need_of, started}
 use Rattle.ppd_sem.proofs.Progress.{act-falls, act-within, IsWithinBudget}
 use Rattle.ppd_model.specs.Bounds.{SchedulesAreBounded, steps_left}
-use Rattle.ppd_model.specs.Schedule.{run_from, started_procs, started_world}
-use Rattle.ppd_model.specs.World.{World, answer, can, change, enabled, need, need_at, step}
+use Rattle.ppd_model.specs.Schedule.{run_from, started_world}
+use Rattle.ppd_model.proofs.WorldWords.{need_at, started_procs}
+use Rattle.ppd_model.specs.World.{World, answer, can, change, enabled, need, step}
 use Rattle.ppd_model.proofs.Changes.{change-else, length-change, some}
 
 -- no process has overspent its budget

@@ -18,7 +18,8 @@ use Rattle.ppd_sem.specs.Process.{head_deed, top_cells}
 use Rattle.ppd_sem.specs.Described.{is_event}
 use Rattle.ppd_sem.proofs.OfKind.{IsDeedOf, OfAsked, asked_holds, invokes}
 use Rattle.ppd_model.specs.declared.trace.EventId.{EventId}
-use Rattle.ppd_model.specs.FullTrace.{Activation, Tag, Tracing, all_tagged, event_of, me_in, tagged, tagged_after, tagged_at, tagged_by, tagged_into, trace_step, with_test}
+use Rattle.ppd_model.specs.FullTrace.{Activation, Tag, Tracing, all_tagged, event_of, me_in, tagged, tagged_after, tagged_by, tagged_into, trace_step, with_test}
+use Rattle.ppd_model.proofs.TraceWords.{tagged_at}
 use Rattle.ppd_model.specs.Story.{Story, Taken}
 use Rattle.ppd_model.proofs.TestSteps.{all_tagged_views, event_acts, into_views, tagged_views, views}
 

@@ -15,11 +15,11 @@ use Rattle.ppd_ast.specs.declared.plan.Unit.{Unit as UnitOf}
 use Rattle.ppd_ast.specs.declared.program.Body.{Body}
 use Rattle.ppd_ast.specs.declared.program.Program.{Program}
 use Rattle.ppd_ast.specs.declared.status.Status.{Status}
-use Rattle.ppd_ast.specs.Bare.{gives as gives_value}
+use Rattle.ppd_ast.proofs.Vocabulary.{gives as gives_value, params_of_body}
 use Rattle.ppd_ast.specs.Valid.{IsValid}
 use Rattle.ppd_ast.specs.ValidPlan.{IsBlockOf, IsFunctionBlock, IsValidPlan}
-use Rattle.ppd_ast.specs.Lookups.{kind_of, params_of_body, body_of}
-use Rattle.ppd_sem.specs.Blocks.{postlog_cells, postlog_in, prelog_cells, prelog_in}
+use Rattle.ppd_ast.specs.Lookups.{kind_of, body_of}
+use Rattle.ppd_sem.specs.Blocks.{postlog_cells, prelog_cells}
 use Rattle.ppd_entry.specs.declared.entry.Entry.{Entry}
 use Rattle.ppd_sem.specs.declared.asking.Pause.TheVariants.{Wants, Traps}
 use Rattle.ppd_sem.specs.declared.proc.Answer.{Answer}
@@ -31,24 +31,30 @@ use Rattle.ppd_sem.specs.declared.proc.Todo.{Todo}
 use Rattle.ppd_sem.specs.Ask.{cell_of}
 use Rattle.ppd_sem.specs.Asked.{Asked, outcome}
 use Rattle.ppd_sem.specs.Deed.{Deed, set_local, set_shared, clear, branch, turn, leave, invoke, back, take, give, send, receive, print, pass, finish}
-use Rattle.ppd_sem.specs.Passed.{arguments_at, arguments_by, arguments_of_head, result_at, result_by, result_of_head}
-use Rattle.ppd_sem.specs.Process.{act, act_at, act_by_asked, act_by_need, charged, cost, entry_of, head_deed, need_by_entry, need_by_offer, need_by_status, need_of, need_of_asked, need_of_head, need_of_leaving, need_of_running, need_of_send, offer_of, top_body, top_cells, values_of}
-use Rattle.ppd_sem.specs.Tables.{block_of, capacity_of, length_of, postlog_length, prelog_length, returned_length, same_block, unit_length, unit_of}
+use Rattle.ppd_sem.specs.Passed.{arguments_at, arguments_by, result_at, result_by}
+use Rattle.ppd_sem.specs.Process.{act, act_by_asked, act_by_need, charged, cost, entry_of, head_deed, need_of, need_of_asked, need_of_head, need_of_leaving, need_of_send, offer_of, top_body, top_cells, values_of}
+use Rattle.ppd_sem.specs.Tables.{block_of, capacity_of, returned_length, same_block, unit_length, unit_of}
 use Rattle.ppd_sem.proofs.Paid.{need-paid}
 use Rattle.ppd_sem.proofs.Progress.{IsWithinBudget, SamePurse, act-stopped, act-within, asked_purse, need_at_status, need_at_todo}
 use Rattle.ppd_sem.specs.Runs.{bodies_in}
 use Rattle.ppd_model.specs.Costs.{CostsWhatItWrites, HasSpentNothing, HasWholePrelogs, IsWholeBlock, LogsArePaid, StartsAreFree, StepsCostWhatTheyWrite, values_in}
 use Rattle.ppd_model.specs.Laws.{logged_moment}
-use Rattle.ppd_model.specs.Logs.{Logging, begun_log, ends, entries_of, log_step, loggings, logs_from, postlogs, prelogs, status_of, syncs, units}
+use Rattle.ppd_model.specs.Logs.{Logging, begun_log, ends, entries_of, log_step, loggings, postlogs, prelogs, status_of, syncs, units}
 use Rattle.ppd_model.specs.Marks.{Mark, closed, opened}
 use Rattle.ppd_model.specs.Schedule.{started_world}
-use Rattle.ppd_model.specs.Story.{Moment, Taken, Telling, begun, cells_of_unit, moment_of, steps_of, tell, told, unit_started, values_at_start, values_of_unit}
+use Rattle.ppd_model.specs.Story.{Moment, Taken, Telling, begun, cells_of_unit, moment_of, steps_of, tell, told, unit_started, values_of_unit}
 use Rattle.ppd_model.specs.States.{states_from}
 use Rattle.ppd_model.specs.Synchronizations.{Sync, sync_of}
-use Rattle.ppd_model.specs.World.{World, change, need, need_at, step}
+use Rattle.ppd_model.specs.World.{World, change, need, step}
 use Rattle.ppd_model.proofs.Changes.{change-at, change-else, some}
 use Rattle.ppd_model.proofs.Homes.{AreHome, AskedOf, IsHome, act-home, head_of, started-home}
 use Rattle.ppd_model.proofs.States.{logged, logs-change, one_state, states-begun, states-tell}
+use Rattle.std.specs.Option.{option_map_or}
+use Rattle.ppd_sem.proofs.TableWords.{prelog_in}
+use Rattle.ppd_sem.proofs.EventWords.{arguments_of_head, result_of_head}
+use Rattle.ppd_sem.proofs.NeedWords.{act_at, need_by_entry, need_by_offer, need_by_status, need_of_running}
+use Rattle.ppd_model.proofs.LogWords.{logs_from}
+use Rattle.ppd_model.proofs.WorldWords.{need_at, values_at_start}
 
 -- ---- the values in entries
 
@@ -146,23 +152,23 @@ one_if false None e = refl
 one_if false (Some v) e = absurd cc
 
 prelog_of_call : (program : Program) (plan : Plan) (f b : ℕ) (values : List ℤ) → IsValidPlan program plan → HasWholePrelogs program plan → block_of plan (block.Function f) ≡ Some b
-    → length values ≡ params_of_body (slice_get program.bodies f) → prelog_length plan b ≡ length values
+    → length values ≡ params_of_body (slice_get program.bodies f) → length (prelog_cells plan b) ≡ length values
 prelog_of_call program plan f b values v w e count =
     let x : FunctionBlock program plan f b = function_block program plan f b v w e in
-    ap (λ o. length_of o (λ y. y.prelog)) x.is ∙ params_are (slice_get program.bodies f) x.found x.whole ∙ sym count
+    ap (λ o. length (prelog_in o)) x.is ∙ params_are (slice_get program.bodies f) x.found x.whole ∙ sym count
 
 postlog_of_return : (program : Program) (plan : Plan) (f b : ℕ) (value : Option ℤ) → IsValidPlan program plan → HasWholePrelogs program plan → block_of plan (block.Function f) ≡ Some b
     → is_some value ≡ gives_value (slice_get program.bodies f) → returned_length plan (Some b) ≡ length (option_to_list value)
 postlog_of_return program plan f b value v w e gives =
     let x : FunctionBlock program plan f b = function_block program plan f b v w e in
     let is : x.found.value ≡ gives_value (slice_get program.bodies f) = value_is (slice_get program.bodies f) x.found x.valid in
-    ap (λ o. elim o [ None ↦ 0 | Some y ↦ if y.value then 1 else 0 ]) x.is ∙ one_if x.found.value value (gives ∙ sym is)
+    ap (λ o. option_map_or (λ (y : Block). if y.value then 1 else 0) o 0) x.is ∙ one_if x.found.value value (gives ∙ sym is)
 
 -- ---- what is known of a need
 
 -- a call passes as many values as its block's prelog lists, and a return as many as its block gives
 abbrev Tells : Program → Plan → Proc → Need → Type 0
-Tells program plan s (Invoke (Some b) u) = prelog_length plan b ≡ length (arguments_at program s)
+Tells program plan s (Invoke (Some b) u) = length (prelog_cells plan b) ≡ length (arguments_at program s)
 Tells program plan s (Back (Some b) u) = returned_length plan (Some b) ≡ length (result_at program s)
 Tells program plan s n = ⊤
 
@@ -238,24 +244,16 @@ module _ (program : Program) (plan : Plan) (valid : IsValidPlan program plan) (w
 
 -- ---- the values that the cost counts
 
-length_prelog : (o : Option Block) → length_of o (λ x. x.prelog) ≡ length (prelog_in o)
-length_prelog None = refl
-length_prelog (Some x) = refl
-
-length_postlog : (o : Option Block) → length_of o (λ x. x.postlog) ≡ length (postlog_in o)
-length_postlog None = refl
-length_postlog (Some x) = refl
-
-length_unit : (o : Option UnitOf) → length_of o (λ x. x.cells) ≡ length (cells_of_unit o)
+length_unit : (o : Option UnitOf) → option_map_or (λ (x : UnitOf). length x.cells) o 0 ≡ length (cells_of_unit o)
 length_unit None = refl
 length_unit (Some x) = refl
 
 module _ (program : Program) (plan : Plan) (shared : List ℤ) (s : Proc) where
-  prelog_values : (b : ℕ) → prelog_length plan b ≡ length (map (cell_of (top_cells s.frames)) (prelog_cells plan b))
-  prelog_values b = length_prelog (slice_get plan.blocks b) ∙ sym (length-map (prelog_cells plan b) (cell_of (top_cells s.frames)))
+  prelog_values : (b : ℕ) → length (prelog_cells plan b) ≡ length (map (cell_of (top_cells s.frames)) (prelog_cells plan b))
+  prelog_values b = sym (length-map (prelog_cells plan b) (cell_of (top_cells s.frames)))
 
-  postlog_values : (b : ℕ) → postlog_length plan b ≡ length (map (cell_of (top_cells s.frames)) (postlog_cells plan b))
-  postlog_values b = length_postlog (slice_get plan.blocks b) ∙ sym (length-map (postlog_cells plan b) (cell_of (top_cells s.frames)))
+  postlog_values : (b : ℕ) → length (postlog_cells plan b) ≡ length (map (cell_of (top_cells s.frames)) (postlog_cells plan b))
+  postlog_values b = sym (length-map (postlog_cells plan b) (cell_of (top_cells s.frames)))
 
   unit_values : (u : ℕ) → unit_length plan u ≡ length (values_of_unit plan shared u)
   unit_values u = length_unit (slice_get plan.units u) ∙ sym (length-map (cells_of_unit (slice_get plan.units u)) (λ c. get_or shared c (pos 0)))
@@ -269,7 +267,7 @@ module _ (program : Program) (plan : Plan) (shared : List ℤ) (s : Proc) where
   counted (Leave b u) h = omega (arith, postlog_values b, unit_values u)
   counted (Invoke None u) h = omega (arith, unit_values u)
   counted (Invoke (Some b) u) h =
-      let passed : prelog_length plan b ≡ length (arguments_at program s) = h in
+      let passed : length (prelog_cells plan b) ≡ length (arguments_at program s) = h in
       omega (arith, unit_values u)
   counted (Back None None) h = refl
   counted (Back None (Some u)) h = omega (arith, unit_values u)

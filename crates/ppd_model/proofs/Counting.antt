@@ -8,7 +8,8 @@ use Rattle.ppd_sem.specs.declared.proc.Need.TheVariants as n
 use Rattle.ppd_model.specs.World.{World, Counts, Channel, change, effect}
 use Rattle.ppd_ast.specs.declared.status.SyncKind.{SyncKind}
 use Rattle.ppd_ast.specs.declared.status.SyncKind.TheVariants.{P, V, Send, Recv, Done}
-use Rattle.ppd_model.specs.Story.{number_after, number_of}
+use Rattle.ppd_model.specs.Story.{number_of}
+use Rattle.ppd_model.proofs.WorldWords.{number_after}
 use Rattle.ppd_model.specs.Synchronizations.{Sync, kind_of_sync, numbered}
 use Rattle.ppd_model.specs.Numbers.{count_of, count_in}
 use Rattle.ppd_model.proofs.Changes.{change-at, change-else}

@@ -25,7 +25,9 @@ use Rattle.ppd_sem.specs.Runs.{size_if}
 use Rattle.ppd_model.specs.declared.trace.EventId.{EventId}
 use Rattle.ppd_model.specs.declared.trace.TracedEvent.{TracedEvent}
 use Rattle.ppd_model.specs.Earlier.{AreEarlier, EachNamesEarlier, IsEarlier, IsEarlierAt, NamesEarlier, TracesNameEarlierEvents, TracesTellRuns, own_events}
-use Rattle.ppd_model.specs.FullTrace.{Activation, Tag, Test, Tracing, all_tagged, answers_past, begun_tracing, called, event_of, into_at, latest, me_in, of_outer, of_run, or_else, parent_at, parent_in, tag_at, tagged, tagged_after, tagged_at, tagged_by, tagged_into, tags_of, tests_after, top_tags, trace_by, trace_step, traced_by, with_event, with_test}
+use Rattle.ppd_model.specs.FullTrace.{Activation, Tag, Test, Tracing, all_tagged, answers_past, begun_tracing, called, event_of, into_at, latest, me_in, of_run, parent_at, parent_in, tag_at, tagged, tagged_after, tagged_by, tagged_into, tags_of, tests_after, top_tags, trace_by, trace_step, traced_by, with_event, with_test}
+use Rattle.std.specs.Option.{option_or}
+use Rattle.ppd_model.proofs.TraceWords.{of_outer, tagged_at}
 use Rattle.ppd_model.specs.Story.{Story, Taken}
 
 -- ---- the run
@@ -211,13 +213,13 @@ module _ (p : ℕ) where
   outer_past k None tests h = tt
   outer_past k (Some s) tests h = event_past k (latest s tests) (latest_past k s tests h)
 
-  else_past : (k : ℕ) (a b : Tag) → IsEarlier p k a → IsEarlier p k b → IsEarlier p k (or_else a b)
+  else_past : (k : ℕ) (a b : Tag) → IsEarlier p k a → IsEarlier p k b → IsEarlier p k (option_or a b)
   else_past k None b h g = g
   else_past k (Some e) b h g = h
 
   in_past : (k : ℕ) (program : Program) (s : ℕ) (x : Activation) → IsPast k x → IsEarlier p k (parent_in program s x)
   in_past k program s x h =
-      else_past k (of_run (kind_of program s) (latest s x.tests)) (or_else (of_outer (parent_if (slice_get program.stmts s)) x.tests) x.call)
+      else_past k (of_run (kind_of program s) (latest s x.tests)) (option_or (of_outer (parent_if (slice_get program.stmts s)) x.tests) x.call)
       (run_past k (kind_of program s) (latest s x.tests) (latest_past k s x.tests h.tests))
       (else_past k (of_outer (parent_if (slice_get program.stmts s)) x.tests) x.call (outer_past k (parent_if (slice_get program.stmts s)) x.tests h.tests) h.call)
 

@@ -9,7 +9,8 @@ use Rattle.ppd_entry.specs.Pieces.{Piece, finish, nested, postlog, sync, unfinis
 use Rattle.ppd_entry.specs.IntervalLogs.{Indexed, Indexing, add_piece, add_piece_at, begun_indexing, index_step, inner as index_inner, interval_at, left_interval as index_left, left_open}
 use Rattle.ppd_entry.specs.declared.entry.Entry.{Entry}
 use Rattle.ppd_entry.specs.declared.entry.Entry.TheVariants as entry
-use Rattle.ppd_model.specs.Extents.{AreMatched, none, within, pair, AreOpen, matched, opened, Extending, Extent, ExtentsAreIndexed, ExtentsMatch, IsLeftAt, IsNotLeft, begun_extents, ended_by, extend, first_of, is_within, left_by}
+use Rattle.ppd_model.specs.Extents.{AreMatched, none, within, pair, AreOpen, matched, opened, Extending, Extent, ExtentsAreIndexed, ExtentsMatch, IsLeftAt, IsNotLeft, extend, first_of, is_within}
+use Rattle.ppd_model.proofs.ExtentWords.{begun_extents, ended_by, left_by}
 use Rattle.ppd_model.specs.World.{change}
 use Rattle.ppd_model.proofs.Changes.{change-at, change-else, length-change, some}
 use Rattle.ppd_model.proofs.CountedOn.{kept_at, last_at, cases_at}

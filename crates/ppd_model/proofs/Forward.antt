@@ -11,7 +11,8 @@ use Rattle.ppd_ast.specs.declared.program.Sem.{Sem}
 use Rattle.ppd_ast.specs.declared.status.SyncKind.{SyncKind}
 use Rattle.ppd_ast.specs.declared.status.SyncKind.TheVariants.{P, V, Send, Recv, Done}
 use Rattle.ppd_ast.proofs.ValidLaws.{slice_get_there, slice_get_below}
-use Rattle.ppd_sem.specs.Tables.{capacity_in, capacity_of}
+use Rattle.ppd_sem.specs.Tables.{capacity_of}
+use Rattle.ppd_sem.proofs.TableWords.{capacity_in}
 use Rattle.ppd_model.specs.declared.graph.NodeId.{NodeId}
 use Rattle.ppd_model.specs.declared.state.Channel.{Channel}
 use Rattle.ppd_model.specs.declared.state.Counts.{Counts}
@@ -21,7 +22,8 @@ use Rattle.ppd_model.specs.Schedule.{run, run_from, started_world}
 use Rattle.ppd_model.specs.Story.{Moment, Telling, begun, moment_of, steps_of, tell, told}
 use Rattle.ppd_model.specs.Synchronizations.{Sync, is_number, leads, leads_at, led_to, sync_of, syncs_of}
 use Rattle.ppd_model.specs.Record.{sync_record}
-use Rattle.ppd_model.specs.HappenedBefore.{Before, direct, through, earlier, across, is_next, node, own_syncs, sync_at}
+use Rattle.ppd_model.specs.HappenedBefore.{Before, direct, through, earlier, across, node, own_syncs, sync_at}
+use Rattle.ppd_model.proofs.OrderWords.{is_next}
 use Rattle.ppd_model.specs.Numbers.{count_in, count_of}
 use Rattle.ppd_model.specs.Forward.{EdgesGoForward, RecordsAreClosed, edge_in}
 use Rattle.ppd_model.proofs.Balanced.{balanced}

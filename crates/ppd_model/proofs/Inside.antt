@@ -16,7 +16,8 @@ use Rattle.ppd_ast.specs.declared.program.Stmt.{Stmt}
 use Rattle.ppd_ast.specs.declared.status.Status.{Status}
 use Rattle.ppd_ast.specs.declared.status.Status.TheVariants as status
 use Rattle.ppd_ast.specs.declared.status.Trap.TheVariants.{Depth}
-use Rattle.ppd_ast.specs.Lookups.{kind_of_stmt, kind_of, top_of_body, body_of_stmt, body_of}
+use Rattle.ppd_ast.specs.Lookups.{kind_of, top_of_body, body_of_stmt, body_of}
+use Rattle.ppd_ast.proofs.Vocabulary.{kind_of_stmt}
 use Rattle.ppd_ast.proofs.ValidLaws.{some_and}
 use Rattle.ppd_ast.specs.Counting.{one_if}
 use Rattle.ppd_ast.specs.declared.limits.TheConstants.{MOST_CALLS}
@@ -29,9 +30,11 @@ use Rattle.ppd_sem.specs.declared.proc.Proc.{Proc}
 use Rattle.ppd_sem.specs.declared.proc.Todo.{Todo}
 use Rattle.ppd_sem.specs.Asked.{Asked}
 use Rattle.ppd_sem.specs.Deed.{Deed, set_local, set_shared, clear, branch, turn, leave, invoke, back, take, give, send, receive, print, pass, finish}
-use Rattle.ppd_sem.specs.Process.{act, act_at, act_by_asked, act_by_deed, act_by_need, call_unit, cost, entry_of, head_deed, loop_of, need_by_entry, need_by_offer, need_of, need_of_asked, need_of_deed, need_of_head, need_of_leaving, need_of_running, need_of_send, offer_of, started, todos, top_body, top_call, top_cells, value_of}
+use Rattle.ppd_sem.specs.Process.{act, act_by_asked, act_by_deed, act_by_need, call_unit, cost, entry_of, head_deed, loop_of, need_of, need_of_asked, need_of_deed, need_of_head, need_of_leaving, need_of_send, offer_of, started, todos, top_body, top_call, top_cells, value_of}
+use Rattle.ppd_sem.proofs.NeedWords.{act_at, need_by_entry, need_by_offer, need_of_running}
 use Rattle.ppd_sem.specs.Runs.{returns, bodies_in}
-use Rattle.ppd_sem.specs.Tables.{block_of, capacity_of, or_zero, unit_of}
+use Rattle.ppd_sem.specs.Tables.{block_of, capacity_of, unit_of}
+use Rattle.ppd_sem.proofs.TableWords.{or_zero}
 use Rattle.ppd_sem.proofs.Kept.{There, there_at}
 use Rattle.ppd_sem.proofs.Progress.{act-stopped, need_at_status, need_at_todo}
 use Rattle.ppd_model.proofs.Changes.{some}

@@ -11,7 +11,8 @@ use Rattle.ppd_ast.specs.declared.plan.Plan.{Plan}
 use Rattle.ppd_ast.specs.declared.program.Program.{Program}
 use Rattle.ppd_sem.specs.Described.{frame_of, is_event}
 use Rattle.ppd_sem.specs.Process.{act, need_of, started}
-use Rattle.ppd_sem.specs.Tables.{block_of, or_zero}
+use Rattle.ppd_sem.specs.Tables.{block_of}
+use Rattle.ppd_sem.proofs.TableWords.{or_zero}
 use Rattle.ppd_sem.specs.declared.proc.Need.{Need}
 use Rattle.ppd_sem.specs.declared.proc.Need.TheVariants as n
 use Rattle.ppd_sem.specs.declared.proc.Proc.{Proc}
@@ -19,9 +20,10 @@ use Rattle.ppd_sem.proofs.Progress.{need_at_status}
 use Rattle.ppd_ast.specs.declared.status.Status.{Status}
 use Rattle.ppd_ast.proofs.ValidLaws.{slice_get_there}
 use Rattle.ppd_model.specs.declared.trace.EventId.{EventId}
-use Rattle.ppd_model.specs.FlowbackEdges.{part_in}
+use Rattle.ppd_model.proofs.EdgeWords.{part_in}
 use Rattle.ppd_model.specs.FullTrace.{Tag, Tracing, begun_tracing, me_in, top_tags, trace_by}
-use Rattle.ppd_model.specs.Intervals.{Part, own, nested, Span, Split, begin_if, begin_span, begun_split, change_first, control_by, end_if, innermost, is_own, item_at, item_of, item_of_event, item_of_span, left_by, new_span, place_in, place_or, ref_in, split_of, split_step, splits_from, with_marks, with_own, with_part, with_step}
+use Rattle.ppd_model.specs.Intervals.{Part, own, nested, Span, Split, begin_span, begun_split, change_first, control_by, innermost, is_own, item_of, left_by, new_span, place_in, split_of, split_step, with_marks, with_own, with_part, with_step}
+use Rattle.ppd_model.proofs.IntervalWords.{begin_if, end_if, item_at, item_of_event, item_of_span, place_or, ref_in, splits_from}
 use Rattle.ppd_model.specs.Items.{ItemsAreWhole}
 use Rattle.ppd_model.specs.LocalTags.{AreOwn}
 use Rattle.ppd_model.specs.Marks.{Mark, closed, opened}

@@ -5,7 +5,8 @@ use Rattle.std.specs.Prelude.{IsTrue, is_some, nat_eq, slice_get}
 use Rattle.ppd_ast.specs.declared.program.Program.{Program}
 use Rattle.ppd_model.specs.declared.graph.NodeId.{NodeId}
 use Rattle.ppd_model.specs.Synchronizations.{Sync, leads_at}
-use Rattle.ppd_model.specs.HappenedBefore.{Before, EdgeBefore, across, direct, earlier, edge, is_direct, is_next, node, own_syncs, sync_at, through}
+use Rattle.ppd_model.specs.HappenedBefore.{Before, EdgeBefore, across, direct, earlier, edge, is_direct, node, own_syncs, sync_at, through}
+use Rattle.ppd_model.proofs.OrderWords.{is_next}
 use Rattle.ppd_model.specs.Laws.{LastEdgesAreOpen}
 
 past_the_end : {A : Type 0} (xs : List A) → slice_get xs (length xs) ≡ None

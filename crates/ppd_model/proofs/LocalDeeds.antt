@@ -12,7 +12,8 @@ use Rattle.ppd_ast.specs.Lookups.{kind_of}
 use Rattle.ppd_sem.specs.declared.event.Access.{Access}
 use Rattle.ppd_sem.specs.declared.proc.Frame.{Frame}
 use Rattle.ppd_sem.specs.Described.{cleared, local_write, parameters}
-use Rattle.ppd_sem.specs.Process.{cells_for, clear_top, into_of, new_frame, receive_at, returned, returned_from, top_call, write_top}
+use Rattle.ppd_sem.specs.Process.{clear_top, into_of, new_frame, receive_at, returned, returned_from, top_call, write_top}
+use Rattle.ppd_sem.proofs.NeedWords.{cells_for}
 use Rattle.ppd_sem.specs.Runs.{size_if, sizes}
 use Rattle.ppd_sem.proofs.Kept.{length-clear}
 use Rattle.ppd_model.specs.FullTrace.{Activation, Tag, all_tagged, called, into_at, tagged, tagged_into}

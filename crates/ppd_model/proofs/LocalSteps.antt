@@ -23,8 +23,10 @@ use Rattle.std.proofs.lemmas.Option.{none-some}
 use Rattle.ppd_sem.specs.Ask.{ask}
 use Rattle.ppd_sem.specs.Asked.{Asked, and_then, gives}
 use Rattle.ppd_sem.specs.Deed.{Deed, set_local, set_shared, clear, branch, turn, leave, invoke, back, take, give, send, receive, print, pass, finish, ask_deed}
-use Rattle.ppd_sem.specs.Described.{frame_of, trap_of, writes_by, writes_of_asked, is_event}
-use Rattle.ppd_sem.specs.Process.{act, act_by_asked, act_by_need, chan_of, entry_of, head_deed, need_by_entry, need_by_offer, need_by_status, need_of, need_of_asked, need_of_head, need_of_leaving, need_of_running, need_of_send, offer_of, top_cells, value_of}
+use Rattle.ppd_sem.specs.Described.{frame_of, trap_of, writes_by, is_event}
+use Rattle.ppd_sem.proofs.EventWords.{writes_of_asked}
+use Rattle.ppd_sem.specs.Process.{act, act_by_asked, act_by_need, chan_of, entry_of, head_deed, need_of, need_of_asked, need_of_head, need_of_leaving, need_of_send, offer_of, top_cells, value_of}
+use Rattle.ppd_sem.proofs.NeedWords.{need_by_entry, need_by_offer, need_by_status, need_of_running}
 use Rattle.ppd_sem.specs.Tables.{capacity_of}
 use Rattle.ppd_sem.proofs.Offers.{offer_there}
 use Rattle.ppd_sem.specs.Runs.{sizes}

@@ -14,7 +14,8 @@ use Rattle.ppd_model.specs.LocalTags.{AreOwn, HasTags, IsLastLocalWrite, IsLocal
 use Rattle.ppd_model.specs.Schedule.{started_world}
 use Rattle.ppd_model.specs.States.{act_on, states_from}
 use Rattle.ppd_model.specs.Story.{Story, Taken, Telling, begun, moment_of, own_steps, steps_of, story, tell, told}
-use Rattle.ppd_model.specs.World.{change, need_at}
+use Rattle.ppd_model.specs.World.{change}
+use Rattle.ppd_model.proofs.WorldWords.{need_at}
 use Rattle.ppd_model.proofs.FromEnd.{hit, miss, past}
 use Rattle.ppd_model.proofs.LocalSteps.{tags_its_writes}
 use Rattle.ppd_model.proofs.States.{states-begun, states-tell}

@@ -17,10 +17,13 @@ use Rattle.ppd_sem.specs.declared.proc.Need.TheVariants as n
 use Rattle.ppd_sem.specs.declared.proc.Proc.{Proc}
 use Rattle.ppd_model.specs.declared.trace.EventId.{EventId}
 use Rattle.ppd_model.specs.Bounds.{AreEach}
-use Rattle.ppd_model.specs.Extents.{Extending, Extent, IntervalsAreOfLogs, IsSameInterval, begun_extents, ended_by, extend, extents, first_of, left_by as extents_left}
+use Rattle.ppd_model.specs.Extents.{Extending, Extent, IntervalsAreOfLogs, IsSameInterval, extend, extents, first_of}
+use Rattle.ppd_model.proofs.ExtentWords.{begun_extents, ended_by, left_by as extents_left}
 use Rattle.ppd_model.specs.FullTrace.{Tag, Tracing, me_in, top_tags}
-use Rattle.ppd_model.specs.Intervals.{own, Span, Split, begin_if, begun_split, change_first, control_by, end_if, innermost, is_closed, left_by, split_of, split_step, with_marks, with_own, with_part, with_step}
-use Rattle.ppd_model.specs.Logs.{Logging, begun_log, closed_log, ends, entries_of, log_of, log_step, logs_from, postlogs, prelogs, status_of, syncs, units}
+use Rattle.ppd_model.specs.Intervals.{own, Span, Split, begun_split, change_first, control_by, innermost, is_closed, left_by, split_of, split_step, with_marks, with_own, with_part, with_step}
+use Rattle.ppd_model.proofs.IntervalWords.{begin_if, end_if}
+use Rattle.ppd_model.specs.Logs.{Logging, begun_log, closed_log, ends, entries_of, log_of, log_step, postlogs, prelogs, status_of, syncs, units}
+use Rattle.ppd_model.proofs.LogWords.{logs_from}
 use Rattle.ppd_model.specs.Marks.{Mark, closed, opened}
 use Rattle.ppd_model.specs.Story.{Moment, Story, Taken, steps_of, story, told, unit_started}
 use Rattle.ppd_model.specs.Synchronizations.{Sync, sync_of}

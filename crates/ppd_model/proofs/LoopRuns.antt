@@ -18,8 +18,10 @@ use Rattle.ppd_sem.specs.declared.proc.Todo.{Todo}
 use Rattle.ppd_sem.specs.Ask.{ask, is_zero}
 use Rattle.ppd_sem.specs.Asked.{Asked, and_then, gives}
 use Rattle.ppd_sem.specs.Deed.{ask_deed, leave, turn}
-use Rattle.ppd_sem.specs.Described.{evaluates, value_at, value_if, valued, is_event}
-use Rattle.ppd_sem.specs.Process.{act, act_at, act_by_asked, act_by_need, head_deed, need_of, started, todos, top_cells}
+use Rattle.ppd_sem.specs.Described.{evaluates, value_at, valued, is_event}
+use Rattle.ppd_sem.proofs.EventWords.{value_if}
+use Rattle.ppd_sem.specs.Process.{act, act_by_asked, act_by_need, head_deed, need_of, started, todos, top_cells}
+use Rattle.ppd_sem.proofs.NeedWords.{act_at}
 use Rattle.ppd_sem.specs.Runs.{returns}
 use Rattle.ppd_model.specs.FullTrace.{Tracing, begun_tracing, event_of, is_passed, me_in, trace_step, with_test}
 use Rattle.ppd_model.specs.LocalTags.{AreOwn, HasTags}

@@ -15,9 +15,10 @@ use Rattle.ppd_sem.proofs.Lawful.{named}
 use Rattle.ppd_model.specs.Laws.{begins}
 use Rattle.ppd_model.specs.Prefixes.{Good, Sizes}
 use Rattle.ppd_model.specs.Schedule.{started_world}
-use Rattle.ppd_model.specs.Story.{Taken, Telling, moment_of, number_after, number_of, own_steps, steps_of, story, taken_of, tell}
+use Rattle.ppd_model.specs.Story.{Taken, Telling, moment_of, number_of, own_steps, steps_of, story, tell}
+use Rattle.ppd_model.proofs.WorldWords.{need_at, number_after, taken_of}
 use Rattle.ppd_model.specs.Synchronizations.{kind_of_sync, numbered, sync_of}
-use Rattle.ppd_model.specs.World.{Channel, Counts, change, need, need_at}
+use Rattle.ppd_model.specs.World.{Channel, Counts, change, need}
 use Rattle.ppd_model.proofs.Prefixes.{good_next, good_start}
 use Rattle.ppd_model.proofs.Stories.{steps-change}
 

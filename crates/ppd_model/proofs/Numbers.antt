@@ -12,9 +12,10 @@ use Rattle.ppd_ast.specs.declared.status.SyncKind.TheVariants.{P, V, Send, Recv,
 use Rattle.ppd_sem.specs.declared.proc.Need.{Need}
 use Rattle.ppd_sem.specs.declared.proc.Need.TheVariants as n
 use Rattle.ppd_sem.specs.declared.proc.Proc.{Proc}
-use Rattle.ppd_model.specs.World.{World, Counts, Channel, change, effect, need, need_at}
+use Rattle.ppd_model.specs.World.{World, Counts, Channel, change, effect, need}
+use Rattle.ppd_model.proofs.WorldWords.{need_at, number_after}
 use Rattle.ppd_model.specs.Schedule.{started_world}
-use Rattle.ppd_model.specs.Story.{Moment, Taken, Telling, begun, moment_of, number_after, number_of, steps_of, tell}
+use Rattle.ppd_model.specs.Story.{Moment, Taken, Telling, begun, moment_of, number_of, steps_of, tell}
 use Rattle.ppd_model.specs.Synchronizations.{Sync, kind_of_sync, numbered, sync_of, syncs_of}
 use Rattle.ppd_model.specs.Numbers.{Counting, IsCounted, count_in, count_of}
 use Rattle.ppd_model.specs.Laws.{SynchronizationsAreCounted}

@@ -18,7 +18,8 @@ use Rattle.ppd_model.specs.FullTrace.{trace_of}
 use Rattle.ppd_model.specs.Record.{accesses, record_of}
 use Rattle.ppd_model.specs.Races.{races_of}
 use Rattle.ppd_model.specs.Marks.{Mark, closed, opened}
-use Rattle.ppd_model.specs.Logs.{Logging, begun_log, closed_log, end_of, ends, ends_from, entries_of, log_step, loggings, logs_from, postlogs, prelogs, rest_after, syncs, units, with_access}
+use Rattle.ppd_model.specs.Logs.{Logging, begun_log, closed_log, end_of, ends, ends_from, entries_of, log_step, loggings, postlogs, prelogs, rest_after, syncs, units, with_access}
+use Rattle.ppd_model.proofs.LogWords.{logs_from}
 use Rattle.ppd_model.specs.Intervals.{intervals, items}
 use Rattle.ppd_model.specs.FlowbackEdges.{edges, last}
 use Rattle.ppd_model.specs.NearIntervals.{near_intervals}

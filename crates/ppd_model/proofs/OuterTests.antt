@@ -15,7 +15,8 @@ use Rattle.ppd_ast.specs.Lookups.{kind_of, top_of_body, parent_if}
 use Rattle.ppd_sem.specs.declared.event.Event.{Event}
 use Rattle.ppd_sem.specs.declared.proc.Proc.{Proc}
 use Rattle.ppd_sem.specs.declared.proc.Todo.{Todo}
-use Rattle.ppd_sem.specs.Process.{act_at, need_by_status, need_of, need_of_running, started, todos}
+use Rattle.ppd_sem.specs.Process.{need_of, started, todos}
+use Rattle.ppd_sem.proofs.NeedWords.{act_at, need_by_status, need_of_running}
 use Rattle.ppd_sem.specs.Runs.{IsInner, IsRunnableBody, returns}
 use Rattle.ppd_sem.proofs.Kept.{There, there_at}
 use Rattle.ppd_sem.proofs.Validity.{valid-runnable}

@@ -9,7 +9,8 @@ use Rattle.ppd_sem.specs.declared.proc.Need.TheVariants.{Read, Enter, Budget, St
 use Rattle.ppd_sem.specs.Process.{need_of, started}
 use Rattle.ppd_sem.specs.Described.{is_event}
 use Rattle.ppd_model.specs.declared.trace.TracedEvent.{TracedEvent}
-use Rattle.ppd_model.specs.FullTrace.{Tracing, begun_tracing, event_of, events_from, full_trace, trace_by, trace_step, traced_by, tracing_of}
+use Rattle.ppd_model.specs.FullTrace.{Tracing, begun_tracing, event_of, full_trace, trace_by, trace_step, traced_by, tracing_of}
+use Rattle.ppd_model.proofs.TraceWords.{events_from}
 use Rattle.ppd_model.specs.LocalTags.{AreOwn, HasTags}
 use Rattle.ppd_model.specs.Parents.{HasParent, IsParent, ParentsAreLatestTests}
 use Rattle.ppd_model.specs.Story.{Story, Taken, own_steps, story}

@@ -13,10 +13,13 @@ use Rattle.ppd_ast.specs.Numbered.{is_while, is_call}
 use Rattle.ppd_sem.specs.declared.proc.Frame.{Frame}
 use Rattle.ppd_sem.specs.declared.proc.Proc.{Proc}
 use Rattle.ppd_sem.specs.declared.proc.Todo.{Todo}
-use Rattle.ppd_sem.specs.Process.{act, need_by_status, need_of, need_of_running}
+use Rattle.ppd_sem.specs.Process.{act, need_of}
+use Rattle.ppd_sem.proofs.NeedWords.{need_by_status, need_of_running}
 use Rattle.ppd_sem.specs.Described.{is_event}
 use Rattle.ppd_model.specs.declared.trace.EventId.{EventId}
-use Rattle.ppd_model.specs.FullTrace.{Activation, Test, Tracing, event_of, latest, me_in, of_outer, of_run, or_else, parent_at, parent_in, trace_step}
+use Rattle.ppd_model.specs.FullTrace.{Activation, Test, Tracing, event_of, latest, me_in, of_run, parent_at, parent_in, trace_step}
+use Rattle.std.specs.Option.{option_or}
+use Rattle.ppd_model.proofs.TraceWords.{of_outer}
 use Rattle.ppd_model.specs.LocalTags.{AreOwn, HasTags, from_end}
 use Rattle.ppd_model.specs.Parents.{GoesOn, IsBegunBy, IsFirst, IsFromStart, IsLatestTest, IsOutermost, IsParent, IsUntested, Lasts, StandsIn, is_test}
 use Rattle.ppd_model.specs.Story.{Story, Taken}
@@ -225,24 +228,24 @@ record Inside (o : Option ℕ) (tests : List Test) (call : Option EventId) : Typ
   outer_is : o ≡ Some outer
   test : Test
   test_is : latest outer tests ≡ Some test
-  parent_is : or_else (of_outer o tests) call ≡ Some test.event
+  parent_is : option_or (of_outer o tests) call ≡ Some test.event
 
 -- or in none
 record Outside (o : Option ℕ) (tests : List Test) (call : Option EventId) : Type 0 where
   untested : (outer : ℕ) → o ≡ Some outer → latest outer tests ≡ None
-  parent_is : or_else (of_outer o tests) call ≡ call
+  parent_is : option_or (of_outer o tests) call ≡ call
 
 by_latest : (r : ℕ) (tests : List Test) (call : Option EventId) (q : Option Test) → latest r tests ≡ q → Inside (Some r) tests call ⊎ Outside (Some r) tests call
 by_latest r tests call None e = inr (record {
   untested = λ outer is. ap (λ i. latest i tests) (sym (some is)) ∙ e;
-  parent_is = ap (λ (o : Option Test). or_else (option_map (λ (x : Test). x.event) o) call) e;
+  parent_is = ap (λ (o : Option Test). option_or (option_map (λ (x : Test). x.event) o) call) e;
 })
 by_latest r tests call (Some y) e = inl (record {
   outer = r;
   outer_is = refl;
   test = y;
   test_is = e;
-  parent_is = ap (λ (o : Option Test). or_else (option_map (λ (x : Test). x.event) o) call) e;
+  parent_is = ap (λ (o : Option Test). option_or (option_map (λ (x : Test). x.event) o) call) e;
 })
 
 by_outer : (o : Option ℕ) (tests : List Test) (call : Option EventId) → Inside o tests call ⊎ Outside o tests call
@@ -317,12 +320,12 @@ module _ (program : Program) (plan : Plan) (story : Story) (p : ℕ) (frames : L
         loops = r.loops;
         event = r.test.event;
         latest = subst (λ b. IsLatestTest program plan story p k s t xs r.test.event b) r.passed (to_latest s r.test (tests_are s ∙ r.test_is));
-        parent_is = ap (λ o. or_else o (or_else (of_outer (parent_if (slice_get program.stmts s)) a.tests) a.call)) r.run_is;
+        parent_is = ap (λ o. option_or o (option_or (of_outer (parent_if (slice_get program.stmts s)) a.tests) a.call)) r.run_is;
       }
 
       -- where no run goes on
-      parent_is : Starts (kind_of program s) (latest s a.tests) → parent_in program s a ≡ or_else (of_outer (parent_if (slice_get program.stmts s)) a.tests) a.call
-      parent_is h = ap (λ o. or_else o (or_else (of_outer (parent_if (slice_get program.stmts s)) a.tests) a.call)) h.run_is
+      parent_is : Starts (kind_of program s) (latest s a.tests) → parent_in program s a ≡ option_or (of_outer (parent_if (slice_get program.stmts s)) a.tests) a.call
+      parent_is h = ap (λ o. option_or o (option_or (of_outer (parent_if (slice_get program.stmts s)) a.tests) a.call)) h.run_is
 
       stands_in : Starts (kind_of program s) (latest s a.tests) → Inside (parent_if (slice_get program.stmts s)) a.tests a.call → StandsIn program plan story p k s t xs (parent_in program s a)
       stands_in h i = record {

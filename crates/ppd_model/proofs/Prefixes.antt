@@ -8,7 +8,7 @@ use Rattle.ppd_ast.specs.declared.program.Program.{Program}
 use Rattle.ppd_sem.specs.declared.proc.Need.{Need}
 use Rattle.ppd_sem.specs.declared.proc.Need.TheVariants as n
 use Rattle.ppd_sem.specs.Process.{act}
-use Rattle.ppd_sem.specs.Tables.{capacity_in}
+use Rattle.ppd_sem.proofs.TableWords.{capacity_in}
 use Rattle.ppd_model.specs.declared.state.Channel.{Channel}
 use Rattle.ppd_model.specs.Laws.{begins}
 use Rattle.ppd_model.specs.Prefixes.{Good, ObjectsStay, SchedulesGoByPrefixes, Sizes, channel_capacity, told_to}

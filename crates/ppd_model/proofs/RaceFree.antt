@@ -15,7 +15,8 @@ use Rattle.ppd_model.specs.Story.{Story, Taken, own_steps}
 use Rattle.ppd_model.specs.Synchronizations.{Sync, sync_of, syncs_of}
 use Rattle.ppd_model.specs.Record.{SharedAccess, access_at, accesses, accesses_from, edge_after, record_of}
 use Rattle.ppd_model.specs.HappenedBefore.{EdgeBefore, edge, is_edge_before}
-use Rattle.ppd_model.specs.Races.{Edges, candidates, edges_of_story, first_writes, has_access, is_race, kinds, own_edges, race, races_of, second_writes, writes_or_not}
+use Rattle.ppd_model.specs.Races.{Edges, candidates, edges_of_story, first_writes, has_access, is_race, kinds, race, races_of, second_writes, writes_or_not}
+use Rattle.ppd_model.proofs.OrderWords.{own_edges}
 use Rattle.ppd_model.specs.Laws.{DoConflict, NoRaceMeansOrder}
 use Rattle.ppd_model.proofs.Tested.{In, here, there, from_zero, in_left, in_map, in_range, in_right, tests_edges}
 

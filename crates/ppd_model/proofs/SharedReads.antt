@@ -12,7 +12,8 @@ use Rattle.ppd_sem.specs.declared.proc.Need.TheVariants.{Read, Write, Stopped}
 use Rattle.ppd_sem.specs.declared.proc.Proc.{Proc}
 use Rattle.ppd_model.specs.declared.trace.EventId.{EventId}
 use Rattle.ppd_model.specs.declared.tracing.Taken.{Taken}
-use Rattle.ppd_model.specs.World.{World, change, need, need_at, writes_cell}
+use Rattle.ppd_model.specs.World.{World, change, need, writes_cell}
+use Rattle.ppd_model.proofs.WorldWords.{need_at}
 use Rattle.ppd_model.specs.Schedule.{run, started_world}
 use Rattle.ppd_model.specs.Story.{Telling, begun, moment_of, own_steps, steps_of, story, tell, told}
 use Rattle.ppd_model.specs.States.{states_from}

@@ -11,7 +11,8 @@ use Rattle.ppd_model.specs.Schedule.{started_world}
 use Rattle.ppd_model.specs.Story.{Moment, Story, Taken, Telling, begun, moment_of, steps_of, tell, told}
 use Rattle.ppd_model.specs.States.{act_on, state_of, states_from}
 use Rattle.ppd_model.specs.FullTrace.{Tracing, begun_tracing, trace_step}
-use Rattle.ppd_model.specs.Logs.{Logging, begun_log, log_of, log_step, logs_from}
+use Rattle.ppd_model.specs.Logs.{Logging, begun_log, log_of, log_step}
+use Rattle.ppd_model.proofs.LogWords.{logs_from}
 use Rattle.ppd_model.specs.Intervals.{Split, begun_split, split_step}
 use Rattle.ppd_model.specs.Laws.{HasOneState, LogsGrow, ProcessesFollowTheirSteps}
 use Rattle.ppd_model.proofs.Stories.{steps-change, told-append}

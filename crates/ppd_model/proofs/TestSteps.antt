@@ -16,10 +16,12 @@ use Rattle.ppd_sem.specs.declared.proc.Proc.{Proc}
 use Rattle.ppd_sem.specs.declared.proc.Todo.{Todo}
 use Rattle.ppd_sem.specs.Asked.{Asked}
 use Rattle.ppd_sem.specs.Deed.{Deed, set_local, clear, invoke, back, receive}
-use Rattle.ppd_sem.specs.Process.{head_deed, need_by_status, need_of, need_of_running}
+use Rattle.ppd_sem.specs.Process.{head_deed, need_of}
+use Rattle.ppd_sem.proofs.NeedWords.{need_by_status, need_of_running}
 use Rattle.ppd_sem.specs.Described.{is_event}
 use Rattle.ppd_model.specs.declared.trace.EventId.{EventId}
-use Rattle.ppd_model.specs.FullTrace.{Activation, Tag, Test, Tracing, all_tagged, event_of, is_passed, latest, me_in, tagged, tagged_after, tagged_at, tagged_by, tagged_into, tests_after, trace_by, trace_step, with_event, with_test}
+use Rattle.ppd_model.specs.FullTrace.{Activation, Tag, Test, Tracing, all_tagged, event_of, is_passed, latest, me_in, tagged, tagged_after, tagged_by, tagged_into, tests_after, trace_by, trace_step, with_event, with_test}
+use Rattle.ppd_model.proofs.TraceWords.{tagged_at}
 use Rattle.ppd_model.specs.LocalTags.{HasTags, from_end}
 use Rattle.ppd_model.specs.Parents.{is_choice, is_test, is_test_at}
 use Rattle.ppd_model.specs.Story.{Story, Taken}

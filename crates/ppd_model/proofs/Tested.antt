@@ -7,7 +7,8 @@ use Rattle.ppd_ast.specs.declared.program.Program.{Program}
 use Rattle.ppd_model.specs.declared.graph.NodeId.{NodeId}
 use Rattle.ppd_model.specs.Synchronizations.{Sync, leads_at}
 use Rattle.ppd_model.specs.declared.graph.EdgeId.{EdgeId}
-use Rattle.ppd_model.specs.HappenedBefore.{Before, EdgeBefore, across as across_to, closed_through, direct, earlier, ends_before, is_before, is_direct, is_edge_before, is_next, node, nodes, nodes_from, sync_at, through}
+use Rattle.ppd_model.specs.HappenedBefore.{Before, EdgeBefore, across as across_to, closed_through, direct, earlier, ends_before, is_before, is_direct, is_edge_before, node, nodes, sync_at, through}
+use Rattle.ppd_model.proofs.OrderWords.{is_next, nodes_from}
 use Rattle.ppd_model.specs.Laws.{IsTestOfBefore, IsTestOfEdges}
 
 pub data In {A : Type 0} : A → List A → Type 0 where

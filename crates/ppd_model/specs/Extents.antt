@@ -9,7 +9,7 @@ use Rattle.ppd_model.specs.World.{change}
 use Rattle.ppd_model.specs.Story.{story}
 use Rattle.ppd_model.specs.Bounds.{AreEach}
 use Rattle.ppd_model.specs.Logs.{Logging, closed_log, loggings}
-use Rattle.ppd_model.specs.Intervals.{Span, Split, is_closed, splits}
+use Rattle.ppd_model.specs.Intervals.{Span, Split, change_first, is_closed, splits}
 
 -- ---- what matches
 
@@ -79,17 +79,7 @@ abbrev pub first_of : List ℕ → Option ℕ
 first_of [] = None
 first_of (k ∷ ks) = Some k
 
--- interval k is left by this entry
-abbrev pub left_by : ℕ → List ℕ → List Extent → List Extent
-left_by j [] xs = xs
-left_by j (k ∷ ks) xs = change (λ x. record x { last = Some j; closed = true }) k xs
-
--- the process ended by this entry inside these intervals
-abbrev pub ended_by : ℕ → List ℕ → List Extent → List Extent
-ended_by j [] xs = xs
-ended_by j (k ∷ ks) xs = ended_by j ks (change (λ x. record x { last = Some j }) k xs)
-
--- what an entry adds
+-- what an entry adds: a postlog leaves the innermost interval, and an end stands inside all that are running
 abbrev pub extend_by : Extending → Entry → Extending
 extend_by x (entry.Prelog b values) =
     record x {
@@ -98,21 +88,23 @@ extend_by x (entry.Prelog b values) =
       running = length x.extents ∷ x.running;
     }
 extend_by x (entry.Postlog b values) =
-    record x { extents = left_by x.entry x.running x.extents; running = drop 1 x.running }
-extend_by x (entry.End status rest reads writes) = record x { extents = ended_by x.entry x.running x.extents }
+    record x {
+      extents = change_first (λ (i : Extent). record i { last = Some x.entry; closed = true }) x.running x.extents;
+      running = drop 1 x.running;
+    }
+extend_by x (entry.End status rest reads writes) =
+    record x {
+      extents = fold (λ ys k. change (λ (i : Extent). record i { last = Some x.entry }) k ys) x.extents x.running;
+    }
 extend_by x e = x
 
 -- one more entry
 abbrev pub extend : Extending → Entry → Extending
 extend x e = record (extend_by x e) { entry = x.entry + 1 }
 
--- before the first entry
-abbrev pub begun_extents : Extending
-begun_extents = record { extents = []; running = []; entry = 0 }
-
 -- the intervals of a process's entries
 abbrev pub extents : List Entry → List Extent
-extents entries = (fold extend begun_extents entries).extents
+extents entries = (fold extend (record { extents = []; running = []; entry = 0 }) entries).extents
 
 -- ---- what they are
 

@@ -1,5 +1,5 @@
 -- The flowback edges of an item: where what it read, was left, was given and was let run by came from.
-use Rattle.std.specs.Prelude.{ℕ, ℤ, pos, List, [], ◌∷◌, ◌++◌, map, zip, get_or, slice_get, Option, Some, None, option_map}
+use Rattle.std.specs.Prelude.{ℕ, ℤ, pos, List, [], ◌∷◌, ◌++◌, map, zip, get_or, slice_get, Option, Some, None, option_map, option_and_then}
 use Rattle.ppd_sem.specs.Blocks.{block_kind, postlog_cells}
 use Rattle.ppd_ast.specs.declared.plan.BlockKind.{BlockKind}
 use Rattle.ppd_ast.specs.declared.plan.BlockKind.TheVariants as block
@@ -8,7 +8,6 @@ use Rattle.ppd_ast.specs.declared.program.Kind.{Kind}
 use Rattle.ppd_ast.specs.declared.program.Kind.TheVariants as kind
 use Rattle.ppd_ast.specs.declared.program.Program.{Program}
 use Rattle.ppd_ast.specs.Lookups.{kind_of}
-use Rattle.ppd_sem.specs.declared.event.Access.{Access}
 use Rattle.ppd_sem.specs.declared.event.Spot.TheVariants.{Local}
 use Rattle.ppd_model.specs.declared.flow.EdgeKind.{EdgeKind}
 use Rattle.ppd_model.specs.declared.flow.EdgeKind.TheVariants.{Read, Left, Returned, Sync, Control}
@@ -33,10 +32,6 @@ from_parent xs (Some e) = ref xs e
 
 -- ---- of an event
 
--- from the event that last wrote the place that is read
-abbrev pub read_edge : List Split → Access × Tag → FlowEdge
-read_edge xs r = record { kind = Read; spot = Some r.0.spot; value = Some r.0.value; from = from_writer xs r.1 }
-
 -- an edge without spot and value
 abbrev pub bare_edge : EdgeKind → Origin → FlowEdge
 bare_edge kind from = record { kind = kind; spot = None; value = None; from = from }
@@ -47,10 +42,11 @@ sync_edges xs k (Some e) = bare_edge Sync (ref xs e) ∷ []
 sync_edges xs (kind.P s) None = bare_edge Sync origin.Initial ∷ []
 sync_edges xs k None = []
 
--- the reads in order, the synchronization, and control
+-- the reads in order, each from the event that last wrote the place, the synchronization, and control
 abbrev pub edges_of_event : Program → List Split → TracedEvent → List FlowEdge
 edges_of_event program xs e =
-    map (read_edge xs) (zip e.event.reads e.writers)
+    map (λ r. record { kind = Read; spot = Some r.0.spot; value = Some r.0.value; from = from_writer xs r.1 })
+    (zip e.event.reads e.writers)
     ++ sync_edges xs (kind_of program e.event.stmt) e.paired
     ++ bare_edge Control (from_parent xs e.parent) ∷ []
 
@@ -86,29 +82,15 @@ abbrev pub edges_of_part : Program → Plan → List Split → Split → Part �
 edges_of_part program plan xs x (own n) = option_map (edges_of_event program xs) (slice_get x.trace.events n)
 edges_of_part program plan xs x (nested m) = option_map (edges_of_nested plan xs) (slice_get x.spans m)
 
--- part j of an interval
-abbrev pub part_in : Option Span → ℕ → Option Part
-part_in None j = None
-part_in (Some i) j = slice_get i.parts j
-
 -- item j of interval k
 abbrev pub part_at : Split → ℕ → ℕ → Option Part
-part_at x k j = part_in (slice_get x.spans k) j
-
--- the edges of a part that is there
-abbrev pub edges_if : Program → Plan → List Split → Split → Option Part → Option (List FlowEdge)
-edges_if program plan xs x None = None
-edges_if program plan xs x (Some part) = edges_of_part program plan xs x part
-
--- the edges of item j of interval k of one process
-abbrev pub edges_in : Program → Plan → List Split → ℕ → ℕ → Option Split → Option (List FlowEdge)
-edges_in program plan xs k j None = None
-edges_in program plan xs k j (Some x) = edges_if program plan xs x (part_at x k j)
+part_at x k j = option_and_then (λ i. slice_get i.parts j) (slice_get x.spans k)
 
 -- the edges of item j of interval k of process p, in order, and None where there is no such item
 abbrev pub edges : Program → Plan → ℕ → Story → ℕ → ℕ → ℕ → Option (List FlowEdge)
 edges program plan budget story p k j =
-    edges_in program plan (splits program plan budget story) k j (slice_get (splits program plan budget story) p)
+    let xs = splits program plan budget story in
+    option_and_then (λ x. option_and_then (edges_of_part program plan xs x) (part_at x k j)) (slice_get xs p)
 
 -- the last value of a shared cell, and where it was written
 abbrev pub last : Program → Plan → ℕ → Story → ℕ → ℤ × Origin

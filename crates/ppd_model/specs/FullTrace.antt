@@ -1,5 +1,7 @@
 -- The events of a schedule: each with the writers of what it read, its control parent and its pair.
-use Rattle.std.specs.Prelude.{ℕ, zero, suc, ◌+◌, ◌-◌, nat_eq, ℤ, Bool, false, not, List, [], ◌∷◌, ◌++◌, map, fold, find, drop, length, get_or, replicate, slice_set, slice_get, Option, Some, None, option_map, Ok, if◌then◌else◌}
+use Rattle.std.specs.Prelude.{ℕ, zero, suc, ◌+◌, ◌-◌, nat_eq, ℤ, Bool, false, not, List, [], ◌∷◌, ◌++◌, map, fold, find, drop, length, get_or, replicate, slice_set, slice_get, Option, Some, None, option_map, Ok, if◌then◌else◌, option_and_then}
+use Rattle.std.specs.List.{enumerate_from}
+use Rattle.std.specs.Option.{option_map_or, option_or}
 use Rattle.ppd_ast.specs.declared.program.Kind.{Kind}
 use Rattle.ppd_ast.specs.declared.program.Kind.TheVariants.{If, While}
 use Rattle.ppd_ast.specs.declared.program.Program.{Program}
@@ -39,15 +41,10 @@ abbrev pub top_tags : List Activation → List Tag
 top_tags [] = []
 top_tags (x ∷ xs) = x.tags
 
--- the tag of the next answer
-abbrev pub first_tag : List Tag → Tag
-first_tag [] = None
-first_tag (x ∷ xs) = x
-
--- the tag of a place that is read
+-- the tag of a place that is read: of a shared one that of the next answer
 abbrev pub tag_at : List Tag → List Tag → Spot → Tag
 tag_at locals answers (Local frame c) = get_or locals c None
-tag_at locals answers (Shared c) = first_tag answers
+tag_at locals answers (Shared c) = get_or answers 0 None
 
 -- a shared read takes its answer
 abbrev pub answers_past : List Tag → Spot → List Tag
@@ -71,13 +68,13 @@ abbrev pub all_tagged : ℕ → ℕ → Tag → List Activation → List Activat
 all_tagged base zero me xs = xs
 all_tagged base (suc n) me xs = tagged (base + n) me (all_tagged base n me xs)
 
--- the tags of a function's local cells after a call, which writes so many parameters
-abbrev pub called_tags : Program → ℕ → ℕ → Tag → List Tag
-called_tags program f count me = replicate count me ++ replicate (size_if (slice_get program.bodies f) - count) None
-
--- the activation that a call begins
+-- the activation that a call begins, which writes so many parameters
 abbrev pub called : Program → ℕ → ℕ → Option EventId → Activation
-called program f count me = record { call = me; tags = called_tags program f count me; tests = [] }
+called program f count me = record {
+  call = me;
+  tags = replicate count me ++ replicate (size_if (slice_get program.bodies f) - count) None;
+  tests = [];
+}
 
 -- the local that receives the value of the top frame
 abbrev pub into_at : Program → Option ℕ → Option ℕ
@@ -99,15 +96,11 @@ tagged_by program s me (Ok (back value, left)) xs =
 tagged_by program s me (Ok (receive chan into, left)) xs = tagged into me xs
 tagged_by program s me asked xs = xs
 
--- the activations after the head statement finished
-abbrev pub tagged_at : Program → Proc → Tag → List Todo → List Activation → List Activation
-tagged_at program s me [] xs = xs
-tagged_at program s me (t ∷ ts) xs = tagged_by program s me (head_deed program t s) xs
-
--- a step that traps writes nothing
+-- the activations after the head statement; a step that traps writes nothing
 abbrev pub tagged_after : Program → Proc → Tag → Need → List Activation → List Activation
 tagged_after program s me (Trap t) xs = xs
-tagged_after program s me need xs = tagged_at program s me s.todo xs
+tagged_after program s me need xs =
+    option_map_or (λ t. tagged_by program s me (head_deed program t s) xs) (slice_get s.todo 0) xs
 
 -- ---- control
 
@@ -120,21 +113,12 @@ abbrev pub of_run : Kind → Option Test → Option EventId
 of_run (While e body) (Some x) = if x.passed then Some x.event else None
 of_run k x = None
 
--- the latest test of the statement in which another one directly stands
-abbrev pub of_outer : Option ℕ → List Test → Option EventId
-of_outer None tests = None
-of_outer (Some s) tests = option_map (λ x. x.event) (latest s tests)
-
--- the first that is there
-abbrev pub or_else : {A : Type 0} → Option A → Option A → Option A
-or_else None y = y
-or_else (Some x) y = Some x
-
 -- the control parent of statement s in its activation
 abbrev pub parent_in : Program → ℕ → Activation → Option EventId
 parent_in program s x =
-    or_else (of_run (kind_of program s) (latest s x.tests))
-    (or_else (of_outer (parent_if (slice_get program.stmts s)) x.tests) x.call)
+    let outer = parent_if (slice_get program.stmts s) in
+    let by_outer = option_and_then (λ o. option_map (λ y. y.event) (latest o x.tests)) outer in
+    option_or (of_run (kind_of program s) (latest s x.tests)) (option_or by_outer x.call)
 
 -- the control parent of an event of the head: the previous test of its loop run, or the latest
 -- test of the statement round it, or else the call; and None in a process by itself
@@ -162,29 +146,24 @@ with_test program me e (x ∷ xs) =
 
 -- ---- one step
 
--- stands where nothing is to do
-abbrev pub no_event : Event
-no_event = record { stmt = 0; reads = []; writes = []; value = None; number = None; trap = None }
-
--- the event of a process's next step
+-- the event of a process's next step; where nothing is to do, one of no reads and writes stands for it
 abbrev pub event_of : Program → Plan → Proc → Taken → List Todo → Event
-event_of program plan s x [] = no_event
+event_of program plan s x [] =
+    record { stmt = 0; reads = []; writes = []; value = None; number = None; trap = None }
 event_of program plan s x (t ∷ ts) = record (described program plan s t x.answer) { number = x.number }
 
 -- the next event of process p
 abbrev pub me_in : ℕ → Tracing → EventId
 me_in p t = record { process = p; number = length t.events }
 
--- an event with these writers of its reads and this parent, and its pair
-abbrev pub traced_with : Program → Story → Taken → Event → List Tag → Option EventId → TracedEvent
-traced_with program story x e writers parent =
-    record { event = e; writers = writers; parent = parent; paired = paired_of program story x }
-
 -- an event with the writers of its reads, its parent and its pair
 abbrev pub traced_by : Program → Story → Taken → Tracing → Event → TracedEvent
-traced_by program story x t e =
-    traced_with program story x e (tags_of (top_tags t.activations) t.answers e.reads)
-    (parent_at program t.activations t.proc.todo)
+traced_by program story x t e = record {
+  event = e;
+  writers = tags_of (top_tags t.activations) t.answers e.reads;
+  parent = parent_at program t.activations t.proc.todo;
+  paired = paired_of program story x;
+}
 
 -- a step that finishes or traps a statement
 abbrev pub with_event : Program → Plan → Story → ℕ → Taken → Tracing → Tracing
@@ -226,15 +205,10 @@ abbrev pub tracing_of : Program → Plan → ℕ → Story → ℕ → List Take
 tracing_of program plan budget story p steps =
     fold (trace_step program plan story p) (begun_tracing (started program plan p budget)) steps
 
--- the events of the processes from number p on
-abbrev pub events_from : Program → Plan → ℕ → Story → ℕ → List (List Taken) → List (List TracedEvent)
-events_from program plan budget story p [] = []
-events_from program plan budget story p (steps ∷ rest) =
-    (tracing_of program plan budget story p steps).events ∷ events_from program plan budget story (p + 1) rest
-
 -- the trace of a story
 abbrev pub trace_of : Program → Plan → ℕ → Story → Trace
-trace_of program plan budget story = record { events = events_from program plan budget story 0 story.steps }
+trace_of program plan budget story =
+    record { events = map (λ e. (tracing_of program plan budget story e.0 e.1).events) (enumerate_from 0 story.steps) }
 
 -- the full trace of a schedule
 abbrev pub full_trace : Program → Plan → ℕ → List ℕ → Trace

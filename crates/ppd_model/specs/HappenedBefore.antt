@@ -1,6 +1,6 @@
 -- Happened before, on the synchronizations of a record and on the internal edges between them.
-use Rattle.std.specs.Prelude.{◌≡◌, ℕ, zero, suc, ◌+◌, ◌<◌, nat_eq, nat_lt, Bool, false, ◌&&◌, ◌||◌, List, [], ◌∷◌, ◌++◌, map, get_or, slice_get, length, Option, is_some, IsTrue, if◌then◌else◌}
-use Rattle.std.specs.List.{range_with_len}
+use Rattle.std.specs.Prelude.{◌≡◌, ℕ, zero, suc, ◌+◌, ◌<◌, nat_eq, nat_lt, Bool, false, ◌&&◌, ◌||◌, List, [], ◌∷◌, map, get_or, slice_get, length, Option, is_some, IsTrue, if◌then◌else◌}
+use Rattle.std.specs.List.{enumerate_from, flat_map, range_with_len}
 use Rattle.ppd_ast.specs.declared.program.Program.{Program}
 use Rattle.ppd_model.specs.declared.graph.NodeId.{NodeId}
 use Rattle.ppd_model.specs.declared.graph.EdgeId.{EdgeId}
@@ -22,13 +22,11 @@ own_syncs syncs p = get_or syncs p []
 abbrev pub sync_at : List (List Sync) → NodeId → Option Sync
 sync_at syncs a = slice_get (own_syncs syncs a.process) a.sync
 
--- b is there, and it is the next of its process
-abbrev pub is_next : List (List Sync) → NodeId → NodeId → Bool
-is_next syncs a b = nat_eq a.process b.process && nat_eq (a.sync + 1) b.sync && is_some (sync_at syncs b)
-
--- b is the next of its process, or a leads to it by its number
+-- b is there and the next of its process, or a leads to it by its number
 abbrev pub is_direct : Program → List (List Sync) → NodeId → NodeId → Bool
-is_direct program syncs a b = is_next syncs a b || leads_at program (sync_at syncs a) (sync_at syncs b)
+is_direct program syncs a b =
+    (nat_eq a.process b.process && nat_eq (a.sync + 1) b.sync && is_some (sync_at syncs b))
+    || leads_at program (sync_at syncs a) (sync_at syncs b)
 
 -- the least transitive relation with the direct steps
 pub data Before (program : Program) (syncs : List (List Sync)) : NodeId → NodeId → Type 0 where
@@ -49,14 +47,9 @@ abbrev pub closed_through : {A : Type 0} → (A → A → Bool) → List A → A
 closed_through r [] a b = r a b
 closed_through r (n ∷ ns) a b = closed_through r ns a b || (closed_through r ns a n && closed_through r ns n b)
 
--- the synchronizations of the processes from number p on
-abbrev pub nodes_from : ℕ → List (List Sync) → List NodeId
-nodes_from p [] = []
-nodes_from p (xs ∷ rest) = map (node p) (range_with_len 0 (length xs)) ++ nodes_from (p + 1) rest
-
 -- every synchronization of the record
 abbrev pub nodes : List (List Sync) → List NodeId
-nodes syncs = nodes_from 0 syncs
+nodes syncs = flat_map (λ e. map (node e.0) (range_with_len 0 (length e.1))) (enumerate_from 0 syncs)
 
 -- does a happen before b
 abbrev pub is_before : Program → List (List Sync) → NodeId → NodeId → Bool

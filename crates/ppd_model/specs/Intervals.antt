@@ -1,6 +1,7 @@
 -- The log intervals of a process and their items, from the process's own steps.
-use Rattle.std.specs.Prelude.{ℕ, ◌+◌, nat_eq, ℤ, Bool, false, List, [], ◌∷◌, ◌++◌, map, fold, drop, length, get_or, slice_get, position, Option, Some, None, is_some, if◌then◌else◌}
-use Rattle.std.specs.List.{flat_map}
+use Rattle.std.specs.Prelude.{ℕ, ◌+◌, nat_eq, ℤ, Bool, false, List, [], ◌∷◌, ◌++◌, map, fold, drop, length, get_or, slice_get, position, Option, Some, None, is_some, if◌then◌else◌, unwrap_or, option_map, option_and_then}
+use Rattle.std.specs.List.{enumerate_from, flat_map}
+use Rattle.std.specs.Option.{option_map_or}
 use Rattle.ppd_sem.specs.Blocks.{postlog_cells}
 use Rattle.ppd_ast.specs.declared.plan.BlockKind.TheVariants as block
 use Rattle.ppd_ast.specs.declared.plan.Plan.{Plan}
@@ -10,18 +11,17 @@ use Rattle.ppd_sem.specs.declared.proc.Need.TheVariants.{Enter, Leave, Budget, S
 use Rattle.ppd_sem.specs.declared.proc.Proc.{Proc}
 use Rattle.ppd_sem.specs.Described.{frame_of, is_event}
 use Rattle.ppd_sem.specs.Process.{started}
-use Rattle.ppd_sem.specs.Tables.{block_of, or_zero}
+use Rattle.ppd_sem.specs.Tables.{block_of}
 use Rattle.ppd_model.specs.declared.flow.Item.{Item}
 use Rattle.ppd_model.specs.declared.flow.Item.TheVariants as item
 use Rattle.ppd_model.specs.declared.flow.Origin.{Origin}
 use Rattle.ppd_model.specs.declared.flow.Origin.TheVariants as origin
 use Rattle.ppd_model.specs.declared.trace.EventId.{EventId}
-use Rattle.ppd_model.specs.declared.trace.TracedEvent.{TracedEvent}
 use Rattle.ppd_model.specs.World.{change}
 use Rattle.ppd_model.specs.Story.{Taken, Story}
 use Rattle.ppd_model.specs.FullTrace.{Tag, Tracing, begun_tracing, me_in, parent_at, top_tags, trace_step}
 use Rattle.ppd_model.specs.Record.{edge_after}
-use Rattle.ppd_model.specs.Marks.{Mark, opened, closed}
+use Rattle.ppd_model.specs.Marks.{opened, closed}
 
 -- what stands in an interval: an event of its own, or an interval directly inside it, by number
 pub data Part : Type 0 where
@@ -55,9 +55,9 @@ pub record Split : Type 0 where
 -- ---- opening and closing
 
 -- the interval of the first of these numbers is changed
-abbrev pub change_first : (Span → Span) → List ℕ → List Span → List Span
-change_first f [] spans = spans
-change_first f (k ∷ ks) spans = change f k spans
+abbrev pub change_first : {A : Type 0} → (A → A) → List ℕ → List A → List A
+change_first f [] xs = xs
+change_first f (k ∷ ks) xs = change f k xs
 
 -- the innermost running interval is changed
 abbrev pub innermost : (Span → Span) → Split → Split
@@ -94,16 +94,6 @@ end_span values left x =
     let ended = innermost (λ i. record i { closed = Some (length x.edges); values = values; left = left }) x in
     record ended { running = drop 1 x.running }
 
--- an interval begins where a block is entered
-abbrev pub begin_if : Option Mark → ℕ → Option EventId → Split → Split
-begin_if None frame control x = x
-begin_if (Some m) frame control x = begin_span m.block frame control x
-
--- the innermost interval ends where its block is left
-abbrev pub end_if : Option Mark → List Tag → Split → Split
-end_if None left x = x
-end_if (Some m) left x = end_span m.values left x
-
 -- the tags of the values of a postlog: of a loop's local cells their own, of a returned value its return
 abbrev pub left_by : Plan → EventId → List Tag → Need → List Tag
 left_by plan me locals (Leave b u) = map (λ c. get_or locals c None) (postlog_cells plan b)
@@ -129,10 +119,11 @@ control_by program p t need = Some (me_in p t)
 -- a step that leaves a block ends its interval, and one that enters a block begins an interval
 abbrev pub with_marks : Program → Plan → ℕ → Need → Split → Split
 with_marks program plan p need x =
-    begin_if (opened program plan x.trace.proc need) (frame_of program plan x.trace.proc)
-    (control_by program p x.trace need)
-    (end_if (closed program plan x.trace.proc need)
-    (left_by plan (me_in p x.trace) (top_tags x.trace.activations) need) x)
+    let left = left_by plan (me_in p x.trace) (top_tags x.trace.activations) need in
+    let ended = option_map_or (λ m. end_span m.values left x) (closed program plan x.trace.proc need) x in
+    let frame = frame_of program plan x.trace.proc in
+    option_map_or (λ m. begin_span m.block frame (control_by program p x.trace need) ended)
+    (opened program plan x.trace.proc need) ended
 
 -- one more step: its own interval, its event, the intervals that it ends and begins, and its edge
 abbrev pub split_step : Program → Plan → Story → ℕ → Split → Taken → Split
@@ -148,7 +139,7 @@ split_step program plan story p x step =
 -- interval 0 is the process's body
 abbrev pub begun_split : Program → Plan → ℕ → Proc → Split
 begun_split program plan p s =
-    begin_span (or_zero (block_of plan (block.Process (program.functions + p)))) 0 None (record {
+    begin_span (unwrap_or (block_of plan (block.Process (program.functions + p))) 0) 0 None (record {
       trace = begun_tracing s;
       edges = [];
       edge = 0;
@@ -161,15 +152,10 @@ abbrev pub split_of : Program → Plan → ℕ → Story → ℕ → List Taken 
 split_of program plan budget story p steps =
     fold (split_step program plan story p) (begun_split program plan p (started program plan p budget)) steps
 
--- the processes from number p on
-abbrev pub splits_from : Program → Plan → ℕ → Story → ℕ → List (List Taken) → List Split
-splits_from program plan budget story p [] = []
-splits_from program plan budget story p (steps ∷ rest) =
-    split_of program plan budget story p steps ∷ splits_from program plan budget story (p + 1) rest
-
 -- the processes of a story in their intervals
 abbrev pub splits : Program → Plan → ℕ → Story → List Split
-splits program plan budget story = splits_from program plan budget story 0 story.steps
+splits program plan budget story =
+    map (λ e. split_of program plan budget story e.0 e.1) (enumerate_from 0 story.steps)
 
 -- ---- an interval
 
@@ -188,38 +174,20 @@ is_closed i = is_some i.closed
 
 -- ---- items
 
--- the item of interval m, if it is there
-abbrev pub item_of_span : ℕ → Option Span → List Item
-item_of_span m None = []
-item_of_span m (Some i) = item.Nested m i.block i.values (is_closed i) ∷ []
-
--- the item of an event, if it is there
-abbrev pub item_of_event : Option TracedEvent → List Item
-item_of_event None = []
-item_of_event (Some e) = item.Own e.event ∷ []
-
--- the item that a part is
+-- the item that a part is, if its event or interval is there
 abbrev pub item_of : Split → Part → List Item
-item_of x (own n) = item_of_event (slice_get x.trace.events n)
-item_of x (nested m) = item_of_span m (slice_get x.spans m)
+item_of x (own n) = option_map_or (λ e. item.Own e.event ∷ []) (slice_get x.trace.events n) []
+item_of x (nested m) = option_map_or (λ i. item.Nested m i.block i.values (is_closed i) ∷ []) (slice_get x.spans m) []
 
 -- the items of an interval
 abbrev pub items_of : Split → Span → List Item
 items_of x i = flat_map (item_of x) i.parts
 
--- the items of an interval that is there
-abbrev pub items_at : Split → Option Span → Option (List Item)
-items_at x None = None
-items_at x (Some i) = Some (items_of x i)
-
--- the items of interval k of a process that is there
-abbrev pub items_in : ℕ → Option Split → Option (List Item)
-items_in k None = None
-items_in k (Some x) = items_at x (slice_get x.spans k)
-
 -- the items of interval k of process p, and None where there is no such interval
 abbrev pub items : Program → Plan → ℕ → Story → ℕ → ℕ → Option (List Item)
-items program plan budget story p k = items_in k (slice_get (splits program plan budget story) p)
+items program plan budget story p k =
+    option_and_then (λ x. option_map (items_of x) (slice_get x.spans k))
+    (slice_get (splits program plan budget story) p)
 
 -- ---- where an event is an item
 
@@ -228,26 +196,14 @@ abbrev pub is_own : ℕ → Part → Bool
 is_own n (own m) = nat_eq n m
 is_own n (nested m) = false
 
--- item j of interval k, or what is found otherwise
-abbrev pub place_or : ℕ → Option ℕ → Option (ℕ × ℕ) → Option (ℕ × ℕ)
-place_or k None otherwise = otherwise
-place_or k (Some j) otherwise = Some (k, j)
-
 -- the interval, of these from number k on, and the item that is event n
 abbrev pub place_in : ℕ → ℕ → List Span → Option (ℕ × ℕ)
 place_in n k [] = None
-place_in n k (i ∷ is) = place_or k (position (is_own n) i.parts) (place_in n (k + 1) is)
-
--- the item at a place of process p
-abbrev pub item_at : ℕ → Option (ℕ × ℕ) → Origin
-item_at p None = origin.Entry
-item_at p (Some place) = origin.Item p place.0 place.1
-
--- where the event is an item of its process
-abbrev pub ref_in : EventId → Option Split → Origin
-ref_in e None = origin.Entry
-ref_in e (Some x) = item_at e.process (place_in e.number 0 x.spans)
+place_in n k (i ∷ is) = option_map_or (λ j. Some (k, j)) (position (is_own n) i.parts) (place_in n (k + 1) is)
 
 -- the process, interval and item at which an event is an own item
 abbrev pub ref : List Split → EventId → Origin
-ref xs e = ref_in e (slice_get xs e.process)
+ref xs e =
+    let at = λ (place : ℕ × ℕ). origin.Item e.process place.0 place.1 in
+    option_map_or (λ x. option_map_or at (place_in e.number 0 x.spans) origin.Entry)
+    (slice_get xs e.process) origin.Entry

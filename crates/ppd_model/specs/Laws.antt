@@ -1,5 +1,6 @@
 -- Laws of the definitions, which hold of every program, plan, budget and schedule.
 use Rattle.std.specs.Prelude.{◌≡◌, ℕ, ◌<◌, ◌≤◌, ℤ, pos, false, ◌||◌, ◌⊎◌, ◌↔◌, List, [], ◌∷◌, ◌++◌, fold, map, length, get_or, slice_get, Some, None, IsTrue, ⊤}
+use Rattle.std.specs.Option.{option_map_or}
 use Rattle.ppd_ast.specs.declared.plan.Plan.{Plan}
 use Rattle.ppd_ast.specs.declared.program.Program.{Program}
 use Rattle.ppd_entry.specs.declared.entry.Entry.{Entry}
@@ -10,7 +11,7 @@ use Rattle.ppd_model.specs.declared.graph.NodeId.{NodeId}
 use Rattle.ppd_model.specs.declared.trace.EventId.{EventId}
 use Rattle.ppd_model.specs.World.{World, answer, change, need, step, writes_cell}
 use Rattle.ppd_model.specs.Schedule.{run, started_world}
-use Rattle.ppd_model.specs.Story.{Moment, Story, Taken, Telling, begun, moment_of, next_event, number_of, story, tell, told, unit_started, values_at_start, writers_after}
+use Rattle.ppd_model.specs.Story.{Moment, Story, Taken, Telling, begun, moment_of, next_event, number_of, story, tell, told, unit_started, values_of_unit, writers_after}
 use Rattle.ppd_model.specs.States.{state_of, states}
 use Rattle.ppd_model.specs.Synchronizations.{Sync}
 use Rattle.ppd_model.specs.FullTrace.{full_trace, tracing_of}
@@ -72,7 +73,7 @@ logged_moment program plan w p =
     let n = need program plan w p in
     record {
       taken = record { need = n; answer = answer w n; writer = None; number = number_of w n };
-      unit_values = values_at_start plan (step program plan w p).shared (unit_started n);
+      unit_values = option_map_or (values_of_unit plan (step program plan w p).shared) (unit_started n) [];
     }
 
 -- a step adds its entries to the log of its process

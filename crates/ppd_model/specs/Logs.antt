@@ -1,5 +1,7 @@
 -- The log of each process: the entries that its steps write.
 use Rattle.std.specs.Prelude.{ℕ, ◌+◌, ◌-◌, ℤ, pos, List, [], ◌∷◌, ◌++◌, map, fold, Option, Some, None, is_none, slice_get, unwrap_or, if◌then◌else◌}
+use Rattle.std.specs.List.{enumerate_from}
+use Rattle.std.specs.Option.{option_map_or}
 use Rattle.ppd_ast.specs.declared.plan.BlockKind.TheVariants as block
 use Rattle.ppd_ast.specs.declared.plan.Plan.{Plan}
 use Rattle.ppd_ast.specs.declared.plan.Start.TheVariants as start
@@ -15,9 +17,8 @@ use Rattle.ppd_sem.specs.declared.proc.Answer.{Answer}
 use Rattle.ppd_sem.specs.declared.proc.Need.{Need}
 use Rattle.ppd_sem.specs.declared.proc.Need.TheVariants.{Read, Write, P, V, Send, Offer, Done, Recv, End, Trap, Budget}
 use Rattle.ppd_sem.specs.declared.proc.Proc.{Proc}
-use Rattle.ppd_sem.specs.declared.proc.Todo.{Todo}
 use Rattle.ppd_sem.specs.Process.{act, started, value_of}
-use Rattle.ppd_sem.specs.Tables.{block_of, unit_of, or_zero}
+use Rattle.ppd_sem.specs.Tables.{block_of, unit_of}
 use Rattle.ppd_model.specs.declared.closed.Closed.{Closed}
 use Rattle.ppd_model.specs.declared.closed.ProcEnd.{ProcEnd}
 use Rattle.ppd_model.specs.Story.{Taken, Moment, told, unit_started, values_of_unit}
@@ -116,7 +117,7 @@ begun_log program plan budget p =
       reads = [];
       writes = [];
       rest = 0;
-      entries = entry.Prelog (or_zero (block_of plan (block.Process body))) []
+      entries = entry.Prelog (unwrap_or (block_of plan (block.Process body)) 0) []
           ∷ entry.Unit u (values_of_unit plan program.starts u) ∷ [];
     }
 
@@ -124,15 +125,10 @@ begun_log program plan budget p =
 abbrev pub log_of : Program → Plan → ℕ → ℕ → List Moment → Logging
 log_of program plan budget p moments = fold (log_step program plan) (begun_log program plan budget p) moments
 
--- the processes from number p on, with their logs
-abbrev pub logs_from : Program → Plan → ℕ → ℕ → List (List Moment) → List Logging
-logs_from program plan budget p [] = []
-logs_from program plan budget p (moments ∷ rest) =
-    log_of program plan budget p moments ∷ logs_from program plan budget (p + 1) rest
-
 -- each process with its log
 abbrev pub loggings : Program → Plan → ℕ → List ℕ → List Logging
-loggings program plan budget h = logs_from program plan budget 0 (told program plan budget h).moments
+loggings program plan budget h =
+    map (λ e. log_of program plan budget e.0 e.1) (enumerate_from 0 (told program plan budget h).moments)
 
 -- the logs that the steps of a schedule wrote, which need not be whole
 abbrev pub kept_logs : Program → Plan → ℕ → List ℕ → Logs
@@ -145,38 +141,29 @@ abbrev pub closed_log : Logging → List Entry
 closed_log l =
     l.entries ++ (if is_none l.proc.status then entry.End status.Blocked l.rest l.reads l.writes ∷ [] else [])
 
--- closed logs
-abbrev pub closed_logs_of : List Logging → Logs
-closed_logs_of ls = record { lists = map closed_log ls }
-
 -- the logs of a whole schedule
 abbrev pub closed_logs : Program → Plan → ℕ → List ℕ → Logs
-closed_logs program plan budget h = closed_logs_of (loggings program plan budget h)
+closed_logs program plan budget h = record { lists = map closed_log (loggings program plan budget h) }
 
 -- the last statement of a body
 abbrev pub last_of : Option Body → ℕ
 last_of None = 0
 last_of (Some b) = b.end - 1
 
--- the statement that would come next, or else the last one of the body
-abbrev pub stmt_of : Option Body → List Todo → ℕ
-stmt_of body [] = last_of body
-stmt_of body (t ∷ ts) = t.stmt
-
--- how a process ended: one that is still running is blocked
+-- how a process ended, with the statement that would come next or else the last one of the body: one that is still
+-- running is blocked
 abbrev pub end_of : Option Body → Proc → ProcEnd
 end_of body s =
     record {
       status = unwrap_or s.status status.Blocked;
-      stmt = stmt_of body s.todo;
+      stmt = option_map_or (λ t. t.stmt) (slice_get s.todo 0) (last_of body);
       steps = s.steps;
       prints = s.prints;
     }
 
 -- how each process ended; the first one's body has number b
 abbrev pub ends_from : Program → ℕ → List Logging → List ProcEnd
-ends_from program b [] = []
-ends_from program b (l ∷ ls) = end_of (slice_get program.bodies b) l.proc ∷ ends_from program (b + 1) ls
+ends_from program b ls = map (λ e. end_of (slice_get program.bodies e.0) e.1.proc) (enumerate_from b ls)
 
 -- the logs of a whole schedule with how each process ended
 abbrev pub close : Program → Plan → ℕ → List ℕ → Closed

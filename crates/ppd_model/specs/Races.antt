@@ -44,20 +44,12 @@ pub record Edges : Type 0 where
   pub accesses : EdgeId → ℕ → Bool → Bool
   pub before : EdgeId → EdgeId → Bool
 
--- neither is before the other
-abbrev pub are_apart : Edges → EdgeId → EdgeId → Bool
-are_apart e a b = not (e.before a b || e.before b a)
-
 -- both processes have their accesses in these edges, and neither edge is before the other
 abbrev pub is_race : Edges → Race → Bool
 is_race e r =
     e.accesses (edge r.p r.i) r.cell (first_writes r.kind)
     && e.accesses (edge r.q r.j) r.cell (second_writes r.kind)
-    && are_apart e (edge r.p r.i) (edge r.q r.j)
-
--- the edges of process p
-abbrev pub own_edges : Edges → ℕ → List ℕ
-own_edges e p = range_with_len 0 (e.count p)
+    && not (e.before (edge r.p r.i) (edge r.q r.j) || e.before (edge r.q r.j) (edge r.p r.i))
 
 -- what could be a race of two edges
 abbrev pub candidates_at : Edges → ℕ → ℕ → ℕ → ℕ → List Race
@@ -68,8 +60,8 @@ candidates_at e p i q j = flat_map (λ cell. map (race p i q j cell) kinds) (ran
 abbrev pub candidates : Edges → List Race
 candidates e =
     flat_map (λ p. flat_map
-    (λ i. flat_map (λ q. flat_map (λ j. candidates_at e p i q j) (own_edges e q))
-    (range_with_len (p + 1) (e.processes - (p + 1)))) (own_edges e p))
+    (λ i. flat_map (λ q. flat_map (λ j. candidates_at e p i q j) (range_with_len 0 (e.count q)))
+    (range_with_len (p + 1) (e.processes - (p + 1)))) (range_with_len 0 (e.count p)))
     (range_with_len 0 e.processes)
 
 -- the races

@@ -3,7 +3,6 @@ use Rattle.std.specs.Prelude.{◌≡◌, ℕ, ◌-◌, false, List, [], ◌∷�
 use Rattle.std.specs.List.{range_with_len}
 use Rattle.ppd_ast.specs.declared.program.Program.{Program}
 use Rattle.ppd_ast.specs.declared.plan.Plan.{Plan}
-use Rattle.ppd_sem.specs.declared.proc.Proc.{Proc}
 use Rattle.ppd_sem.specs.Process.{started}
 use Rattle.ppd_model.specs.World.{World, enabled, step}
 
@@ -13,17 +12,13 @@ run_from program plan w [] = Some w
 run_from program plan w (p ∷ h) =
     if enabled program plan w p then run_from program plan (step program plan w p) h else None
 
--- the first n processes before their first steps
-abbrev pub started_procs : Program → Plan → ℕ → ℕ → List Proc
-started_procs program plan budget n = map (λ p. started program plan p budget) (range_with_len 0 n)
-
 -- the world before the first step: the processes are the bodies after the functions
 abbrev pub started_world : Program → Plan → ℕ → World
 started_world program plan budget = record {
   shared = program.starts;
   sems = map (λ s. record { given = s.start; taken = 0 }) program.sems;
   chans = map (λ c. record { capacity = c.capacity; sent = []; received = 0; completed = 0 }) program.chans;
-  procs = started_procs program plan budget (length program.bodies - program.functions);
+  procs = map (λ p. started program plan p budget) (range_with_len 0 (length program.bodies - program.functions));
 }
 
 -- the world after the steps of the schedule from the start

@@ -1,5 +1,6 @@
 -- What each process did in a schedule: its steps, each with what it needed and was given.
 use Rattle.std.specs.Prelude.{ℕ, ◌+◌, ℤ, pos, List, [], ◌∷◌, ◌++◌, map, fold, length, get_or, slice_get, slice_set, count_by, Option, Some, None, option_map}
+use Rattle.std.specs.Option.{option_map_or}
 use Rattle.ppd_ast.specs.declared.program.Program.{Program}
 use Rattle.ppd_ast.specs.declared.plan.Plan.{Plan}
 use Rattle.ppd_ast.specs.declared.plan.Unit.{Unit as UnitOf}
@@ -33,26 +34,18 @@ steps_of moments = map (λ m. m.taken) moments
 abbrev pub own_moments : Telling → ℕ → List Moment
 own_moments t p = get_or t.moments p []
 
--- how many events there are in these steps
-abbrev pub count_events : List Moment → ℕ
-count_events moments = count_by (λ m. is_event m.taken.need) moments
-
 -- the next event of process p
 abbrev pub next_event : Telling → ℕ → EventId
-next_event t p = record { process = p; number = count_events (own_moments t p) }
-
--- one more than the count of an object that is there
-abbrev pub number_after : {A : Type 0} → (A → ℕ) → Option A → Option ℕ
-number_after count x = option_map (λ y. count y + 1) x
+next_event t p = record { process = p; number = count_by (λ m. is_event m.taken.need) (own_moments t p) }
 
 -- the number that a synchronization takes: the new count of its kind and object
 abbrev pub number_of : World → Need → Option ℕ
-number_of w (P s u) = number_after (λ (x : Counts). x.taken) (slice_get w.sems s)
-number_of w (V s u) = number_after (λ (x : Counts). x.given) (slice_get w.sems s)
-number_of w (Send c v u) = number_after (λ (x : Channel). length x.sent) (slice_get w.chans c)
-number_of w (Offer c v) = number_after (λ (x : Channel). length x.sent) (slice_get w.chans c)
-number_of w (Done c u) = number_after (λ (x : Channel). x.completed) (slice_get w.chans c)
-number_of w (Recv c u) = number_after (λ (x : Channel). x.received) (slice_get w.chans c)
+number_of w (P s u) = option_map (λ (x : Counts). x.taken + 1) (slice_get w.sems s)
+number_of w (V s u) = option_map (λ (x : Counts). x.given + 1) (slice_get w.sems s)
+number_of w (Send c v u) = option_map (λ (x : Channel). length x.sent + 1) (slice_get w.chans c)
+number_of w (Offer c v) = option_map (λ (x : Channel). length x.sent + 1) (slice_get w.chans c)
+number_of w (Done c u) = option_map (λ (x : Channel). x.completed + 1) (slice_get w.chans c)
+number_of w (Recv c u) = option_map (λ (x : Channel). x.received + 1) (slice_get w.chans c)
 number_of w need = None
 
 -- the event that last wrote the cell of a read
@@ -82,21 +75,14 @@ cells_of_unit (Some u) = u.cells
 abbrev pub values_of_unit : Plan → List ℤ → ℕ → List ℤ
 values_of_unit plan shared u = map (λ c. get_or shared c (pos 0)) (cells_of_unit (slice_get plan.units u))
 
--- the values of the unit that starts, if one does
-abbrev pub values_at_start : Plan → List ℤ → Option ℕ → List ℤ
-values_at_start plan shared None = []
-values_at_start plan shared (Some u) = values_of_unit plan shared u
-
--- a step of this need
-abbrev pub taken_of : Telling → Need → Taken
-taken_of t n = record { need = n; answer = answer t.world n; writer = writer_of t n; number = number_of t.world n }
-
 -- the next step of process p, with the values of its unit as they stand after it
 abbrev pub moment_of : Program → Plan → Telling → ℕ → Moment
-moment_of program plan t p = record {
-  taken = taken_of t (need program plan t.world p);
-  unit_values = values_at_start plan (step program plan t.world p).shared (unit_started (need program plan t.world p));
-}
+moment_of program plan t p =
+    let n = need program plan t.world p in
+    record {
+      taken = record { need = n; answer = answer t.world n; writer = writer_of t n; number = number_of t.world n };
+      unit_values = option_map_or (values_of_unit plan (step program plan t.world p).shared) (unit_started n) [];
+    }
 
 -- a write is by the event that its step is
 abbrev pub writers_after : Telling → ℕ → Need → List (Option EventId)
@@ -121,13 +107,11 @@ begun w = record { world = w; writers = map (λ _. None) w.shared; moments = map
 abbrev pub told : Program → Plan → ℕ → List ℕ → Telling
 told program plan budget h = fold (tell program plan) (begun (started_world program plan budget)) h
 
--- what is told, without the values of units
-abbrev pub story_of : Telling → Story
-story_of t = record { steps = map steps_of t.moments; cells = t.world.shared; writers = t.writers }
-
--- the story of a schedule
+-- the story of a schedule: what is told, without the values of units
 abbrev pub story : Program → Plan → ℕ → List ℕ → Story
-story program plan budget h = story_of (told program plan budget h)
+story program plan budget h =
+    let t = told program plan budget h in
+    record { steps = map steps_of t.moments; cells = t.world.shared; writers = t.writers }
 
 -- the steps of process p
 abbrev pub own_steps : Story → ℕ → List Taken

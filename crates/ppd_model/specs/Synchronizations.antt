@@ -1,5 +1,6 @@
 -- The synchronizations of each process, and which of them lead to which by their numbers.
 use Rattle.std.specs.Prelude.{ℕ, zero, suc, ◌+◌, nat_eq, Bool, false, ◌&&◌, List, [], ◌∷◌, filter_map, Option, Some, None, if◌then◌else◌}
+use Rattle.std.specs.Option.{option_map_or}
 use Rattle.ppd_ast.specs.declared.program.Program.{Program}
 use Rattle.ppd_ast.specs.declared.status.SyncKind.{SyncKind}
 use Rattle.ppd_ast.specs.declared.status.SyncKind.TheVariants.{P, V, Send, Recv, Done}
@@ -54,13 +55,13 @@ led_to capacity a b k = None
 
 -- there is a number, and it is k
 abbrev pub is_number : Option ℕ → ℕ → Bool
-is_number None k = false
-is_number (Some n) k = nat_eq n k
+is_number o k = option_map_or (λ n. nat_eq n k) o false
 
 -- a leads to b: their objects are one, and their numbers fit
 abbrev pub leads : Program → Sync → Sync → Bool
 leads program a b =
-    nat_eq a.object b.object && is_number (led_to (capacity_of program a.object) a.kind b.kind a.number) b.number
+    nat_eq a.object b.object
+    && option_map_or (λ n. nat_eq n b.number) (led_to (capacity_of program a.object) a.kind b.kind a.number) false
 
 -- both are there, and the first leads to the second
 abbrev pub leads_at : Program → Option Sync → Option Sync → Bool
@@ -74,16 +75,12 @@ leading_in program b n (x ∷ xs) =
     if leads_at program (sync_of x) b then Some n
     else leading_in program b (if is_event x.need then n + 1 else n) xs
 
--- event n of process p, or what is found otherwise
-abbrev pub event_or : ℕ → Option ℕ → Option EventId → Option EventId
-event_or p None otherwise = otherwise
-event_or p (Some n) otherwise = Some (record { process = p; number = n })
-
 -- the same among the steps of the processes from number p on
 abbrev pub leading_from : Program → Option Sync → ℕ → List (List Taken) → Option EventId
 leading_from program b p [] = None
 leading_from program b p (steps ∷ rest) =
-    event_or p (leading_in program b 0 steps) (leading_from program b (p + 1) rest)
+    option_map_or (λ n. Some (record { process = p; number = n })) (leading_in program b 0 steps)
+    (leading_from program b (p + 1) rest)
 
 -- the event whose synchronization leads to that of a step, found by the numbers
 abbrev pub paired_of : Program → Story → Taken → Option EventId

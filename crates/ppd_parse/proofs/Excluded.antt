@@ -7,7 +7,8 @@ use Rattle.ppd_lex.specs.declared.token.Token.{Token}
 use Rattle.ppd_parse.specs.declared.error.SyntaxError.{SyntaxError}
 use Rattle.ppd_parse.specs.declared.error.SyntaxError.TheVariants as E
 use Rattle.ppd_parse.specs.Grammar.{Shape, Marked}
-use Rattle.ppd_parse.specs.Limits.{count_with, count_after, KeepLimits, token_at, IsTree, BreaksDepth, BreaksWidth, IsUnexpected, IsPast, IsRefused}
+use Rattle.ppd_parse.specs.Limits.{count_with, KeepLimits, token_at, IsTree, IsUnexpected, IsPast, IsRefused}
+use Rattle.ppd_parse.proofs.Vocabulary.{count_after, BreaksDepth, BreaksWidth}
 
 -- a list at one of its places
 split_at : (ts : List Token) (i : ℕ) → i < length ts → ts ≡ take i ts ++ token_at ts i ∷ drop (suc i) ts

@@ -10,7 +10,8 @@ use Rattle.ppd_parse.specs.declared.error.SyntaxError.TheVariants as E
 use Rattle.ppd_parse.specs.Grammar.{Shape, Marked, tokens_of}
 use Rattle.ppd_parse.specs.Language.{IsProgram}
 use Rattle.ppd_parse.specs.Laws.{HaveOneRefusal}
-use Rattle.ppd_parse.specs.Limits.{count_with, count_after, KeepLimits, token_at, BreaksDepth, BreaksWidth, IsUnexpected, IsPast}
+use Rattle.ppd_parse.specs.Limits.{count_with, KeepLimits, token_at, IsUnexpected, IsPast}
+use Rattle.ppd_parse.proofs.Vocabulary.{count_after, BreaksDepth, BreaksWidth}
 use Rattle.ppd_parse.proofs.Excluded.{kept_at}
 
 -- ---- lists

@@ -8,7 +8,8 @@ use Rattle.ppd_parse.specs.declared.symbol.Rule.{Rule}
 use Rattle.ppd_parse.specs.declared.symbol.Symbol.TheVariants as S
 use Rattle.ppd_parse.specs.declared.symbol.At.{At}
 use Rattle.ppd_parse.specs.Grammar.{Shape, leaf, node, forest, Marked, kind_at, is_operator, deeper, inside}
-use Rattle.ppd_parse.specs.Language.{Side, source_side, shared_side, shared_item_side, sems_side, chans_side, function_side, params_side, process_side, block_side, local_side, local_item_side, value_side, place_side, change_side, stmt_side, expr_side, tier, unary_side, Phrase, word, binary, the, ◌·◌, ◌∣◌, many, maybe, unless, opened, measured, made, below, phrase, NextIsNot, Is, token, sign, side, both, left, right, done, more, absent, present, ended, within, counted, grouped}
+use Rattle.ppd_parse.specs.Language.{Side, source_side, shared_side, shared_item_side, sems_side, chans_side, function_side, params_side, process_side, block_side, local_side, local_item_side, value_side, place_side, change_side, stmt_side, expr_side, tier, unary_side, Phrase, word, binary, the, ◌·◌, ◌∣◌, many, maybe, unless, opened, measured, made, below, phrase, Is, token, sign, side, both, left, right, done, more, absent, present, ended, within, counted, grouped}
+use Rattle.ppd_parse.proofs.Vocabulary.{NextIsNot}
 use Rattle.ppd_parse.proofs.Given.{Gives, Next, is_opening, binds, goes, Calm}
 use Rattle.ppd_parse.proofs.Ways.{PlaceWays, ChangeWays, ExprWays, TierWays, UnaryWays, BelowGoal}
 use Rattle.ppd_parse.specs.Stack.{is_comma}

@@ -12,7 +12,8 @@ use Rattle.ppd_parse.specs.declared.symbol.Part.TheVariants as P
 use Rattle.ppd_parse.specs.declared.symbol.Want.{Want}
 use Rattle.ppd_parse.specs.declared.symbol.Want.TheVariants.{Get, Close}
 use Rattle.ppd_parse.specs.Grammar.{Shape, node, forest, close, Marked, deeper, inside, want_in, wants_in}
-use Rattle.ppd_parse.specs.Language.{source_side, shared_side, shared_item_side, sems_side, chans_side, function_side, params_side, process_side, block_side, local_side, local_item_side, value_side, place_side, change_side, stmt_side, expr_side, tier, unary_side, Phrase, word, binary, the, ◌·◌, ◌∣◌, many, maybe, opened, measured, made, brackets, below, called, else_part, Is, both, within, counted, grouped}
+use Rattle.ppd_parse.specs.Language.{source_side, shared_side, shared_item_side, sems_side, chans_side, function_side, params_side, process_side, block_side, local_side, local_item_side, value_side, place_side, change_side, stmt_side, expr_side, tier, unary_side, Phrase, word, binary, the, ◌·◌, ◌∣◌, many, maybe, opened, measured, made, brackets, below, called, Is, both, within, counted, grouped}
+use Rattle.ppd_parse.proofs.Vocabulary.{else_part}
 
 -- a phrase, or what goes on with the trees that were read before it
 pub data Manner : Type 0 where

@@ -11,7 +11,7 @@ use Rattle.ppd_parse.specs.declared.symbol.Part.{Part}
 use Rattle.ppd_parse.specs.declared.symbol.Part.TheVariants as P
 use Rattle.ppd_parse.specs.declared.symbol.Want.TheVariants.{Get}
 use Rattle.ppd_parse.specs.Grammar.{Shape, leaf, node, forest, close, Marked, kind_at, is_operator, deeper, inside, parts, operand_parts, MayStand, wants_in, Reads, ReadsAll, exact, operator, wrap, by, nothing, next, operand, chain_end, chain_more, expr, expr_rest, other_expr, call_or_name, named_call, named_expr, place, no_index, index, unary_place, unary_other, change, assign, add, subtract, increase, decrease, stmt_name, rest_call, rest_element, rest_scalar, rest_assign, rest_add, rest_subtract, rest_increase, rest_decrease, assigned_recv, assigned_name, assigned_other, assigned_call, assigned_expr}
-use Rattle.ppd_parse.specs.Language.{NextIsNot}
+use Rattle.ppd_parse.proofs.Vocabulary.{NextIsNot}
 use Rattle.ppd_parse.proofs.Usual.{close_front}
 use Rattle.ppd_parse.proofs.Walk.{closed_answer, closed_change}
 use Rattle.ppd_parse.proofs.Unfolded.{join}

@@ -16,7 +16,8 @@ use Rattle.ppd_parse.specs.declared.error.SyntaxError.TheVariants as E
 use Rattle.ppd_parse.specs.Grammar.{Shape, Marked, kind_of, tokens_of, outside}
 use Rattle.ppd_parse.specs.Machine.{State, Completed, Shifts}
 use Rattle.ppd_parse.specs.Stack.{IsGood, HasEndsAlone}
-use Rattle.ppd_parse.specs.Limits.{count_with, count_after, KeepLimits, no_token, token_at, IsTree, IsPast, BreaksDepth, BreaksWidth, IsRefused, Stepped, EndsAs}
+use Rattle.ppd_parse.specs.Limits.{count_with, KeepLimits, token_at, IsTree, IsPast, IsRefused, Stepped, EndsAs}
+use Rattle.ppd_parse.proofs.Vocabulary.{count_after, no_token, BreaksDepth, BreaksWidth}
 use Rattle.ppd_parse.proofs.Vocabulary.{IsParsed, Follows, IsReadTo}
 use Rattle.ppd_parse.proofs.Sample.{completion}
 use Rattle.ppd_parse.proofs.ToLanguage.{parsed_program}

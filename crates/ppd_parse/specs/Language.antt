@@ -1,5 +1,5 @@
 -- The grammar of the language: each of its left sides with what it is made up of. It knows no limits and no parser.
-use Rattle.std.specs.Prelude.{◌≡◌, ◌≢◌, true, List, [], ◌∷◌, ◌++◌}
+use Rattle.std.specs.Prelude.{◌≡◌, ◌≢◌, true, false, List, [], ◌∷◌, ◌++◌, slice_get, IfSome}
 use Rattle.ppd_lex.specs.declared.token.Kind.{Kind}
 use Rattle.ppd_lex.specs.declared.token.Kind.TheVariants as K
 use Rattle.ppd_parse.specs.declared.symbol.Level.{Level}
@@ -7,7 +7,7 @@ use Rattle.ppd_parse.specs.declared.symbol.Level.TheVariants as L
 use Rattle.ppd_parse.specs.declared.symbol.Rule.{Rule}
 use Rattle.ppd_parse.specs.declared.symbol.Rule.TheVariants as R
 use Rattle.ppd_parse.specs.declared.symbol.At.{At}
-use Rattle.ppd_parse.specs.Trees.{Shape, leaf, node, forest, Marked, kind_at, is_operator, deeper, inside, outside}
+use Rattle.ppd_parse.specs.Trees.{Shape, leaf, node, forest, Marked, kind_at, is_operator, deeper}
 
 -- the left sides; a tier has the binary operators of its level and all that binds more strongly
 pub data Side : Type 0 where
@@ -82,19 +82,8 @@ called = call (measured (word K.Name))
 abbrev pub received : Phrase
 received = word K.RecvWord · parens (word K.Name)
 
--- a value that is an assignment's and no expression: with an expression the assignment is a change
-abbrev pub answer : Phrase
-answer = made R.Value (received ∣ called)
-
-abbrev pub else_part : Phrase
-else_part = word K.ElseWord · opened (the stmt_side) ∣ unless K.ElseWord
-
--- what the parentheses of a for hold
-abbrev pub heading : Phrase
-heading = maybe (word K.IntWord · word K.Name · word K.AssignMark · the expr_side ∣ the change_side)
-    · word K.Semicolon · maybe (the expr_side) · word K.Semicolon · maybe (the change_side)
-
--- The right sides. An else belongs to the nearest open if: an if stands without one only where no else is next.
+-- The right sides. An else belongs to the nearest open if: an if stands without one only where no else is next. The
+-- value of an assignment that is a statement of its own is no expression: with an expression the assignment is a change.
 abbrev pub phrase : Side → Phrase
 phrase source_side =
     made R.Source
@@ -136,11 +125,16 @@ phrase stmt_side = made R.Stmt (
     the block_side
     ∣ word K.Semicolon
     ∣ the change_side · word K.Semicolon
-    ∣ the place_side · word K.AssignMark · answer · word K.Semicolon
+    ∣ the place_side · word K.AssignMark · made R.Value (received ∣ called) · word K.Semicolon
     ∣ call (word K.Name) · word K.Semicolon
-    ∣ word K.IfWord · parens (the expr_side) · opened (the stmt_side) · else_part
+    ∣ word K.IfWord · parens (the expr_side) · opened (the stmt_side)
+    · (word K.ElseWord · opened (the stmt_side) ∣ unless K.ElseWord)
     ∣ word K.WhileWord · parens (the expr_side) · opened (the stmt_side)
-    ∣ word K.ForWord · parens heading · opened (the stmt_side)
+    ∣ word K.ForWord
+    · parens
+    (maybe (word K.IntWord · word K.Name · word K.AssignMark · the expr_side ∣ the change_side)
+    · word K.Semicolon · maybe (the expr_side) · word K.Semicolon · maybe (the change_side))
+    · opened (the stmt_side)
     ∣ word K.ReturnWord · maybe (called ∣ the expr_side) · word K.Semicolon
     ∣ word K.TakeWord · parens (word K.Name) · word K.Semicolon
     ∣ word K.GiveWord · parens (word K.Name) · word K.Semicolon
@@ -153,11 +147,6 @@ phrase unary_side =
     made R.Unary
     (opened ((word K.NotMark ∣ word K.MinusMark) · the unary_side) ∣ parens (the expr_side) ∣ word K.Number
     ∣ the place_side)
-
--- the next token, if there is one, is not of the kind
-abbrev pub NextIsNot : Kind → List Marked → Type 0
-NextIsNot k [] = Unit {0}
-NextIsNot k (x ∷ ts) = kind_at x ≢ k
 
 -- Is f a ts t rest: the tokens ts begin with the phrase f, at a place a, and go on with rest; t are its trees.
 pub data Is : Phrase → At → List Marked → List Shape → List Marked → Type 0 where
@@ -176,14 +165,15 @@ pub data Is : Phrase → At → List Marked → List Shape → List Marked → T
       → Is (many f) a mid u rest → Is (many f) a ts (t ++ u) rest
   absent : {f : Phrase} {a : At} {ts : List Marked} → Is (maybe f) a ts [] ts
   present : {f : Phrase} {a : At} {t : List Shape} {ts rest : List Marked} → Is f a ts t rest → Is (maybe f) a ts t rest
-  ended : {k : Kind} {a : At} {ts : List Marked} → NextIsNot k ts → Is (unless k) a ts [] ts
+  ended : {k : Kind} {a : At} {ts : List Marked} → IfSome (slice_get ts 0) (λ x. kind_at x ≢ k)
+      → Is (unless k) a ts [] ts
   within : {f : Phrase} {a : At} {t : List Shape} {ts rest : List Marked} → Is f (deeper a) ts t rest
       → Is (opened f) a ts t rest
-  counted : {f : Phrase} {a : At} {t : List Shape} {ts rest : List Marked} → Is f (inside a) ts t rest
+  counted : {f : Phrase} {a : At} {t : List Shape} {ts rest : List Marked} → Is f (record a { inside = true }) ts t rest
       → Is (measured f) a ts t rest
   grouped : {r : Rule} {f : Phrase} {a : At} {t : List Shape} {ts rest : List Marked} → Is f a ts t rest
       → Is (made r f) a ts (node r (forest t) ∷ []) rest
 
--- the marked tokens are a program with this tree
+-- the marked tokens are a program with this tree: a source outside every construct
 abbrev pub IsProgram : List Marked → List Shape → Type 0
-IsProgram ts f = Is (the source_side) outside ts f []
+IsProgram ts f = Is (the source_side) (record { depth = 0; inside = false }) ts f []

@@ -1,5 +1,5 @@
 -- The limits of a program, and the first token that breaks the grammar or a limit.
-use Rattle.std.specs.Prelude.{◌≡◌, ◌<◌, ◌≤◌, ◌+◌, ℕ, Bool, true, List, [], ◌∷◌, ◌++◌, length, take, slice_index_or, if◌then◌else◌, Result, Ok, Err}
+use Rattle.std.specs.Prelude.{◌≡◌, ◌<◌, ◌≤◌, ◌+◌, ℕ, Bool, true, List, [], ◌∷◌, ◌++◌, length, take, fold, slice_index_or, if◌then◌else◌, Result, Ok, Err}
 use Rattle.ppd_ast.specs.declared.limits.TheConstants.{MOST_OPEN, MOST_SOURCE_OPERATORS}
 use Rattle.ppd_ast.specs.declared.program.Place.{Place}
 use Rattle.ppd_lex.specs.declared.token.Token.{Token}
@@ -23,20 +23,14 @@ is_sign k = is_binary k
 abbrev pub count_with : ℕ → Marked → ℕ
 count_with n x = if x.at.inside then (if is_sign (kind_at x) then n + 1 else n) else 0
 
-abbrev pub count_after : ℕ → List Marked → ℕ
-count_after n [] = n
-count_after n (x ∷ xs) = count_after (count_with n x) xs
-
 -- after n operators of an expression, these tokens keep the limits of open constructs and of operators
 abbrev pub KeepLimits : ℕ → List Marked → Type 0
 KeepLimits n [] = Unit {0}
 KeepLimits n (x ∷ xs) = (x.at.depth ≤ MOST_OPEN) × (count_with n x ≤ MOST_SOURCE_OPERATORS) × KeepLimits (count_with n x) xs
 
-abbrev pub no_token : Token
-no_token = record { kind = T.End; from = 0; to = 0; place = record { line = 1; column = 1 } }
-
+-- the token with this number from 0, and an end where there is none
 abbrev pub token_at : List Token → ℕ → Token
-token_at ts i = slice_index_or ts i no_token
+token_at ts i = slice_index_or ts i (record { kind = T.End; from = 0; to = 0; place = record { line = 1; column = 1 } })
 
 -- The tokens are a program within the limits, and this is its tree, as a list of one; they have no other tree and no
 -- other marks.
@@ -75,23 +69,17 @@ pub record IsPast (Breaks : ℕ → Marked → Type 0) (ts : List Token) (place 
   pub tree : List Shape
   pub program : IsProgram (marked ++ last ∷ rest) tree
   pub limits : KeepLimits 0 marked
-  pub breaks : Breaks (count_after 0 marked) last
+  pub breaks : Breaks (fold count_with 0 marked) last
   pub only : (qs : List Marked) (f : List Shape) (more : List Token) → IsProgram qs f
       → tokens_of qs ≡ take i ts ++ token_at ts i ∷ more → (others : List Marked) × (qs ≡ marked ++ last ∷ others)
 
--- the token makes one construct open too many
-abbrev pub BreaksDepth : ℕ → Marked → Type 0
-BreaksDepth n x = MOST_OPEN < x.at.depth
-
--- the token is one operator too many of its expression, and does not make too many constructs open
-abbrev pub BreaksWidth : ℕ → Marked → Type 0
-BreaksWidth n x = (x.at.depth ≤ MOST_OPEN) × (MOST_SOURCE_OPERATORS < count_with n x)
-
--- why the tokens have no tree; want of memory may come at any
+-- Why the tokens have no tree: one that the grammar has not, one that makes a construct open too many, or one that is
+-- an operator too many of its expression and does not make too many constructs open. Want of memory may come at any.
 abbrev pub IsRefused : List Token → SyntaxError → Type 0
 IsRefused ts (E.Unexpected place) = IsUnexpected ts place
-IsRefused ts (E.Deep place) = IsPast BreaksDepth ts place
-IsRefused ts (E.Wide place) = IsPast BreaksWidth ts place
+IsRefused ts (E.Deep place) = IsPast (λ n x. MOST_OPEN < x.at.depth) ts place
+IsRefused ts (E.Wide place) =
+    IsPast (λ n x. (x.at.depth ≤ MOST_OPEN) × (MOST_SOURCE_OPERATORS < count_with n x)) ts place
 IsRefused ts E.Memory = Unit {0}
 
 -- what one token comes to, after n operators of an expression

@@ -10,7 +10,8 @@ use Rattle.ppd_model.specs.declared.graph.Race.{Race}
 use Rattle.ppd_model.specs.declared.graph.RaceKind.{RaceKind}
 use Rattle.ppd_model.specs.declared.graph.RaceKind.TheVariants.{ReadWrite, WriteRead, WriteWrite}
 use Rattle.ppd_model.specs.HappenedBefore.{edge, is_edge_before}
-use Rattle.ppd_model.specs.Races.{Edges, are_apart, first_writes, is_race, kinds, own_edges, race, races_among, second_writes}
+use Rattle.ppd_model.specs.Races.{Edges, first_writes, is_race, kinds, race, races_among, second_writes}
+use Rattle.ppd_model.proofs.OrderWords.{are_apart, own_edges}
 use Rattle.ppd_model.proofs.Tested.{tests_edges}
 use Rattle.ppd_race_found.specs.Graphs.{is_before_by, sets_at}
 use Rattle.ppd_model.specs.RecordedSets.{record_in}

@@ -9,7 +9,8 @@ use Rattle.ppd_model.specs.declared.graph.Race.{Race}
 use Rattle.ppd_model.specs.declared.graph.RaceKind.{RaceKind}
 use Rattle.ppd_model.specs.declared.graph.RaceKind.TheVariants.{ReadWrite, WriteRead, WriteWrite}
 use Rattle.ppd_model.specs.HappenedBefore.{edge}
-use Rattle.ppd_model.specs.Races.{Edges, are_apart, candidates_at, first_writes, is_race, kinds, own_edges, race, races_among, second_writes}
+use Rattle.ppd_model.specs.Races.{Edges, candidates_at, first_writes, is_race, kinds, race, races_among, second_writes}
+use Rattle.ppd_model.proofs.OrderWords.{are_apart, own_edges}
 use Rattle.ppd_race.proofs.Vocabulary.{edges_from, pairs_among, races_of_pair}
 
 -- ---- lists

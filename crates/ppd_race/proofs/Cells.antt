@@ -11,7 +11,8 @@ use Rattle.ppd_model.specs.declared.graph.Race.{Race}
 use Rattle.ppd_model.specs.declared.graph.RaceKind.{RaceKind}
 use Rattle.ppd_model.specs.declared.graph.RaceKind.TheVariants.{ReadWrite, WriteRead, WriteWrite}
 use Rattle.ppd_model.specs.HappenedBefore.{edge}
-use Rattle.ppd_model.specs.Races.{are_apart, candidates_at, first_writes, is_race, kinds, race, second_writes}
+use Rattle.ppd_model.specs.Races.{candidates_at, first_writes, is_race, kinds, race, second_writes}
+use Rattle.ppd_model.proofs.OrderWords.{are_apart}
 use Rattle.ppd_race_found.specs.SyncGraph.{SyncGraph}
 use Rattle.ppd_race_found.specs.Graphs.{is_before_by, reads_in, sets_at, writes_in}
 use Rattle.ppd_race_found.specs.declared.busy.Busy.{Busy}

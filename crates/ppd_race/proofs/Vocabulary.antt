@@ -4,7 +4,8 @@ use Rattle.std.specs.List.{flat_map, range_with_len}
 use Rattle.ppd_model.specs.declared.graph.EdgeId.{EdgeId}
 use Rattle.ppd_model.specs.declared.graph.Race.{Race}
 use Rattle.ppd_model.specs.HappenedBefore.{edge}
-use Rattle.ppd_model.specs.Races.{Edges, candidates_at, is_race, own_edges, races_among}
+use Rattle.ppd_model.specs.Races.{Edges, candidates_at, is_race, races_among}
+use Rattle.ppd_model.proofs.OrderWords.{own_edges}
 use Rattle.ppd_race.specs.Races.{IsThere}
 
 -- ---- pairs

@@ -3,7 +3,8 @@ use Rattle.std.proofs.Common.{◌≡◌, ℕ, zero, suc, ◌+◌, ◌-◌, ◌<�
 use Rattle.std.specs.List.{flat_map, range_with_len}
 use Rattle.ppd_model.specs.declared.graph.Race.{Race}
 use Rattle.ppd_model.specs.HappenedBefore.{edge}
-use Rattle.ppd_model.specs.Races.{candidates_at, is_race, own_edges, races_among}
+use Rattle.ppd_model.specs.Races.{candidates_at, is_race, races_among}
+use Rattle.ppd_model.proofs.OrderWords.{own_edges}
 use Rattle.ppd_race_found.specs.EdgeSets.{EdgeSets}
 use Rattle.ppd_race_found.specs.SyncGraph.{SyncGraph}
 use Rattle.ppd_race_found.specs.Graphs.{sets_at}

@@ -9,13 +9,15 @@ use Rattle.ppd_ast.specs.declared.plan.Plan.{Plan}
 use Rattle.ppd_ast.specs.declared.program.Program.{Program}
 use Rattle.ppd_sem.specs.declared.proc.Proc.{Proc}
 use Rattle.ppd_model.specs.Bounds.{steps_left}
-use Rattle.ppd_model.specs.Schedule.{run_from, started_procs}
+use Rattle.ppd_model.specs.Schedule.{run_from}
+use Rattle.ppd_model.proofs.WorldWords.{need_at, started_procs}
 use Rattle.ppd_model.specs.Synchronizations.{Sync}
-use Rattle.ppd_model.specs.World.{World, answer, can, enabled, need, need_at, step}
+use Rattle.ppd_model.specs.World.{World, answer, can, enabled, need, step}
 use Rattle.ppd_model.proofs.Bounded.{ArePaid, all_falls, paid_change, started_all, started_paid}
 use Rattle.ppd_model.proofs.Changes.{some}
-use Rattle.ppd_rerun_model.specs.Guided.{Guiding, chosen, guide, guided_from, guiding, is_let, may_step, most_steps, sync_of_next}
+use Rattle.ppd_rerun_model.specs.Guided.{Guiding, chosen, guide, guided_from, guiding, is_let, may_step, sync_of_next}
 use Rattle.ppd_rerun_model.specs.Laws.{EndsGuided, GuidedSchedulesEnd, guided_end}
+use Rattle.ppd_rerun_model.proofs.MostSteps.{most_steps}
 
 -- ---- the first
 

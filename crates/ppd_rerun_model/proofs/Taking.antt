@@ -13,7 +13,8 @@ use Rattle.ppd_model.specs.Laws.{begins}
 use Rattle.ppd_model.specs.Numbers.{count_of, sync}
 use Rattle.ppd_model.specs.Prefixes.{Good, told_to}
 use Rattle.ppd_model.specs.Schedule.{run_from, started_world}
-use Rattle.ppd_model.specs.Story.{Telling, next_event, taken_of, tell}
+use Rattle.ppd_model.specs.Story.{Telling, next_event, tell}
+use Rattle.ppd_model.proofs.WorldWords.{taken_of}
 use Rattle.ppd_model.specs.Synchronizations as s
 use Rattle.ppd_model.specs.Synchronizations.{sync_of}
 use Rattle.ppd_model.specs.World.{World, change, enabled, need, step}
@@ -26,11 +27,12 @@ use Rattle.law_agreement.proofs.Instance.Lawful.{lawful, one_more, sync_made}
 use Rattle.law_agreement.proofs.Schedules.Records.{line_in, number_at, sheet}
 use Rattle.law_agreement.proofs.Schedules.Steps.{is_step, run_of, want_is}
 use Rattle.law_agreement.proofs.Agreeing.{fresh}
-use Rattle.ppd_rerun_model.specs.Guided.{Guiding, chosen, guide, guided, guided_from, guiding, is_let, may_step, most_steps, sync_of_next}
+use Rattle.ppd_rerun_model.specs.Guided.{Guiding, chosen, guide, guided, guided_from, guiding, is_let, may_step, sync_of_next}
 use Rattle.ppd_rerun_model.specs.Laws.{EndsGuided, guided_end}
 use Rattle.ppd_rerun_model.proofs.Ending.{chosen_at, chosen_can, chosen_let, ends_guided, fold_at}
 use Rattle.ppd_rerun_model.proofs.Following.{IsGuided, Takes, Waits}
 use Rattle.ppd_rerun_model.proofs.Lines.{entry_is, let_is, let_self, there_is}
+use Rattle.ppd_rerun_model.proofs.MostSteps.{most_steps}
 
 -- ---- lists
 

@@ -10,7 +10,8 @@ use Rattle.ppd_blocks.specs.Blocks.{plan_of}
 use Rattle.ppd_entry.specs.declared.entry.Logs.{Logs}
 use Rattle.ppd_emul_model.specs.Replay.{Replayed}
 use Rattle.ppd_model.specs.declared.tracing.Story.{Story}
-use Rattle.ppd_model.specs.Intervals.{Span, Split, items, items_at, items_in, splits}
+use Rattle.ppd_model.specs.Intervals.{Span, Split, items, splits}
+use Rattle.ppd_model.proofs.IntervalWords.{items_at, items_in}
 use Rattle.ppd_model.specs.Logs.{closed_logs}
 use Rattle.ppd_model.specs.Races.{races}
 use Rattle.ppd_model.specs.Record.{record_of, sync_record}
@@ -26,7 +27,7 @@ use Rattle.ppd_rerun_model.specs.declared.verdict.Verdict.{Verdict}
 use Rattle.ppd_rerun_model.specs.declared.verdict.Verdict.TheVariants as verdict
 use Rattle.ppd_rerun_model.specs.Guided.{guided}
 use Rattle.ppd_rerun_model.specs.Laws.{IsGuidedAlike, RerunsSayYes, VerdictsAreOne}
-use Rattle.ppd_rerun_model.specs.Verdicts.{HasRecordOf, IsFirstOther, IsIntervalNo, IsRecordNo, IsSame, IsVerdict, IsYes, Matches, guided_by}
+use Rattle.ppd_rerun_model.specs.Verdicts.{HasRecordOf, IsFirstOther, IsSame, IsVerdict, Matches, guided_by}
 use Rattle.ppd_rerun_model.proofs.Guided.{schedules_agree}
 
 -- ---- one verdict
@@ -59,22 +60,22 @@ module _ (program : Program) (plan : Plan) (budget : ℕ) (logs : Logs) where
       (cases_lt p q)
 
   -- a yes follows the record with every interval the same
-  follows : (h : List ℕ) → IsYes program plan budget logs h → HasRecordOf program plan budget logs g
-  follows h y = subst (λ (x : List ℕ). HasRecordOf program plan budget logs x) y.schedule y.follows
+  follows : (h : List ℕ) → IsVerdict program plan budget logs (verdict.Yes h) → HasRecordOf program plan budget logs g
+  follows h y = subst (λ (x : List ℕ). HasRecordOf program plan budget logs x) y.0 y.1
 
-  same_in : (h : List ℕ) → IsYes program plan budget logs h → (p k : ℕ) → IsSame program plan budget logs g p k
-  same_in h y p k = subst (λ (x : List ℕ). IsSame program plan budget logs x p k) y.schedule (y.same p k)
+  same_in : (h : List ℕ) → IsVerdict program plan budget logs (verdict.Yes h) → (p k : ℕ) → IsSame program plan budget logs g p k
+  same_in h y p k = subst (λ (x : List ℕ). IsSame program plan budget logs x p k) y.0 (y.2 p k)
 
   pub one : (a b : Verdict) → IsVerdict program plan budget logs a → IsVerdict program plan budget logs b → a ≡ b
-  one (verdict.Yes h) (verdict.Yes h2) a b = ap (λ (x : List ℕ). verdict.Yes x) (a.schedule ∙ sym b.schedule)
-  one (verdict.Yes h) (verdict.No (Record n)) a b = absurd (b.other (follows h a))
-  one (verdict.Yes h) (verdict.No (Interval q m)) a b = absurd (b.first.other (same_in h a q m))
-  one (verdict.No (Record n)) (verdict.Yes h) a b = absurd (a.other (follows h b))
-  one (verdict.No (Record n)) (verdict.No (Record n2)) a b = ap (λ (x : ℕ). verdict.No (Record x)) (a.length_is ∙ sym b.length_is)
-  one (verdict.No (Record n)) (verdict.No (Interval q m)) a b = absurd (a.other b.follows)
-  one (verdict.No (Interval p k)) (verdict.Yes h) a b = absurd (a.first.other (same_in h b p k))
-  one (verdict.No (Interval p k)) (verdict.No (Record n)) a b = absurd (b.other a.follows)
-  one (verdict.No (Interval p k)) (verdict.No (Interval q m)) a b = first_once p k q m a.first b.first
+  one (verdict.Yes h) (verdict.Yes h2) a b = ap (λ (x : List ℕ). verdict.Yes x) (a.0 ∙ sym b.0)
+  one (verdict.Yes h) (verdict.No (Record n)) a b = absurd (b.1 (follows h a))
+  one (verdict.Yes h) (verdict.No (Interval q m)) a b = absurd (b.1.other (same_in h a q m))
+  one (verdict.No (Record n)) (verdict.Yes h) a b = absurd (a.1 (follows h b))
+  one (verdict.No (Record n)) (verdict.No (Record n2)) a b = ap (λ (x : ℕ). verdict.No (Record x)) (a.0 ∙ sym b.0)
+  one (verdict.No (Record n)) (verdict.No (Interval q m)) a b = absurd (a.1 b.0)
+  one (verdict.No (Interval p k)) (verdict.Yes h) a b = absurd (a.1.other (same_in h b p k))
+  one (verdict.No (Interval p k)) (verdict.No (Record n)) a b = absurd (b.1 a.0)
+  one (verdict.No (Interval p k)) (verdict.No (Interval q m)) a b = first_once p k q m a.1 b.1
 
 pub verdicts_are_one : VerdictsAreOne
 verdicts_are_one program plan budget logs a b x y = one program plan budget logs a b x y
@@ -121,14 +122,14 @@ module _ (program : Program) (policy : Policy) (budget : ℕ) (h : List ℕ) (v 
       (matches_in k (slice_get (splits program plan budget (story program plan budget h)) p)))
 
   pub yes_is : IsVerdict program plan budget kept (verdict.Yes again)
-  yes_is = record {
-    schedule = refl;
-    follows = record {
+  yes_is = (
+    refl,
+    record {
       whole = subst (λ (x : List ℕ). IsWhole program plan budget x) (sym guided_is) alike.agree.second;
       record_is = ap record_of story_is ∙ sym recorded;
-    };
-    same = same;
-  }
+    },
+    same,
+  )
 
 pub reruns_say_yes : RerunsSayYes
 reruns_say_yes program policy budget h v w none = yes_is program policy budget h v w none

@@ -33,15 +33,11 @@ Matches None None = ⊤
 Matches (Some r) (Some items) = r.answer ≡ Ok (record { items = items })
 Matches r items = ⊥
 
--- the replay of interval k of process p, from its log in these logs, if it is there
-abbrev pub replay_in : Program → Plan → ℕ → Logs → ℕ → ℕ → Option Replayed
-replay_in program plan budget logs p k =
-    replay_of program plan budget (interval_log plan (get_or logs.lists p []) k)
-
 -- interval k of process p: the logs and the schedule both have it, and its replay gives its items; or neither has it
 abbrev pub IsSame : Program → Plan → ℕ → Logs → List ℕ → ℕ → ℕ → Type 0
 IsSame program plan budget logs h p k =
-    Matches (replay_in program plan budget logs p k) (items_of_interval program plan budget (story program plan budget h) p k)
+    Matches (replay_of program plan budget (interval_log plan (get_or logs.lists p []) k))
+    (items_of_interval program plan budget (story program plan budget h) p k)
 
 -- interval k of process p is the first, by process and number, that is not so
 pub record IsFirstOther (program : Program) (plan : Plan) (budget : ℕ) (logs : Logs) (h : List ℕ) (p k : ℕ) : Type 0 where
@@ -49,24 +45,16 @@ pub record IsFirstOther (program : Program) (plan : Plan) (budget : ℕ) (logs :
   pub processes : (q m : ℕ) → q < p → IsSame program plan budget logs h q m
   pub intervals : (m : ℕ) → m < k → IsSame program plan budget logs h p m
 
--- yes: the schedule is the guided one, it is whole with the record of the logs, and every interval is the same
-pub record IsYes (program : Program) (plan : Plan) (budget : ℕ) (logs : Logs) (h : List ℕ) : Type 0 where
-  pub schedule : h ≡ guided_by program plan budget logs
-  pub follows : HasRecordOf program plan budget logs h
-  pub same : (p k : ℕ) → IsSame program plan budget logs h p k
-
--- no, for the record: so many steps were taken, and the guided schedule is not whole or has another record
-pub record IsRecordNo (program : Program) (plan : Plan) (budget : ℕ) (logs : Logs) (taken : ℕ) : Type 0 where
-  pub length_is : taken ≡ length (guided_by program plan budget logs)
-  pub other : HasRecordOf program plan budget logs (guided_by program plan budget logs) → ⊥
-
--- no, for an interval: the record is followed, and this interval is the first other one
-pub record IsIntervalNo (program : Program) (plan : Plan) (budget : ℕ) (logs : Logs) (p k : ℕ) : Type 0 where
-  pub follows : HasRecordOf program plan budget logs (guided_by program plan budget logs)
-  pub first : IsFirstOther program plan budget logs (guided_by program plan budget logs) p k
-
--- the verdict on logs
+-- the verdict on logs. Yes: the schedule is the guided one, it is whole with the record of the logs, and every interval
+-- is the same. No, for the record: so many steps were taken, and the guided schedule is not whole or has another
+-- record. No, for an interval: the record is followed, and this interval is the first other one
 abbrev pub IsVerdict : Program → Plan → ℕ → Logs → Verdict → Type 0
-IsVerdict program plan budget logs (verdict.Yes h) = IsYes program plan budget logs h
-IsVerdict program plan budget logs (verdict.No (Record taken)) = IsRecordNo program plan budget logs taken
-IsVerdict program plan budget logs (verdict.No (Interval p k)) = IsIntervalNo program plan budget logs p k
+IsVerdict program plan budget logs (verdict.Yes h) =
+    (h ≡ guided_by program plan budget logs) × HasRecordOf program plan budget logs h
+    × ((p k : ℕ) → IsSame program plan budget logs h p k)
+IsVerdict program plan budget logs (verdict.No (Record taken)) =
+    (taken ≡ length (guided_by program plan budget logs))
+    × (HasRecordOf program plan budget logs (guided_by program plan budget logs) → ⊥)
+IsVerdict program plan budget logs (verdict.No (Interval p k)) =
+    HasRecordOf program plan budget logs (guided_by program plan budget logs)
+    × IsFirstOther program plan budget logs (guided_by program plan budget logs) p k

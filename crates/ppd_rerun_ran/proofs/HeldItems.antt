@@ -17,8 +17,10 @@ use Rattle.ppd_model.specs.declared.trace.EventId.{EventId}
 use Rattle.ppd_model.specs.declared.trace.TracedEvent.{TracedEvent}
 use Rattle.ppd_model.specs.declared.tracing.Tracing.{Tracing}
 use Rattle.ppd_model.specs.FullTrace.{Tag, event_of, me_in, top_tags, trace_by}
-use Rattle.ppd_model.specs.Intervals.{Span, Split, own, nested, begin_if, begun_split, change_first, control_by, end_if, innermost, is_closed, item_of, items, items_at, items_in, left_by, new_span, split_of, split_step, splits_from, with_marks, with_own, with_part, with_step}
+use Rattle.ppd_model.specs.Intervals.{Span, Split, own, nested, begun_split, change_first, control_by, innermost, is_closed, item_of, items, left_by, new_span, split_of, split_step, with_marks, with_own, with_part, with_step}
+use Rattle.ppd_model.proofs.IntervalWords.{begin_if, end_if, items_at, items_in, splits_from}
 use Rattle.ppd_model.specs.Intervals as s
+use Rattle.ppd_model.proofs.IntervalWords as words
 use Rattle.ppd_model.specs.Marks.{Mark, closed, opened}
 use Rattle.ppd_model.specs.declared.tracing.Story.{Story}
 use Rattle.ppd_model.specs.declared.tracing.Taken.{Taken}
@@ -184,12 +186,12 @@ module _ (program : Program) (plan : Plan) (story : Story) (p : ℕ) where
 pub item_is : (x : Split) (part : s.Part) → held_item (held_of x) (part_of part) ≡ item_of x part
 item_is x (own m) = ap item_of_event (slice_get-map bare_event x.trace.events m) ∙ by (slice_get x.trace.events m)
   where
-    by : (o : Option TracedEvent) → item_of_event (option_map bare_event o) ≡ s.item_of_event o
+    by : (o : Option TracedEvent) → item_of_event (option_map bare_event o) ≡ words.item_of_event o
     by None = refl
     by (Some e) = refl
 item_is x (nested m) = ap (item_of_kept m) (slice_get-map bare x.spans m) ∙ by (slice_get x.spans m)
   where
-    by : (o : Option Span) → item_of_kept m (option_map bare o) ≡ s.item_of_span m o
+    by : (o : Option Span) → item_of_kept m (option_map bare o) ≡ words.item_of_span m o
     by None = refl
     by (Some i) = refl
 

@@ -15,7 +15,8 @@ use Rattle.ppd_model.specs.declared.flow.Item.{Item}
 use Rattle.ppd_model.specs.declared.flow.Item.TheVariants as item
 use Rattle.ppd_model.specs.declared.tracing.Story.{Story}
 use Rattle.ppd_model.specs.declared.tracing.Taken.{Taken}
-use Rattle.ppd_model.specs.Intervals.{Span, Split, items as items_in_story, items_in, split_of, splits, splits_from}
+use Rattle.ppd_model.specs.Intervals.{Span, Split, items as items_in_story, split_of, splits}
+use Rattle.ppd_model.proofs.IntervalWords.{items_in, splits_from}
 use Rattle.ppd_model.specs.Story.{story}
 use Rattle.ppd_model.proofs.Changes.{some}
 use Rattle.ppd_model.proofs.Items.{items_whole}

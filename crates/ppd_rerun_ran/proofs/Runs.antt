@@ -17,7 +17,7 @@ use Rattle.ppd_sem.specs.declared.proc.Todo.{Todo}
 use Rattle.ppd_sem.specs.Described.{is_event}
 use Rattle.ppd_sem.specs.Process.{started}
 use Rattle.ppd_sem.specs.Runs.{IsRunning}
-use Rattle.ppd_sem.specs.Tables.{or_zero}
+use Rattle.ppd_sem.proofs.TableWords.{or_zero}
 use Rattle.ppd_model.specs.declared.tracing.Taken.{Taken}
 use Rattle.ppd_model.specs.declared.state.Logging.{Logging}
 use Rattle.ppd_model.specs.FullTrace.{event_of}
@@ -30,7 +30,8 @@ use Rattle.ppd_model.specs.Schedule.{IsOver, run, started_world}
 use Rattle.ppd_model.specs.States.{act_on, states_from}
 use Rattle.ppd_model.specs.Story.{Telling, moment_of, steps_of, story, told}
 use Rattle.ppd_model.specs.Synchronizations.{Sync, sync_of, syncs_of}
-use Rattle.ppd_model.specs.World.{World, can, change, enabled, need_at}
+use Rattle.ppd_model.specs.World.{World, can, change, enabled}
+use Rattle.ppd_model.proofs.WorldWords.{need_at}
 use Rattle.ppd_model.proofs.Changes.{length-change, own-at, own-else, some}
 use Rattle.ppd_model.proofs.Lists.{every_at, map_change}
 use Rattle.ppd_model.proofs.Numbers.{syncs-append}

@@ -1,5 +1,5 @@
 -- The intervals of a process as a run goes on: its events, what stands in each interval, and which of them run.
-use Rattle.std.specs.Prelude.{◌≡◌, ℕ, ◌+◌, ℤ, Bool, true, false, List, [], ◌∷◌, ◌++◌, drop, fold, length, slice_get, Option, Some, None}
+use Rattle.std.specs.Prelude.{◌≡◌, ℕ, ◌+◌, ℤ, Bool, true, false, List, [], ◌∷◌, ◌++◌, drop, fold, length, slice_get, Option, Some, None, unwrap_or}
 use Rattle.std.specs.List.{flat_map}
 use Rattle.ppd_ast.specs.declared.plan.BlockKind.TheVariants as block
 use Rattle.ppd_ast.specs.declared.plan.Plan.{Plan}
@@ -10,7 +10,7 @@ use Rattle.ppd_sem.specs.declared.proc.Need.TheVariants.{Enter, Invoke}
 use Rattle.ppd_sem.specs.declared.proc.Proc.{Proc}
 use Rattle.ppd_sem.specs.Described.{is_event}
 use Rattle.ppd_sem.specs.Process.{act, started}
-use Rattle.ppd_sem.specs.Tables.{block_of, or_zero}
+use Rattle.ppd_sem.specs.Tables.{block_of}
 use Rattle.ppd_model.specs.declared.flow.Item.{Item}
 use Rattle.ppd_model.specs.declared.flow.Item.TheVariants as item
 use Rattle.ppd_model.specs.FullTrace.{event_of}
@@ -105,7 +105,7 @@ begun_in b = record { events = []; spans = new_kept b ∷ []; running = 0 ∷ []
 
 -- before its first step the interval of a process's body runs
 abbrev pub begun_held : Program → Plan → ℕ → Holding
-begun_held program plan p = begun_in (or_zero (block_of plan (block.Process (program.functions + p))))
+begun_held program plan p = begun_in (unwrap_or (block_of plan (block.Process (program.functions + p))) 0)
 
 -- process p before its first step
 abbrev pub begun_course : Program → Plan → ℕ → ℕ → Course

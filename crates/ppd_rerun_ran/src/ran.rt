@@ -3,7 +3,7 @@ ghost use Rattle.std.specs.Prelude.{◌≡◌, ◌+◌, ◌*◌, ◌-◌, ◌<�
 ghost use Rattle.ppd_ast.specs.Valid.{IsValid};
 ghost use Rattle.ppd_ast.specs.ValidPlan.{IsValidPlan};
 ghost use Rattle.ppd_ast.specs.declared.limits.TheConstants.{MOST_BUDGET};
-ghost use Rattle.ppd_rerun_model.specs.Guided.{chosen as chosen_of, guide as guide_of, guided_from, most_steps as most_steps_of};
+ghost use Rattle.ppd_rerun_model.specs.Guided.{chosen as chosen_of, guide as guide_of, guided_from};
 ghost use Rattle.ppd_model.specs.World.{change};
 ghost use Rattle.ppd_sem.specs.Process.{need_of};
 ghost use Rattle.ppd_sem.specs.Runs.{IsNumbered, IsRunnable, IsRunning};
@@ -125,7 +125,7 @@ fn run(
     requires held { map seen held.old.items ≡ helds setting.now.program.now setting.now.plan.now budget [] }
     ensures schedule { IfOk result
         (λ h. h ≡ guided_from setting.now.program.now setting.now.plan.now
-        (most_steps_of setting.now.program.now budget) (guiding_of guide.old.world guide.old.dues.items)) }
+        ((length setting.now.program.now.bodies - setting.now.program.now.functions) * (budget + 1)) (guiding_of guide.old.world guide.old.dues.items)) }
     ensures come { IfOk result
         (λ h. HasCome setting.now.program.now setting.now.plan.now budget (map left_of guide.old.dues.items) h
         guide.new.world (map left_of guide.new.dues.items) (map seen held.new.items)) }

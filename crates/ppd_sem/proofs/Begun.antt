@@ -18,8 +18,10 @@ use Rattle.ppd_ast.specs.Lookups.{top_of_body, body_of_stmt}
 use Rattle.ppd_ast.proofs.ValidLaws.{valid_body, some_and}
 use Rattle.ppd_ast.specs.declared.limits.TheConstants.{MOST_CALLS}
 use Rattle.ppd_sem.specs.declared.proc.Todo.{Todo}
-use Rattle.ppd_sem.specs.Blocks.{at_block, block_body, block_kind, block_todo, kind_in, prelog_cells, with_values}
-use Rattle.ppd_sem.specs.Process.{cells_for, todos}
+use Rattle.ppd_sem.specs.Blocks.{at_block, block_body, block_kind, block_todo, prelog_cells, with_values}
+use Rattle.ppd_sem.proofs.TableWords.{kind_in}
+use Rattle.ppd_sem.specs.Process.{todos}
+use Rattle.ppd_sem.proofs.NeedWords.{cells_for}
 use Rattle.ppd_sem.specs.Runs.{AreOfFunction, AreOver, IsRunning, size_if, size_of, stmt_size}
 use Rattle.ppd_sem.proofs.Kept.{cells_count, function_over, size_small}
 use Rattle.ppd_sem.proofs.Starts.{started_over}

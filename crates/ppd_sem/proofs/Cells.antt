@@ -4,7 +4,7 @@ use Rattle.std.specs.Prelude.{replicate, slice_get}
 use Rattle.std.proofs.lemmas.List.{append-nil}
 use Rattle.ppd_ast.specs.declared.program.Body.{Body}
 use Rattle.ppd_ast.specs.declared.program.Program.{Program}
-use Rattle.ppd_sem.specs.Process.{cells_for}
+use Rattle.ppd_sem.proofs.NeedWords.{cells_for}
 use Rattle.ppd_sem.specs.Runs.{size_if, size_of}
 
 padded_if : (o : Option Body) (values : List ℤ) → values ++ replicate (size_if o - length values) (pos 0) ≡ cells_for o values

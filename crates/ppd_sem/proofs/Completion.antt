@@ -8,7 +8,8 @@ use Rattle.ppd_sem.specs.declared.proc.Need.{Need}
 use Rattle.ppd_sem.specs.declared.proc.Need.TheVariants.{Done, Budget}
 use Rattle.ppd_sem.specs.declared.proc.Proc.{Proc}
 use Rattle.ppd_sem.specs.declared.proc.Todo.{Todo}
-use Rattle.ppd_sem.specs.Process.{chan_of, cost, entry_of, head_deed, need_by_entry, need_by_offer, need_of_head, within_budget}
+use Rattle.ppd_sem.specs.Process.{chan_of, cost, entry_of, head_deed, need_of_head, within_budget}
+use Rattle.ppd_sem.proofs.NeedWords.{need_by_entry, need_by_offer}
 use Rattle.ppd_sem.specs.Tables.{unit_of}
 
 -- a send that is marked as offered needs its completion

@@ -6,7 +6,8 @@ use Rattle.std.proofs.lemmas.List.{drop_more, get_or-reverse, length-reverse}
 use Rattle.ppd_ast.specs.declared.program.Program.{Program}
 use Rattle.ppd_ast.specs.Lookups.{kind_of}
 use Rattle.ppd_sem.specs.declared.proc.Todo.{Todo}
-use Rattle.ppd_sem.specs.Described.{ends_body, is_in_loop, top_todo}
+use Rattle.ppd_sem.specs.Described.{ends_body, is_in_loop}
+use Rattle.ppd_sem.proofs.EventWords.{top_todo}
 
 -- ---- what is to do, from its top
 

@@ -16,11 +16,13 @@ use Rattle.ppd_sem.specs.declared.asking.Pause.TheVariants.{Traps}
 use Rattle.ppd_sem.specs.declared.proc.Need.TheVariants as need
 use Rattle.ppd_sem.specs.declared.proc.Proc.{Proc}
 use Rattle.ppd_sem.specs.declared.proc.Todo.{Todo}
-use Rattle.ppd_sem.specs.Ask.{ask, checked, divided, element, is_in_64_bits, is_zero}
+use Rattle.ppd_sem.specs.Ask.{ask, checked, element, is_in_64_bits, is_zero}
+use Rattle.ppd_sem.proofs.EventWords.{divided}
 use Rattle.ppd_sem.specs.Asked.{Asked, and_then, gives, once}
 use Rattle.ppd_sem.specs.Deed.{Deed, ask_all, ask_deed, ask_stored, invoke, set_local, set_shared}
 use Rattle.ppd_sem.specs.Laws.{ArgumentsComeFirst, ArithmeticIsExact, DividesTowardZero, Has64Bits, IndexComesFirst, IsExactOrOverflow, NeedsAreThere, StepsEnd, StopsEarly, ValidCanRun, ValidIsNumbered, least}
-use Rattle.ppd_sem.specs.Process.{act, chan_of, entry_of, head_deed, loop_of, need_by_entry, need_by_offer, need_of_asked, need_of_call, need_of_head, offer_of, top_cells}
+use Rattle.ppd_sem.specs.Process.{act, chan_of, entry_of, head_deed, loop_of, need_of_asked, need_of_call, need_of_head, offer_of, top_cells}
+use Rattle.ppd_sem.proofs.NeedWords.{need_by_entry, need_by_offer}
 use Rattle.ppd_sem.specs.Reads.{ask_place, reads_of, reads_of_stored}
 use Rattle.ppd_sem.proofs.Progress.{act-falls, act-stopped, act-within}
 use Rattle.ppd_sem.proofs.Needs.{needs-there}

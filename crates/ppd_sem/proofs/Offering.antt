@@ -19,7 +19,8 @@ use Rattle.ppd_sem.specs.Deed.{Deed, set_local, set_shared, clear, branch, turn,
 use Rattle.ppd_sem.specs.Laws.{OffersAreCompleted}
 use Rattle.ppd_sem.specs.Offers.{Completes, HasNoOffer, IsAtOneStatement, Offers, OffersAtHead}
 use Rattle.ppd_sem.specs.Passed.{next_stmt_of}
-use Rattle.ppd_sem.specs.Process.{act, act_at, act_by_asked, act_by_deed, act_by_need, chan_of, charged, cost, entry_of, head_deed, need_by_entry, need_by_offer, need_of, need_of_head, within_budget}
+use Rattle.ppd_sem.specs.Process.{act, act_by_asked, act_by_deed, act_by_need, chan_of, charged, cost, entry_of, head_deed, need_of, need_of_head, within_budget}
+use Rattle.ppd_sem.proofs.NeedWords.{act_at, need_by_entry, need_by_offer}
 use Rattle.ppd_sem.specs.Tables.{unit_of}
 use Rattle.ppd_sem.proofs.Completion.{offered_completes, offered_needs}
 use Rattle.ppd_sem.proofs.Marked.{OfferFits, at_head, no_done, running_offer, unoffered_before, unoffered_no_done, unoffered_todos, with_unoffered}

@@ -14,7 +14,8 @@ use Rattle.ppd_sem.specs.declared.proc.Todo.{Todo}
 use Rattle.ppd_sem.specs.Asked.{Asked}
 use Rattle.ppd_sem.specs.Deed.{Deed, set_local, set_shared, clear, branch, turn, leave, invoke, back, take, give, send, receive, print, pass, finish}
 use Rattle.ppd_sem.specs.Measure.{measure, measure_by}
-use Rattle.ppd_sem.specs.Process.{act, act_at, act_by_asked, act_by_deed, act_by_need, charged, cost, head_deed, need_by_status, need_of, need_of_head, need_of_running, within_budget}
+use Rattle.ppd_sem.specs.Process.{act, act_by_asked, act_by_deed, act_by_need, charged, cost, head_deed, need_of, need_of_head, within_budget}
+use Rattle.ppd_sem.proofs.NeedWords.{act_at, need_by_status, need_of_running}
 
 -- the same budget, the same cost and steps so far, and the same calls below
 pub record SamePurse (s t : Proc) : Type 0 where

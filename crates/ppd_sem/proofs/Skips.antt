@@ -19,7 +19,8 @@ use Rattle.ppd_sem.specs.Asked.{Asked, and_then, gives}
 use Rattle.ppd_sem.specs.Blocks.{frames_past, head_stmt, postlog_cells, skipped, write_all}
 use Rattle.ppd_sem.specs.Deed.{Deed, back, ask_deed}
 use Rattle.ppd_sem.specs.Entries.{Begins}
-use Rattle.ppd_sem.specs.Process.{chan_of, cost, into_of, loop_of, need_by_entry, need_by_offer, need_of, need_of_asked, need_of_head, top_cells, within_budget}
+use Rattle.ppd_sem.specs.Process.{chan_of, cost, into_of, loop_of, need_of, need_of_asked, need_of_head, top_cells, within_budget}
+use Rattle.ppd_sem.proofs.NeedWords.{need_by_entry, need_by_offer}
 use Rattle.ppd_sem.specs.Runs.{AreOver, IsRunning, returns, sizes}
 use Rattle.ppd_sem.proofs.Begun.{length-with_values}
 use Rattle.ppd_sem.proofs.Kept.{Shape, paid_runs, sized, sizes-receive, stays}

@@ -8,7 +8,8 @@ use Rattle.ppd_ast.specs.declared.program.Program.{Program}
 use Rattle.ppd_ast.specs.Lookups.{top_of_body}
 use Rattle.ppd_sem.specs.declared.proc.Frame.{Frame}
 use Rattle.ppd_sem.specs.declared.proc.Todo.{Todo}
-use Rattle.ppd_sem.specs.Process.{cells_for, new_frame, started_in, todos}
+use Rattle.ppd_sem.specs.Process.{new_frame, todos}
+use Rattle.ppd_sem.proofs.NeedWords.{cells_for, started_in}
 use Rattle.ppd_sem.specs.Runs.{AreOver, IsInner, IsRunnable, IsRunnableBody, IsRunning, size_if, size_of, sizes}
 use Rattle.ppd_sem.proofs.Kept.{There, there_at, inner_over, cells_count, size_small}
 

@@ -6,7 +6,8 @@ use Rattle.std.proofs.lemmas.Bool.Decides.{nat_tests}
 use Rattle.std.proofs.lemmas.List.Sums.{sum_by-append}
 use Rattle.std.proofs.lemmas.Option.{slice_get-get_or, slice_get_within}
 use Rattle.ppd_ast.specs.Cells.{AreParams, CoverCells, NamesWhole, WritesWhole, after, size}
-use Rattle.ppd_ast.specs.Order.{StandIn, inner, preorder, inner_at}
+use Rattle.ppd_ast.specs.Order.{StandIn, inner, preorder}
+use Rattle.ppd_ast.proofs.Vocabulary.{inner_at}
 use Rattle.ppd_ast.specs.Term.{Term, const, local, local_at, shared, shared_at, neg, not, two, and, or, term}
 use Rattle.ppd_ast.specs.Uses.{kind_uses}
 use Rattle.ppd_ast.specs.ValidPlan.{IsValidPlan}
@@ -20,7 +21,8 @@ use Rattle.ppd_ast.specs.declared.program.Program.{Program}
 use Rattle.ppd_ast.specs.declared.program.Stmt.{Stmt}
 use Rattle.ppd_ast.specs.declared.program.Target.TheVariants as target
 use Rattle.ppd_ast.specs.declared.program.Var.{Var}
-use Rattle.ppd_ast.specs.Lookups.{kind_of_stmt, kind_of, top_of_body}
+use Rattle.ppd_ast.specs.Lookups.{kind_of, top_of_body}
+use Rattle.ppd_ast.proofs.Vocabulary.{kind_of_stmt}
 use Rattle.ppd_ast.proofs.ValidLaws.{valid_body, some_and, array_below, scalar_below}
 use Rattle.ppd_ast.proofs.BareValid.{some_and_is}
 use Rattle.ppd_ast.specs.declared.limits.TheConstants.{MOST_SHARED_CELLS, MOST_FUNCTIONS, MOST_LOCAL_CELLS, MOST_NESTING, MOST_PROCESSES, MOST_STATEMENTS}

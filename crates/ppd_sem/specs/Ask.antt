@@ -22,13 +22,10 @@ is_zero x = int_eq x (pos 0)
 abbrev pub checked : ℤ → Result ℤ Trap
 checked x = if is_in_64_bits x then Ok x else Err Overflow
 
-abbrev pub divided : ℤ → ℤ → ℤ → Result ℤ Trap
-divided x y z = if is_zero y then Err Zero else if is_in_64_bits (int_div x y) then Ok z else Err Overflow
-
 abbrev pub calc : Op → ℤ → ℤ → Result ℤ Trap
 calc Mul x y = checked (x *ℤ y)
-calc Div x y = divided x y (int_div x y)
-calc Rem x y = divided x y (int_rem x y)
+calc Div x y = if is_zero y then Err Zero else checked (int_div x y)
+calc Rem x y = if is_zero y then Err Zero else if is_in_64_bits (int_div x y) then Ok (int_rem x y) else Err Overflow
 calc Add x y = checked (x +ℤ y)
 calc Sub x y = checked (x -ℤ y)
 calc Lt x y = Ok (truth (int_lt x y))

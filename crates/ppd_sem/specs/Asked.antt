@@ -36,9 +36,7 @@ abbrev pub paused : {A : Type 0} → Result A Trap → Result A Pause
 paused (Ok x) = Ok x
 paused (Err trap) = Err (Traps trap)
 
-abbrev pub and_give : {A : Type 0} → List ℤ → Result A Pause → Asked A
-and_give answers (Ok x) = gives answers x
-and_give answers (Err pause) = Err pause
-
+-- a value with the answers that are left, or a trap as a pause
 abbrev pub lift : {A : Type 0} → List ℤ → Result A Trap → Asked A
-lift answers r = and_give answers (paused r)
+lift answers (Ok x) = gives answers x
+lift answers (Err trap) = Err (Traps trap)

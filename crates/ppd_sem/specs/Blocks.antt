@@ -1,7 +1,7 @@
 -- Look-ups of a block in a plan, a process state that begins at a block, and one that goes past a block
 -- without running it.
-use Rattle.std.specs.Prelude.{ℕ, ℤ, Bool, true, false, List, [], ◌∷◌, drop, slice_set, slice_get, Option, Some, None}
-use Rattle.ppd_ast.specs.declared.plan.Block.{Block}
+use Rattle.std.specs.Prelude.{ℕ, ℤ, Bool, true, false, List, [], ◌∷◌, drop, slice_set, slice_get, None}
+use Rattle.std.specs.Option.{option_map_or}
 use Rattle.ppd_ast.specs.declared.plan.BlockKind.{BlockKind}
 use Rattle.ppd_ast.specs.declared.plan.BlockKind.TheVariants as block
 use Rattle.ppd_ast.specs.declared.plan.Plan.{Plan}
@@ -14,41 +14,19 @@ use Rattle.ppd_sem.specs.declared.proc.Need.TheVariants.{Enter}
 use Rattle.ppd_sem.specs.declared.proc.Proc.{Proc}
 use Rattle.ppd_sem.specs.declared.proc.Todo.{Todo}
 use Rattle.ppd_sem.specs.Process.{charged, into_of, need_of, new_frame, receive_at, todos}
+pub use Rattle.ppd_sem.specs.Tables.{prelog_cells, postlog_cells}
 use Rattle.ppd_sem.specs.Tables.{unit_of}
 
 -- ---- look-ups
 
--- what a block that is there is the code of
-abbrev pub kind_in : Option Block → BlockKind
-kind_in None = block.Process 0
-kind_in (Some b) = b.kind
-
 -- what block b of the plan is the code of
 abbrev pub block_kind : Plan → ℕ → BlockKind
-block_kind plan b = kind_in (slice_get plan.blocks b)
+block_kind plan b = option_map_or (λ x. x.kind) (slice_get plan.blocks b) (block.Process 0)
 
 -- the block is a function's body
 abbrev pub is_function : BlockKind → Bool
 is_function (block.Function f) = true
 is_function kind = false
-
--- the local cells of a block's prelog
-abbrev pub prelog_in : Option Block → List ℕ
-prelog_in None = []
-prelog_in (Some b) = b.prelog
-
--- the local cells of a block's postlog
-abbrev pub postlog_in : Option Block → List ℕ
-postlog_in None = []
-postlog_in (Some b) = b.postlog
-
--- the local cells of the prelog of block b
-abbrev pub prelog_cells : Plan → ℕ → List ℕ
-prelog_cells plan b = prelog_in (slice_get plan.blocks b)
-
--- the local cells of the postlog of block b
-abbrev pub postlog_cells : Plan → ℕ → List ℕ
-postlog_cells plan b = postlog_in (slice_get plan.blocks b)
 
 -- ---- at a block
 

@@ -1,6 +1,8 @@
 -- The event of a process's next step, from the process's own state alone.
-use Rattle.std.specs.Prelude.{ℕ, zero, suc, ◌+◌, ℤ, pos, Bool, true, false, ◌||◌, not, List, [], ◌∷◌, ◌++◌, take_while, Option, Some, None, is_some, Ok, Err, if◌then◌else◌}
+use Rattle.std.specs.Prelude.{ℕ, zero, suc, ◌+◌, ℤ, pos, Bool, true, false, ◌||◌, not, List, [], ◌∷◌, ◌++◌, take_while, Option, Some, None, is_some, option_map, if◌then◌else◌}
 use Rattle.std.specs.List.{list_any}
+use Rattle.std.specs.Option.{option_map_or}
+use Rattle.std.specs.Result.{result_ok}
 use Rattle.ppd_ast.specs.declared.program.Expr.{Expr}
 use Rattle.ppd_ast.specs.declared.program.Kind.{Kind}
 use Rattle.ppd_ast.specs.declared.program.Kind.TheVariants as kind
@@ -32,23 +34,17 @@ ends_body (kind.Return e) = true
 ends_body kind.End = true
 ends_body k = false
 
--- what is to do in the top frame, up to the statement that ends its body
-abbrev pub top_todo : Program → List Todo → List Todo
-top_todo program todo = take_while (λ t. not (ends_body (kind_of program t.stmt))) todo
-
--- a block loop runs in the top frame
+-- a block loop runs in the top frame, whose part of what is to do goes up to the statement that ends its body
 abbrev pub is_in_loop : Program → List Todo → Bool
-is_in_loop program todo = list_any (λ t. t.entered) (top_todo program todo)
+is_in_loop program todo =
+    list_any (λ t. t.entered) (take_while (λ t. not (ends_body (kind_of program t.stmt))) todo)
 
 abbrev pub is_block : Plan → ℕ → Bool
 is_block plan body = is_some (block_of plan (block.Function body)) || is_some (block_of plan (block.Process body))
 
 -- the top frame is that of an interval where a block loop runs in it, or its body is a block
-abbrev pub has_interval : Program → Plan → Proc → Bool
-has_interval program plan s = is_in_loop program s.todo || is_block plan (top_body s.frames)
-
 abbrev pub frame_of : Program → Plan → Proc → ℕ
-frame_of program plan s = if has_interval program plan s then 0 else 1
+frame_of program plan s = if is_in_loop program s.todo || is_block plan (top_body s.frames) then 0 else 1
 
 -- ---- writes and value
 
@@ -73,10 +69,6 @@ writes_of_deed frame a (invoke f values into) = parameters (frame + 1) 0 values
 writes_of_deed frame a (receive chan into) = local_write frame into (value_of a) ∷ []
 writes_of_deed frame a deed = []
 
-abbrev pub writes_of_asked : ℕ → Answer → Asked Deed → List Access
-writes_of_asked frame a (Ok p) = writes_of_deed frame a p.0
-writes_of_asked frame a (Err pause) = []
-
 -- the trap of a step
 abbrev pub trap_of : Need → Option TrapOf
 trap_of (Trap t) = Some t
@@ -85,7 +77,7 @@ trap_of need = None
 -- a step that traps writes nothing
 abbrev pub writes_by : Option TrapOf → ℕ → Answer → Asked Deed → List Access
 writes_by (Some t) frame a asked = []
-writes_by None frame a asked = writes_of_asked frame a asked
+writes_by None frame a asked = option_map_or (λ p. writes_of_deed frame a p.0) (result_ok asked) []
 
 -- the expression whose value is the event's: of a test, a returned value, a sent value, a print and an assertion
 abbrev pub valued : Kind → Option ℕ
@@ -97,13 +89,9 @@ valued (kind.Print e) = Some e
 valued (kind.Assert e) = Some e
 valued k = None
 
-abbrev pub value_if : Asked ℤ → Option ℤ
-value_if (Ok p) = Some p.0
-value_if (Err pause) = None
-
 abbrev pub value_at : List Expr → List ℤ → List ℤ → Option ℕ → Option ℤ
 value_at es cells answers None = None
-value_at es cells answers (Some e) = value_if (ask (term es e) cells answers)
+value_at es cells answers (Some e) = option_map (λ p. p.0) (result_ok (ask (term es e) cells answers))
 
 -- ---- the event
 
@@ -120,19 +108,18 @@ abbrev pub evaluates : Need → Bool
 evaluates (Done c u) = false
 evaluates need = true
 
-abbrev pub event_at : Program → Plan → Answer → Need → Proc → Todo → Event
-event_at program plan a need s t = record {
-  stmt = t.stmt;
-  reads = if evaluates need
-      then reads_of_kind (frame_of program plan s) program.exprs (kind_of program t.stmt)
-      (top_cells s.frames) s.answers else [];
-  writes = writes_by (trap_of need) (frame_of program plan s) a (head_deed program t s);
-  value = if evaluates need
-      then value_at program.exprs (top_cells s.frames) s.answers (valued (kind_of program t.stmt)) else None;
-  number = None;
-  trap = trap_of need;
-}
-
 -- the event of the next step of a process whose head is t; its number is told by the world alone
 abbrev pub described : Program → Plan → Proc → Todo → Answer → Event
-described program plan s t a = event_at program plan a (need_of program plan s) s t
+described program plan s t a =
+    let need = need_of program plan s in
+    record {
+      stmt = t.stmt;
+      reads = if evaluates need
+          then reads_of_kind (frame_of program plan s) program.exprs (kind_of program t.stmt)
+          (top_cells s.frames) s.answers else [];
+      writes = writes_by (trap_of need) (frame_of program plan s) a (head_deed program t s);
+      value = if evaluates need
+          then value_at program.exprs (top_cells s.frames) s.answers (valued (kind_of program t.stmt)) else None;
+      number = None;
+      trap = trap_of need;
+    }

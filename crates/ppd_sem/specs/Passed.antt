@@ -1,5 +1,6 @@
 -- The values that the next step passes to a function or back from it.
-use Rattle.std.specs.Prelude.{ℕ, ℤ, List, [], ◌∷◌, Option, Some, None, Result, Ok, Err, option_to_list, slice_get}
+use Rattle.std.specs.Prelude.{ℕ, ℤ, List, [], ◌∷◌, Option, Some, None, Result, Ok, Err, option_to_list, option_and_then, slice_get}
+use Rattle.std.specs.Option.{option_map_or}
 use Rattle.ppd_ast.specs.declared.program.Kind.{Kind}
 use Rattle.ppd_ast.specs.declared.program.Kind.TheVariants as kind
 use Rattle.ppd_ast.specs.declared.program.Program.{Program}
@@ -23,23 +24,14 @@ abbrev pub result_by : Result Deed Pause → Option ℤ
 result_by (Ok (back value)) = value
 result_by r = None
 
--- the same of a head statement
-abbrev pub arguments_of_head : Program → Proc → Option Todo → List ℤ
-arguments_of_head program s None = []
-arguments_of_head program s (Some t) = arguments_by (outcome (head_deed program t s))
-
--- the same of a head statement
-abbrev pub result_of_head : Program → Proc → Option Todo → Option ℤ
-result_of_head program s None = None
-result_of_head program s (Some t) = result_by (outcome (head_deed program t s))
-
 -- the arguments of the head's call
 abbrev pub arguments_at : Program → Proc → List ℤ
-arguments_at program s = arguments_of_head program s (slice_get s.todo 0)
+arguments_at program s = option_map_or (λ t. arguments_by (outcome (head_deed program t s))) (slice_get s.todo 0) []
 
 -- the value of the head's return
 abbrev pub result_at : Program → Proc → List ℤ
-result_at program s = option_to_list (result_of_head program s (slice_get s.todo 0))
+result_at program s =
+    option_to_list (option_and_then (λ t. result_by (outcome (head_deed program t s))) (slice_get s.todo 0))
 
 -- what the head statement does, where all its values are there
 abbrev pub deed_by : Result Deed Pause → Option Deed

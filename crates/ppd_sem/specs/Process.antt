@@ -1,14 +1,13 @@
 -- The state of one process: what its next step needs, and the state after that step.
-use Rattle.std.specs.Prelude.{ℕ, ◌+◌, ◌-◌, nat_lt, ℤ, pos, List, [], ◌∷◌, ◌++◌, map, true, false, zero, suc, length, replicate, slice_set, slice_get, Option, Some, None, Ok, Err, if◌then◌else◌}
+use Rattle.std.specs.Prelude.{ℕ, ◌+◌, ◌-◌, nat_lt, ℤ, pos, List, [], ◌∷◌, ◌++◌, map, true, false, zero, suc, length, drop, replicate, slice_set, slice_get, unwrap_or, Option, Some, None, Ok, Err, if◌then◌else◌}
+use Rattle.std.specs.Option.{option_map_or}
 use Rattle.ppd_ast.specs.declared.program.Kind.{Kind}
 use Rattle.ppd_ast.specs.declared.program.Kind.TheVariants as kind
-use Rattle.ppd_ast.specs.declared.program.Body.{Body}
 use Rattle.ppd_ast.specs.declared.program.Program.{Program}
 use Rattle.ppd_ast.specs.declared.plan.Plan.{Plan}
 use Rattle.ppd_ast.specs.declared.plan.Start.TheVariants as start
 use Rattle.ppd_ast.specs.declared.plan.BlockKind.TheVariants as block
 use Rattle.ppd_ast.specs.declared.status.Trap.TheVariants as trap
-use Rattle.ppd_ast.specs.declared.status.Status.{Status}
 use Rattle.ppd_ast.specs.declared.status.Status.TheVariants as status
 use Rattle.ppd_ast.specs.Lookups.{kind_of, top_of_body}
 use Rattle.ppd_ast.specs.declared.limits.TheConstants.{MOST_CALLS}
@@ -23,7 +22,7 @@ use Rattle.ppd_sem.specs.declared.asking.Pause.{Pause}
 use Rattle.ppd_sem.specs.declared.asking.Pause.TheVariants.{Wants, Traps}
 use Rattle.ppd_sem.specs.Asked.{Asked}
 use Rattle.ppd_sem.specs.Deed.{Deed, set_local, set_shared, clear, branch, turn, leave, invoke, back, take, give, send, receive, print, finish, ask_deed}
-use Rattle.ppd_sem.specs.Tables.{capacity_of, block_of, unit_of, or_zero, prelog_length, postlog_length, unit_length, returned_length}
+use Rattle.ppd_sem.specs.Tables.{capacity_of, block_of, unit_of, prelog_cells, postlog_cells, unit_length, returned_length}
 
 -- ---- the head
 
@@ -78,7 +77,7 @@ need_of_deed program plan t s (take sem) = P sem (unit_of plan (start.After t))
 need_of_deed program plan t s (give sem) = V sem (unit_of plan (start.After t))
 need_of_deed program plan t s (send chan value) = need_of_send plan t (capacity_of program chan) chan value
 need_of_deed program plan t s (receive chan into) = Recv chan (unit_of plan (start.After t))
-need_of_deed program plan t s finish = End (or_zero (block_of plan (block.Process (top_body s.frames))))
+need_of_deed program plan t s finish = End (unwrap_or (block_of plan (block.Process (top_body s.frames))) 0)
 need_of_deed program plan t s deed = Plain
 
 abbrev pub need_of_pause : Pause → Need
@@ -97,11 +96,6 @@ loop_of plan t k = None
 abbrev pub entry_of : Program → Plan → Todo → Option ℕ
 entry_of program plan t = if t.entered then None else loop_of plan t.stmt (kind_of program t.stmt)
 
--- a block that is yet to be entered comes first
-abbrev pub need_by_entry : Program → Plan → ℕ → Proc → Option ℕ → Asked Deed → Need
-need_by_entry program plan t s (Some b) asked = Enter b (unit_of plan (start.Enter t))
-need_by_entry program plan t s None asked = need_of_asked program plan t s asked
-
 -- the channel of a send
 abbrev pub chan_of : Kind → Option ℕ
 chan_of (kind.Send chan e) = Some chan
@@ -111,22 +105,20 @@ chan_of k = None
 abbrev pub offer_of : Program → Todo → Option ℕ
 offer_of program t = if t.offered then chan_of (kind_of program t.stmt) else None
 
--- a send whose offer was taken is completed, and asks for nothing more
-abbrev pub need_by_offer : Plan → ℕ → Option ℕ → Need → Need
-need_by_offer plan t (Some chan) need = Done chan (unit_of plan (start.After t))
-need_by_offer plan t None need = need
-
+-- a send whose offer was taken is completed, and asks for nothing more; else a block that is yet to be entered
+-- comes first
 abbrev pub need_of_head : Program → Plan → Todo → Proc → Need
 need_of_head program plan t s =
-    need_by_offer plan t.stmt (offer_of program t)
-    (need_by_entry program plan t.stmt s (entry_of program plan t) (head_deed program t s))
+    option_map_or (λ chan. Done chan (unit_of plan (start.After t.stmt))) (offer_of program t)
+    (option_map_or (λ b. Enter b (unit_of plan (start.Enter t.stmt))) (entry_of program plan t)
+    (need_of_asked program plan t.stmt s (head_deed program t s)))
 
 -- the values in the prelog, postlog and unit entries that the step writes
 abbrev pub values_of : Plan → Need → ℕ
-values_of plan (Enter b u) = prelog_length plan b + unit_length plan u
-values_of plan (Leave b u) = postlog_length plan b + unit_length plan u
+values_of plan (Enter b u) = length (prelog_cells plan b) + unit_length plan u
+values_of plan (Leave b u) = length (postlog_cells plan b) + unit_length plan u
 values_of plan (Invoke None u) = unit_length plan u
-values_of plan (Invoke (Some b) u) = prelog_length plan b + unit_length plan u
+values_of plan (Invoke (Some b) u) = length (prelog_cells plan b) + unit_length plan u
 values_of plan (Back b None) = returned_length plan b
 values_of plan (Back b (Some u)) = returned_length plan b + unit_length plan u
 values_of plan (P s u) = unit_length plan u
@@ -143,17 +135,11 @@ cost plan need = 1 + values_of plan need
 abbrev pub within_budget : Plan → Proc → Need → Need
 within_budget plan s need = if nat_lt s.budget (s.spent + cost plan need) then Budget else need
 
-abbrev pub need_of_running : Program → Plan → List Todo → Proc → Need
-need_of_running program plan [] s = Stopped
-need_of_running program plan (t ∷ ts) s = within_budget plan s (need_of_head program plan t s)
-
-abbrev pub need_by_status : Program → Plan → Option Status → Proc → Need
-need_by_status program plan (Some _) s = Stopped
-need_by_status program plan None s = need_of_running program plan s.todo s
-
--- what the next step needs
+-- what the next step needs: nothing once a status is there, or where nothing is to do
 abbrev pub need_of : Program → Plan → Proc → Need
-need_of program plan s = need_by_status program plan s.status s
+need_of program plan s =
+    option_map_or (λ _. Stopped) s.status
+    (option_map_or (λ t. within_budget plan s (need_of_head program plan t s)) (slice_get s.todo 0) Stopped)
 
 -- ---- frames and statements
 
@@ -172,14 +158,14 @@ abbrev pub clear_top : ℕ → ℕ → List Frame → List Frame
 clear_top base len [] = []
 clear_top base len (f ∷ fs) = record f { cells = clear_cells base len f.cells } ∷ fs
 
-abbrev pub cells_for : Option Body → List ℤ → List ℤ
-cells_for None values = values
-cells_for (Some b) values = values ++ replicate (b.cells - length values) (pos 0)
-
 -- the parameters' values, and zeros
 abbrev pub new_frame : Program → ℕ → List ℤ → Option ℕ → Frame
-new_frame program f values call =
-    record { body = f; cells = cells_for (slice_get program.bodies f) values; call = call }
+new_frame program f values call = record {
+  body = f;
+  cells = option_map_or (λ b. values ++ replicate (b.cells - length values) (pos 0))
+      (slice_get program.bodies f) values;
+  call = call;
+}
 
 abbrev pub into_of : Kind → Option ℕ
 into_of (kind.Call f arguments into) = into
@@ -241,29 +227,25 @@ act_by_need program plan a t ts (Done c u) s = charged plan (Done c u) (record s
 act_by_need program plan a t ts (Trap trap) s = charged plan (Trap trap) (record s { status = Some (status.Trap trap) })
 act_by_need program plan a t ts need s = charged plan need (act_by_asked program a t ts (head_deed program t s) s)
 
-abbrev pub act_at : Program → Plan → Answer → List Todo → Proc → Proc
-act_at program plan a [] s = s
-act_at program plan a (t ∷ ts) s = act_by_need program plan a t ts (need_of program plan s) s
-
 -- the state after the next step, with this answer to its need
 abbrev pub act : Program → Plan → Proc → Answer → Proc
-act program plan s a = act_at program plan a s.todo s
+act program plan s a =
+    option_map_or (λ t. act_by_need program plan a t (drop 1 s.todo) (need_of program plan s) s) (slice_get s.todo 0) s
 
 -- ---- the start
 
-abbrev pub started_in : Program → ℕ → ℕ → Proc
-started_in program body budget = record {
-  frames = new_frame program body [] None ∷ [];
-  todo = todos (top_of_body (slice_get program.bodies body));
-  answers = [];
-  below = 0;
-  budget = budget;
-  spent = 0;
-  steps = 0;
-  prints = [];
-  status = None;
-}
-
 -- a process before its first step: the processes are the bodies after the functions
 abbrev pub started : Program → Plan → ℕ → ℕ → Proc
-started program plan process budget = started_in program (program.functions + process) budget
+started program plan process budget =
+    let body = program.functions + process in
+    record {
+      frames = new_frame program body [] None ∷ [];
+      todo = todos (top_of_body (slice_get program.bodies body));
+      answers = [];
+      below = 0;
+      budget = budget;
+      spent = 0;
+      steps = 0;
+      prints = [];
+      status = None;
+    }

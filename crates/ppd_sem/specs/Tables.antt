@@ -1,13 +1,12 @@
 -- Look-ups in the plan, and of a channel in the program.
-use Rattle.std.specs.Prelude.{ℕ, nat_eq, Bool, false, List, length, Option, Some, None, slice_get, if◌then◌else◌}
+use Rattle.std.specs.Prelude.{ℕ, nat_eq, Bool, false, List, [], length, Option, Some, None, slice_get, unwrap_or, if◌then◌else◌}
 use Rattle.std.specs.List.{position}
-use Rattle.ppd_ast.specs.declared.plan.Block.{Block}
+use Rattle.std.specs.Option.{option_map_or}
 use Rattle.ppd_ast.specs.declared.plan.BlockKind.{BlockKind}
 use Rattle.ppd_ast.specs.declared.plan.BlockKind.TheVariants as block
 use Rattle.ppd_ast.specs.declared.plan.Plan.{Plan}
 use Rattle.ppd_ast.specs.declared.plan.Start.{Start}
 use Rattle.ppd_ast.specs.declared.plan.Start.TheVariants as start
-use Rattle.ppd_ast.specs.declared.program.Chan.{Chan}
 use Rattle.ppd_ast.specs.declared.program.Program.{Program}
 
 abbrev pub same_start : Start → Start → Bool
@@ -27,41 +26,27 @@ same_block a b = false
 abbrev pub block_of : Plan → BlockKind → Option ℕ
 block_of plan kind = position (λ b. same_block b.kind kind) plan.blocks
 
-abbrev pub or_zero : Option ℕ → ℕ
-or_zero None = 0
-or_zero (Some n) = n
-
 -- the unit with this start
 abbrev pub unit_of : Plan → Start → ℕ
-unit_of plan s = or_zero (position (λ u. same_start u.start s) plan.units)
+unit_of plan s = unwrap_or (position (λ u. same_start u.start s) plan.units) 0
 
-abbrev pub length_of : {A B : Type 0} → Option A → (A → List B) → ℕ
-length_of None f = 0
-length_of (Some x) f = length (f x)
+-- the local cells of the prelog of block b
+abbrev pub prelog_cells : Plan → ℕ → List ℕ
+prelog_cells plan b = option_map_or (λ x. x.prelog) (slice_get plan.blocks b) []
 
-abbrev pub prelog_length : Plan → ℕ → ℕ
-prelog_length plan b = length_of (slice_get plan.blocks b) (λ x. x.prelog)
+-- the local cells of the postlog of block b
+abbrev pub postlog_cells : Plan → ℕ → List ℕ
+postlog_cells plan b = option_map_or (λ x. x.postlog) (slice_get plan.blocks b) []
 
-abbrev pub postlog_length : Plan → ℕ → ℕ
-postlog_length plan b = length_of (slice_get plan.blocks b) (λ x. x.postlog)
-
+-- how many cells unit u has
 abbrev pub unit_length : Plan → ℕ → ℕ
-unit_length plan u = length_of (slice_get plan.units u) (λ x. x.cells)
-
-abbrev pub value_length : Option Block → ℕ
-value_length None = 0
-value_length (Some b) = if b.value then 1 else 0
+unit_length plan u = option_map_or (λ x. length x.cells) (slice_get plan.units u) 0
 
 -- the values in the postlog of a function's block, if the function is one
 abbrev pub returned_length : Plan → Option ℕ → ℕ
 returned_length plan None = 0
-returned_length plan (Some b) = value_length (slice_get plan.blocks b)
-
--- the capacity of a channel that is there
-abbrev pub capacity_in : Option Chan → ℕ
-capacity_in None = 0
-capacity_in (Some c) = c.capacity
+returned_length plan (Some b) = option_map_or (λ x. if x.value then 1 else 0) (slice_get plan.blocks b) 0
 
 -- the capacity of channel c
 abbrev pub capacity_of : Program → ℕ → ℕ
-capacity_of program c = capacity_in (slice_get program.chans c)
+capacity_of program c = option_map_or (λ x. x.capacity) (slice_get program.chans c) 0

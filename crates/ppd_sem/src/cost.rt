@@ -1,6 +1,6 @@
-ghost use Rattle.std.specs.Prelude.{◌≡◌, ◌+◌, ◌<◌, ◌≤◌, ◌^◌};
+ghost use Rattle.std.specs.Prelude.{◌≡◌, ◌+◌, ◌<◌, ◌≤◌, ◌^◌, length};
 ghost use Rattle.ppd_sem.specs.Process.{cost as cost_of, values_of, within_budget as within_budget_of};
-ghost use Rattle.ppd_sem.specs.Tables.{postlog_length as postlog_length_of, prelog_length as prelog_length_of, returned_length as returned_length_of, unit_length as unit_length_of};
+ghost use Rattle.ppd_sem.specs.Tables.{postlog_cells, prelog_cells, returned_length as returned_length_of, unit_length as unit_length_of};
 
 use crate::proc::{Need, Proc};
 use ppd_ast::Plan;
@@ -8,7 +8,7 @@ use ppd_ast::Plan;
 // Lengths are counted with 128 bits, so that no sum of them is too large.
 
 fn prelog_length(plan: &Plan, block: u16) -> u128
-    ensures is { result ≡ prelog_length_of plan.now block }
+    ensures is { result ≡ length (prelog_cells plan.now block) }
     ensures small { result < 2 ^ 64 }
 {
     match plan.blocks.as_slice().get(block as usize) {
@@ -18,7 +18,7 @@ fn prelog_length(plan: &Plan, block: u16) -> u128
 }
 
 fn postlog_length(plan: &Plan, block: u16) -> u128
-    ensures is { result ≡ postlog_length_of plan.now block }
+    ensures is { result ≡ length (postlog_cells plan.now block) }
     ensures small { result < 2 ^ 64 }
 {
     match plan.blocks.as_slice().get(block as usize) {

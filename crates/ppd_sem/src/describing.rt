@@ -279,7 +279,6 @@ fn step_value(program: &Program, proc: &Proc, todo: Todo, need: Need) -> Option<
 }
 
 /// The event of the head statement's step.
-#[tactic(auto, using(crate::proofs::Running::head_is))]
 fn event_at(
     alloc: Global,
     program: &Program,

@@ -202,7 +202,6 @@ fn offer(todo: Todo, proc: &mut Proc)
 }
 
 /// Takes the step of this need, which is the process's own.
-#[tactic(auto, using(crate::proofs::Running::head_is))]
 fn step(
     program: &Program,
     plan: &Plan,

@@ -1,10 +1,10 @@
-ghost use Rattle.std.specs.Prelude.{◌≡◌, ◌<◌, Some, None, length, slice_get, IfOk};
+ghost use Rattle.std.specs.Prelude.{◌≡◌, ◌<◌, Some, None, length, slice_get, IfOk, unwrap_or};
 ghost use Rattle.ppd_ast.specs.declared.plan.BlockKind.TheVariants.{Function, Loop, Process};
 ghost use Rattle.ppd_sem.specs.declared.proc.Need.TheVariants.{Back, End};
 ghost use Rattle.ppd_sem.specs.Asked.{outcome};
 ghost use Rattle.ppd_sem.specs.Effects.{HasRange, head_deed_if, head_deed_of};
 ghost use Rattle.ppd_sem.specs.Process.{call_unit as call_unit_of, entry_of, head_deed, need_of, need_of_call, need_of_deed, need_of_head, need_of_leaving, need_of_pause, need_of_send, offer_of, top_body, top_call, top_cells as top_cells_of};
-ghost use Rattle.ppd_sem.specs.Tables.{block_of, capacity_of, or_zero};
+ghost use Rattle.ppd_sem.specs.Tables.{block_of, capacity_of};
 ghost use Rattle.ppd_sem.specs.Runs.{IsHead, IsNumbered, IsRunnable, IsRunning};
 
 use crate::asking::Pause;
@@ -128,7 +128,7 @@ fn return_need(plan: &Plan, frames: &Stack<Frame>) -> Need
 
 fn ending_need(plan: &Plan, body: u16) -> Need
     requires plan { IsNumbered plan.now }
-    ensures { result ≡ End (or_zero (block_of plan.now (Process body))) }
+    ensures { result ≡ End (unwrap_or (block_of plan.now (Process body)) 0) }
 {
     match find_block(plan, BlockKind::Process(body)) {
         Some(block) => Need::End { block },

@@ -13,10 +13,11 @@ use Rattle.ppd_model.specs.Intervals.{Span, Split, items_of, splits}
 use Rattle.ppd_model.specs.Races.{races}
 use Rattle.ppd_model.specs.Story.{story}
 use Rattle.ppd_session.specs.declared.question.Opening.{Opening}
-use Rattle.ppd_session.specs.Known.{Flow, Known, Last, Told, flow_told, known_of_run, last_told, of_cells, of_intervals, of_items, of_processes, told_of_split, unless_raced}
+use Rattle.ppd_session.specs.Known.{Flow, Known, Last, Told, known_of_run, of_items, of_processes, told_of_split, unless_raced}
 use Rattle.ppd_session.specs.Laws.{RunsAreAnswered}
 use Rattle.ppd_session.specs.Questions.{question}
-use Rattle.ppd_session.specs.Texts.{failure_at, failure_in, first_unfound, flow_at, is_final, item_failure, opening_failure, opening_of, told_at, told_failure, unfound_flow}
+use Rattle.ppd_session.specs.Texts.{failure_at, failure_in, first_unfound, flow_at, is_final, opening_failure, opening_of, told_at, told_failure, unfound_flow}
+use Rattle.ppd_session.proofs.KnownWords.{of_cells, of_intervals, last_told, flow_told, item_failure}
 
 of_interval : (q : ℕ) (x : Split) (is : List Span) (k : ℕ) → failure_in q (slice_get (map (λ (i : Span). Ok (items_of x i)) is) k) ≡ None
 of_interval q x [] zero = refl

@@ -10,12 +10,13 @@ use Rattle.ppd_blocks.specs.Blocks.{plan_of}
 use Rattle.ppd_emul_model.specs.Replay.{Replayed, replay}
 use Rattle.ppd_entry.specs.declared.entry.Entry.{Entry}
 use Rattle.ppd_entry.specs.declared.entry.Logs.{Logs}
-use Rattle.ppd_entry.specs.IntervalLogs.{Indexed, indexed, interval_log, log_in}
+use Rattle.ppd_entry.specs.IntervalLogs.{Indexed, indexed, interval_log}
+use Rattle.ppd_entry.proofs.Vocabulary.{log_in}
 use Rattle.ppd_model.specs.Bounds.{AreEach}
 use Rattle.ppd_model.specs.Extents.{Extent, IsSameInterval, extents}
 use Rattle.ppd_model.specs.Intervals.{Span, Split, items_of, splits}
 use Rattle.ppd_model.specs.declared.state.Logging.{Logging}
-use Rattle.ppd_model.specs.Logs.{closed_log, closed_logs, loggings, logs_from}
+use Rattle.ppd_model.specs.Logs.{closed_log, closed_logs, loggings}
 use Rattle.ppd_model.specs.Schedule.{IsWhole}
 use Rattle.ppd_model.specs.declared.graph.Race.{Race}
 use Rattle.ppd_model.specs.Races.{races}
@@ -37,11 +38,15 @@ use Rattle.ppd_flow.proofs.LastOrigins.{last_found}
 use Rattle.ppd_flow.specs.SharedEdges.{all_seen}
 use Rattle.ppd_flow_past.proofs.Runs.{replays_are_seen}
 use Rattle.ppd_flow_past.specs.ByReplays.{failure_or, first_failed}
-use Rattle.ppd_flow_past.specs.SeenBy.{failed_at, failure_of, seen_by}
-use Rattle.ppd_model.specs.FlowbackEdges.{edges, edges_in}
+use Rattle.ppd_flow_past.specs.SeenBy.{failed_at, seen_by}
+use Rattle.ppd_model.specs.FlowbackEdges.{edges}
 use Rattle.ppd_model.proofs.Items.{splits_length}
 use Rattle.ppd_flow.specs.SharedCells.{answer_of}
-use Rattle.ppd_session.specs.Known.{Flow, Interval, Known, Last, Told, flow_by, flow_told, of_processes, known_of_logs, known_of_run, last_by, last_told, of_cells, of_extent, of_span, of_split, seens, told_by, told_of_entries, told_of_split, unless_failed, unless_raced}
+use Rattle.ppd_session.specs.Known.{Flow, Interval, Known, Last, Told, flow_by, of_processes, known_of_logs, known_of_run, last_by, of_extent, seens, told_by, told_of_entries, told_of_split, unless_failed, unless_raced}
+use Rattle.ppd_flow_past.proofs.SeenWords.{failure_of}
+use Rattle.ppd_session.proofs.KnownWords.{of_cells, of_split, last_told, flow_told, of_span}
+use Rattle.ppd_model.proofs.LogWords.{logs_from}
+use Rattle.ppd_model.proofs.EdgeWords.{edges_in}
 
 same_interval : (i : Span) (x : Extent) → IsSameInterval i x → of_span i ≡ of_extent x
 same_interval i x h = rw (h.block, h.round, h.closed)

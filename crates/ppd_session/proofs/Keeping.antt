@@ -14,9 +14,10 @@ use Rattle.ppd_session.specs.declared.place.Place.{Place}
 use Rattle.ppd_session.specs.declared.question.Opening.{Opening}
 use Rattle.ppd_session.specs.declared.question.Question.{Question}
 use Rattle.ppd_session.specs.Keeping.{AreAsked, AreAskedInPart, IsAsked, IsKeptNow, Keeping, in_front, is_place, kept_of, with_block}
-use Rattle.ppd_session.specs.Known.{Known, of_cells, unless_raced}
+use Rattle.ppd_session.specs.Known.{Known, unless_raced}
 use Rattle.ppd_session.specs.Sessions.{AreTold, SessionState, block_at, blocks_of, opened_block}
 use Rattle.ppd_session.specs.Texts.{is_final, opening_of, told_at}
+use Rattle.ppd_session.proofs.KnownWords.{of_cells}
 
 abbrev pub Blocks : Type 0
 Blocks = LruCache Place (List Item)

@@ -14,14 +14,15 @@ use Rattle.ppd_entry.specs.declared.entry.At.{At}
 use Rattle.ppd_entry.specs.declared.entry.Entry.{Entry}
 use Rattle.ppd_entry.specs.declared.entry.Logs.{Logs}
 use Rattle.ppd_entry.specs.Entries.{entries_at}
-use Rattle.ppd_entry.specs.IntervalLogs.{Indexed, indexed, log_in}
+use Rattle.ppd_entry.specs.IntervalLogs.{Indexed, indexed}
+use Rattle.ppd_entry.proofs.Vocabulary.{log_in}
 use Rattle.ppd_flow.specs.Answers.{answer_if}
 use Rattle.ppd_flow_model.specs.Found.{edges_if, edges_replays, found_edges}
 use Rattle.ppd_flow_model.specs.Seen.{items_at}
 use Rattle.ppd_flow_model.specs.Shared.{Missing, found_last, last_replays, seen_at}
 use Rattle.ppd_flow_past.specs.ByReplays.{failure_or, first_failed}
 use Rattle.ppd_flow_past.specs.Laws.{replay_of}
-use Rattle.ppd_flow_past.specs.SeenBy.{failed_at, failure_by, failure_of, seen_by}
+use Rattle.ppd_flow_past.specs.SeenBy.{failed_at, failure_by, seen_by}
 use Rattle.ppd_flow.specs.SharedCells.{answer_of as answer_found}
 use Rattle.ppd_model.specs.declared.flow.FlowEdge.{FlowEdge}
 use Rattle.ppd_model.specs.declared.flow.Item.{Item}
@@ -33,6 +34,7 @@ use Rattle.ppd_session.specs.Sessions.{IsItemThere}
 use Rattle.ppd_session.specs.Texts.{flow_at, told_at}
 use Rattle.ppd_session.proofs.Replayed.{answer_of, given_as}
 use Rattle.ppd_session.proofs.Tables.{cell_is, cells_count, flow_inside, no_place, told_logs, told_of}
+use Rattle.ppd_flow_past.proofs.SeenWords.{failure_of}
 
 none_or_some : {X Y : Type 0} {o : Option X} {x : X} → o ≡ None → o ≡ Some x → Y
 none_or_some a b = absurd (cc (a, b))

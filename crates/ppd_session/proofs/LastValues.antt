@@ -11,13 +11,14 @@ use Rattle.ppd_flow_past.specs.declared.past.Past.{Past}
 use Rattle.ppd_flow_past.specs.ByReplays.{IsFoundBy, first_failed, first_failed_in}
 use Rattle.ppd_flow_past.specs.SeenBy.{seen_by}
 use Rattle.ppd_flow_model.specs.Shared.{found_last, last_replays}
-use Rattle.ppd_session.specs.Known.{Last, last_by, of_cells, unless_failed}
+use Rattle.ppd_session.specs.Known.{Last, last_by, unless_failed}
 use Rattle.ppd_session.specs.Sessions.{IsLineOf, IsWhy, error_of, unfound}
 use Rattle.ppd_session.specs.Texts.{first_unfound, lasts_text}
 use Rattle.ppd_session.specs.declared.reply.SessionError.{SessionError}
 use Rattle.ppd_session.specs.declared.reply.SessionError.TheVariants.{Diverged, Sets, Memory}
 use Rattle.ppd_flow.specs.SharedCells.{answer_of, seens_in}
 use Rattle.ppd_text.specs.Edges.{last_line}
+use Rattle.ppd_session.proofs.KnownWords.{of_cells}
 
 -- ---- the search for a last write
 

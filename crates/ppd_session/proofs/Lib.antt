@@ -1,4 +1,5 @@
 -- Texts piece by piece, and that the logs of a run tell what the run does.
+pub mod KnownWords
 pub mod Positions
 pub mod Lines
 pub mod Static

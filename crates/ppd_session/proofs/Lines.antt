@@ -5,7 +5,8 @@ use Rattle.ppd_ast.specs.declared.plan.Plan.{Plan}
 use Rattle.ppd_ast.specs.declared.program.Program.{Program}
 use Rattle.ppd_index.specs.declared.row.Row.{Row}
 use Rattle.ppd_session.specs.Rows.{of_row, shown_at}
-use Rattle.ppd_session.specs.Texts.{interval_line, interval_lines}
+use Rattle.ppd_session.specs.Texts.{interval_line}
+use Rattle.ppd_session.proofs.KnownWords.{interval_lines}
 
 lines_after : (p : Program) (plan : Plan) (k : ℕ) (rows : List Row) (n : ℕ) → interval_lines p plan k (take (suc n) (map of_row rows)) ≡ interval_lines p plan k (take n (map of_row rows)) ++ shown_at p plan (k + n) (slice_get rows n)
 lines_after p plan k [] zero = refl

@@ -17,17 +17,18 @@ use Rattle.ppd_model.specs.declared.flow.FlowEdge.{FlowEdge}
 use Rattle.ppd_model.specs.declared.flow.Item.{Item}
 use Rattle.ppd_model.specs.declared.flow.Origin.{Origin}
 use Rattle.ppd_model.specs.declared.graph.Race.{Race}
-use Rattle.ppd_session.specs.Known.{Flow, Known, Last, Told, flow_by, known_with, last_by, of_cells, of_intervals, of_items, of_processes, seens, unless_failed, unless_raced}
+use Rattle.ppd_session.specs.Known.{Flow, Known, Last, Told, flow_by, known_with, last_by, of_items, of_processes, seens, unless_failed, unless_raced}
 use Rattle.ppd_session.specs.Missing.{IsCauseOfSets, MissingWritesAreTold}
 use Rattle.ppd_session.specs.Questions.{question}
 use Rattle.ppd_session.specs.Sessions.{IsWhy}
-use Rattle.ppd_session.specs.Texts.{failure, failure_of, first_unfound, flow_at, is_final, item_failure, opening_failure, opening_of, told_at, told_failure, unfound_flow}
+use Rattle.ppd_session.specs.Texts.{failure, failure_of, first_unfound, flow_at, is_final, opening_failure, opening_of, told_at, told_failure, unfound_flow}
 use Rattle.ppd_session.specs.declared.question.Opening.{Opening}
 use Rattle.ppd_session.specs.declared.question.Question.{Question}
 use Rattle.ppd_session.specs.declared.reply.SessionError.{SessionError}
 use Rattle.ppd_session.specs.declared.reply.SessionError.TheVariants.{Diverged, Sets, Memory}
 use Rattle.law_flow_missing.specs.Missing.{AreIndexed, IsMissingWrite, write_at}
 use Rattle.law_flow_missing.proofs.MissingWrites.{missing_writes_are_told}
+use Rattle.ppd_session.proofs.KnownWords.{of_cells, of_intervals, item_failure}
 
 -- ---- what holds of all that is found holds of what is looked up
 

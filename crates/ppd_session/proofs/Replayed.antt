@@ -13,7 +13,8 @@ use Rattle.ppd_emul_model.specs.declared.trace.EmulError.TheVariants.{Diverged, 
 use Rattle.ppd_emul_model.specs.Replay.{replay}
 use Rattle.ppd_entry.specs.declared.entry.Entry.{Entry}
 use Rattle.ppd_entry.specs.declared.entry.Logs.{Logs}
-use Rattle.ppd_entry.specs.IntervalLogs.{Indexed, indexed, log_in}
+use Rattle.ppd_entry.specs.IntervalLogs.{Indexed, indexed}
+use Rattle.ppd_entry.proofs.Vocabulary.{log_in}
 use Rattle.ppd_entry.specs.Entries.{entries_at}
 use Rattle.ppd_index.specs.declared.row.Row.{Row}
 use Rattle.ppd_index.specs.Indexes.{AreIntervals, IsIndexOf, rows_at}
@@ -24,15 +25,17 @@ use Rattle.ppd_flow_past.specs.declared.flow_error.FlowError.{FlowError}
 use Rattle.ppd_flow_past.specs.declared.flow_error.FlowError.TheVariants as flow_error
 use Rattle.ppd_flow_past.specs.declared.past.Past.{Past}
 use Rattle.ppd_flow_past.specs.ByReplays.{AreReplayed, IsFoundBy, failure_or, first_failed, first_failed_in}
-use Rattle.ppd_flow_past.specs.SeenBy.{failed_in, failure_by, failure_of, items_by, items_in, seen_by}
+use Rattle.ppd_flow_past.specs.SeenBy.{failed_in, failure_by, items_by, items_in, seen_by}
 use Rattle.ppd_flow_model.specs.Seen.{items_at}
 use Rattle.ppd_flow_past.specs.Laws.{replay_of}
 use Rattle.ppd_session.specs.Known.{Known, Told, told_by, told_of_entries}
 use Rattle.ppd_session.specs.Sessions.{IsCause, IsWhy, error_of, known_by}
-use Rattle.ppd_session.specs.Texts.{failure_at, failure_in, item_failure, items_text, told_at, told_failure, told_text}
+use Rattle.ppd_session.specs.Texts.{failure_at, failure_in, told_at, told_failure, told_text}
 use Rattle.ppd_session.specs.declared.reply.SessionError.{SessionError}
 use Rattle.ppd_session.specs.declared.reply.SessionError.TheVariants as session_error
 use Rattle.ppd_session.proofs.Tables.{told_entries, told_of}
+use Rattle.ppd_flow_past.proofs.SeenWords.{failure_of}
+use Rattle.ppd_session.proofs.KnownWords.{item_failure, items_text}
 
 module _ (program : Program) (plan : Plan) (budget : ℕ) where
   abbrev pub answer_of : Indexed → Result BlockTrace EmulError

@@ -10,7 +10,8 @@ use Rattle.ppd_entry.specs.declared.entry.Entry.{Entry}
 use Rattle.ppd_entry.specs.IntervalLogs.{Indexed, indexed}
 use Rattle.ppd_flow_past.specs.declared.flow_error.FlowError.TheVariants.{NoEvent}
 use Rattle.ppd_model.specs.declared.flow.Item.{Item}
-use Rattle.ppd_session.specs.Known.{Flow, Told, of_cells, of_intervals, of_items, of_processes, told_by, told_of_entries}
+use Rattle.ppd_session.specs.Known.{Flow, Told, of_items, of_processes, told_by, told_of_entries}
+use Rattle.ppd_session.proofs.KnownWords.{of_cells, of_intervals}
 
 -- ---- lists
 

@@ -1,6 +1,7 @@
 -- What is known of a run or of a recording: its program and plan, its races, and the intervals of each process with
 -- their items.
-use Rattle.std.specs.Prelude.{ℕ, zero, suc, ◌+◌, ℤ, Bool, List, [], ◌∷◌, map, length, Option, Some, None, Result, Ok, Err}
+use Rattle.std.specs.List.{enumerate_from, range_with_len}
+use Rattle.std.specs.Prelude.{ℕ, ℤ, Bool, List, [], ◌∷◌, map, length, Option, Some, None, Result, Ok, Err}
 use Rattle.ppd_ast.specs.declared.plan.Plan.{Plan}
 use Rattle.ppd_ast.specs.declared.program.Program.{Program}
 use Rattle.ppd_emul_model.specs.declared.trace.BlockTrace.{BlockTrace}
@@ -65,46 +66,21 @@ abbrev pub unless_raced : {A : Type 0} → List Race → List A → List A
 unless_raced [] xs = xs
 unless_raced (r ∷ rs) xs = []
 
--- of n cells from number c on
-abbrev pub of_cells : {A : Type 0} → (ℕ → A) → (c n : ℕ) → List A
-of_cells f c zero = []
-of_cells f c (suc n) = f c ∷ of_cells f (c + 1) n
-
 -- of each item that is told of an interval
 abbrev pub of_items : (ℕ → Flow) → Told → List Flow
-of_items f (Ok items) = of_cells f 0 (length items)
+of_items f (Ok items) = map f (range_with_len 0 (length items))
 of_items f (Err n) = []
 
--- of each interval of a process from number k on
-abbrev pub of_intervals : (ℕ → ℕ → Flow) → (k : ℕ) → List Told → List (List Flow)
-of_intervals f k [] = []
-of_intervals f k (t ∷ ts) = of_items (f k) t ∷ of_intervals f (k + 1) ts
-
--- of each process from number p on
+-- of each process from number p on, for each of its intervals
 abbrev pub of_processes : (ℕ → ℕ → ℕ → Flow) → (p : ℕ) → List (List Told) → List (List (List Flow))
-of_processes f p [] = []
-of_processes f p (ts ∷ rest) = of_intervals (f p) 0 ts ∷ of_processes f (p + 1) rest
+of_processes f p rows =
+    map (λ ts. map (λ t. of_items (f ts.0 t.0) t.1) (enumerate_from 0 ts.1)) (enumerate_from p rows)
 
 -- ---- of a run
-
-abbrev pub of_span : Span → Interval
-of_span i = record { block = i.block; parent = first_of i.round; closed = is_closed i }
-
--- the intervals of a process
-abbrev pub of_split : Split → List Interval
-of_split x = map of_span x.spans
 
 -- the items of each interval of a process
 abbrev pub told_of_split : Split → List Told
 told_of_split x = map (λ i. Ok (items_of x i)) x.spans
-
--- the last value of a cell, with the write of it
-abbrev pub last_told : Program → Plan → ℕ → Story → ℕ → Last
-last_told program plan budget s c = Ok (last program plan budget s c)
-
--- the edges of item j of interval k of process p
-abbrev pub flow_told : Program → Plan → ℕ → Story → ℕ → ℕ → ℕ → Flow
-flow_told program plan budget s p k j = edges_or_none (edges program plan budget s p k j)
 
 -- what is known of a story
 abbrev pub known_of_story : Program → Plan → ℕ → Story → Known
@@ -112,10 +88,12 @@ known_of_story program plan budget s = record {
   program = program;
   plan = plan;
   races = races_of program s;
-  intervals = map of_split (splits program plan budget s);
+  intervals = map (λ x. map (λ i. record { block = i.block; parent = first_of i.round; closed = is_closed i }) x.spans)
+      (splits program plan budget s);
   items = unless_raced (races_of program s) (map told_of_split (splits program plan budget s));
-  lasts = unless_raced (races_of program s) (of_cells (last_told program plan budget s) 0 (length program.starts));
-  flow = of_processes (flow_told program plan budget s) 0
+  lasts = unless_raced (races_of program s)
+      (map (λ c. Ok (last program plan budget s c)) (range_with_len 0 (length program.starts)));
+  flow = of_processes (λ p k j. edges_or_none (edges program plan budget s p k j)) 0
       (unless_raced (races_of program s) (map told_of_split (splits program plan budget s)));
 }
 
@@ -172,7 +150,7 @@ known_with program plan budget logs races = record {
   races = races;
   intervals = map (λ entries. map of_extent (extents entries)) logs.lists;
   items = unless_raced races (map (told_of_entries program plan budget) logs.lists);
-  lasts = unless_raced races (of_cells (last_by program plan budget logs) 0 (length program.starts));
+  lasts = unless_raced races (map (last_by program plan budget logs) (range_with_len 0 (length program.starts)));
   flow = of_processes (flow_by program plan budget logs) 0
       (unless_raced races (map (told_of_entries program plan budget) logs.lists));
 }

@@ -1,5 +1,6 @@
 -- What is known of a past, which blocks are kept of it and which a line asks for, and why a line has no answer.
-use Rattle.std.specs.Prelude.{◌≡◌, ◌<◌, ℕ, nat_lt, length, List, [], ◌∷◌, ◌++◌, Contains, Option, Some, None, option_map, Ok, Err, ⊤, if◌then◌else◌}
+use Rattle.std.specs.List.{range_with_len}
+use Rattle.std.specs.Prelude.{◌≡◌, ◌<◌, ℕ, nat_lt, length, map, List, [], ◌∷◌, ◌++◌, Contains, Option, Some, None, option_map, Ok, Err, ⊤, if◌then◌else◌}
 use Rattle.ppd_ast.specs.declared.program.Program.{Program}
 use Rattle.ppd_entry.specs.declared.entry.At.{At}
 use Rattle.ppd_model.specs.declared.flow.Item.{Item}
@@ -14,7 +15,7 @@ use Rattle.ppd_flow.specs.SharedCells.{last_edge}
 use Rattle.ppd_race.specs.Races.{races_of_logs}
 use Rattle.ppd_text.specs.Edges.{last_line}
 use Rattle.ppd_session.specs.Keeping.{Keeping, none_kept}
-use Rattle.ppd_session.specs.Known.{Known, Last, known_with, of_cells, unless_raced}
+use Rattle.ppd_session.specs.Known.{Known, Last, known_with, unless_raced}
 use Rattle.ppd_session.specs.Questions.{question}
 use Rattle.ppd_session.specs.Texts.{intervals_at, is_final, opening_of, told_at}
 use Rattle.ppd_session.specs.declared.place.Place.{Place}
@@ -50,7 +51,7 @@ abbrev pub last_block : Past → (c : ℕ) → Option Place
 last_block past c = block_of past (last_edge past c)
 
 abbrev pub last_blocks : Past → List (Option Place)
-last_blocks past = of_cells (last_block past) 0 (length past.program.now.starts)
+last_blocks past = map (last_block past) (range_with_len 0 (length past.program.now.starts))
 
 -- of a past with these races and kept blocks
 abbrev pub state_of : Past → List Race → Keeping → SessionState

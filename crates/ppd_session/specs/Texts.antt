@@ -1,7 +1,7 @@
 -- The text with which each command line is answered.
 use Rattle.std.specs.Prelude.{ℕ, ◌+◌, nat_lt, Bool, true, false, List, [], ◌∷◌, ◌++◌, get_or, length, slice_get, Option, Some, None, Ok, Err, codes, decimal, if◌then◌else◌, option_and_then}
 use Rattle.std.specs.Option.{option_map_or}
-use Rattle.std.specs.List.{flat_map}
+use Rattle.std.specs.List.{enumerate_from, flat_map}
 use Rattle.ppd_ast.specs.declared.plan.Plan.{Plan}
 use Rattle.ppd_ast.specs.declared.program.Program.{Program}
 use Rattle.ppd_ast.specs.Lookups.{body_of, locals_of}
@@ -53,11 +53,6 @@ interval_line p plan k i =
     ++ what_text p (slice_get plan.blocks i.block) ++ codes " "
     ++ (if i.closed then codes "closed" else codes "open") ++ codes "\n"
 
--- the intervals from number k on
-abbrev pub interval_lines : Program → Plan → (k : ℕ) → List Interval → List ℕ
-interval_lines p plan k [] = []
-interval_lines p plan k (i ∷ is) = interval_line p plan k i ++ interval_lines p plan (k + 1) is
-
 -- the intervals of process q
 abbrev pub intervals_at : Known → ℕ → List Interval
 intervals_at x q = get_or x.intervals q []
@@ -85,11 +80,6 @@ raced (r ∷ rs) text = codes "? races " ++ decimal (length (r ∷ rs)) ++ codes
 abbrev pub no_process : List ℕ
 no_process = codes "? process\n"
 
--- an answer about an interval of a process, if both are there
-abbrev pub at_interval : Known → Option ℕ → ℕ → (ℕ → List ℕ) → List ℕ
-at_interval x None k text = no_process
-at_interval x (Some q) k text = if nat_lt k (length (intervals_at x q)) then text q else codes "? block\n"
-
 -- what is told of interval k of process q
 abbrev pub told_at : Known → (q k : ℕ) → Option Told
 told_at x q k = slice_get (get_or x.items q []) k
@@ -107,22 +97,23 @@ flow_text p plan j i (Err e) = []
 abbrev pub flow_at : Known → (q k j : ℕ) → Flow
 flow_at x q k j = get_or (get_or (get_or x.flow q []) k []) j (Err flow_error.NoEvent)
 
--- all items of an interval, or one of them with its edges, if it is there
-abbrev pub items_text : Known → (q k : ℕ) → Option ℕ → List Item → List ℕ
-items_text x q k None items = open_text x.program x.plan items
-items_text x q k (Some j) items =
-    option_map_or (λ i. flow_text x.program x.plan j i (flow_at x q k j)) (slice_get items j) no_event
-
--- what is told of these, where it is; where the replay fails there is no text
+-- all items of an interval, or one of them with its edges, if it is there, where it is told what they are; where the
+-- replay fails there is no text
 abbrev pub told_text : Known → (q k : ℕ) → Option ℕ → Option Told → List ℕ
-told_text x q k j (Some (Ok items)) = items_text x q k j items
-told_text x q k j told = []
+told_text x q k item (Some (Ok items)) =
+    option_map_or
+    (λ j. option_map_or (λ i. flow_text x.program x.plan j i (flow_at x q k j)) (slice_get items j) no_event)
+    item (open_text x.program x.plan items)
+told_text x q k item told = []
 
 -- what is asked of an interval, if its process and the interval are there
 abbrev pub opened_text : Known → Opening → List ℕ
 opened_text x o =
     raced x.races
-    (at_interval x o.process o.interval (λ q. told_text x q o.interval o.item (told_at x q o.interval)))
+    (option_map_or
+    (λ q. if nat_lt o.interval (length (intervals_at x q)) then
+    told_text x q o.interval o.item (told_at x q o.interval) else codes "? block\n")
+    o.process no_process)
 
 -- the shared cells from number c on, up to one whose last write is not found
 abbrev pub lasts_text : Program → (c : ℕ) → List Last → List ℕ
@@ -144,7 +135,8 @@ plain_text x Quit = []
 plain_text x Races = races_text x.program x.races
 plain_text x Final = []
 plain_text x (Blocks None) = no_process
-plain_text x (Blocks (Some q)) = interval_lines x.program x.plan 0 (intervals_at x q)
+plain_text x (Blocks (Some q)) =
+    flat_map (λ i. interval_line x.program x.plan i.0 i.1) (enumerate_from 0 (intervals_at x q))
 plain_text x (Open q k) = []
 plain_text x (Why q k j) = []
 plain_text x (Deps s) = if nat_lt s (length x.program.stmts) then deps_text x.program s else codes "? statement\n"
@@ -188,15 +180,12 @@ unfound_flow (Ok edges) = None
 unfound_flow (Err flow_error.NoEvent) = None
 unfound_flow (Err e) = Some e
 
-abbrev pub item_failure : Known → (q k : ℕ) → Option ℕ → List Item → Option FlowError
-item_failure x q k None items = None
-item_failure x q k (Some j) items = option_and_then (λ i. unfound_flow (flow_at x q k j)) (slice_get items j)
-
 -- why there is no text of an interval's items, or of one of them
 abbrev pub told_failure : Known → (q k : ℕ) → Option ℕ → Option Told → Option FlowError
-told_failure x q k j (Some (Ok items)) = item_failure x q k j items
-told_failure x q k j (Some (Err n)) = Some (flow_error.Diverged q n)
-told_failure x q k j None = None
+told_failure x q k item (Some (Ok items)) =
+    option_and_then (λ j. option_and_then (λ i. unfound_flow (flow_at x q k j)) (slice_get items j)) item
+told_failure x q k item (Some (Err n)) = Some (flow_error.Diverged q n)
+told_failure x q k item None = None
 
 abbrev pub opening_failure : Known → Option ℕ → (k : ℕ) → Option ℕ → Option FlowError
 opening_failure x None k j = None

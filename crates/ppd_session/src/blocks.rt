@@ -1,9 +1,10 @@
 // The intervals of a process as a text.
 ghost use Rattle.std.specs.Prelude.{◌≡◌, ◌<◌, ◌++◌, OnOk, codes, decimal, if◌then◌else◌, slice_get, map};
 ghost use Rattle.std.specs.Option.{option_map_or};
+ghost use Rattle.std.specs.List.{enumerate_from, flat_map};
 ghost use Rattle.ppd_index.specs.Indexes.{rows_at};
 ghost use Rattle.ppd_session.specs.Rows.{of_interval, of_row, shown_at};
-ghost use Rattle.ppd_session.specs.Texts.{interval_line, interval_lines};
+ghost use Rattle.ppd_session.specs.Texts.{interval_line};
 
 use ppd_ast::{Memory, Plan, Program};
 use ppd_index::{Interval, LogIndex};
@@ -78,7 +79,9 @@ pub(crate) fn put_intervals(
 ) -> Result<(), Memory>
     ensures { OnOk result
         (text.new.items
-        ≡ text.old.items ++ interval_lines program.now plan.now 0 (map of_row (rows_at index.now.tables process))) }
+        ≡ text.old.items
+        ++ flat_map (λ i. interval_line program.now plan.now i.0 i.1)
+        (enumerate_from 0 (map of_row (rows_at index.now.tables process)))) }
 {
     for number in 0..index.count(process) {
         put_interval_at(text, program, plan, index, process, number)?;

@@ -9,7 +9,7 @@ ghost use Rattle.ppd_session.specs.Known.{unless_raced};
 ghost use Rattle.ppd_session.specs.Sessions.{AreTold, IsSession, IsCause, IsWhy, block_at, error_of, known_by};
 ghost use Rattle.ppd_text.specs.Items.{open_text};
 ghost use Rattle.ppd_session.specs.declared.reply.SessionError.TheVariants as session_error;
-ghost use Rattle.ppd_session.specs.Texts.{failure_at, intervals_at, item_failure, items_text, opened_text};
+ghost use Rattle.ppd_session.specs.Texts.{failure_at, intervals_at, opened_text};
 ghost use Rattle.ppd_session.specs.Texts.{opening_failure, raced, told_at, told_failure, told_text};
 
 use crate::kept::Kept;
@@ -105,11 +105,11 @@ fn put_told(
     requires told { told_at (known_by past.now []) place.process place.interval ≡ Some (Ok items.now) }
     ensures text { OnOk result
         (text.new.items
-        ≡ text.old.items ++ items_text (known_by past.now []) place.process place.interval item items.now) }
+        ≡ text.old.items ++ told_text (known_by past.now []) place.process place.interval item (Some (Ok items.now))) }
     ensures told { OnOk result
-        (item_failure (known_by past.now []) place.process place.interval item items.now ≡ None) }
+        (told_failure (known_by past.now []) place.process place.interval item (Some (Ok items.now)) ≡ None) }
     ensures error { IfErr result
-        (IsWhy (item_failure (known_by past.now []) place.process place.interval item items.now)) }
+        (IsWhy (told_failure (known_by past.now []) place.process place.interval item (Some (Ok items.now)))) }
 {
     match item {
         None => put_all(text, past, items),

@@ -3,7 +3,7 @@ ghost use Rattle.std.specs.Prelude.{◌≡◌, ◌<◌, ◌++◌, [], Some, None
 ghost use Rattle.ppd_flow_past.specs.Pasts.{IsPast};
 ghost use Rattle.ppd_session.specs.Known.{flow_by};
 ghost use Rattle.ppd_session.specs.Sessions.{IsItemThere, IsWhy, known_by};
-ghost use Rattle.ppd_session.specs.Texts.{flow_at, flow_text, item_failure, items_text, told_at, unfound_flow};
+ghost use Rattle.ppd_session.specs.Texts.{flow_at, flow_text, told_at, told_failure, told_text, unfound_flow};
 ghost use Rattle.ppd_session.specs.declared.reply.SessionError.TheVariants as session_error;
 ghost use Rattle.ppd_flow.specs.SharedCells.{IsMemoryOr};
 ghost use Rattle.ppd_text.specs.Edges.{why_text as why_text_of};
@@ -204,12 +204,13 @@ pub(crate) fn put_item_of(
     ensures text { OnOk result
         (text.new.items
         ≡ text.old.items
-        ++ items_text (known_by past.now []) place.process place.interval (Some item) items.now) }
+        ++ told_text (known_by past.now []) place.process place.interval (Some item) (Some (Ok items.now))) }
     ensures told { OnOk result
-        (item_failure (known_by past.now []) place.process place.interval (Some item) items.now
+        (told_failure (known_by past.now []) place.process place.interval (Some item) (Some (Ok items.now))
         ≡ None) }
     ensures error { IfErr result
-        (IsWhy (item_failure (known_by past.now []) place.process place.interval (Some item) items.now)) }
+        (IsWhy (told_failure (known_by past.now []) place.process place.interval (Some item)
+        (Some (Ok items.now)))) }
 {
     let Some(shown) = items.get(item as usize) else {
         return put_refusal(text, b"? event\n");

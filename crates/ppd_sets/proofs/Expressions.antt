@@ -7,7 +7,8 @@ use Rattle.ppd_ast.proofs.Deciding.{at_node, at_single, at_pair}
 use Rattle.ppd_sets.specs.Gained.{Gains}
 use Rattle.ppd_sets.proofs.Gaining.{gains_none, gains_then, gains_as}
 use Rattle.ppd_ast.specs.declared.program.Expr.{Expr}
-use Rattle.ppd_ast.specs.Term.{Term, const, term_at, node, terms_after, terms, term}
+use Rattle.ppd_ast.specs.Term.{Term, const, term_at, node, terms, term}
+use Rattle.ppd_ast.proofs.Vocabulary.{terms_after}
 use Rattle.ppd_sets.specs.Named.{cells_in, local_cells, shared_cells}
 
 long_after : (done : List Term) (es : List Expr) → length (terms_after done es) ≡ length done + length es

@@ -16,7 +16,8 @@ use Rattle.ppd_ast.proofs.Members.{has_filter, below_range}
 use Rattle.ppd_cfg.specs.Reach.{closure, leads}
 use Rattle.ppd_sets.specs.declared.touched.Touched.{Touched}
 use Rattle.ppd_sets.specs.Gained.{HasBoth, reads_in, writes_in, reads_of, writes_of}
-use Rattle.ppd_sets.specs.Used.{call_rows, called_from, body_reads, body_writes, reads_at, writes_at}
+use Rattle.ppd_sets.specs.Used.{call_rows, called_from, reads_at, writes_at}
+use Rattle.ppd_sets.proofs.Vocabulary.{body_reads, body_writes}
 use Rattle.ppd_sets.proofs.Gaining.{flat_same}
 use Rattle.ppd_sets.proofs.Calling.{call_rows_long, at_body}
 

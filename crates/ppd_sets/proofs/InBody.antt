@@ -2,7 +2,8 @@
 use Rattle.std.proofs.Common.{◌≡◌, ℕ, zero, suc, Option, Some, None, refl, sym, ap, ◌∙◌, subst, inl, inr, true≢false}
 use Rattle.std.specs.Prelude.{IsSomeAnd, IsTrue, slice_get}
 use Rattle.std.specs.List.{flat_map}
-use Rattle.ppd_ast.specs.Order.{inner, inner_at, inner_of, preorder}
+use Rattle.ppd_ast.specs.Order.{inner, preorder}
+use Rattle.ppd_ast.proofs.Vocabulary.{inner_at, inner_of}
 use Rattle.ppd_ast.specs.Valid.{IsValid}
 use Rattle.ppd_ast.specs.declared.program.Program.{Program}
 use Rattle.ppd_ast.specs.declared.program.Stmt.{Stmt}

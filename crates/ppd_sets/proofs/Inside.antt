@@ -6,10 +6,12 @@ use Rattle.std.proofs.lemmas.Grind.{flat_map-append}
 use Rattle.ppd_ast.specs.declared.program.Stmt.{Stmt}
 use Rattle.ppd_ast.specs.declared.program.Kind.{Kind}
 use Rattle.ppd_ast.specs.declared.program.Program.{Program}
-use Rattle.ppd_ast.specs.Order.{preorder, inner, inner_of, inner_at}
+use Rattle.ppd_ast.specs.Order.{preorder, inner}
+use Rattle.ppd_ast.proofs.Vocabulary.{inner_of, inner_at}
 use Rattle.ppd_ast.proofs.Countings.{preorder_some}
 use Rattle.ppd_ast.proofs.Walks.{flat_more}
-use Rattle.ppd_ast.specs.Lookups.{kind_of_stmt, kind_of}
+use Rattle.ppd_ast.specs.Lookups.{kind_of}
+use Rattle.ppd_ast.proofs.Vocabulary.{kind_of_stmt}
 use Rattle.ppd_sets.specs.declared.touched.Touched.{Touched}
 use Rattle.ppd_sets.specs.Gained.{GainsBoth}
 use Rattle.ppd_sets.specs.Named.{reads, writes}

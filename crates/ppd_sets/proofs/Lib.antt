@@ -9,3 +9,4 @@ pub mod Gathering
 pub mod Chains
 pub mod InBody
 pub mod Looping
+pub mod Vocabulary

@@ -18,7 +18,8 @@ use Rattle.ppd_ast.specs.Uses.{kind_uses}
 use Rattle.ppd_ast.specs.Valid.{IsValid}
 use Rattle.ppd_ast.proofs.ValidLaws.{AreBelow, IsBelow, scalar_below, array_below, target_below, stmt_in_body, uses_below, valid_body}
 use Rattle.ppd_ast.specs.Members.{has}
-use Rattle.ppd_ast.specs.Lookups.{kind_of_stmt, kind_of}
+use Rattle.ppd_ast.specs.Lookups.{kind_of}
+use Rattle.ppd_ast.proofs.Vocabulary.{kind_of_stmt}
 use Rattle.ppd_ast.proofs.Members.{has_cases, has_filter, filter_has, from_zero, below_range, flat_gives, flat_from, all_has}
 use Rattle.ppd_sets.specs.Named.{local_cells, cells_in, reads, target_cells, writes}
 use Rattle.ppd_sets.specs.Used.{loop_defined_of, loop_stmts, loop_used_of, reads_at, sorted, writes_at, IsLoopDefined, IsLoopUsed}

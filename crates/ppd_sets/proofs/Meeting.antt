@@ -16,7 +16,8 @@ use Rattle.ppd_ast.specs.Lookups.{kind_of}
 use Rattle.ppd_ast.proofs.Those.{those_yes, those_no, both}
 use Rattle.ppd_ast.proofs.Walks.{got_some}
 use Rattle.ppd_ast.proofs.Members.{any_from, any_gives, below_range, filter_same_in}
-use Rattle.ppd_sets.specs.Used.{AreSmall, is_met, vars_met, sorted, loop_stmts, loop_used_of, loop_defined_of, reads_at, writes_at, body_reads, body_writes, called_from, used_of, defined_of}
+use Rattle.ppd_sets.specs.Used.{AreSmall, is_met, vars_met, sorted, loop_stmts, loop_used_of, loop_defined_of, reads_at, writes_at, called_from, used_of, defined_of}
+use Rattle.ppd_sets.proofs.Vocabulary.{body_reads, body_writes}
 use Rattle.ppd_sets.specs.Gained.{HasCells}
 
 -- what a variable's cells are

@@ -5,7 +5,8 @@ use Rattle.std.specs.List.{flat_map, range_with_len}
 use Rattle.ppd_ast.specs.declared.program.Stmt.{Stmt}
 use Rattle.ppd_ast.specs.declared.program.Program.{Program}
 use Rattle.ppd_ast.proofs.Ranges.{range_more, flat_one}
-use Rattle.ppd_ast.specs.Lookups.{kind_of_stmt, kind_of}
+use Rattle.ppd_ast.specs.Lookups.{kind_of}
+use Rattle.ppd_ast.proofs.Vocabulary.{kind_of_stmt}
 use Rattle.ppd_sets.specs.declared.touched.Touched.{Touched}
 use Rattle.ppd_sets.specs.Gained.{GainsBoth}
 use Rattle.ppd_sets.proofs.Gaining.{gains_both_then, gains_both_as}

@@ -1,6 +1,7 @@
 -- The cells that a statement may read and those that it writes, arrays whole.
-use Rattle.std.specs.Prelude.{ℕ, Bool, List, [], ◌++◌, Option, Some, None, if◌then◌else◌}
+use Rattle.std.specs.Prelude.{ℕ, Bool, List, [], ◌++◌, if◌then◌else◌}
 use Rattle.std.specs.List.{flat_map, range_with_len}
+use Rattle.std.specs.Option.{option_map_or}
 use Rattle.ppd_ast.specs.declared.program.Expr.{Expr}
 use Rattle.ppd_ast.specs.declared.program.Kind.{Kind}
 use Rattle.ppd_ast.specs.declared.program.Kind.TheVariants as K
@@ -40,17 +41,13 @@ target_cells w (T.LocalAt base len i) = local_cells w base len
 target_cells w (T.Shared c) = shared_cells w c 1
 target_cells w (T.SharedAt base len i) = shared_cells w base len
 
-abbrev pub receiving : (wants_shared : Bool) → Option ℕ → List ℕ
-receiving w None = []
-receiving w (Some c) = local_cells w c 1
-
 -- the cells that a statement writes; a call counts as writing its receiving local
 abbrev pub writes : (wants_shared : Bool) → Kind → List ℕ
 writes w (K.Set t e) = target_cells w t
 writes w (K.Zero base len) = local_cells w base len
 writes w (K.If e first second) = []
 writes w (K.While e body) = []
-writes w (K.Call f args into) = receiving w into
+writes w (K.Call f args into) = option_map_or (λ c. local_cells w c 1) into []
 writes w (K.Return v) = []
 writes w (K.P s) = []
 writes w (K.V s) = []

@@ -1,9 +1,9 @@
 -- USED and DEFINED of bodies, by chains of calls, and of loops.
 use Rattle.std.specs.Prelude.{◌<◌, ◌≤◌, ℕ, min, Bool, true, false, IsTrue, List, [], ◌∷◌, map, length, Option, Some, None, slice_get, if◌then◌else◌}
 use Rattle.std.specs.List.{All, flat_map, range_with_len, list_any}
+use Rattle.std.specs.Option.{option_map_or}
 use Rattle.ppd_ast.specs.declared.program.Kind.{Kind}
 use Rattle.ppd_ast.specs.declared.program.Kind.TheVariants as K
-use Rattle.ppd_ast.specs.declared.program.Body.{Body}
 use Rattle.ppd_ast.specs.declared.program.Var.{Var}
 use Rattle.ppd_ast.specs.declared.program.Program.{Program}
 use Rattle.ppd_ast.specs.declared.limits.TheConstants.{MOST_NESTING, MOST_SHARED_CELLS}
@@ -33,21 +33,14 @@ callee (K.Print e) = []
 callee (K.Assert e) = []
 callee K.End = []
 
-abbrev pub numbers_in : Program → Option Body → List ℕ
-numbers_in p None = []
-numbers_in p (Some b) = numbers_of p.stmts b
-
 -- the statements of body b
 abbrev pub stmts_at : Program → ℕ → List ℕ
-stmts_at p b = numbers_in p (slice_get p.bodies b)
-
--- the functions that body b calls
-abbrev pub calls_at : Program → ℕ → List ℕ
-calls_at p b = flat_map (λ s. callee (kind_of p s)) (stmts_at p b)
+stmts_at p b = option_map_or (numbers_of p.stmts) (slice_get p.bodies b) []
 
 -- the functions that each body calls
 abbrev pub call_rows : Program → List (List ℕ)
-call_rows p = map (calls_at p) (range_with_len 0 (length p.bodies))
+call_rows p =
+    map (λ b. flat_map (λ s. callee (kind_of p s)) (stmts_at p b)) (range_with_len 0 (length p.bodies))
 
 -- the bodies that a chain of calls reaches from body b, itself included
 abbrev pub called_from : Program → ℕ → List ℕ
@@ -60,14 +53,6 @@ reads_at w p s = reads w p.exprs (kind_of p s)
 
 abbrev pub writes_at : (wants_shared : Bool) → Program → ℕ → List ℕ
 writes_at w p s = writes w (kind_of p s)
-
--- the shared cells that the statements of body b may read
-abbrev pub body_reads : Program → ℕ → List ℕ
-body_reads p b = flat_map (reads_at true p) (stmts_at p b)
-
--- the shared cells that the statements of body b write
-abbrev pub body_writes : Program → ℕ → List ℕ
-body_writes p b = flat_map (writes_at true p) (stmts_at p b)
 
 -- whether a cell of the variable is among these
 abbrev pub is_met : List ℕ → Option Var → Bool
@@ -84,11 +69,11 @@ vars_met vars cells = those (min (length vars) 65536) (λ v. is_met cells (slice
 
 -- the shared variables that are read in some body that a chain of calls reaches from b, itself included
 abbrev pub used_of : Program → ℕ → List ℕ
-used_of p b = vars_met p.shared (flat_map (body_reads p) (called_from p b))
+used_of p b = vars_met p.shared (flat_map (λ c. flat_map (reads_at true p) (stmts_at p c)) (called_from p b))
 
 -- the shared variables that are written there
 abbrev pub defined_of : Program → ℕ → List ℕ
-defined_of p b = vars_met p.shared (flat_map (body_writes p) (called_from p b))
+defined_of p b = vars_met p.shared (flat_map (λ c. flat_map (writes_at true p) (stmts_at p c)) (called_from p b))
 
 -- ---- local cells of loops
 

@@ -4,7 +4,7 @@ ghost use Rattle.ppd_ast.specs.Numbered.{numbers_of};
 ghost use Rattle.ppd_ast.specs.Table.{EachAt, AreChildrenBelow};
 ghost use Rattle.ppd_ast.specs.Valid.{IsValid};
 ghost use Rattle.ppd_ast.specs.Lookups.{kind_of};
-ghost use Rattle.ppd_sets.specs.Used.{callee, call_rows, called_from, body_reads, body_writes, reads_at, writes_at};
+ghost use Rattle.ppd_sets.specs.Used.{callee, call_rows, called_from, reads_at, stmts_at, writes_at};
 ghost use Rattle.ppd_sets.specs.Gained.{GainsBoth, HasBoth, reads_of, writes_of};
 
 use crate::touched::Touched;
@@ -75,7 +75,9 @@ pub(crate) fn touched_by_bodies(alloc: Global, program: &Program) -> Result<Seq<
     requires { EachAt AreChildrenBelow program.now.exprs }
     ensures long { IfOk result (λ list. length list ≡ length program.now.bodies) }
     ensures each { IfOk result
-        (λ list. EachAt (λ k t. HasBoth t (body_reads program.now k) (body_writes program.now k)) list) }
+        (λ list. EachAt (λ k t. HasBoth t
+        (flat_map (reads_at true program.now) (stmts_at program.now k))
+        (flat_map (writes_at true program.now) (stmts_at program.now k))) list) }
 {
     let mut list = Seq::new(alloc);
     let bodies = program.bodies.as_slice();
@@ -121,11 +123,14 @@ pub(crate) fn touched_from(
     requires valid { IsValid program.now }
     requires rows { rows.now ≡ call_rows program.now }
     requires long { length list.now ≡ length program.now.bodies }
-    requires each { EachAt (λ k t. HasBoth t (body_reads program.now k) (body_writes program.now k)) list.now }
+    requires each { EachAt (λ k t. HasBoth t
+        (flat_map (reads_at true program.now) (stmts_at program.now k))
+        (flat_map (writes_at true program.now) (stmts_at program.now k))) list.now }
     requires body { body < length program.now.bodies }
     ensures { IfOk result (λ t. HasBoth t
-        (flat_map (body_reads program.now) (called_from program.now body))
-        (flat_map (body_writes program.now) (called_from program.now body))) }
+        (flat_map (λ b. flat_map (reads_at true program.now) (stmts_at program.now b)) (called_from program.now body))
+        (flat_map (λ b. flat_map (writes_at true program.now) (stmts_at program.now b))
+        (called_from program.now body))) }
 {
     let numbers = reached(alloc, rows.as_slice(), &[body])?;
     Ok(touched_by(list.as_slice(), numbers.as_slice()))

@@ -23,7 +23,8 @@ use Rattle.law_flow_own.specs.Loops.AllOwnParts.{AllOwnPartsAreFound}
 use Rattle.law_flow_shared.specs.Edges.Assembled.{EdgesAreFound}
 use Rattle.ppd_model.specs.declared.flow.FlowEdge.{FlowEdge}
 use Rattle.ppd_model.specs.declared.flow.Item.{Item}
-use Rattle.ppd_model.specs.FlowbackEdges.{edges, edges_if, edges_in, part_in}
+use Rattle.ppd_model.specs.FlowbackEdges.{edges}
+use Rattle.ppd_model.proofs.EdgeWords.{edges_if, edges_in, part_in}
 use Rattle.ppd_model.specs.Intervals.{Part, Span, Split}
 use Rattle.ppd_slice_search.specs.declared.reached.ItemAt.{ItemAt}
 use Rattle.ppd_slice_search.specs.declared.reached.Reached.{Reached}

@@ -21,9 +21,11 @@ use Rattle.ppd_model.specs.declared.flow.Origin.TheVariants as origin
 use Rattle.ppd_model.specs.declared.trace.EventId.{EventId}
 use Rattle.ppd_model.specs.declared.trace.TracedEvent.{TracedEvent}
 use Rattle.ppd_model.specs.declared.tracing.Story.{Story}
-use Rattle.ppd_model.specs.FlowbackEdges.{bare_edge, edges, edges_if, edges_in, edges_of_event, edges_of_nested, edges_of_part, from_parent, from_writer, left_edges, part_at, part_in, read_edge, result_edges, returned_edges, sync_edges}
+use Rattle.ppd_model.specs.FlowbackEdges.{bare_edge, edges, edges_of_event, edges_of_nested, edges_of_part, from_parent, from_writer, left_edges, part_at, result_edges, returned_edges, sync_edges}
+use Rattle.ppd_model.proofs.EdgeWords.{edges_if, edges_in, part_in, read_edge}
 use Rattle.ppd_model.specs.FullTrace.{Tag}
-use Rattle.ppd_model.specs.Intervals.{Part, own, nested, Span, Split, is_own, item_at, place_in, place_or, ref, ref_in, splits}
+use Rattle.ppd_model.specs.Intervals.{Part, own, nested, Span, Split, is_own, place_in, ref, splits}
+use Rattle.ppd_model.proofs.IntervalWords.{item_at, place_or, ref_in}
 use Rattle.ppd_slice_search.specs.declared.reached.ItemAt.{ItemAt}
 use Rattle.ppd_slice_search.specs.Reach.{IsIn, IsReach, at, place_of, places_of}
 use Rattle.ppd_slice_search.specs.Levels.{reached}

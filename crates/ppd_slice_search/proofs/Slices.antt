@@ -4,7 +4,8 @@ use Rattle.std.specs.Prelude.{⊤}
 use Rattle.ppd_slice_search.specs.declared.reached.ItemAt.{ItemAt}
 use Rattle.ppd_slice_search.specs.declared.reached.Reached.{Reached}
 use Rattle.ppd_slice_search.specs.Laws.{SlicesAreOne}
-use Rattle.ppd_slice_search.specs.Reach.{AllAfter, IsBefore, IsIn, IsReach, IsRising, IsSooner, Leads, at, item_of}
+use Rattle.ppd_slice_search.specs.Reach.{IsBefore, IsIn, IsReach, IsRising, Leads, at, item_of}
+use Rattle.ppd_slice_search.proofs.Levels.{AllAfter, IsSooner}
 
 sooner_not : (a b : ItemAt) → IsSooner a b → IsSooner b a → ⊥
 sooner_not a b (inl x) (inl y) = omega (arith, x, y)

@@ -1,6 +1,6 @@
 -- Which items a slice has: those that lists of items lead to, each with its least depth.
 use Rattle.std.specs.Prelude.{◌≡◌, ℕ, zero, suc, ◌<◌, ◌≤◌, ◌⊎◌, List, [], ◌∷◌, ⊤}
-use Rattle.std.specs.List.{flat_map}
+use Rattle.std.specs.List.{AllByRecursion, flat_map}
 use Rattle.ppd_model.specs.declared.flow.FlowEdge.{FlowEdge}
 use Rattle.ppd_model.specs.declared.flow.Origin.{Origin}
 use Rattle.ppd_model.specs.declared.flow.Origin.TheVariants as origin
@@ -37,28 +37,20 @@ pub data Leads (next : ItemAt → List ItemAt) : ℕ → ItemAt → ItemAt → T
 
 -- ---- order
 
--- item a comes before item b: by process, then interval, then number
-abbrev pub IsSooner : ItemAt → ItemAt → Type 0
-IsSooner a b =
-    (a.process < b.process)
-    ⊎ ((a.process ≡ b.process) × ((a.interval < b.interval) ⊎ ((a.interval ≡ b.interval) × (a.item < b.item))))
-
 -- the item without its depth
 abbrev pub item_of : Reached → ItemAt
 item_of r = at r.process r.interval r.item
 
--- r comes before s: by depth, then by item
+-- r comes before s: by depth, then by process, then interval, then number
 abbrev pub IsBefore : Reached → Reached → Type 0
-IsBefore r s = (r.depth < s.depth) ⊎ ((r.depth ≡ s.depth) × IsSooner (item_of r) (item_of s))
-
-abbrev pub AllAfter : Reached → List Reached → Type 0
-AllAfter r [] = ⊤
-AllAfter r (s ∷ ss) = IsBefore r s × AllAfter r ss
+IsBefore r s =
+    (r.depth < s.depth) ⊎ ((r.depth ≡ s.depth) × ((r.process < s.process)
+    ⊎ ((r.process ≡ s.process) × ((r.interval < s.interval) ⊎ ((r.interval ≡ s.interval) × (r.item < s.item))))))
 
 -- each comes before all that stand behind it, so that none stands twice
 abbrev pub IsRising : List Reached → Type 0
 IsRising [] = ⊤
-IsRising (r ∷ rs) = AllAfter r rs × IsRising rs
+IsRising (r ∷ rs) = AllByRecursion (IsBefore r) rs × IsRising rs
 
 -- ---- slices
 

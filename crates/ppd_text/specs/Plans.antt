@@ -12,7 +12,7 @@ use Rattle.ppd_ast.specs.declared.plan.BlockKind.TheVariants.{Function, Process,
 use Rattle.ppd_ast.specs.declared.plan.Start.{Start}
 use Rattle.ppd_ast.specs.declared.plan.Start.TheVariants.{Entry, After, Enter, Exit}
 use Rattle.ppd_ast.specs.declared.plan.Unit.{Unit as UnitOf}
-use Rattle.ppd_ast.specs.Lookups.{locals_of_body, name_of_body}
+use Rattle.ppd_ast.specs.Lookups.{locals_of, name_of_body}
 use Rattle.ppd_sets.specs.Used.{vars_met}
 use Rattle.ppd_text.specs.Texts.{place_text}
 use Rattle.ppd_text.specs.Names.{names_text}
@@ -35,12 +35,12 @@ block_what p (Loop s) = codes "loop " ++ option_map_or (λ x. place_text x.place
 
 abbrev pub locals_round : Program → Option Stmt → List Var
 locals_round p None = []
-locals_round p (Some s) = locals_of_body (slice_get p.bodies s.body)
+locals_round p (Some s) = locals_of p s.body
 
 -- the variables of the body that a block is, or in which its loop stands
 abbrev pub block_locals : Program → BlockKind → List Var
-block_locals p (Function f) = locals_of_body (slice_get p.bodies f)
-block_locals p (Process f) = locals_of_body (slice_get p.bodies f)
+block_locals p (Function f) = locals_of p f
+block_locals p (Process f) = locals_of p f
 block_locals p (Loop s) = locals_round p (slice_get p.stmts s)
 
 -- the line of block k: its postlog holds the value that a function returns, or variables

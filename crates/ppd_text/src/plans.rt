@@ -2,7 +2,7 @@
 ghost use Rattle.std.specs.Prelude.{◌≡◌, ◌++◌, ℕ, List, [], codes, decimal, if◌then◌else◌, OnOk, slice_get};
 ghost use Rattle.std.specs.Option.{option_map_or};
 ghost use Rattle.ppd_ast.specs.declared.program.Program.{Program};
-ghost use Rattle.ppd_ast.specs.Lookups.{locals_of_body, name_of_body};
+ghost use Rattle.ppd_ast.specs.Lookups.{locals_of, name_of_body};
 ghost use Rattle.ppd_text.specs.Texts.{place_text};
 ghost use Rattle.ppd_text.specs.Plans.{block_what, locals_round as locals_round_stmt, block_locals as locals_of_block, cells_text, block_line, lines_of, start_text, unit_line};
 
@@ -47,7 +47,7 @@ pub fn put_block_what(text: &mut Vec<u8>, program: &Program, kind: BlockKind) ->
 
 /// The local variables of a body, none where there is none of this number.
 pub fn locals_of(program: &Program, body: u16) -> &[Var]
-    ensures { result.now ≡ locals_of_body (slice_get program.now.bodies body) }
+    ensures { result.now ≡ locals_of program.now body }
 {
     match program.bodies.as_slice().get(body as usize) {
         Some(body) => body.locals.as_slice(),

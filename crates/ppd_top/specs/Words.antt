@@ -6,7 +6,7 @@ use Rattle.ppd_ast.specs.declared.limits.TheConstants.{DEFAULT_BUDGET, MOST_BUDG
 use Rattle.ppd_ast.specs.Digits.{number_in as number_of_word}
 use Rattle.ppd_top_words.specs.declared.commands.Command.{Command as Word}
 use Rattle.ppd_top_words.specs.declared.commands.Command.TheVariants as word
-use Rattle.ppd_top_words.specs.Words.{Text, Uses, value_of}
+use Rattle.ppd_top_words.specs.Words.{Text, value_of}
 use Rattle.ppd_top_words.specs.Commands.{command_gives}
 use Rattle.ppd_top_words.specs.Reads.{texts_in}
 use Rattle.ppd_top_runs.specs.Commands.{AreInRange}
@@ -31,16 +31,15 @@ abbrev pub number_in : (usual least most : ℕ) → Option Text → Option ℕ
 number_in usual least most None = Some usual
 number_in usual least most (Some w) = within least most (number_of_word w)
 
--- options with these numbers, where all are there
-abbrev pub with_numbers : (budget leaf loops : Option ℕ) → Option Options
-with_numbers (Some b) (Some m) (Some n) = Some (record { budget = b; policy = record { leaf = m; loops = n } })
-with_numbers _ _ _ = None
-
--- the options, each with its default where it was not given, by the word of each option and of each name
+-- the options, where the number of each is there, with its default where it was not given, by the word of each option
+-- and of each name
 abbrev pub options_in : (Text → Option Text) → Option Options
 options_in v =
-    with_numbers (number_in DEFAULT_BUDGET 1 MOST_BUDGET (v (codes "budget")))
-    (number_in 0 0 MOST_POLICY (v (codes "leaf"))) (number_in 0 0 MOST_POLICY (v (codes "loops")))
+    option_and_then (λ b. option_and_then (λ m.
+    option_map (λ n. record { budget = b; policy = record { leaf = m; loops = n } })
+    (number_in 0 0 MOST_POLICY (v (codes "loops"))))
+    (number_in 0 0 MOST_POLICY (v (codes "leaf"))))
+    (number_in DEFAULT_BUDGET 1 MOST_BUDGET (v (codes "budget")))
 
 -- a name, which is not empty
 abbrev pub name_in : Option Text → Option Text
@@ -77,12 +76,10 @@ request_of (Drill number) = on_number number
 request_of (request.Query name query) = on_query name.now (query_of query)
 
 -- what a command on a source asks for, where all its names and its options are there
-abbrev pub with_source : Option Command → Option Text → Option Options → Option Request
-with_source (Some command) (Some name) (Some options) = Some (on_source command name options)
-with_source _ _ _ = None
-
 abbrev pub asked_by : Option Command → (Text → Option Text) → Option Request
-asked_by command v = with_source command (name_in (v (codes "source"))) (options_in v)
+asked_by command v =
+    option_and_then (λ c. option_and_then (λ name. option_map (on_source c name) (options_in v))
+    (name_in (v (codes "source")))) command
 
 -- the number of an interval or of an item, in 1 to 9 digits, which must be there
 abbrev pub item_number_in : Option Text → Option ℕ
@@ -90,13 +87,12 @@ item_number_in None = None
 item_number_in (Some w) = within 0 999999999 (number_of_word w)
 
 -- an item, where the name of its process and both numbers are there
-abbrev pub with_item : Option Text → Option ℕ → Option ℕ → Option ItemAsked
-with_item (Some p) (Some k) (Some j) = Some (record { process = p; interval = k; item = j })
-with_item _ _ _ = None
-
 abbrev pub item_in : (Text → Option Text) → Option ItemAsked
 item_in v =
-    with_item (name_in (v (codes "process"))) (item_number_in (v (codes "interval"))) (item_number_in (v (codes "item")))
+    option_and_then (λ p. option_and_then (λ k.
+    option_map (λ j. record { process = p; interval = k; item = j }) (item_number_in (v (codes "item"))))
+    (item_number_in (v (codes "interval"))))
+    (name_in (v (codes "process")))
 
 -- a query of a recording, where it and the name are there
 abbrev pub query_by : (Text → Option Text) → Option Query → Option Request
@@ -115,14 +111,9 @@ asked_of word.Rerun v = query_by v (Some Rerun)
 asked_of word.Clean v = query_by v (option_map Clean (item_in v))
 asked_of word.Whole v = query_by v (option_map Whole (number_in 8 1 64 (v (codes "workers"))))
 
--- what a command asks for with what is given to its options and names
-abbrev pub with_given : Option (Word × Uses) → Option Request
-with_given None = None
-with_given (Some (w, uses)) = asked_of w (λ id. value_of id uses)
-
 -- what the words ask for: the command that they give, with numbers within their limits and names that are not empty
 abbrev pub asked : List Text → Option Request
-asked words = with_given (command_gives words)
+asked words = option_and_then (λ given. asked_of given.0 (λ id. value_of id given.1)) (command_gives words)
 
 -- the words ask for this
 abbrev pub Asks : List (Bor (List ℕ)) → Request → Type 0

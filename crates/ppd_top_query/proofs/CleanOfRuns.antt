@@ -25,17 +25,19 @@ use Rattle.ppd_model.specs.Races.{races}
 use Rattle.ppd_model.specs.Schedule.{IsWhole}
 use Rattle.ppd_model.specs.Story.{story}
 use Rattle.ppd_model.specs.declared.graph.Race.{Race}
-use Rattle.ppd_session.specs.Known.{Known, known_of_run, of_split}
+use Rattle.ppd_session.specs.Known.{Known, known_of_run}
 use Rattle.ppd_session.specs.Questions.{process_named}
 use Rattle.ppd_session.specs.Texts.{intervals_at}
 use Rattle.ppd_session.specs.declared.reply.SessionError.{SessionError}
 use Rattle.ppd_session.specs.declared.reply.SessionError.TheVariants.{Diverged, Sets, Memory}
-use Rattle.ppd_top_query.specs.OfRuns.{IsCleanOfRun}
-use Rattle.ppd_top_query.specs.Queries.{Gives, IsCleanFailure, ItemAsked, block_refusal, clean_of, clean_text, process_refusal, refusal}
+use Rattle.ppd_top_query.specs.OfRuns.{IsOfRun}
+use Rattle.ppd_top_query.specs.Queries.{Gives, IsCleanFailure, ItemAsked, block_refusal, clean_of, clean_text, refusal}
 use Rattle.ppd_top_query.specs.Queries.IsWritten.{refuses, answers}
 use Rattle.ppd_top_query.specs.Queries.Query.{Clean}
 use Rattle.ppd_top_query.specs.Replies.{IsFoundClean}
 use Rattle.ppd_top_query.proofs.CleanTold.{Found}
+use Rattle.ppd_session.proofs.KnownWords.{of_split}
+use Rattle.ppd_top_query.proofs.QueryWords.{process_refusal}
 
 same_number : {p q : ℕ} → ◌≡◌ {A = Option ℕ} (Some p) (Some q) → p ≡ q
 same_number e = cc
@@ -162,5 +164,5 @@ module _ (r : Recording) (header : Header) (program : Program) (h : List ℕ)
           ∙ (ap (λ (d : Plan). clean_text program d a.item (clean_of r q a.interval a.item)) (sym parts.1)
           ∙ (ap (λ (d : Program). clean_text d r.plan a.item (clean_of r q a.interval a.item)) (sym parts.0) ∙ here))
 
-    pub clean_told : (schedule text : List ℕ) → Gives r (Clean a) schedule 0 text → IsCleanOfRun program (plan_of program header.policy) header.budget h a text
+    pub clean_told : (schedule text : List ℕ) → Gives r (Clean a) schedule 0 text → IsOfRun program (plan_of program header.policy) header.budget h (Clean a) schedule text
     clean_told schedule text g = λ q x i named at at_k. text_is q x i named at at_k schedule text g

@@ -27,10 +27,11 @@ use Rattle.ppd_session.specs.Sessions.{known_by}
 use Rattle.ppd_session.specs.Texts.{intervals_at, no_process}
 use Rattle.ppd_session.specs.declared.reply.SessionError.{SessionError}
 use Rattle.ppd_session.specs.declared.reply.SessionError.TheVariants.{Diverged, Sets, Memory}
-use Rattle.ppd_top_query.specs.Queries.{Gives, ItemAsked, block_refusal, clean_of, clean_text, process_refusal, refusal}
+use Rattle.ppd_top_query.specs.Queries.{Gives, ItemAsked, block_refusal, clean_of, clean_text, refusal}
 use Rattle.ppd_top_query.specs.Queries.IsWritten.{refuses, answers, fails}
 use Rattle.ppd_top_query.specs.Queries.Query.{Clean}
 use Rattle.ppd_top_query.specs.Replies.{IsCleanItem, IsError, IsFoundClean, IsTextReply}
+use Rattle.ppd_top_query.proofs.QueryWords.{process_refusal}
 
 -- ---- of a past with the parts of a recording
 

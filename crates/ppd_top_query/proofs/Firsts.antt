@@ -1,5 +1,5 @@
 -- The first interval of a recording whose replay fails, by what is told of the intervals.
-use Rattle.std.specs.Prelude.{None, Some, ◌⊎◌, nat_lt}
+use Rattle.std.specs.Prelude.{None, Some, Err, ◌⊎◌, nat_lt}
 use Rattle.std.specs.List.{range_with_len}
 use Rattle.std.proofs.Common.{◌≡◌, ℕ, zero, suc, ◌+◌, ◌<◌, ◌≤◌, Bool, true, false, List, [], ◌∷◌, ◌++◌, get_or, length, map, Option, refl, ap, sym, subst, ◌∙◌, inl, inr, arith}
 use Rattle.std.proofs.lemmas.Bool.{ltb-false, ltb-true}
@@ -14,10 +14,15 @@ use Rattle.ppd_flow_past.specs.ByReplays.{failure_or, first_failed}
 use Rattle.ppd_flow_past.specs.SeenBy.{failed_at, seen_by}
 use Rattle.ppd_model.specs.declared.graph.Race.{Race}
 use Rattle.ppd_session.specs.Known.{Known, known_with}
+use Rattle.ppd_session.specs.Texts.{told_at}
 use Rattle.ppd_session.proofs.Knowing.{failing, failing_is_told, there}
-use Rattle.ppd_top_query.specs.Determined.{IsFirstFailure, NoneFails}
+use Rattle.ppd_top_query.specs.Determined.{IsFirstFailure}
 use Rattle.ppd_top_query.specs.Queries.{first_failure}
 use Rattle.ppd_whole.specs.Intervals.{intervals_from}
+
+-- no interval is told to fail
+abbrev pub NoneFails : Known → Type 0
+NoneFails x = (q k n : ℕ) → told_at x q k ≡ Some (Err n) → ⊥
 
 some_none : {X Y : Type 0} {o : Option X} {x : X} → o ≡ None → o ≡ Some x → Y
 some_none a b = absurd (cc (a, b))

@@ -26,7 +26,8 @@ use Rattle.ppd_session.proofs.Flows.{flow_there, same as same_logs}
 use Rattle.ppd_session.proofs.Replayed.{are_replayed, same_failure, tells, tells_items}
 use Rattle.ppd_slice.specs.Slices.{IsAnswered, IsNoItem, IsSlice, flow_of, origins_in, places_found, unless_failed as unless_one_failed}
 use Rattle.ppd_slice.proofs.Flows.{flow_misses, flow_none, flow_there as edges_there}
-use Rattle.ppd_top_query.specs.Queries.{IsSliceFailure, event_refusal, origins_of, origins_told}
+use Rattle.ppd_top_query.specs.Queries.{IsSliceFailure, event_refusal, origins_told}
+use Rattle.ppd_top_query.proofs.QueryWords.{origins_of}
 
 same_some : {X : Type 0} (x y : X) → ◌≡◌ {A = Option X} (Some x) (Some y) → x ≡ y
 same_some x y e = cc

@@ -27,7 +27,7 @@ use Rattle.ppd_model.specs.declared.graph.Race.{Race}
 use Rattle.ppd_model.specs.declared.trace.Trace.{Trace}
 use Rattle.ppd_model.specs.declared.tracing.Story.{Story}
 use Rattle.ppd_rerun_model.proofs.Verdicts.{reruns_say_yes, verdicts_are_one}
-use Rattle.ppd_rerun_model.specs.Verdicts.{IsVerdict, IsYes, guided_by}
+use Rattle.ppd_rerun_model.specs.Verdicts.{IsVerdict, guided_by}
 use Rattle.ppd_rerun_model.specs.declared.verdict.Verdict.{Verdict}
 use Rattle.ppd_rerun_model.specs.declared.verdict.Verdict.TheVariants as verdict
 use Rattle.ppd_session.proofs.Honest.{all_there, never}
@@ -117,12 +117,12 @@ module _ (bytes : List ℕ) (r : Recording) (accepted : IsAccepted bytes r) (sou
     -- by a schedule that agrees with the run
     guided_agrees : Agree program (plan_of program header.policy) header.budget h (guided_by program (plan_of program header.policy) header.budget (closed_logs program (plan_of program header.policy) header.budget h))
     guided_agrees =
-        let yes : IsYes program (plan_of program header.policy) header.budget (closed_logs program (plan_of program header.policy) header.budget h) (guided_by program (plan_of program header.policy) header.budget (closed_logs program (plan_of program header.policy) header.budget h)) =
+        let yes : IsVerdict program (plan_of program header.policy) header.budget (closed_logs program (plan_of program header.policy) header.budget h) (verdict.Yes (guided_by program (plan_of program header.policy) header.budget (closed_logs program (plan_of program header.policy) header.budget h))) =
         reruns_say_yes program header.policy header.budget h valid run.whole free in
         record {
           first = run.whole;
-          second = yes.follows.whole;
-          records = sym (yes.follows.record_is ∙ (record_syncs program (plan_of program header.policy) header.budget h).closed);
+          second = yes.1.whole;
+          records = sym (yes.1.record_is ∙ (record_syncs program (plan_of program header.policy) header.budget h).closed);
         }
 
     rerun_is : (schedule text : List ℕ) → IsRerunAnswer r schedule text

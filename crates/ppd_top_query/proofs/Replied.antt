@@ -17,10 +17,11 @@ use Rattle.ppd_session.specs.Texts.{intervals_at, no_event, no_process, raced, t
 use Rattle.ppd_session.specs.declared.reply.SessionError.{SessionError}
 use Rattle.ppd_session.specs.declared.reply.SessionError.TheVariants.{Diverged, Sets, Memory}
 use Rattle.ppd_slice.specs.Slices.{IsSlice, IsSliceOf}
-use Rattle.ppd_top_query.specs.Queries.{ItemAsked, block_refusal, event_refusal, process_refusal, races_refusal, reached_line, Refusal, refusal}
+use Rattle.ppd_top_query.specs.Queries.{ItemAsked, block_refusal, event_refusal, races_refusal, reached_line, Refusal, refusal}
 use Rattle.ppd_top_query.specs.Queries.IsWritten.{refuses, answers, fails}
 use Rattle.ppd_top_query.specs.Replies.{IsError, IsItemFailed, IsItemReply, IsSliceReply, WritesSlice}
 use Rattle.ppd_top_query.proofs.OfPast.{diverges, misses, no_item, slice_known, slice_there, some_item}
+use Rattle.ppd_top_query.proofs.QueryWords.{process_refusal}
 
 -- ---- of an interval that is there
 

@@ -13,12 +13,13 @@ use Rattle.ppd_model.specs.declared.flow.FlowEdge.{FlowEdge}
 use Rattle.ppd_model.specs.declared.flow.Item.{Item}
 use Rattle.ppd_model.specs.declared.graph.Race.{Race}
 use Rattle.ppd_model.specs.declared.tracing.Story.{Story}
-use Rattle.ppd_model.specs.FlowbackEdges.{edges, edges_if, edges_in, part_in}
+use Rattle.ppd_model.specs.FlowbackEdges.{edges}
+use Rattle.ppd_model.proofs.EdgeWords.{edges_if, edges_in, part_in}
 use Rattle.ppd_model.specs.Intervals.{Part, Span, Split, items_of, splits}
 use Rattle.ppd_model.specs.Items.{ItemsAreWhole}
 use Rattle.ppd_model.specs.Races.{races_of}
 use Rattle.ppd_model.specs.Story.{story}
-use Rattle.ppd_session.specs.Known.{Flow, Known, Told, edges_or_none, flow_told, known_of_run, of_cells, of_intervals, of_items, of_processes, of_span, of_split, told_of_split, unless_raced}
+use Rattle.ppd_session.specs.Known.{Flow, Known, Told, edges_or_none, known_of_run, of_items, of_processes, told_of_split, unless_raced}
 use Rattle.ppd_flow_past.specs.declared.flow_error.FlowError.TheVariants as flow_error
 use Rattle.ppd_session.specs.Sessions.{IsItemThere}
 use Rattle.ppd_session.specs.Texts.{intervals_at, no_event, told_at}
@@ -29,8 +30,10 @@ use Rattle.ppd_slice_search.specs.Laws.{ReachesAreSlices, SlicesAreOne}
 use Rattle.ppd_slice_search.specs.OfRuns.{origins, reach}
 use Rattle.ppd_slice_search.specs.Reach.{IsReach, at, item_of, places_of}
 use Rattle.ppd_slice_search.proofs.Levels.{reach_as}
-use Rattle.ppd_top_query.specs.Queries.{IsSliceAnswer, IsSliceText, ItemAsked, block_refusal, event_refusal, origins_of, origins_told, process_refusal, races_refusal, reached_line, refusal}
+use Rattle.ppd_top_query.specs.Queries.{IsSliceAnswer, IsSliceText, ItemAsked, block_refusal, event_refusal, origins_told, races_refusal, reached_line, refusal}
 use Rattle.ppd_top_query.specs.SlicesOfRuns.{IsSliceOfRun, SliceTextsAreOfRuns, SlicesAreOfRuns, lines_of_reach}
+use Rattle.ppd_session.proofs.KnownWords.{of_cells, of_intervals, of_split, flow_told, of_span}
+use Rattle.ppd_top_query.proofs.QueryWords.{process_refusal, origins_of}
 
 -- ---- lists
 

@@ -66,10 +66,6 @@ module _ (r : Recording) (q k j : ℕ) where
 
 -- ---- the whole trace
 
--- no interval is told to fail
-abbrev pub NoneFails : Known → Type 0
-NoneFails x = (q k n : ℕ) → told_at x q k ≡ Some (Err n) → ⊥
-
 -- the first interval that is told to fail, by process and number, is told to fail there
 pub record IsFirstFailure (x : Known) (failure : At) : Type 0 where
   pub interval : ℕ
@@ -83,7 +79,7 @@ pub record IsFirstFailure (x : Known) (failure : At) : Type 0 where
 -- where no interval is told to fail
 abbrev pub IsAnsweredBy : Recording → Known → Query → (schedule text : List ℕ) → Type 0
 IsAnsweredBy r x (Slice a) schedule text = IsSliceAnswer x a schedule text
-IsAnsweredBy r x (Whole workers) schedule text = (schedule ≡ []) × NoneFails x
+IsAnsweredBy r x (Whole workers) schedule text = (schedule ≡ []) × ((q k n : ℕ) → told_at x q k ≡ Some (Err n) → ⊥)
 IsAnsweredBy r x Rerun schedule text = IsRerunAnswer r schedule text
 IsAnsweredBy r x (Clean a) schedule text = (schedule ≡ []) × ((q : ℕ) × (process_named r.program a.process ≡ Some q)
     × ((found : CleanOr) × IsCleanBy r q a.interval a.item found

@@ -16,21 +16,14 @@ use Rattle.ppd_rerun_model.specs.declared.verdict.Verdict.TheVariants as verdict
 use Rattle.ppd_session.specs.Known.{known_of_run}
 use Rattle.ppd_session.specs.Questions.{process_named}
 use Rattle.ppd_top_query.specs.VerdictTexts.{verdict_text}
-use Rattle.ppd_top_query.specs.Queries.{Gives, ItemAsked, Query, clean_text, refusal}
+use Rattle.ppd_top_query.specs.Queries.{Gives, Query, clean_text, refusal}
 use Rattle.ppd_top_query.specs.Queries.Query.{Slice, Whole, Rerun, Clean}
 use Rattle.ppd_top_query.specs.SlicesOfRuns.{IsSliceOfRun}
 use Rattle.ppd_whole.specs.WholeText.{whole_text}
 
--- of an item of an interval that is there this is what is to be answered by the run itself
-abbrev pub IsCleanOfRun : Program → Plan → ℕ → List ℕ → ItemAsked → (text : List ℕ) → Type 0
-IsCleanOfRun program plan budget h a text =
-    (q : ℕ) (x : Split) (i : Span) → process_named program a.process ≡ Some q
-    → slice_get (splits program plan budget (story program plan budget h)) q ≡ Some x
-    → slice_get x.spans a.interval ≡ Some i
-    → clean_text program plan a.item (answer_of program plan budget h q a.interval a.item) ≡ Some text
-
 -- a slice that is not refused has what the flowback edges of the run reach; the whole trace is the text of its full
--- trace; a run again is confirmed, by a schedule that agrees with it; and clean flowback is that of the run
+-- trace; a run again is confirmed, by a schedule that agrees with it; and clean flowback of an item of an interval that
+-- is there is what is to be answered by the run itself
 abbrev pub IsOfRun : Program → Plan → ℕ → List ℕ → Query → (schedule text : List ℕ) → Type 0
 IsOfRun program plan budget h (Slice a) schedule text =
     refusal (known_of_run program plan budget h) (Slice a) ≡ None → IsSliceOfRun program plan budget h a text
@@ -38,7 +31,11 @@ IsOfRun program plan budget h (Whole workers) schedule text =
     text ≡ whole_text program (full_trace program plan budget h)
 IsOfRun program plan budget h Rerun schedule text = Agree program plan budget h schedule
     × (text ≡ verdict_text program (verdict.Yes schedule))
-IsOfRun program plan budget h (Clean a) schedule text = IsCleanOfRun program plan budget h a text
+IsOfRun program plan budget h (Clean a) schedule text =
+    (q : ℕ) (x : Split) (i : Span) → process_named program a.process ≡ Some q
+    → slice_get (splits program plan budget (story program plan budget h)) q ≡ Some x
+    → slice_get x.spans a.interval ≡ Some i
+    → clean_text program plan a.item (answer_of program plan budget h q a.interval a.item) ≡ Some text
 
 -- clean flowback is so of each whole run of which the bytes are the recording, with races or without; and the others of
 -- each without a race, and of each schedule that agrees with it

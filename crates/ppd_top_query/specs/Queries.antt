@@ -2,6 +2,7 @@
 use Rattle.law_clean.specs.Cuts.{cut_logs}
 use Rattle.std.specs.Prelude.{◌≡◌, ℕ, ◌++◌, nat_lt, false, List, [], ◌∷◌, length, Option, Some, None, Ok, Err, codes, decimal, if◌then◌else◌}
 use Rattle.std.specs.List.{flat_map}
+use Rattle.std.specs.Option.{option_map_or}
 use Rattle.ppd_ast.specs.declared.program.Program.{Program}
 use Rattle.ppd_codec.specs.declared.recording.Recording.{Recording}
 use Rattle.ppd_model.specs.declared.graph.Race.{Race}
@@ -79,11 +80,6 @@ abbrev pub races_refusal : List Race → Refusal → Refusal
 races_refusal [] rest = rest
 races_refusal (r ∷ rs) rest = Some (raced (r ∷ rs) [])
 
--- there is no such process
-abbrev pub process_refusal : Option ℕ → (ℕ → Refusal) → Refusal
-process_refusal None rest = Some no_process
-process_refusal (Some q) rest = rest q
-
 -- process q has no such interval
 abbrev pub block_refusal : Known → (q k : ℕ) → Refusal → Refusal
 block_refusal x q k rest = if nat_lt k (length (intervals_at x q)) then rest else Some (codes "? block\n")
@@ -100,9 +96,6 @@ abbrev pub origins_told : Option Told → (j : ℕ) → Flow → List ItemAt
 origins_told (Some (Ok items)) j flow = if nat_lt j (length items) then places_found flow else []
 origins_told told j flow = []
 
-abbrev pub origins_of : Known → ItemAt → List ItemAt
-origins_of x a = origins_told (told_at x a.process a.interval) a.item (flow_at x a.process a.interval a.item)
-
 abbrev pub reached_line : Program → Reached → List ℕ
 reached_line p r =
     codes "at " ++ decimal r.depth ++ codes " " ++ process_name p r.process ++ codes " " ++ decimal r.interval
@@ -111,7 +104,9 @@ reached_line p r =
 -- a line for each item of the slice of item j of interval k of process q
 pub record IsSliceText (x : Known) (q k j : ℕ) (text : List ℕ) : Type 0 where
   pub slice : List Reached
-  pub is_slice : IsReach (origins_of x) (at q k j) slice
+  pub is_slice : IsReach
+      (λ a. origins_told (told_at x a.process a.interval) a.item (flow_at x a.process a.interval a.item))
+      (at q k j) slice
   pub is : text ≡ flat_map (reached_line x.program) slice
 
 -- what is written of the slice, without a run of its own
@@ -205,15 +200,16 @@ IsCleanFailure r a Memory = ⊥
 
 -- ---- answers
 
--- the refusal that stands in place of the answer, if one does
+-- the refusal that stands in place of the answer, if one does: there are races, or no such process, interval or item
 abbrev pub refusal : Known → Query → Refusal
 refusal x (Slice a) =
     races_refusal x.races
-    (process_refusal (process_named x.program a.process)
-    (λ q. block_refusal x q a.interval (event_refusal (told_at x q a.interval) a.item)))
+    (option_map_or (λ q. block_refusal x q a.interval (event_refusal (told_at x q a.interval) a.item))
+    (process_named x.program a.process) (Some no_process))
 refusal x (Whole workers) = races_refusal x.races None
 refusal x Rerun = None
-refusal x (Clean a) = process_refusal (process_named x.program a.process) (λ q. block_refusal x q a.interval None)
+refusal x (Clean a) =
+    option_map_or (λ q. block_refusal x q a.interval None) (process_named x.program a.process) (Some no_process)
 
 -- where nothing is refused: this schedule was taken, and this is the text of the answer
 abbrev pub IsAnswer : Recording → Query → (schedule text : List ℕ) → Type 0

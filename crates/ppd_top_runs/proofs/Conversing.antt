@@ -20,11 +20,12 @@ use Rattle.ppd_codec_runs.specs.SessionError.{SessionError}
 use Rattle.ppd_codec_runs.specs.SessionError.TheVariants as session_error
 use Rattle.ppd_top_runs.specs.Asking.{Becomes, Goes, IsAsked, IsFailed, IsReadAtNeed, IsReadTo}
 use Rattle.ppd_top_runs.specs.Asking.Becomes.{answered, quit, refused, unwritten as unwritten_line, unfinished as unfinished_line}
-use Rattle.ppd_top_runs.specs.Output.{AreAnswered, AreCommands, AreNotYetTaken, ArePlain, AppendsFront, IsReadNoFurther, Output, Standing, Talks, answers, answers_from, before, ended, output, through_quit, Finished}
+use Rattle.ppd_top_runs.specs.Output.{AreAnswered, AreCommands, AppendsFront, IsReadNoFurther, Output, Standing, Talks, answers, answers_from, before, ended, output, through_quit, Finished, AreNotYetTaken}
 use Rattle.ppd_top_runs.specs.Output.Talks.{whole, unread, unwritten, unfinished}
 use Rattle.ppd_top_runs.proofs.Split.{Goes_on, Is_long, after_all, after_long, after_more, at_end, append_more, both_bytes, need_more, no_further, plain_more, read_more, taken_so_far}
 use Rattle.ppd_model.proofs.Changes.{some}
 use Rattle.ppd_model.proofs.Parents.{none_some}
+use Rattle.ppd_top_runs.proofs.RunWords.{ArePlain}
 
 pub texts_more : (x : Known) (ls : List (List ℕ)) (l : List ℕ) → flat_map (text_of x) (ls ++ l ∷ []) ≡ flat_map (text_of x) ls ++ text_of x l
 texts_more x [] l = append-nil (text_of x l)

@@ -1,3 +1,4 @@
+pub mod RunWords
 pub mod Split
 pub mod Conversing
 mod Replying

@@ -8,7 +8,8 @@ use Rattle.ppd_io.specs.declared.lines.LineError.TheVariants.{Failed, LongLine}
 use Rattle.ppd_io.specs.Lines.{EndsLine, GivesLine, HasNoNewline, IsAtNeed, Lined, before_lines, lines_of}
 use Rattle.ppd_io.proofs.Lining.{line_front, line_whole, told, took_all}
 use Rattle.ppd_top_runs.specs.Asking.{IsReadAtNeed, IsReadTo, IsSplit}
-use Rattle.ppd_top_runs.specs.Output.{AreCommands, AreNotYetTaken, ArePlain, ended}
+use Rattle.ppd_top_runs.specs.Output.{AreCommands, ended, AreNotYetTaken}
+use Rattle.ppd_top_runs.proofs.RunWords.{ArePlain}
 
 pub ended_more : (ls : List (List ℕ)) (l : List ℕ) → ended (ls ++ l ∷ []) ≡ ended ls ++ (l ++ 10 ∷ [])
 ended_more [] l = append-nil (l ++ 10 ∷ [])

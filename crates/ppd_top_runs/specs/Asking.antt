@@ -1,9 +1,9 @@
 -- How the lines of an input are read and answered, one after another.
-use Rattle.std.specs.List.{flat_map}
+use Rattle.std.specs.List.{AllByRecursion, flat_map}
 use Rattle.std.specs.Prelude.{◌≡◌, ◌≢◌, ◌⊎◌, ℕ, ◌+◌, ◌≤◌, Bool, true, false, List, [], ◌++◌, length, Option, Some, None}
 use Rattle.ppd_io.specs.Causes.{Rose}
 use Rattle.ppd_io.specs.Content.{Appends, AppendsPart}
-use Rattle.ppd_io.specs.Lines.{Lined, lines_of}
+use Rattle.ppd_io.specs.Lines.{HasNoNewline, Lined, lines_of}
 use Rattle.ppd_codec_runs.specs.Known.{Known}
 use Rattle.ppd_codec_runs.specs.Questions.{is_quit}
 use Rattle.ppd_ast.specs.declared.program.Program.{Program}
@@ -11,7 +11,7 @@ use Rattle.ppd_codec_runs.specs.Sessions.{FlowError, error_of}
 use Rattle.ppd_codec_runs.specs.Texts.{failure_of, refused_replay, text_of}
 use Rattle.ppd_codec_runs.specs.SessionError.{SessionError}
 use Rattle.ppd_codec_runs.specs.SessionError.TheVariants.{Memory}
-use Rattle.ppd_top_runs.specs.Output.{Finished, AreAnswered, AreNotYetTaken, ArePlain, Standing, Talks, ended}
+use Rattle.ppd_top_runs.specs.Output.{Finished, AreAnswered, Standing, Talks, ended, AreNotYetTaken}
 
 -- these lines were read of these bytes, and what is left of them: before the end was met, and after it
 abbrev pub IsSplit : Bool → (bytes : List ℕ) → (lines : List (List ℕ)) → (rest : List ℕ) → Type 0
@@ -35,7 +35,7 @@ IsReadAtNeed (Some xs) (Some ys) last r lines = ((lines ≡ []) × (r.held ≡ [
 pub record IsAsked (x : Known) (n : ℕ) (r : Lined) (a b : Standing) : Type 0 where
   pub lines : List (List ℕ)
   pub count : length lines ≡ n
-  pub plain : ArePlain lines
+  pub plain : AllByRecursion HasNoNewline lines
   pub answered : AreAnswered x lines
   pub read : IsReadTo a.left b.left r lines
   pub need : IsReadAtNeed a.left b.left b.last r lines

@@ -1,6 +1,6 @@
 -- What is written of a run and of the command lines that are asked about it, and with which status that ends.
 use Rattle.std.specs.Prelude.{◌≡◌, ◌||◌, is_some, ℕ, ◌+◌, ◌<◌, ◌≤◌, nat_lt, nat_le, Bool, false, List, [], ◌∷◌, ◌++◌, length, take, Option, Some, None, IfSome, codes, if◌then◌else◌, option_map}
-use Rattle.std.specs.List.{flat_map}
+use Rattle.std.specs.List.{AllByRecursion, flat_map}
 use Rattle.ppd_ast.specs.declared.limits.TheConstants.{MOST_INPUT_LINES, MOST_LINE_BYTES}
 use Rattle.ppd_io.specs.declared.bytes.TheConstants.{CHUNK_BYTES}
 use Rattle.ppd_io.specs.Causes.{Rose}
@@ -47,11 +47,6 @@ answers x commands = answers_from x 0 (lines_of commands)
 -- each line with a newline after it
 abbrev pub ended : List (List ℕ) → List ℕ
 ended lines = flat_map (λ l. l ++ 10 ∷ []) lines
-
--- none of the lines has a newline in it
-abbrev pub ArePlain : List (List ℕ) → Type 0
-ArePlain [] = Unit {0}
-ArePlain (l ∷ ls) = HasNoNewline l × ArePlain ls
 
 -- none of these lines ends the answers: none is too long or is `quit`, and no replay fails
 abbrev pub AreAnswered : Known → List (List ℕ) → Type 0
@@ -125,7 +120,7 @@ pub record IsBroken (x : Known) (head : List ℕ) (a b : Standing) : Type 0 wher
   pub rest : List ℕ
   pub takes : Takes a.left b.left taken
   pub is : taken ≡ ended lines ++ rest
-  pub plain : ArePlain lines
+  pub plain : AllByRecursion HasNoNewline lines
   pub open_end : HasNoNewline rest
   pub answered : AreAnswered x lines
   pub few : length lines ≤ MOST_INPUT_LINES

@@ -1,6 +1,6 @@
 -- What is written of a run: how each process ended and what it printed, and the races.
-use Rattle.std.specs.Prelude.{ℕ, ◌+◌, ℤ, List, [], ◌∷◌, ◌++◌, codes, decimal, slice_get}
-use Rattle.std.specs.List.{flat_map}
+use Rattle.std.specs.Prelude.{ℕ, ℤ, List, ◌++◌, codes, decimal, slice_get}
+use Rattle.std.specs.List.{enumerate_from, flat_map}
 use Rattle.std.specs.Option.{option_map_or}
 use Rattle.std.specs.Fmt.{signed_decimal}
 use Rattle.ppd_ast.specs.declared.program.Place.{Place}
@@ -34,15 +34,12 @@ end_text program name e =
     (option_map_or (λ s. s.place) (slice_get program.stmts e.stmt) (record { line = 1; column = 1 }))
     ++ codes " steps " ++ decimal e.steps ++ codes "\n" ++ flat_map (print_text name) e.prints
 
--- the processes in order; the first one's body has number b
-abbrev pub end_texts : Program → ℕ → List ProcEnd → List ℕ
-end_texts program b [] = []
-end_texts program b (e ∷ es) = end_text program (name_of_body (slice_get program.bodies b)) e
-    ++ end_texts program (b + 1) es
-
--- how the processes ended, then the race list
+-- how the processes ended, in order, whose bodies stand behind those of the functions; then the race list
 abbrev pub summary_of : Program → List ProcEnd → List Race → List ℕ
-summary_of program ends races = end_texts program program.functions ends ++ races_text program races
+summary_of program ends races =
+    flat_map (λ e. end_text program (name_of_body (slice_get program.bodies e.0)) e.1)
+    (enumerate_from program.functions ends)
+    ++ races_text program races
 
 -- the summary of a whole schedule
 abbrev pub summary : Program → Plan → ℕ → List ℕ → List ℕ

@@ -12,8 +12,9 @@ use Rattle.ppd_sem.specs.declared.proc.Proc.{Proc}
 use Rattle.ppd_sem.specs.Described.{is_event}
 use Rattle.ppd_model.specs.declared.tracing.Taken.{Taken}
 use Rattle.ppd_model.specs.Bounds.{steps_left}
-use Rattle.ppd_model.specs.Schedule.{run, started_procs, started_world}
-use Rattle.ppd_model.specs.Story.{Moment, Telling, begun, count_events, moment_of, steps_of, tell, told}
+use Rattle.ppd_model.specs.Schedule.{run, started_world}
+use Rattle.ppd_model.proofs.WorldWords.{count_events, started_procs}
+use Rattle.ppd_model.specs.Story.{Moment, Telling, begun, moment_of, steps_of, tell, told}
 use Rattle.ppd_model.specs.World.{World, change}
 use Rattle.ppd_model.proofs.Bounded.{ArePaid, in_all, started_all, started_count, started_paid}
 use Rattle.ppd_model.proofs.Changes.{length-change}

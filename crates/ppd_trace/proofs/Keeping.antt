@@ -11,7 +11,8 @@ use Rattle.ppd_sem.specs.declared.proc.Todo.{Todo}
 use Rattle.ppd_sem.specs.Asked.{Asked, outcome}
 use Rattle.ppd_sem.specs.Deed.{Deed, set_local, clear, invoke, back, receive}
 use Rattle.ppd_sem.specs.Described.{is_event}
-use Rattle.ppd_sem.specs.Passed.{arguments_at, arguments_by, arguments_of_head, deed_at, deed_by, deed_of_head}
+use Rattle.ppd_sem.specs.Passed.{arguments_at, arguments_by, deed_at, deed_by, deed_of_head}
+use Rattle.ppd_sem.proofs.EventWords.{arguments_of_head}
 use Rattle.ppd_sem.specs.Process.{act, head_deed, top_call}
 use Rattle.ppd_model.specs.declared.trace.EventId.{EventId}
 use Rattle.ppd_model.specs.declared.trace.TracedEvent.{TracedEvent}
@@ -20,6 +21,7 @@ use Rattle.ppd_model.specs.declared.tracing.Story.{Story}
 use Rattle.ppd_model.specs.declared.tracing.Taken.{Taken}
 use Rattle.ppd_model.specs.declared.tracing.Tracing.{Tracing}
 use Rattle.ppd_model.specs.FullTrace as trace
+use Rattle.ppd_model.proofs.TraceWords as words
 use Rattle.ppd_model.specs.FullTrace.{Tag, event_of, into_at, tags_of}
 use Rattle.ppd_model.specs.Synchronizations.{paired_of}
 use Rattle.ppd_activations.specs.declared.runs.Run.{Run}
@@ -47,16 +49,16 @@ by_asked program s me (Ok (receive chan into, left)) xs e = tagged_as into me xs
 by_asked program s me (Ok (deed, left)) xs e = refl
 by_asked program s me (Err pause) xs e = refl
 
-by_deed : (program : Program) (s : Proc) (me : Tag) (xs : List Activation) → map run_of (trace.tagged_at program s me s.todo xs) ≡ tagged_deed program s me (deed_at program s) (map run_of xs)
+by_deed : (program : Program) (s : Proc) (me : Tag) (xs : List Activation) → map run_of (words.tagged_at program s me s.todo xs) ≡ tagged_deed program s me (deed_at program s) (map run_of xs)
 by_deed program s me xs = at s.todo refl
   where
-    at : (todo : List Todo) → s.todo ≡ todo → map run_of (trace.tagged_at program s me s.todo xs) ≡ tagged_deed program s me (deed_at program s) (map run_of xs)
+    at : (todo : List Todo) → s.todo ≡ todo → map run_of (words.tagged_at program s me s.todo xs) ≡ tagged_deed program s me (deed_at program s) (map run_of xs)
     at [] e =
-        ap (λ (l : List Todo). map run_of (trace.tagged_at program s me l xs)) e
+        ap (λ (l : List Todo). map run_of (words.tagged_at program s me l xs)) e
         ∙ sym (ap (λ (l : List Todo). tagged_deed program s me (deed_of_head program s (slice_get l 0)) (map run_of xs)) e)
     at (t ∷ ts) e =
         let same : arguments_at program s ≡ arguments_by (outcome (head_deed program t s)) = ap (λ (l : List Todo). arguments_of_head program s (slice_get l 0)) e in
-        ap (λ (l : List Todo). map run_of (trace.tagged_at program s me l xs)) e
+        ap (λ (l : List Todo). map run_of (words.tagged_at program s me l xs)) e
         ∙ by_asked program s me (head_deed program t s) xs same
         ∙ sym (ap (λ (l : List Todo). tagged_deed program s me (deed_of_head program s (slice_get l 0)) (map run_of xs)) e)
 

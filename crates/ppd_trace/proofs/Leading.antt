@@ -13,10 +13,11 @@ use Rattle.ppd_sem.specs.Described.{is_event}
 use Rattle.ppd_model.specs.declared.trace.EventId.{EventId}
 use Rattle.ppd_model.specs.declared.tracing.Story.{Story}
 use Rattle.ppd_model.specs.declared.tracing.Taken.{Taken}
-use Rattle.ppd_model.specs.FullTrace.{or_else}
+use Rattle.std.specs.Option.{option_or}
 use Rattle.ppd_model.specs.Numbers.{sync}
 use Rattle.ppd_sem.specs.Tables.{capacity_of}
-use Rattle.ppd_model.specs.Synchronizations.{Sync, event_or, is_number, kind_of_sync, leading_from, leading_in, leads_at, led_to, numbered, paired_of, sync_of}
+use Rattle.ppd_model.specs.Synchronizations.{Sync, is_number, kind_of_sync, leading_from, leading_in, leads_at, led_to, numbered, paired_of, sync_of}
+use Rattle.ppd_model.proofs.OrderWords.{event_or}
 use Rattle.ppd_model.proofs.Lists.{get_or_any}
 use Rattle.ppd_trace.specs.Leading.{HavePairs, KeepsFirst, found_in, is_target, looked_up, target, with_number}
 
@@ -102,19 +103,19 @@ given_alone program o k (Some a) =
 
 -- ---- maps with the first events that lead to synchronizations
 
-or_assoc : {A : Type 0} (x y z : Option A) → or_else (or_else x y) z ≡ or_else x (or_else y z)
+or_assoc : {A : Type 0} (x y z : Option A) → option_or (option_or x y) z ≡ option_or x (option_or y z)
 or_assoc None y z = refl
 or_assoc (Some v) y z = refl
 
-pub or_none : {A : Type 0} (x : Option A) → or_else x None ≡ x
+pub or_none : {A : Type 0} (x : Option A) → option_or x None ≡ x
 or_none None = refl
 or_none (Some v) = refl
 
-first_or : (b : Bool) (p n : ℕ) (o : Option ℕ) → or_else (cond b (Some (event_id p n)) None) (event_or p o None) ≡ event_or p (cond b (Some n) o) None
+first_or : (b : Bool) (p n : ℕ) (o : Option ℕ) → option_or (cond b (Some (event_id p n)) None) (event_or p o None) ≡ event_or p (cond b (Some n) o) None
 first_or true p n o = refl
 first_or false p n o = refl
 
-after_or : (p : ℕ) (o : Option ℕ) (rest : Option EventId) → or_else (event_or p o None) rest ≡ event_or p o rest
+after_or : (p : ℕ) (o : Option ℕ) (rest : Option EventId) → option_or (event_or p o None) rest ≡ event_or p o rest
 after_or p None rest = refl
 after_or p (Some n) rest = refl
 
@@ -122,40 +123,40 @@ module _ {S : Type 0} (program : Program) (kind : SyncKind) where
   -- one step of a process
   pub kept_on : (old new : HashMap (ℕ × ℕ) EventId S) (p n m i : ℕ) (xs : List Taken) (d : Taken) (t : Option (ℕ × ℕ)) → i < length xs → t ≡ target program kind (sync_of (get_or xs i d))
       → m ≡ cond (is_event (get_or xs i d).need) (n + 1) n → KeepsFirst old new t (event_id p n) → (all : Option EventId) (o k : ℕ)
-      → or_else (found_in old o k) (event_or p (leading_in program (Some (sync kind o k)) n (drop i xs)) None) ≡ all
-      → or_else (found_in new o k) (event_or p (leading_in program (Some (sync kind o k)) m (drop (i + 1) xs)) None) ≡ all
+      → option_or (found_in old o k) (event_or p (leading_in program (Some (sync kind o k)) n (drop i xs)) None) ≡ all
+      → option_or (found_in new o k) (event_or p (leading_in program (Some (sync kind o k)) m (drop (i + 1) xs)) None) ≡ all
   kept_on old new p n m i xs d t lt to next keeps all o k inv =
       let x : Taken = get_or xs i d in
       let is : x ≡ get_or xs i x = get_or_any xs i d x lt in
       let b : Option Sync = Some (sync kind o k) in
       let rest : Option ℕ = leading_in program b (cond (is_event x.need) (n + 1) n) (drop (i + 1) xs) in
       let same : is_target t o k ≡ leads_at program (sync_of x) b = ap (λ (u : Option (ℕ × ℕ)). is_target u o k) to ∙ sym (leads_target program kind (sync_of x) o k) in
-      ap (λ (y : ℕ). or_else (found_in new o k) (event_or p (leading_in program b y (drop (i + 1) xs)) None)) next
-      ∙ ap (λ (y : Option EventId). or_else y (event_or p rest None)) (keeps o k)
+      ap (λ (y : ℕ). option_or (found_in new o k) (event_or p (leading_in program b y (drop (i + 1) xs)) None)) next
+      ∙ ap (λ (y : Option EventId). option_or y (event_or p rest None)) (keeps o k)
       ∙ or_assoc (found_in old o k) (cond (is_target t o k) (Some (event_id p n)) None) (event_or p rest None)
-      ∙ ap (λ (y : Option EventId). or_else (found_in old o k) y) (first_or (is_target t o k) p n rest)
-      ∙ ap (λ (c : Bool). or_else (found_in old o k) (event_or p (cond c (Some n) rest) None)) same
-      ∙ ap (λ (y : Option ℕ). or_else (found_in old o k) (event_or p y None)) (sym (opened program b n i xs x lt is)) ∙ inv
+      ∙ ap (λ (y : Option EventId). option_or (found_in old o k) y) (first_or (is_target t o k) p n rest)
+      ∙ ap (λ (c : Bool). option_or (found_in old o k) (event_or p (cond c (Some n) rest) None)) same
+      ∙ ap (λ (y : Option ℕ). option_or (found_in old o k) (event_or p y None)) (sym (opened program b n i xs x lt is)) ∙ inv
 
   -- one process
   pub processes_on : (old new : HashMap (ℕ × ℕ) EventId S) (p : ℕ) (lists : List (List Taken)) (steps : List Taken) (o k : ℕ) (all : Option EventId) → p < length lists → steps ≡ get_or lists p steps
-      → found_in new o k ≡ or_else (found_in old o k) (event_or p (leading_in program (Some (sync kind o k)) 0 steps) None)
-      → or_else (found_in old o k) (leading_from program (Some (sync kind o k)) p (drop p lists)) ≡ all
-      → or_else (found_in new o k) (leading_from program (Some (sync kind o k)) (p + 1) (drop (p + 1) lists)) ≡ all
+      → found_in new o k ≡ option_or (found_in old o k) (event_or p (leading_in program (Some (sync kind o k)) 0 steps) None)
+      → option_or (found_in old o k) (leading_from program (Some (sync kind o k)) p (drop p lists)) ≡ all
+      → option_or (found_in new o k) (leading_from program (Some (sync kind o k)) (p + 1) (drop (p + 1) lists)) ≡ all
   processes_on old new p lists steps o k all lt is keeps inv =
       let b : Option Sync = Some (sync kind o k) in
       let rest : Option EventId = leading_from program b (p + 1) (drop (p + 1) lists) in
-      ap (λ (y : Option EventId). or_else y rest) keeps
+      ap (λ (y : Option EventId). option_or y rest) keeps
       ∙ or_assoc (found_in old o k) (event_or p (leading_in program b 0 steps) None) rest
-      ∙ ap (λ (y : Option EventId). or_else (found_in old o k) y) (after_or p (leading_in program b 0 steps) rest ∙ sym (from program b p lists steps lt is)) ∙ inv
+      ∙ ap (λ (y : Option EventId). option_or (found_in old o k) y) (after_or p (leading_in program b 0 steps) rest ∙ sym (from program b p lists steps lt is)) ∙ inv
 
 -- ---- putting an event into a map
 
 same_key : (a o b k : ℕ) → nat_eq a o && nat_eq b k ≡ true → (a ≡ o) × (b ≡ k)
 same_key a o b k e = search (arith)
 
-put_there : (b : Bool) (x : Option EventId) (e : EventId) → (b ≡ true → x ≡ None) → cond b (Some e) x ≡ or_else x (cond b (Some e) None)
-put_there true x e h = sym (ap (λ (y : Option EventId). or_else y (Some e)) (h refl))
+put_there : (b : Bool) (x : Option EventId) (e : EventId) → (b ≡ true → x ≡ None) → cond b (Some e) x ≡ option_or x (cond b (Some e) None)
+put_there true x e h = sym (ap (λ (y : Option EventId). option_or y (Some e)) (h refl))
 put_there false x e h = sym (or_none x)
 
 none_there : (x : Option EventId) → is_some x ≡ false → x ≡ None

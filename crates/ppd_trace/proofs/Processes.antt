@@ -8,7 +8,8 @@ use Rattle.ppd_ast.specs.declared.plan.Plan.{Plan}
 use Rattle.ppd_ast.specs.declared.program.Body.{Body}
 use Rattle.ppd_ast.specs.declared.program.Program.{Program}
 use Rattle.ppd_sem.specs.declared.proc.Proc.{Proc}
-use Rattle.ppd_sem.specs.Process.{act, cells_for, started, top_cells}
+use Rattle.ppd_sem.specs.Process.{act, started, top_cells}
+use Rattle.ppd_sem.proofs.NeedWords.{cells_for}
 use Rattle.ppd_sem.specs.Runs.{size_if}
 use Rattle.ppd_model.specs.declared.tracing.Story.{Story}
 use Rattle.ppd_model.specs.declared.tracing.Taken.{Taken}

@@ -14,8 +14,9 @@ use Rattle.ppd_model.specs.declared.state.Logging.{Logging}
 use Rattle.ppd_model.specs.declared.trace.EventId.{EventId}
 use Rattle.ppd_model.specs.FullTrace.{Tag}
 use Rattle.ppd_model.specs.Logs.{loggings}
-use Rattle.ppd_model.specs.Schedule.{run, started_procs}
-use Rattle.ppd_model.specs.Story.{Telling, count_events, moment_of, next_event, number_of, steps_of, taken_of, tell, told, writer_of, writers_after}
+use Rattle.ppd_model.specs.Schedule.{run}
+use Rattle.ppd_model.proofs.WorldWords.{count_events, started_procs, taken_of}
+use Rattle.ppd_model.specs.Story.{Telling, moment_of, next_event, number_of, steps_of, tell, told, writer_of, writers_after}
 use Rattle.ppd_model.specs.World.{World, answer, change, need, step}
 use Rattle.ppd_model.proofs.Bounded.{started_count}
 use Rattle.ppd_model.proofs.Stories.{steps-change, told-append}

@@ -11,7 +11,8 @@ use Rattle.ppd_model.specs.declared.tracing.Taken.{Taken}
 use Rattle.ppd_model.specs.declared.trace.DriveError.{DriveError}
 use Rattle.ppd_model.specs.declared.trace.DriveError.TheVariants.{NotEnabled, Memory}
 use Rattle.ppd_model.specs.declared.trace.TracedEvent.{TracedEvent}
-use Rattle.ppd_model.specs.FullTrace.{Tag, events_from, tracing_of}
+use Rattle.ppd_model.specs.FullTrace.{Tag, tracing_of}
+use Rattle.ppd_model.proofs.TraceWords.{events_from}
 use Rattle.ppd_model.specs.Story.{Moment, steps_of, story, told}
 use Rattle.ppd_model.specs.World.{enabled}
 use Rattle.ppd_model.proofs.LocalTags.{own_steps_told}

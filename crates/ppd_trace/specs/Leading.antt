@@ -9,7 +9,7 @@ use Rattle.ppd_sem.specs.declared.proc.Need.{Need}
 use Rattle.ppd_sem.specs.declared.proc.Need.TheVariants as need
 use Rattle.ppd_model.specs.declared.trace.EventId.{EventId}
 use Rattle.ppd_model.specs.declared.tracing.Story.{Story}
-use Rattle.ppd_model.specs.FullTrace.{or_else}
+use Rattle.std.specs.Option.{option_or}
 use Rattle.ppd_model.specs.Numbers.{sync}
 use Rattle.ppd_sem.specs.Tables.{capacity_of}
 use Rattle.ppd_model.specs.Synchronizations.{Sync, leading_from, led_to}
@@ -39,7 +39,7 @@ module _ {S : Type 0} where
   KeepsFirst old new t event =
       (object number : ℕ)
       → found_in new object number
-      ≡ or_else (found_in old object number) (if is_target t object number then Some event else None)
+      ≡ option_or (found_in old object number) (if is_target t object number then Some event else None)
 
   -- a map has the first event that leads to each synchronization of this kind
   abbrev pub LeadTo : Program → SyncKind → Story → HashMap (ℕ × ℕ) EventId S → Type 0

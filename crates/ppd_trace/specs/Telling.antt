@@ -1,5 +1,5 @@
 -- A world with what is told of it: the events so far, the last writers and the steps.
-use Rattle.std.specs.Prelude.{◌≡◌, ℕ, ◌+◌, List, [], ◌∷◌, ◌++◌, map, get_or, slice_set, Some, None, if◌then◌else◌}
+use Rattle.std.specs.Prelude.{◌≡◌, ℕ, ◌+◌, List, [], ◌∷◌, ◌++◌, map, get_or, slice_set, Some, None, if◌then◌else◌, count_by}
 use Rattle.ppd_ast.specs.declared.plan.Plan.{Plan}
 use Rattle.ppd_ast.specs.declared.program.Program.{Program}
 use Rattle.ppd_sem.specs.declared.proc.Need.{Need}
@@ -11,7 +11,7 @@ use Rattle.ppd_model.specs.FullTrace.{Tag}
 use Rattle.ppd_model.specs.Laws.{logged_moment}
 use Rattle.ppd_model.specs.Logs.{loggings}
 use Rattle.ppd_model.specs.Schedule.{run}
-use Rattle.ppd_model.specs.Story.{count_events, steps_of, told}
+use Rattle.ppd_model.specs.Story.{steps_of, told}
 use Rattle.ppd_model.specs.World.{change}
 use Rattle.ppd_world.specs.Running.{Running, stepped}
 
@@ -66,6 +66,6 @@ pub record Tells (program : Program) (plan : Plan) (budget : ℕ) (h : List ℕ)
     (writers : List Tag) (steps : List (List Taken)) : Type 0 where
   pub runs : run program plan budget h ≡ Some (told program plan budget h).world
   pub world : r ≡ after program plan budget h
-  pub counted : counts ≡ map count_events (told program plan budget h).moments
+  pub counted : counts ≡ map (λ ms. count_by (λ m. is_event m.taken.need) ms) (told program plan budget h).moments
   pub written : writers ≡ (told program plan budget h).writers
   pub added : steps ≡ map steps_of (told program plan budget h).moments

@@ -1,8 +1,8 @@
 ghost use Rattle.std.specs.Prelude.{◌≡◌, ℕ, ◌+◌, ◌*◌, ◌<◌, ◌≤◌, ◌^◌, length, None, Some, IfOk, OnOk, if◌then◌else◌};
 ghost use Rattle.std.specs.List.{All};
-ghost use Rattle.ppd_model.specs.FullTrace.{or_else};
+ghost use Rattle.std.specs.Option.{option_map_or, option_or};
 ghost use Rattle.ppd_model.specs.Numbers.{sync};
-ghost use Rattle.ppd_model.specs.Synchronizations.{event_or, kind_of_sync as kind_of, leading_in, led_to as number_led_to, paired_of, sync_of};
+ghost use Rattle.ppd_model.specs.Synchronizations.{kind_of_sync as kind_of, leading_in, led_to as number_led_to, paired_of, sync_of};
 ghost use Rattle.ppd_sem.specs.Described.{is_event};
 ghost use Rattle.ppd_trace.specs.Leading.{HavePairs, KeepsFirst, LeadTo, found_in, looked_up, target};
 ghost use Rattle.ppd_trace.specs.Spending.{steps_in};
@@ -127,8 +127,11 @@ fn add_process<L: Ledger>(
     ensures kept { OnOk result
         ((object number : ℕ)
         → found_in leads.new object number
-        ≡ or_else (found_in leads.old object number)
-        (event_or process (leading_in program.now (Some (sync kind object number)) 0 own.now) None)) }
+        ≡ option_or (found_in leads.old object number)
+        (option_map_or
+        (λ n. Some (record { process = process; number = n }))
+        (leading_in program.now (Some (sync kind object number)) 0 own.now)
+        None)) }
     ensures cost { steps.new ≤ steps.old + 3 * length own.now }
 {
     let mut number = 0;

@@ -1,5 +1,5 @@
-ghost use Rattle.std.specs.Prelude.{◌≡◌, ◌+◌, ◌*◌, ◌≤◌, ◌++◌, length, IfOk, OnOk};
-ghost use Rattle.ppd_model.specs.FullTrace.{answers_past as answers_past_spot, first_tag as first_tag_of, tag_at as tag_at_spot, tags_of as tags_of_reads};
+ghost use Rattle.std.specs.Prelude.{◌≡◌, ◌+◌, ◌*◌, ◌≤◌, ◌++◌, get_or, length, None, IfOk, OnOk};
+ghost use Rattle.ppd_model.specs.FullTrace.{answers_past as answers_past_spot, tag_at as tag_at_spot, tags_of as tags_of_reads};
 
 use ppd_activations::tag_in;
 use ppd_ast::{Memory, Seq, Steps};
@@ -9,7 +9,7 @@ use std::alloc::Global;
 use std::sync::ledger::Ledger;
 
 fn first_tag(tags: &[Option<EventId>]) -> Option<EventId>
-    ensures { result ≡ first_tag_of tags.now }
+    ensures { result ≡ get_or tags.now 0 None }
 {
     match tags {
         [] => None,

@@ -5,7 +5,8 @@ use Rattle.std.proofs.lemmas.List.FromFn.{map-range_with_len_more}
 use Rattle.ppd_ast.specs.declared.plan.Plan.{Plan}
 use Rattle.ppd_ast.specs.declared.program.Program.{Program}
 use Rattle.ppd_sem.specs.Process.{started}
-use Rattle.ppd_model.specs.Logs.{begun_log, logs_from}
+use Rattle.ppd_model.specs.Logs.{begun_log}
+use Rattle.ppd_model.proofs.LogWords.{logs_from}
 use Rattle.ppd_world.specs.Starts.{begun_logs}
 
 pub begun_more : (program : Program) (plan : Plan) (budget n : ℕ) → begun_logs program plan budget (n + 1) ≡ begun_logs program plan budget n ++ begun_log program plan budget n ∷ []

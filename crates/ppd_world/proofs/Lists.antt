@@ -1,6 +1,6 @@
 -- One element of a list changed, and what holds of each.
 use Rattle.std.proofs.Common.{◌≡◌, ℕ, zero, suc, ◌+◌, ◌<◌, List, [], ◌∷◌, ◌++◌, length, get_or, map, take, drop, Some, refl, ap, arith}
-use Rattle.std.specs.Prelude.{slice_get, ⊤}
+use Rattle.std.specs.Prelude.{slice_get}
 use Rattle.std.specs.List.{AllByRecursion as Each, All}
 use Rattle.ppd_model.specs.World.{change}
 use Rattle.ppd_model.proofs.Earlier.{each_more}

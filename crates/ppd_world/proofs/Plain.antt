@@ -18,8 +18,9 @@ use Rattle.ppd_sem.proofs.Printed.{same_need, same_step, with_own}
 use Rattle.ppd_sem.proofs.Progress.{act-falls, act-within}
 use Rattle.ppd_model.specs.declared.state.Logging.{Logging}
 use Rattle.ppd_model.specs.Logs.{log_step}
-use Rattle.ppd_model.specs.Story.{Moment, number_of, unit_started, values_at_start}
-use Rattle.ppd_model.specs.World.{World, answer, change, can, need, need_at, step_by}
+use Rattle.ppd_model.specs.Story.{Moment, number_of, unit_started}
+use Rattle.ppd_model.proofs.WorldWords.{need_at, step_by, values_at_start}
+use Rattle.ppd_model.specs.World.{World, answer, change, can, need}
 use Rattle.ppd_model.proofs.Changes.{some}
 use Rattle.ppd_model.proofs.Earlier.{each_more}
 use Rattle.ppd_model.proofs.Lists.{map_change, map_get, every_at}

@@ -8,7 +8,8 @@ use Rattle.ppd_ast.specs.declared.plan.Plan.{Plan}
 use Rattle.ppd_sem.specs.declared.proc.Proc.{Proc}
 use Rattle.ppd_sem.specs.Process.{started}
 use Rattle.ppd_model.specs.Schedule.{IsOver, run_from, started_world}
-use Rattle.ppd_model.specs.World.{World, can, enabled, need_at, step}
+use Rattle.ppd_model.specs.World.{World, can, enabled, step}
+use Rattle.ppd_model.proofs.WorldWords.{need_at}
 use Rattle.ppd_model.proofs.Changes.{length-change}
 use Rattle.ppd_world.specs.Running.{Running, IsReached, can_step}
 

@@ -20,7 +20,8 @@ use Rattle.ppd_model.specs.declared.state.Logging.{Logging}
 use Rattle.ppd_model.specs.Bounds.{steps_left}
 use Rattle.ppd_model.specs.Laws.{logged_moment}
 use Rattle.ppd_model.specs.Logs.{log_step, loggings}
-use Rattle.ppd_model.specs.Schedule.{run_from, started_procs, started_world}
+use Rattle.ppd_model.specs.Schedule.{run_from, started_world}
+use Rattle.ppd_model.proofs.WorldWords.{started_procs}
 use Rattle.ppd_model.specs.Story.{told}
 use Rattle.ppd_model.specs.World.{World, change, enabled, step}
 use Rattle.ppd_model.proofs.Bounded.{Goes, goes}

@@ -26,10 +26,12 @@ use Rattle.ppd_model.specs.declared.state.Counts.{Counts}
 use Rattle.ppd_model.specs.declared.state.Logging.{Logging}
 use Rattle.ppd_model.specs.Bounds.{steps_left}
 use Rattle.ppd_model.specs.Laws.{logged_moment}
-use Rattle.ppd_model.specs.Logs.{begun_log, entries_of, log_step, loggings, logs_from, rest_after}
-use Rattle.ppd_model.specs.Schedule.{run, run_from, started_procs, started_world}
+use Rattle.ppd_model.specs.Logs.{begun_log, entries_of, log_step, loggings, rest_after}
+use Rattle.ppd_model.proofs.LogWords.{logs_from}
+use Rattle.ppd_model.specs.Schedule.{run, run_from, started_world}
+use Rattle.ppd_model.proofs.WorldWords.{can_complete, can_receive, can_take, need_at, started_procs}
 use Rattle.ppd_model.specs.Story.{Moment, Telling, begun, moment_of, tell, told}
-use Rattle.ppd_model.specs.World.{World, answer, can, can_complete, can_receive, can_take, change, effect, need, need_at, step}
+use Rattle.ppd_model.specs.World.{World, answer, can, change, effect, need, step}
 use Rattle.ppd_model.proofs.Bounded.{ArePaid, Goes, all_falls, goes, not_stopped, started_all}
 use Rattle.ppd_model.proofs.States.{logs-change}
 use Rattle.ppd_model.proofs.Stories.{stories_are_of_runs}

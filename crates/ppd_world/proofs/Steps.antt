@@ -17,11 +17,12 @@ use Rattle.ppd_model.specs.declared.tracing.Taken.{Taken}
 use Rattle.ppd_model.specs.Laws.{logged_moment}
 use Rattle.ppd_model.specs.Logs.{log_step}
 use Rattle.ppd_model.specs.Schedule.{IsOver}
-use Rattle.ppd_model.specs.Story.{Moment, number_of, unit_started, values_at_start}
-use Rattle.ppd_model.specs.World.{World, answer, can, change, effect, enabled, need, need_at, step, with_value}
+use Rattle.ppd_model.specs.Story.{Moment, number_of, unit_started}
+use Rattle.ppd_model.proofs.WorldWords.{need_at, values_at_start}
+use Rattle.ppd_model.specs.World.{World, answer, can, change, effect, enabled, need, step}
+use Rattle.ppd_world.specs.Parts.{with_value, finished, need_of_logging, sent, sent_after, unsent, unsent_after, world_of, IsReceivable, without_last}
 use Rattle.ppd_model.proofs.Earlier.{each_more}
 use Rattle.ppd_model.proofs.Lists.{map_change}
-use Rattle.ppd_world.specs.Parts.{finished, need_of_logging, sent, sent_after, unsent, unsent_after, world_of, IsReceivable, without_last}
 use Rattle.ppd_world_steps.specs.Entries.{moment_with}
 use Rattle.ppd_world_steps.specs.Objects.{IsSmallChan}
 use Rattle.ppd_world.proofs.Lists.{all_every, change_back, every_all, every_change}

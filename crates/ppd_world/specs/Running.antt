@@ -1,5 +1,5 @@
 -- A world with its logs, and the schedule that it comes from.
-use Rattle.std.specs.Prelude.{◌≡◌, ◌≢◌, ℕ, ◌+◌, ◌<◌, ◌≤◌, Bool, true, false, List, [], ◌++◌, drop, length, take, Some, IsSomeAnd, slice_get, Result, Ok, Err}
+use Rattle.std.specs.Prelude.{◌≡◌, ◌≢◌, ℕ, ◌+◌, ◌<◌, ◌≤◌, Bool, true, false, List, [], ◌++◌, drop, length, take, Some, IsSomeAnd, slice_get, Result, Ok, Err, map}
 use Rattle.ppd_ast.specs.Valid.{IsValid}
 use Rattle.ppd_ast.specs.ValidPlan.{IsValidPlan}
 use Rattle.ppd_ast.specs.declared.limits.TheConstants.{MOST_BUDGET}
@@ -13,7 +13,7 @@ use Rattle.ppd_model.specs.declared.trace.DriveError.TheVariants.{NotEnabled, Me
 use Rattle.ppd_model.specs.Costs.{HasWholePrelogs, values_in}
 use Rattle.ppd_model.specs.Laws.{logged_moment}
 use Rattle.ppd_model.specs.declared.state.Logging.{Logging}
-use Rattle.ppd_model.specs.Logs.{closed_logs_of, ends_from, log_step, loggings}
+use Rattle.ppd_model.specs.Logs.{closed_log, ends_from, log_step, loggings}
 use Rattle.ppd_model.specs.Schedule.{run, started_world}
 use Rattle.ppd_model.specs.World.{World, change, enabled, need, step}
 
@@ -44,7 +44,10 @@ stepped r p = record r {
 
 -- what is left when nobody can take a step
 abbrev pub closed_run : Running → Closed
-closed_run r = record { logs = closed_logs_of r.loggings; ends = ends_from r.program r.program.functions r.loggings }
+closed_run r = record {
+  logs = record { lists = map closed_log r.loggings };
+  ends = ends_from r.program r.program.functions r.loggings;
+}
 
 -- the world and the logs are those of this schedule
 pub record IsOf (h : List ℕ) (r : Running) : Type 0 where

@@ -1,5 +1,5 @@
 -- The parts of a world before its first step, and after its last.
-use Rattle.std.specs.Prelude.{ℕ, List, [], ◌∷◌, map, Option, Some, None}
+use Rattle.std.specs.Prelude.{ℕ, List, [], ◌∷◌, map, Option, Some, None, unwrap_or}
 use Rattle.std.specs.List.{range_with_len}
 use Rattle.ppd_ast.specs.declared.plan.BlockKind.TheVariants as block
 use Rattle.ppd_ast.specs.declared.plan.Plan.{Plan}
@@ -9,7 +9,7 @@ use Rattle.ppd_ast.specs.declared.status.Status.{Status}
 use Rattle.ppd_ast.specs.declared.status.Status.TheVariants as status
 use Rattle.ppd_entry.specs.declared.entry.Entry.{Entry}
 use Rattle.ppd_entry.specs.declared.entry.Entry.TheVariants as entry
-use Rattle.ppd_sem.specs.Tables.{block_of, unit_of, or_zero}
+use Rattle.ppd_sem.specs.Tables.{block_of, unit_of}
 use Rattle.ppd_model.specs.declared.state.Channel.{Channel}
 use Rattle.ppd_model.specs.declared.state.Counts.{Counts}
 use Rattle.ppd_model.specs.declared.state.Logging.{Logging}
@@ -20,7 +20,7 @@ use Rattle.ppd_model.specs.Story.{values_of_unit}
 abbrev pub first_entries : Program → Plan → ℕ → List Entry
 first_entries program plan body =
     let u = unit_of plan (start.Entry body) in
-    entry.Prelog (or_zero (block_of plan (block.Process body))) []
+    entry.Prelog (unwrap_or (block_of plan (block.Process body)) 0) []
     ∷ entry.Unit u (values_of_unit plan program.starts u) ∷ []
 
 -- the first n processes with their logs

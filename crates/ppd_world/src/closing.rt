@@ -1,5 +1,5 @@
-ghost use Rattle.std.specs.Prelude.{◌≡◌, ◌<◌, ◌∷◌, slice_get, vec_len, IfOk};
-ghost use Rattle.ppd_model.specs.Logs.{closed_log, closed_logs_of, end_of as end_of_proc, ends, ends_from, last_of};
+ghost use Rattle.std.specs.Prelude.{◌≡◌, ◌<◌, ◌∷◌, map, slice_get, vec_len, IfOk};
+ghost use Rattle.ppd_model.specs.Logs.{closed_log, end_of as end_of_proc, ends, ends_from, last_of};
 ghost use Rattle.ppd_world.specs.Starts.{blocked_of};
 
 use ppd_ast::{Memory, Program, Seq, Status};
@@ -91,7 +91,7 @@ pub(crate) fn close_all(
     program: &Program,
     mut loggings: Vec<Logging>,
 ) -> Result<Closed, Memory>
-    ensures logs { IfOk result (λ closed. closed.logs ≡ closed_logs_of loggings.items) }
+    ensures logs { IfOk result (λ closed. closed.logs ≡ record { lists = map closed_log loggings.items }) }
     ensures ends { IfOk result (λ closed. closed.ends ≡ ends_from program.now program.now.functions loggings.items) }
 {
     let mut lists = Seq::new(alloc);

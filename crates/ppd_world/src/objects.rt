@@ -1,7 +1,7 @@
 ghost use Rattle.std.specs.Prelude.{◌≡◌, OnOk, OnErr};
 ghost use Rattle.std.specs.List.{All};
-ghost use Rattle.ppd_model.specs.World.{change, one_taken, one_given, with_value, one_received, one_completed};
-ghost use Rattle.ppd_world.specs.Parts.{IsReceivable, without_last};
+ghost use Rattle.ppd_model.specs.World.{change};
+ghost use Rattle.ppd_world.specs.Parts.{one_completed, one_received, with_value, one_given, one_taken, IsReceivable, without_last};
 ghost use Rattle.ppd_world_steps.specs.Objects.{IsSmallSem};
 
 use ppd_ast::Memory;

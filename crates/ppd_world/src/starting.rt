@@ -1,8 +1,8 @@
-ghost use Rattle.std.specs.Prelude.{◌≡◌, ◌+◌, ◌≤◌, ◌<◌, ◌^◌, ◌++◌, ◌∷◌, [], length, IfOk, OnOk};
+ghost use Rattle.std.specs.Prelude.{◌≡◌, ◌+◌, ◌≤◌, ◌<◌, ◌^◌, ◌++◌, ◌∷◌, [], length, IfOk, OnOk, unwrap_or};
 ghost use Rattle.ppd_ast.specs.declared.plan.BlockKind.TheVariants.{Process};
 ghost use Rattle.ppd_model.specs.Logs.{begun_log};
 ghost use Rattle.ppd_sem.specs.Runs.{IsNumbered, IsRunnable};
-ghost use Rattle.ppd_sem.specs.Tables.{block_of, or_zero};
+ghost use Rattle.ppd_sem.specs.Tables.{block_of};
 ghost use Rattle.ppd_world.specs.Starts.{begun_chans, begun_logs, begun_sems, first_entries as first_entries_of};
 
 use ppd_ast::{BlockKind, Memory, Nums, Plan, Program, Seq, Start};
@@ -14,7 +14,7 @@ use std::alloc::Global;
 
 fn block_of_process(plan: &Plan, body: u16) -> u16
     requires { IsNumbered plan.now }
-    ensures { result ≡ or_zero (block_of plan.now (Process body)) }
+    ensures { result ≡ unwrap_or (block_of plan.now (Process body)) 0 }
 {
     match find_block(plan, BlockKind::Process(body)) {
         Some(block) => block,

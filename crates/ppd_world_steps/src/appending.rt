@@ -1,7 +1,8 @@
 ghost use Rattle.std.specs.Prelude.{◌≡◌, ◌++◌, ◌∷◌, [], IfOk, OnOk};
 ghost use Rattle.ppd_model.specs.Logs.{ends, passed_value as passed_of, postlogs, prelogs, status_of as status_of_need, syncs, units};
+ghost use Rattle.std.specs.Option.{option_map_or};
 ghost use Rattle.ppd_model.specs.Marks.{closed, opened};
-ghost use Rattle.ppd_model.specs.Story.{unit_started as unit_started_of, values_at_start, values_of_unit};
+ghost use Rattle.ppd_model.specs.Story.{unit_started as unit_started_of, values_of_unit};
 ghost use Rattle.ppd_model.specs.Synchronizations.{sync_of};
 ghost use Rattle.ppd_sem.specs.Runs.{IsRunnable, IsRunning};
 
@@ -164,7 +165,7 @@ pub fn push_unit(
 ) -> Result<(), Memory>
     ensures { OnOk result
         (entries.new.items ≡ entries.old.items
-        ++ units (unit_started_of need) (values_at_start code.now.plan.now shared.now (unit_started_of need))) }
+        ++ units (unit_started_of need) (option_map_or (values_of_unit code.now.plan.now shared.now) (unit_started_of need) [])) }
 {
     match unit_started(need) {
         Some(unit) => {

@@ -1,7 +1,8 @@
-ghost use Rattle.std.specs.Prelude.{◌≡◌, [], slice_get};
+ghost use Rattle.std.specs.Prelude.{◌≡◌, [], false, get_or, length, nat_lt, pos, slice_get};
+ghost use Rattle.std.specs.Option.{option_map_or};
 ghost use Rattle.std.specs.List.{All};
 ghost use Rattle.ppd_model.specs.Story.{number_of as number_of_need};
-ghost use Rattle.ppd_model.specs.World.{can_complete as can_complete_of, can_receive as can_receive_of, can_send as can_send_of, can_take as can_take_of, next_value as next_value_of, room as room_of_channel};
+ghost use Rattle.ppd_model.specs.World.{room as room_of_channel};
 ghost use Rattle.ppd_world_steps.specs.Objects.{IsSmallChan, IsSmallSem, store};
 
 use ppd_model::{Channel, Counts, value_at};
@@ -9,7 +10,7 @@ use ppd_sem::Need;
 
 /// Whether the semaphore is there and was given more often than taken.
 pub fn can_take(sems: &[Counts], sem: u8) -> bool
-    ensures { result ≡ can_take_of (slice_get sems.now sem) }
+    ensures { result ≡ option_map_or (λ (x : Counts). nat_lt x.taken x.given) (slice_get sems.now sem) false }
 {
     match sems.get(sem as usize) {
         Some(counts) => counts.taken < counts.given,
@@ -30,7 +31,7 @@ fn room(channel: &Channel) -> u64
 
 /// Whether the channel is there and has room for one more.
 pub fn can_send(chans: &[Channel], chan: u8) -> bool
-    ensures { result ≡ can_send_of (slice_get chans.now chan) }
+    ensures { result ≡ option_map_or (λ (x : Channel). nat_lt (length x.sent) (room_of_channel x)) (slice_get chans.now chan) false }
 {
     match chans.get(chan as usize) {
         Some(channel) => (channel.sent.len() as u64) < room(channel),
@@ -40,7 +41,7 @@ pub fn can_send(chans: &[Channel], chan: u8) -> bool
 
 /// Whether the channel is there and fewer were completed on it than received.
 pub fn can_complete(chans: &[Channel], chan: u8) -> bool
-    ensures { result ≡ can_complete_of (slice_get chans.now chan) }
+    ensures { result ≡ option_map_or (λ (x : Channel). nat_lt x.completed x.received) (slice_get chans.now chan) false }
 {
     match chans.get(chan as usize) {
         Some(channel) => channel.completed < channel.received,
@@ -50,7 +51,7 @@ pub fn can_complete(chans: &[Channel], chan: u8) -> bool
 
 /// Whether the channel is there and fewer were received from it than sent.
 pub fn can_receive(chans: &[Channel], chan: u8) -> bool
-    ensures { result ≡ can_receive_of (slice_get chans.now chan) }
+    ensures { result ≡ option_map_or (λ (x : Channel). nat_lt x.received (length x.sent)) (slice_get chans.now chan) false }
 {
     match chans.get(chan as usize) {
         Some(channel) => (channel.received as usize) < channel.sent.len(),
@@ -60,7 +61,7 @@ pub fn can_receive(chans: &[Channel], chan: u8) -> bool
 
 /// The value that is received next from this channel, and 0 where there is none.
 pub fn next_value(chans: &[Channel], chan: u8) -> i64
-    ensures { result ≡ next_value_of (slice_get chans.now chan) }
+    ensures { result ≡ option_map_or (λ (x : Channel). get_or x.sent x.received (pos 0)) (slice_get chans.now chan) (pos 0) }
 {
     match chans.get(chan as usize) {
         Some(channel) => value_at(channel.sent.as_slice(), channel.received as usize),

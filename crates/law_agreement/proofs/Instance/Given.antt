@@ -7,17 +7,18 @@ use Rattle.ppd_ast.specs.declared.plan.Plan.{Plan}
 use Rattle.ppd_ast.specs.declared.program.Chan.{Chan}
 use Rattle.ppd_ast.specs.declared.program.Program.{Program}
 use Rattle.ppd_ast.specs.declared.status.SyncKind.TheVariants.{V, Send, Recv, Done}
-use Rattle.ppd_sem.specs.Tables.{capacity_in}
+use Rattle.ppd_sem.proofs.TableWords.{capacity_in}
 use Rattle.ppd_sem.specs.declared.proc.Answer.TheVariants.{Value}
 use Rattle.ppd_sem.specs.declared.proc.Need.{Need}
 use Rattle.ppd_sem.specs.declared.proc.Need.TheVariants as n
 use Rattle.ppd_model.specs.declared.state.Channel.{Channel}
 use Rattle.ppd_model.specs.declared.state.Counts.{Counts}
 use Rattle.ppd_model.specs.declared.trace.EventId.{EventId}
-use Rattle.ppd_model.specs.Story.{Telling, number_after, number_of, taken_of, writer_of}
+use Rattle.ppd_model.specs.Story.{Telling, number_of, writer_of}
+use Rattle.ppd_model.proofs.WorldWords.{can_complete, can_receive, can_send, can_take, next_value, number_after, taken_of}
 use Rattle.ppd_model.specs.Numbers.{count_in, count_of}
 use Rattle.ppd_model.specs.Prefixes.{Sizes, channel_capacity}
-use Rattle.ppd_model.specs.World.{answer, can, can_complete, can_receive, can_send, can_take, next_value, room_of}
+use Rattle.ppd_model.specs.World.{answer, can, room_of}
 use Rattle.law_agreement.proofs.Machine.Model.{Want, Read, Write, Enabled, answer_for, number_for}
 use Rattle.law_agreement.proofs.Instance.Wants.{Line, Tagged, blank, cell_in, declared, given, has_room, if_some, if_there, line, machine, made, number_in, sent_in, sorted, view, written}
 

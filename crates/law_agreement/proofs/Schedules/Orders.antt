@@ -8,7 +8,8 @@ use Rattle.ppd_model.specs.declared.graph.NodeId.{NodeId}
 use Rattle.ppd_model.specs.declared.tracing.Story.{Story}
 use Rattle.ppd_model.specs.declared.tracing.Taken.{Taken}
 use Rattle.ppd_model.specs.HappenedBefore as hb
-use Rattle.ppd_model.specs.HappenedBefore.{Before, EdgeBefore, direct, edge, is_direct, is_next, node, own_syncs, sync_at, through}
+use Rattle.ppd_model.specs.HappenedBefore.{Before, EdgeBefore, direct, edge, is_direct, node, own_syncs, sync_at, through}
+use Rattle.ppd_model.proofs.OrderWords.{is_next}
 use Rattle.ppd_model.specs.Laws.{DoConflict}
 use Rattle.ppd_model.specs.Numbers.{sync}
 use Rattle.ppd_model.specs.Races.{races_of}

@@ -15,8 +15,9 @@ use Rattle.ppd_model.specs.Laws.{begins}
 use Rattle.ppd_model.specs.Numbers.{count_of}
 use Rattle.ppd_model.specs.Schedule.{run_from, started_world}
 use Rattle.ppd_model.specs.States.{state_of, states_from}
-use Rattle.ppd_model.specs.Story.{Moment, Telling, count_events, moment_of, next_event, steps_of, taken_of, tell}
-use Rattle.ppd_model.specs.World.{World, enabled, need, need_at}
+use Rattle.ppd_model.specs.Story.{Moment, Telling, moment_of, next_event, steps_of, tell}
+use Rattle.ppd_model.proofs.WorldWords.{count_events, need_at, taken_of}
+use Rattle.ppd_model.specs.World.{World, enabled, need}
 use Rattle.ppd_model.specs.Prefixes.{Good, told_to}
 use Rattle.ppd_model.proofs.Changes.{change-at, change-else, some}
 use Rattle.ppd_model.proofs.Prefixes.{enabled_at, goes_at, good_to}

@@ -3,7 +3,7 @@ use Rattle.std.proofs.Common.{◌≡◌, ℕ, zero, suc, ◌⊎◌, List, [], �
 use Rattle.std.specs.Prelude.{option_map, slice_get}
 use Rattle.std.proofs.lemmas.Bool.{cases_eq}
 use Rattle.std.proofs.lemmas.Option.{none-some}
-use Rattle.ppd_model.specs.FlowbackEdges.{part_in}
+use Rattle.ppd_model.proofs.EdgeWords.{part_in}
 use Rattle.ppd_model.specs.Intervals.{Part, Span, change_first, with_part}
 use Rattle.ppd_model.specs.World.{change}
 use Rattle.ppd_model.proofs.Changes.{change-at, change-else, some}

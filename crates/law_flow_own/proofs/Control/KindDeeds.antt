@@ -10,7 +10,8 @@ use Rattle.law_replay.specs.Beside.Relation.{IsCallOf, IsListOf}
 use Rattle.ppd_sem.specs.Ask.{ask, is_zero}
 use Rattle.ppd_sem.specs.Asked.{Asked, and_then, gives}
 use Rattle.ppd_sem.specs.Deed.{Deed, branch, turn, leave, invoke, back, finish, ask_deed}
-use Rattle.ppd_sem.specs.Described.{value_at, value_if, valued}
+use Rattle.ppd_sem.specs.Described.{value_at, valued}
+use Rattle.ppd_sem.proofs.EventWords.{value_if}
 use Rattle.ppd_sem.specs.Runs.{returns}
 use Rattle.ppd_sem.proofs.OfKind.{IsDeedOf, OfAsked, asked_holds, backs, backs_value, finishes, goes_first, goes_round, goes_second, invokes, leaves}
 use Rattle.ppd_model.specs.FullTrace.{is_passed}

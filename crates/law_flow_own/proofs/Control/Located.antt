@@ -13,7 +13,7 @@ use Rattle.ppd_ast.specs.declared.program.Program.{Program}
 use Rattle.ppd_ast.specs.Lookups.{kind_of, parent_if}
 use Rattle.ppd_blocks.specs.Blocks.{plan_of}
 use Rattle.ppd_sem.specs.Blocks.{block_kind}
-use Rattle.ppd_model.specs.FullTrace.{or_else}
+use Rattle.std.specs.Option.{option_or}
 use Rattle.ppd_model.specs.Intervals.{Part, own, nested, Span, Split, is_closed, item_of, items_of}
 use Rattle.ppd_model.specs.declared.flow.Item.{Item}
 use Rattle.ppd_model.specs.declared.flow.Item.TheVariants as item
@@ -81,11 +81,11 @@ module _ (program : Program) (policy : Policy) (p : ℕ) (y : Split) (whole : Ar
           → control_among program plan p k st
           (flat_map (item_of y) l.parts) call ≡ among_over program policy p k st sight call
       among_is call =
-          ap (λ t. or_else (test_of_run p k (kind_of program st) t)
-          (or_else (test_round program plan p k (frame_in call) (flat_map (item_of y) l.parts)
+          ap (λ t. option_or (test_of_run p k (kind_of program st) t)
+          (option_or (test_round program plan p k (frame_in call) (flat_map (item_of y) l.parts)
           (parent_if (slice_get program.stmts st))) (leaf_call_at p k call))) (test_is (frame_in call) st)
-          ∙ ap (λ r. or_else (test_of_run p k (kind_of program st) (tests_over program plan (frame_in call) st sight))
-          (or_else r (leaf_call_at p k call))) (round_is (frame_in call) (parent_if (slice_get program.stmts st)))
+          ∙ ap (λ r. option_or (test_of_run p k (kind_of program st) (tests_over program plan (frame_in call) st sight))
+          (option_or r (leaf_call_at p k call))) (round_is (frame_in call) (parent_if (slice_get program.stmts st)))
 
       pub found_is : control_among program plan p k st (take (length l.parts) (items_at (seen_of y) l.interval))
           (leaf_at program plan (take (length l.parts) (items_at (seen_of y) l.interval))) ≡ found_over program policy

@@ -13,7 +13,9 @@ use Rattle.ppd_blocks.specs.Walk.{stands_in}
 use Rattle.ppd_model.specs.declared.flow.Origin.{Origin}
 use Rattle.ppd_model.specs.declared.flow.Origin.TheVariants as origin
 use Rattle.ppd_model.specs.declared.trace.EventId.{EventId}
-use Rattle.ppd_model.specs.FullTrace.{latest, of_outer, of_run, or_else}
+use Rattle.ppd_model.specs.FullTrace.{latest, of_run}
+use Rattle.std.specs.Option.{option_or}
+use Rattle.ppd_model.proofs.TraceWords.{of_outer}
 use Rattle.ppd_model.proofs.TestSteps.{View}
 use Rattle.ppd_model.proofs.CountedOn.{kept_at}
 use Rattle.law_flow_own.proofs.Control.KindDeeds.{while_choice}
@@ -63,9 +65,9 @@ module _ (program : Program) (policy : Policy) (p : ℕ) (v : IsValid program) w
   free_at (loop m) l none is o h = absurd (none m refl)
 
   pub side_drop : (k : ℕ) (sight : List Sign) (a b : Option Origin) (c : Option EventId) → b ≡ None
-      → Side program policy p k sight a c → Side program policy p k sight (or_else a (or_else b None)) c
+      → Side program policy p k sight a c → Side program policy p k sight (option_or a (option_or b None)) c
   side_drop k sight (Some f) b c e h = h
-  side_drop k sight None b c e h = subst (λ o. Side program policy p k sight (or_else o None) c) (sym e) h
+  side_drop k sight None b c e h = subst (λ o. Side program policy p k sight (option_or o None) c) (sym e) h
 
   module _ (x : Level) (l : ℕ) (y : Level) (ys : List Level)
       (known : Looping program policy p l x.body x.run.sight x.view x.todo)
@@ -91,19 +93,19 @@ module _ (program : Program) (policy : Policy) (p : ℕ) (v : IsValid program) w
         let tests : List _ = x.view.1 in
         let test : of_outer (parent_if (slice_get program.stmts s)) tests ≡ Some m.test.event = ap
         (λ z. of_outer z tests) parent ∙ ap (option_map (λ t. t.event)) m.test_is in
-        let whole : or_else (of_run (kind_of program s) (latest s tests))
-        (or_else (of_outer (parent_if (slice_get program.stmts s)) tests) None) ≡ parent_of program s x.view =
-        ap (λ z. or_else (of_run (kind_of program s) (latest s tests)) (or_else z None)) test
-        ∙ sym (ap (λ z. or_else (of_run (kind_of program s) (latest s tests)) (or_else z x.view.0)) test) in
+        let whole : option_or (of_run (kind_of program s) (latest s tests))
+        (option_or (of_outer (parent_if (slice_get program.stmts s)) tests) None) ≡ parent_of program s x.view =
+        ap (λ z. option_or (of_run (kind_of program s) (latest s tests)) (option_or z None)) test
+        ∙ sym (ap (λ z. option_or (of_run (kind_of program s) (latest s tests)) (option_or z x.view.0)) test) in
         subst (λ c. Answer program policy p rs
         (unwrap_or (found_over program policy p x.run.number s x.run.sight) f) c) whole
         (subst (λ call. Answer program policy p rs
         (unwrap_or (among_over program policy p x.run.number s x.run.sight call) f)
-        (or_else (of_run (kind_of program s) (latest s tests))
-        (or_else (of_outer (parent_if (slice_get program.stmts s)) tests) None))) (sym no_call)
+        (option_or (of_run (kind_of program s) (latest s tests))
+        (option_or (of_outer (parent_if (slice_get program.stmts s)) tests) None))) (sym no_call)
         (sure program policy p v rs x.run 0 x.run.sight (among_over program policy p x.run.number s x.run.sight None)
-        (or_else (of_run (kind_of program s) (latest s tests))
-        (or_else (of_outer (parent_if (slice_get program.stmts s)) tests) None)) f refl (λ j q at. at)
+        (option_or (of_run (kind_of program s) (latest s tests))
+        (option_or (of_outer (parent_if (slice_get program.stmts s)) tests) None)) f refl (λ j q at. at)
         (near_side program policy p v x.run.number 0 x.run.sight x.view s (loop_again s home inside)
         (λ i e. subst (λ z. Met program policy p 0 x.run.sight x.view z) (one_outer outer i (sym parent ∙ e)) m)
         None None tt)
@@ -113,12 +115,12 @@ module _ (program : Program) (policy : Policy) (p : ℕ) (v : IsValid program) w
         one_outer : (a b : ℕ) → Some a ≡ Some b → a ≡ b
         one_outer a b e = ap (λ z. elim z [ None ↦ a | Some k ↦ k ]) e
 
-        else_none : (a b : Option EventId) (e : EventId) → b ≡ Some e → or_else a (or_else b None) ≡ None → ⊥
+        else_none : (a b : Option EventId) (e : EventId) → b ≡ Some e → option_or a (option_or b None) ≡ None → ⊥
         else_none a b e is none = else_some program policy p v a None e
-            (sym (else_same a e) ∙ ap (λ z. or_else a (or_else z None)) (sym is) ∙ none)
+            (sym (else_same a e) ∙ ap (λ z. option_or a (option_or z None)) (sym is) ∙ none)
           where
             else_same : (a : Option EventId) (e : EventId)
-                → or_else a (or_else (Some e) None) ≡ or_else a (or_else None (Some e))
+                → option_or a (option_or (Some e) None) ≡ option_or a (option_or None (Some e))
             else_same a e = refl
 
     -- ---- the loop itself
@@ -132,7 +134,7 @@ module _ (program : Program) (policy : Policy) (p : ℕ) (v : IsValid program) w
     above = outside_over program policy p x.run.place (runs_of (y ∷ ys)) l
 
     pub above_answer : Answer program policy p rs above
-        (or_else (of_outer (parent_if (slice_get program.stmts l)) x.view.1) x.view.0)
+        (option_or (of_outer (parent_if (slice_get program.stmts l)) x.view.1) x.view.0)
     above_answer =
         let before : List Sign = o.before in
         let rest : List Run = rest_with y.sort (runs_of ys) in
@@ -157,15 +159,15 @@ module _ (program : Program) (policy : Policy) (p : ℕ) (v : IsValid program) w
         (λ zero_is. refl) in
         let cut : take x.run.place y.run.sight ≡ before = ap (take x.run.place) o.sight_is
         ∙ take_at before (None ∷ []) x.run.place (sym o.place_is) in
-        let parent : parent_of program l y.view ≡ or_else
+        let parent : parent_of program l y.view ≡ option_or
         (of_outer (parent_if (slice_get program.stmts l)) x.view.1) x.view.0 =
-        ap (λ z. or_else z (or_else (of_outer (parent_if (slice_get program.stmts l)) y.view.1) y.view.0))
+        ap (λ z. option_or z (option_or (of_outer (parent_if (slice_get program.stmts l)) y.view.1) y.view.0))
         (none_run (kind_of program l) (latest l y.view.1)
         (quiet_at y.sort y.body y.run.sight y.view y.todo l o.not_loop hy.knows o.is_loop))
-        ∙ ap (λ z. or_else z y.view.0) (sym
+        ∙ ap (λ z. option_or z y.view.0) (sym
         (outer_same (parent_if (slice_get program.stmts l))
         (λ i e. free_at y.sort l o.not_loop o.is_loop i (o.fact.outer i e).stands)))
-        ∙ ap (λ z. or_else (of_outer (parent_if (slice_get program.stmts l)) x.view.1) z) (sym o.call_is) in
+        ∙ ap (λ z. option_or (of_outer (parent_if (slice_get program.stmts l)) x.view.1) z) (sym o.call_is) in
         subst (λ c. Answer program policy p rs above c) parent
         (subst (λ zs. Answer program policy p rs (outside_over program policy p x.run.place zs l)
         (parent_of program l y.view)) (sym (runs_are y.sort y.run (runs_of ys)))
@@ -197,7 +199,7 @@ module _ (program : Program) (policy : Policy) (p : ℕ) (v : IsValid program) w
         (parent_of program l x.view)) (sym no_call)
         (answered program policy p rs x.run 0 x.run.sight (among_over program policy p x.run.number l x.run.sight None)
         (of_run (kind_of program l) (latest l x.view.1))
-        (or_else (of_outer (parent_if (slice_get program.stmts l)) x.view.1) x.view.0) above refl
+        (option_or (of_outer (parent_if (slice_get program.stmts l)) x.view.1) x.view.0) above refl
         (λ j q at. at)
         (side_drop x.run.number x.run.sight (test_at program policy p v x.run.number 0 x.run.sight l)
         (round_over program policy p x.run.number 0 x.run.sight (parent_if (slice_get program.stmts l)))

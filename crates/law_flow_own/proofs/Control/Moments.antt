@@ -18,7 +18,8 @@ use Rattle.ppd_sem.specs.declared.proc.Need.TheVariants as need
 use Rattle.ppd_sem.specs.declared.proc.Proc.{Proc}
 use Rattle.ppd_sem.specs.declared.proc.Todo.{Todo}
 use Rattle.ppd_sem.specs.Described.{trap_of, is_event}
-use Rattle.ppd_sem.specs.Process.{act, act_at, act_by_need, need_of, need_of_running, top_body}
+use Rattle.ppd_sem.specs.Process.{act, act_by_need, need_of, top_body}
+use Rattle.ppd_sem.proofs.NeedWords.{act_at, need_of_running}
 use Rattle.ppd_sem.proofs.Progress.{act-stopped, need_at_status, need_at_todo}
 use Rattle.ppd_sem.specs.Runs.{bodies_in}
 use Rattle.ppd_model.specs.declared.tracing.Activation.{Activation}

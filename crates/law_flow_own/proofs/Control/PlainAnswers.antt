@@ -9,7 +9,9 @@ use Rattle.ppd_blocks.specs.Blocks.{plan_of}
 use Rattle.ppd_model.specs.declared.flow.Origin.{Origin}
 use Rattle.ppd_model.specs.declared.flow.Origin.TheVariants as origin
 use Rattle.ppd_model.specs.declared.trace.EventId.{EventId}
-use Rattle.ppd_model.specs.FullTrace.{latest, of_outer, of_run, or_else}
+use Rattle.ppd_model.specs.FullTrace.{latest, of_run}
+use Rattle.std.specs.Option.{option_or}
+use Rattle.ppd_model.proofs.TraceWords.{of_outer}
 use Rattle.ppd_model.proofs.CountedOn.{kept_at, last_at}
 use Rattle.law_flow_own.proofs.Control.Sights.{Sign, leaf_over}
 use Rattle.law_flow_own.proofs.Control.Levels.{Level, OverNext, Run, Sort, frame_of, function, leaf, loop, process, runs_of}
@@ -40,9 +42,9 @@ module _ (program : Program) (policy : Policy) (p : ℕ) (v : IsValid program) w
         (else_assoc program policy p v A' B' x.view.0)
         (subst (λ call. Answer program policy p rs
         (unwrap_or (among_over program policy p x.run.number s sight call) o)
-        (or_else (or_else A' (or_else B' None)) x.view.0)) (sym none)
+        (option_or (option_or A' (option_or B' None)) x.view.0)) (sym none)
         (answered program policy p rs x.run i sight (among_over program policy p x.run.number s sight None)
-        (or_else A' (or_else B' None)) x.view.0 o at longer
+        (option_or A' (option_or B' None)) x.view.0 o at longer
         (near_side program policy p v x.run.number 0 sight x.view s q.again q.outer None None tt) other))
 
     pub plain_answer : (sort : Sort) (ys : List Level) (rs : List Run) (i : ℕ) → slice_get rs i ≡ Some x.run
@@ -88,11 +90,11 @@ module _ (program : Program) (policy : Policy) (p : ℕ) (v : IsValid program) w
         ))))
     plain_answer leaf ys rs i at none o others q call outer is f f_is =
         subst (λ c. Answer program policy p rs (unwrap_or (found_over program policy p x.run.number s sight) f)
-        (or_else A' (or_else B' c))) (sym call.5)
+        (option_or A' (option_or B' c))) (sym call.5)
         (subst (λ l. Answer program policy p rs (unwrap_or (among_over program policy p x.run.number s sight l) f)
-        (or_else A' (or_else B' (Some (record { process = p; number = call.1 }))))) (sym call.3)
+        (option_or A' (option_or B' (Some (record { process = p; number = call.1 }))))) (sym call.3)
         (sure program policy p v rs x.run i sight (among_over program policy p x.run.number s sight (Some call.0))
-        (or_else A' (or_else B' (Some (record { process = p; number = call.1 })))) f at longer
+        (option_or A' (option_or B' (Some (record { process = p; number = call.1 })))) f at longer
         (near_side program policy p v x.run.number 1 sight x.view s q.again q.outer
         (Some (origin.Item p x.run.number call.0.item))
         (Some (record { process = p; number = call.1 }))

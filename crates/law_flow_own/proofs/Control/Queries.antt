@@ -13,7 +13,9 @@ use Rattle.ppd_sem.specs.Tables.{block_of}
 use Rattle.ppd_model.specs.declared.flow.Origin.{Origin}
 use Rattle.ppd_model.specs.declared.flow.Origin.TheVariants as origin
 use Rattle.ppd_model.specs.declared.trace.EventId.{EventId}
-use Rattle.ppd_model.specs.FullTrace.{latest, of_outer, of_run, or_else}
+use Rattle.ppd_model.specs.FullTrace.{latest, of_run}
+use Rattle.std.specs.Option.{option_or}
+use Rattle.ppd_model.proofs.TraceWords.{of_outer}
 use Rattle.ppd_model.proofs.TestSteps.{View}
 use Rattle.ppd_flow_model.specs.declared.leaf_call.LeafCall.{LeafCall}
 use Rattle.ppd_flow_model.specs.Control.{test_of_run}
@@ -145,14 +147,14 @@ module _ (program : Program) (policy : Policy) (p : ℕ) (v : IsValid program) w
       → (a : Option Origin) (c : Option EventId)
       → Side program policy p k sight a c
       → Side program policy p k sight
-      (or_else (test_at k frame sight s)
-      (or_else (round_over program policy p k frame sight (parent_if (slice_get program.stmts s))) a))
-      (or_else (of_run (kind_of program s) (latest s w.1))
-      (or_else (of_outer (parent_if (slice_get program.stmts s)) w.1) c))
+      (option_or (test_at k frame sight s)
+      (option_or (round_over program policy p k frame sight (parent_if (slice_get program.stmts s))) a))
+      (option_or (of_run (kind_of program s) (latest s w.1))
+      (option_or (of_outer (parent_if (slice_get program.stmts s)) w.1) c))
   near_side k frame sight w s again outer a c h =
       side_else program policy p k sight (test_at k frame sight s)
-      (or_else (round_over program policy p k frame sight (parent_if (slice_get program.stmts s))) a)
-      (of_run (kind_of program s) (latest s w.1)) (or_else (of_outer (parent_if (slice_get program.stmts s)) w.1) c)
+      (option_or (round_over program policy p k frame sight (parent_if (slice_get program.stmts s))) a)
+      (of_run (kind_of program s) (latest s w.1)) (option_or (of_outer (parent_if (slice_get program.stmts s)) w.1) c)
       (run_side program policy p k frame sight w s again)
       (side_else program policy p k sight
       (round_over program policy p k frame sight (parent_if (slice_get program.stmts s))) a
@@ -161,12 +163,12 @@ module _ (program : Program) (policy : Policy) (p : ℕ) (v : IsValid program) w
 
   -- ---- options
 
-  pub else_assoc : (a b d : Option EventId) → or_else (or_else a (or_else b None)) d ≡ or_else a (or_else b d)
+  pub else_assoc : (a b d : Option EventId) → option_or (option_or a (option_or b None)) d ≡ option_or a (option_or b d)
   else_assoc None None d = refl
   else_assoc None (Some b) d = refl
   else_assoc (Some a) b d = refl
 
-  pub else_some : (a b : Option EventId) (e : EventId) → or_else a (or_else b (Some e)) ≡ None → ⊥
+  pub else_some : (a b : Option EventId) (e : EventId) → option_or a (option_or b (Some e)) ≡ None → ⊥
   else_some None None e h = none-some e (sym h)
   else_some None (Some b) e h = none-some b (sym h)
   else_some (Some a) b e h = none-some a (sym h)

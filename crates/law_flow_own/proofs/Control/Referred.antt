@@ -21,6 +21,7 @@ use Rattle.ppd_model.specs.FullTrace.{parent_at}
 use Rattle.ppd_model.specs.Intervals.{Part, own, nested, Span, Split, ref, splits}
 use Rattle.ppd_model.specs.Items.{HasWholeItems, IsReferred}
 use Rattle.ppd_model.specs.Story.{story}
+use Rattle.ppd_model.proofs.EdgeWords.{part_in}
 use Rattle.ppd_model.proofs.Changes.{some}
 use Rattle.ppd_model.proofs.Items.{items_whole}
 use Rattle.ppd_model.proofs.TestSteps.{views}
@@ -100,12 +101,8 @@ module _ (program : Program) (policy : Policy) (budget : ℕ) (h : List ℕ) (p 
   pub part_of : (n : ℕ) (inner : List Part) (outside : List ℕ) (l : Place) (j : ℕ) (q : Part)
       → SpanAt y n inner outside l
       → slice_get l.parts j ≡ Some q → part_at y l.interval j ≡ Some q
-  part_of n inner outside l j q a e = ap (λ o. part_in_of o j) a.there ∙ ap (λ ps. slice_get ps j) a.parts_are
+  part_of n inner outside l j q a e = ap (λ o. part_in o j) a.there ∙ ap (λ ps. slice_get ps j) a.parts_are
       ∙ kept_at l.parts (inner ++ a.more) j q e
-    where
-      part_in_of : Option Span → ℕ → Option Part
-      part_in_of None i = None
-      part_in_of (Some z) i = slice_get z.parts i
 
   -- an event that a running interval has is an item there
   pub run_at : (i n : ℕ) (inner : List Part) (signs : List Sign) (ls : List Place) (rs : List Run) (q : Run) (j m : ℕ)

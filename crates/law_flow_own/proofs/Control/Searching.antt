@@ -4,7 +4,8 @@ use Rattle.std.specs.List.{AllByRecursion as Each, flat_map, position_from}
 use Rattle.std.specs.Prelude.{⊤, fold, slice_get}
 use Rattle.ppd_ast.specs.declared.plan.Plan.{Plan}
 use Rattle.ppd_ast.specs.declared.program.Program.{Program}
-use Rattle.ppd_model.specs.Intervals.{Part, own, nested, Span, Split, is_closed, item_of, item_of_event, item_of_span}
+use Rattle.ppd_model.specs.Intervals.{Part, own, nested, Span, Split, is_closed, item_of}
+use Rattle.ppd_model.proofs.IntervalWords.{item_of_event, item_of_span}
 use Rattle.ppd_model.specs.declared.flow.Item.{Item}
 use Rattle.ppd_model.specs.declared.flow.Item.TheVariants as item
 use Rattle.ppd_model.specs.declared.trace.TracedEvent.{TracedEvent}

@@ -15,7 +15,9 @@ use Rattle.ppd_model.specs.declared.flow.Origin.{Origin}
 use Rattle.ppd_model.specs.declared.flow.Origin.TheVariants as origin
 use Rattle.ppd_model.specs.declared.trace.EventId.{EventId}
 use Rattle.ppd_model.specs.declared.tracing.Test.{Test}
-use Rattle.ppd_model.specs.FullTrace.{latest, of_outer, of_run, or_else}
+use Rattle.ppd_model.specs.FullTrace.{latest, of_run}
+use Rattle.std.specs.Option.{option_or}
+use Rattle.ppd_model.proofs.TraceWords.{of_outer}
 use Rattle.ppd_model.proofs.TestSteps.{View}
 use Rattle.ppd_flow_model.specs.declared.last_test.LastTest.{LastTest}
 use Rattle.ppd_flow_model.specs.declared.leaf_call.LeafCall.{LeafCall}
@@ -27,8 +29,8 @@ use Rattle.law_flow_own.proofs.Control.Levels.{IsUnfound, Met, Run, passes}
 -- the parent that the trace has of statement s in this activation
 abbrev pub parent_of : Program → ℕ → View → Option EventId
 parent_of program s v =
-    or_else (of_run (kind_of program s) (latest s v.1))
-    (or_else (of_outer (parent_if (slice_get program.stmts s)) v.1) v.0)
+    option_or (of_run (kind_of program s) (latest s v.1))
+    (option_or (of_outer (parent_if (slice_get program.stmts s)) v.1) v.0)
 
 -- no run goes on
 pub none_run : (x : Kind) (o : Option Test) → passes o ≡ false → of_run x o ≡ None
@@ -46,9 +48,9 @@ module _ (program : Program) (policy : Policy) (p : ℕ) where
 
   abbrev pub among_over : ℕ → ℕ → List Sign → Option LeafCall → Option Origin
   among_over k s sight call =
-      or_else (test_of_run p k (kind_of program s)
+      option_or (test_of_run p k (kind_of program s)
       (tests_over program (plan_of program policy) (frame_in call) s sight))
-      (or_else (round_over k (frame_in call) sight (parent_if (slice_get program.stmts s))) (leaf_call_at p k call))
+      (option_or (round_over k (frame_in call) sight (parent_if (slice_get program.stmts s))) (leaf_call_at p k call))
 
   abbrev pub found_over : ℕ → ℕ → List Sign → Option Origin
   found_over k s sight = among_over k s sight (leaf_over program (plan_of program policy) sight)
@@ -83,7 +85,7 @@ module _ (program : Program) (policy : Policy) (p : ℕ) where
   Side k sight o e = ⊥
 
   pub side_else : (k : ℕ) (sight : List Sign) (a b : Option Origin) (c d : Option EventId) → Side k sight a c
-      → Side k sight b d → Side k sight (or_else a b) (or_else c d)
+      → Side k sight b d → Side k sight (option_or a b) (option_or c d)
   side_else k sight None b None d h g = g
   side_else k sight (Some o) b (Some e) d h g = h
   side_else k sight None b (Some e) d h g = absurd h
@@ -171,7 +173,7 @@ module _ (program : Program) (policy : Policy) (p : ℕ) where
   pub answered : (rs : List Run) (q : Run) (i : ℕ) (sight : List Sign) (a : Option Origin) (c d : Option EventId)
       (o : Origin) → slice_get rs i ≡ Some q
       → ((j : ℕ) (x : Sign) → slice_get sight j ≡ Some x → slice_get q.sight j ≡ Some x)
-      → Side q.number sight a c → Answer rs o d → Answer rs (unwrap_or a o) (or_else c d)
+      → Side q.number sight a c → Answer rs o d → Answer rs (unwrap_or a o) (option_or c d)
   answered rs q i sight None None d o at longer h g = g
   answered rs q i sight (Some f) (Some e) d o at longer h g =
       (q, i, at, h.0, h.1, h.2, h.3, longer h.0 (Some (e.number, h.1)) h.4)

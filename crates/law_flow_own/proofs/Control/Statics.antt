@@ -9,7 +9,8 @@ use Rattle.ppd_ast.specs.declared.plan.BlockKind.TheVariants as block
 use Rattle.ppd_ast.specs.declared.plan.Policy.{Policy}
 use Rattle.ppd_ast.specs.declared.program.Program.{Program}
 use Rattle.ppd_ast.specs.declared.program.Stmt.{Stmt}
-use Rattle.ppd_ast.specs.Numbered.{in_while, inside_count, is_while, while_or}
+use Rattle.ppd_ast.specs.Numbered.{in_while, is_while}
+use Rattle.ppd_ast.proofs.Vocabulary.{inside_count, while_or}
 use Rattle.ppd_ast.specs.Valid.{IsValid}
 use Rattle.ppd_ast.specs.Lookups.{kind_of, parent_if}
 use Rattle.ppd_blocks.specs.Blocks.{plan_of}

@@ -21,11 +21,14 @@ use Rattle.ppd_sem.specs.declared.proc.Todo.{Todo}
 use Rattle.ppd_sem.specs.Asked.{Asked}
 use Rattle.ppd_sem.specs.Deed.{Deed, set_local, set_shared, clear, branch, turn, leave, invoke, back, take, give, send, receive, print, pass, finish}
 use Rattle.ppd_sem.specs.Described.{evaluates, value_at, valued}
-use Rattle.ppd_sem.specs.Process.{act_by_asked, act_by_need, call_unit, chan_of, cost, entry_of, head_deed, loop_of, need_by_entry, need_by_offer, need_of_asked, need_of_deed, need_of_head, need_of_leaving, need_of_running, need_of_send, offer_of, top_body, top_call, top_cells}
-use Rattle.ppd_sem.specs.Tables.{block_of, capacity_of, or_zero, unit_of}
+use Rattle.ppd_sem.specs.Process.{act_by_asked, act_by_need, call_unit, chan_of, cost, entry_of, head_deed, loop_of, need_of_asked, need_of_deed, need_of_head, need_of_leaving, need_of_send, offer_of, top_body, top_call, top_cells}
+use Rattle.ppd_sem.proofs.NeedWords.{need_by_entry, need_by_offer, need_of_running}
+use Rattle.ppd_sem.specs.Tables.{block_of, capacity_of, unit_of}
+use Rattle.ppd_sem.proofs.TableWords.{or_zero}
 use Rattle.ppd_sem.proofs.Offers.{offer_there}
 use Rattle.ppd_model.specs.declared.tracing.Activation.{Activation}
-use Rattle.ppd_model.specs.FullTrace.{Tag, is_passed, tagged_after, tagged_at, tagged_by}
+use Rattle.ppd_model.specs.FullTrace.{Tag, is_passed, tagged_after, tagged_by}
+use Rattle.ppd_model.proofs.TraceWords.{tagged_at}
 use Rattle.ppd_model.proofs.Homes.{head_of, AreTop as AreTopOf, AskedOf as AskedHome, DeedOf as DeedHome}
 use Rattle.ppd_model.proofs.Moves.{leads, drop_views}
 use Rattle.ppd_model.proofs.TestSteps.{View, all_tagged_views, into_views, tagged_views, views}

@@ -8,7 +8,8 @@ use Rattle.ppd_sem.specs.declared.proc.Need.{Need}
 use Rattle.ppd_sem.specs.declared.proc.Need.TheVariants as need
 use Rattle.ppd_sem.specs.declared.proc.Proc.{Proc}
 use Rattle.ppd_model.specs.FullTrace.{Tag, me_in, top_tags}
-use Rattle.ppd_model.specs.Intervals.{Part, own, Span, Split, begin_if, change_first, control_by, end_if, end_span, is_closed, left_by, split_step, with_own, with_step}
+use Rattle.ppd_model.specs.Intervals.{Part, own, Span, Split, change_first, control_by, end_span, is_closed, left_by, split_step, with_own, with_step}
+use Rattle.ppd_model.proofs.IntervalWords.{begin_if, end_if}
 use Rattle.ppd_model.specs.Marks.{Mark, closed, opened}
 use Rattle.ppd_model.specs.declared.tracing.Story.{Story}
 use Rattle.ppd_model.specs.declared.tracing.Taken.{Taken}

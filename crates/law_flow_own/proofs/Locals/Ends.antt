@@ -6,7 +6,8 @@ use Rattle.ppd_sem.specs.declared.proc.Need.{Need}
 use Rattle.ppd_sem.specs.declared.proc.Need.TheVariants as need
 use Rattle.ppd_sem.specs.Described.{is_event}
 use Rattle.ppd_model.specs.FullTrace.{Tag}
-use Rattle.ppd_model.specs.Intervals.{own, nested, Span, Split, begin_if, change_first, end_span, innermost, is_closed, new_span, with_own, with_part, with_step}
+use Rattle.ppd_model.specs.Intervals.{own, nested, Span, Split, change_first, end_span, innermost, is_closed, new_span, with_own, with_part, with_step}
+use Rattle.ppd_model.proofs.IntervalWords.{begin_if}
 use Rattle.ppd_model.specs.Marks.{Mark}
 use Rattle.ppd_model.specs.World.{change}
 use Rattle.ppd_model.specs.declared.trace.EventId.{EventId}

@@ -11,7 +11,8 @@ use Rattle.ppd_ast.specs.declared.program.Program.{Program}
 use Rattle.ppd_ast.specs.declared.program.Target.TheVariants as T
 use Rattle.ppd_ast.specs.declared.status.Trap.TheVariants.{Index}
 use Rattle.ppd_ast.specs.Term.{Term, const, local, local_at, shared, shared_at, neg, not, two, and, or, term}
-use Rattle.ppd_ast.specs.Lookups.{kind_of_stmt, kind_of}
+use Rattle.ppd_ast.specs.Lookups.{kind_of}
+use Rattle.ppd_ast.proofs.Vocabulary.{kind_of_stmt}
 use Rattle.ppd_sem.specs.Ask.{ask, element, is_zero}
 use Rattle.ppd_sem.specs.Asked.{Asked, and_then, lift, once}
 use Rattle.ppd_sem.specs.Reads.{ask_place, local_read, reads_of, reads_of_all, reads_of_kind, reads_of_stored, shared_read}

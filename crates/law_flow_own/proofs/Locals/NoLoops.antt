@@ -3,7 +3,9 @@ use Rattle.std.proofs.Common.{◌≡◌, ℕ, zero, suc, ◌+◌, Bool, true, fa
 use Rattle.std.specs.Prelude.{nat_le, nat_lt, option_map, slice_get}
 use Rattle.std.specs.List.{AllByRecursion as Each, flat_map}
 use Rattle.std.proofs.lemmas.Option.{none-some, slice_get-map}
-use Rattle.ppd_ast.specs.Numbered.{blocks_by, blocks_of, body_kind, each_from, in_while, inside_count, is_block_body, is_block_loop, is_while, loops_at, loops_of, numbers_of}
+use Rattle.ppd_ast.specs.Numbered.{blocks_by, blocks_of, each_from, in_while, is_block_body, is_block_loop, is_while, loops_at, numbers_of}
+use Rattle.ppd_ast.proofs.Vocabulary.{body_kind}
+use Rattle.ppd_ast.proofs.Vocabulary.{inside_count, loops_of}
 use Rattle.ppd_ast.specs.declared.limits.TheConstants.{MOST_NESTING}
 use Rattle.ppd_ast.specs.declared.plan.BlockKind.{BlockKind}
 use Rattle.ppd_ast.specs.declared.plan.BlockKind.TheVariants.{Function, Process, Loop}
@@ -11,10 +13,12 @@ use Rattle.ppd_ast.specs.declared.plan.Policy.{Policy}
 use Rattle.ppd_ast.specs.declared.program.Body.{Body}
 use Rattle.ppd_ast.specs.declared.program.Program.{Program}
 use Rattle.ppd_ast.specs.declared.program.Stmt.{Stmt}
-use Rattle.ppd_blocks.specs.Blocks.{block_of as block_from, plan_of}
+use Rattle.ppd_blocks.specs.Blocks.{plan_of}
+use Rattle.ppd_blocks.proofs.Vocabulary.{block_of as block_from}
 use Rattle.ppd_model.specs.NearIntervals.{is_loop}
 use Rattle.ppd_model.proofs.Changes.{some}
-use Rattle.ppd_sem.specs.Blocks.{block_kind, kind_in}
+use Rattle.ppd_sem.specs.Blocks.{block_kind}
+use Rattle.ppd_sem.proofs.TableWords.{kind_in}
 use Rattle.law_flow_own.specs.Locals.LocalReads.{PoliciesWithoutLoops}
 
 abbrev IsNoLoop : BlockKind → Type 0

@@ -6,8 +6,9 @@ use Rattle.std.proofs.Math.Bool.{and-false}
 use Rattle.ppd_ast.specs.declared.plan.Plan.{Plan}
 use Rattle.ppd_ast.specs.declared.program.Body.{Body}
 use Rattle.ppd_ast.specs.declared.program.Program.{Program}
-use Rattle.ppd_ast.specs.Lookups.{kind_of, params_of_body}
-use Rattle.ppd_blocks.specs.Blocks.{params_of}
+use Rattle.ppd_ast.specs.Lookups.{kind_of}
+use Rattle.ppd_ast.proofs.Vocabulary.{params_of_body}
+use Rattle.ppd_blocks.proofs.Vocabulary.{params_of}
 use Rattle.ppd_sem.specs.Process.{into_of, top_call}
 use Rattle.ppd_sem.specs.Runs.{returns}
 use Rattle.ppd_sem.specs.declared.event.Event.{Event}

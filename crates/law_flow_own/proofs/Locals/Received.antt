@@ -12,8 +12,9 @@ use Rattle.law_steps.proofs.Course.Deeds.{DeedFits, Fits, deed_fits}
 use Rattle.ppd_sem.specs.Ask.{ask}
 use Rattle.ppd_sem.specs.Asked.{Asked, and_then, gives, outcome}
 use Rattle.ppd_sem.specs.Deed.{Deed, back, invoke, ask_deed}
-use Rattle.ppd_sem.specs.Described.{evaluates, value_at, value_if, valued}
-use Rattle.ppd_sem.specs.Passed.{result_at, result_by, result_of_head}
+use Rattle.ppd_sem.specs.Described.{evaluates, value_at, valued}
+use Rattle.ppd_sem.proofs.EventWords.{result_of_head, value_if}
+use Rattle.ppd_sem.specs.Passed.{result_at, result_by}
 use Rattle.ppd_sem.specs.Process.{head_deed, need_of, top_call, top_cells}
 use Rattle.ppd_sem.specs.Runs.{returns}
 use Rattle.ppd_sem.specs.declared.proc.Proc.{Proc}

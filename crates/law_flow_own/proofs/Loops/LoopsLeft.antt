@@ -11,7 +11,8 @@ use Rattle.ppd_blocks.specs.Blocks.{plan_of}
 use Rattle.ppd_sem.specs.Blocks.{block_kind, postlog_cells}
 use Rattle.ppd_sem.specs.Process.{need_of}
 use Rattle.ppd_sem.specs.declared.proc.Need.TheVariants as need
-use Rattle.ppd_model.specs.FlowbackEdges.{from_writer, part_at, part_in}
+use Rattle.ppd_model.specs.FlowbackEdges.{from_writer, part_at}
+use Rattle.ppd_model.proofs.EdgeWords.{part_in}
 use Rattle.ppd_model.specs.FullTrace.{Tag, top_tags}
 use Rattle.ppd_model.specs.Intervals.{Part, nested, Span, Split, split_of, split_step, splits, is_closed}
 use Rattle.ppd_model.specs.LocalTags.{HasTags}

@@ -11,7 +11,8 @@ use Rattle.ppd_model.specs.declared.trace.EventId.{EventId}
 use Rattle.ppd_model.specs.declared.trace.TracedEvent.{TracedEvent}
 use Rattle.ppd_model.specs.declared.tracing.Tracing.{Tracing}
 use Rattle.ppd_model.specs.FullTrace.{Tag, me_in, top_tags, trace_by}
-use Rattle.ppd_model.specs.Intervals.{Part, own, nested, Span, Split, begin_if, change_first, control_by, end_if, innermost, is_closed, left_by, new_span, split_step, with_own, with_part, with_step}
+use Rattle.ppd_model.specs.Intervals.{Part, own, nested, Span, Split, change_first, control_by, innermost, is_closed, left_by, new_span, split_step, with_own, with_part, with_step}
+use Rattle.ppd_model.proofs.IntervalWords.{begin_if, end_if}
 use Rattle.ppd_model.specs.Marks.{Mark, closed, opened}
 use Rattle.ppd_model.specs.declared.tracing.Story.{Story}
 use Rattle.ppd_model.specs.declared.tracing.Taken.{Taken}

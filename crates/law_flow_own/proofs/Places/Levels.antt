@@ -1,7 +1,8 @@
 -- The levels of a process's intervals as its steps change them.
 use Rattle.std.proofs.Common.{◌≡◌, ℕ, zero, suc, ◌<◌, ◌≤◌, ℤ, List, [], ◌∷◌, ◌++◌, Option, Some, None, refl, ap, sym, subst, ◌∙◌, arith, length, append-nil}
 use Rattle.std.specs.Prelude.{drop, option_map, slice_get}
-use Rattle.ppd_model.specs.Intervals.{Part, own, nested, Span, Split, begin_if, begin_span, change_first, end_if, end_span, innermost, is_closed, new_span, with_part}
+use Rattle.ppd_model.specs.Intervals.{Part, own, nested, Span, Split, begin_span, change_first, end_span, innermost, is_closed, new_span, with_part}
+use Rattle.ppd_model.proofs.IntervalWords.{begin_if, end_if}
 use Rattle.ppd_model.specs.FullTrace.{Tag}
 use Rattle.ppd_model.specs.Marks.{Mark}
 use Rattle.ppd_model.specs.World.{change}

@@ -19,7 +19,8 @@ use Rattle.ppd_sem.specs.declared.event.Event.{Event}
 use Rattle.ppd_model.specs.declared.flow.Item.{Item}
 use Rattle.ppd_model.specs.declared.flow.Item.TheVariants as item
 use Rattle.ppd_model.specs.declared.trace.TracedEvent.{TracedEvent}
-use Rattle.ppd_model.specs.Intervals.{Part, own, nested, Span, Split, is_closed, item_of, item_of_event, item_of_span}
+use Rattle.ppd_model.specs.Intervals.{Part, own, nested, Span, Split, is_closed, item_of}
+use Rattle.ppd_model.proofs.IntervalWords.{item_of_event, item_of_span}
 use Rattle.ppd_model.specs.NearIntervals.{is_in}
 use Rattle.ppd_model.specs.Synchronizations.{is_number}
 use Rattle.ppd_flow_model.specs.declared.leaf_call.LeafCall.{LeafCall}

@@ -13,7 +13,8 @@ use Rattle.ppd_sem.specs.declared.proc.Need.{Need}
 use Rattle.ppd_sem.specs.declared.proc.Need.TheVariants as need
 use Rattle.ppd_sem.specs.declared.proc.Proc.{Proc}
 use Rattle.ppd_sem.specs.declared.proc.Todo.{Todo}
-use Rattle.ppd_sem.specs.Process.{act, act_at, act_by_asked, act_by_need, head_deed, need_of, need_of_running}
+use Rattle.ppd_sem.specs.Process.{act, act_by_asked, act_by_need, head_deed, need_of}
+use Rattle.ppd_sem.proofs.NeedWords.{act_at, need_of_running}
 use Rattle.ppd_sem.proofs.Progress.{need_at_todo}
 use Rattle.ppd_sem.specs.Described.{is_event}
 use Rattle.ppd_sem.specs.Runs.{bodies_in}
@@ -23,7 +24,8 @@ use Rattle.ppd_model.specs.declared.tracing.Activation.{Activation}
 use Rattle.ppd_model.specs.declared.tracing.Story.{Story}
 use Rattle.ppd_model.specs.declared.tracing.Taken.{Taken}
 use Rattle.ppd_model.specs.declared.tracing.Tracing.{Tracing}
-use Rattle.ppd_model.specs.FullTrace.{event_of, me_in, tagged_after, tagged_at, tagged_by, trace_by, traced_by, with_test}
+use Rattle.ppd_model.specs.FullTrace.{event_of, me_in, tagged_after, tagged_by, trace_by, traced_by, with_test}
+use Rattle.ppd_model.proofs.TraceWords.{tagged_at}
 use Rattle.ppd_model.proofs.CountedOn.{last_at}
 use Rattle.law_flow_own.specs.Places.Closing.{closing}
 use Rattle.law_flow_own.specs.Places.Leaves.{Begun, begun_by, begun_from}

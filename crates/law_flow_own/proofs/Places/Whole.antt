@@ -4,7 +4,8 @@ use Rattle.std.specs.Prelude.{slice_get, take}
 use Rattle.std.specs.List.{flat_map}
 use Rattle.std.proofs.lemmas.List.{take_at}
 use Rattle.std.proofs.lemmas.List.Concat.{flat_map-append}
-use Rattle.ppd_model.specs.Intervals.{Part, own, nested, Span, Split, item_of, item_of_event, item_of_span}
+use Rattle.ppd_model.specs.Intervals.{Part, own, nested, Span, Split, item_of}
+use Rattle.ppd_model.proofs.IntervalWords.{item_of_event, item_of_span}
 use Rattle.ppd_model.specs.Items.{IsWhole}
 use Rattle.ppd_model.specs.declared.trace.TracedEvent.{TracedEvent}
 use Rattle.law_flow_own.specs.Places.Levels.{IsLater, Level, StandsIn, numbers}

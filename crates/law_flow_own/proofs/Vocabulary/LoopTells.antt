@@ -8,7 +8,8 @@ use Rattle.ppd_ast.specs.Lookups.{kind_of}
 use Rattle.ppd_sem.specs.Blocks.{block_kind, postlog_cells}
 use Rattle.ppd_sem.specs.Process.{into_of}
 use Rattle.ppd_sem.specs.Tables.{block_of}
-use Rattle.ppd_model.specs.FullTrace.{Tag, or_else}
+use Rattle.ppd_model.specs.FullTrace.{Tag}
+use Rattle.std.specs.Option.{option_or}
 use Rattle.ppd_model.specs.Intervals.{Span, Split}
 use Rattle.ppd_model.specs.NearIntervals.{is_in, is_loop}
 use Rattle.ppd_model.specs.Synchronizations.{is_number}
@@ -23,7 +24,7 @@ use Rattle.law_flow_own.proofs.Vocabulary.Says.{IsUnwritten, SaysOr, activations
 -- the origin that a scan of interval k finds: in the loops since the cell's writer, or that writer
 abbrev pub of_scan : Program → Plan → ℕ → Split → ℕ → ℕ → Scan → Option Origin
 of_scan program plan p y k c s =
-    or_else (in_loops program plan (seen_of y) p c s.loops) (writer_at (seen_of y) p k s.writer)
+    option_or (in_loops program plan (seen_of y) p c s.loops) (writer_at (seen_of y) p k s.writer)
 
 -- what is found among a level's items
 abbrev pub here : Program → Plan → ℕ → Split → Level → ℕ → ℕ → Option Origin

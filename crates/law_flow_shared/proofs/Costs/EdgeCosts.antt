@@ -10,8 +10,10 @@ use Rattle.ppd_model.specs.declared.flow.EdgeKind.TheVariants.{Control}
 use Rattle.ppd_model.specs.declared.flow.FlowEdge.{FlowEdge}
 use Rattle.ppd_model.specs.declared.flow.Item.TheVariants as item
 use Rattle.ppd_model.specs.declared.trace.TracedEvent.{TracedEvent}
-use Rattle.ppd_model.specs.FlowbackEdges.{bare_edge, edges, edges_if as model_edges_if, edges_in, part_at, part_in}
-use Rattle.ppd_model.specs.Intervals.{Part, own, nested, Span, Split, is_closed, item_of_event, item_of_span, items_of, splits}
+use Rattle.ppd_model.specs.FlowbackEdges.{bare_edge, edges, part_at}
+use Rattle.ppd_model.proofs.EdgeWords.{edges_if as model_edges_if, edges_in, part_in}
+use Rattle.ppd_model.specs.Intervals.{Part, own, nested, Span, Split, is_closed, items_of, splits}
+use Rattle.ppd_model.proofs.IntervalWords.{item_of_event, item_of_span}
 use Rattle.ppd_model.specs.Logs.{closed_logs}
 use Rattle.ppd_model.specs.NearIntervals.{near_steps}
 use Rattle.ppd_model.specs.Races.{races}

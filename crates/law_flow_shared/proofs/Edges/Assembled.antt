@@ -15,9 +15,11 @@ use Rattle.law_flow_shared.proofs.Edges.PartItems.{first_of, item_at, item_if}
 use Rattle.ppd_model.specs.declared.flow.EdgeKind.TheVariants.{Control}
 use Rattle.ppd_model.specs.declared.trace.TracedEvent.{TracedEvent}
 use Rattle.ppd_model.specs.Earlier.{AreEarlier, EachNamesEarlier}
-use Rattle.ppd_model.specs.FlowbackEdges.{bare_edge, edges, edges_if as model_edges_if, edges_in, edges_of_event, edges_of_nested as model_edges_of_nested, edges_of_part, from_parent, from_writer, part_at, part_in, read_edge as model_read_edge, sync_edges as model_sync_edges}
+use Rattle.ppd_model.specs.FlowbackEdges.{bare_edge, edges, edges_of_event, edges_of_nested as model_edges_of_nested, edges_of_part, from_parent, from_writer, part_at, sync_edges as model_sync_edges}
+use Rattle.ppd_model.proofs.EdgeWords.{edges_if as model_edges_if, edges_in, part_in, read_edge as model_read_edge}
 use Rattle.ppd_model.specs.FullTrace.{Tag, tracing_of}
-use Rattle.ppd_model.specs.Intervals.{Part, own, nested, Span, Split, item_of_event, item_of_span, items_of, splits, item_of}
+use Rattle.ppd_model.specs.Intervals.{Part, own, nested, Span, Split, items_of, splits, item_of}
+use Rattle.ppd_model.proofs.IntervalWords.{item_of_event, item_of_span}
 use Rattle.ppd_model.specs.Logs.{closed_logs}
 use Rattle.ppd_model.specs.Story.{story, told}
 use Rattle.ppd_model.proofs.Changes.{some}

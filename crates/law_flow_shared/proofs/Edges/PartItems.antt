@@ -4,7 +4,8 @@ use Rattle.std.specs.Prelude.{slice_get}
 use Rattle.std.specs.List.{flat_map}
 use Rattle.ppd_model.specs.declared.flow.Item.{Item}
 use Rattle.ppd_model.specs.declared.trace.TracedEvent.{TracedEvent}
-use Rattle.ppd_model.specs.Intervals.{Part, own, nested, Span, Split, item_of, item_of_event, item_of_span}
+use Rattle.ppd_model.specs.Intervals.{Part, own, nested, Span, Split, item_of}
+use Rattle.ppd_model.proofs.IntervalWords.{item_of_event, item_of_span}
 
 -- the first of these, if there is one
 abbrev pub first_of : {A : Type 0} → List A → Option A

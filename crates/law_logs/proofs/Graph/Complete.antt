@@ -5,9 +5,10 @@ use Rattle.std.specs.List.{range_with_len}
 use Rattle.ppd_ast.specs.declared.program.Program.{Program}
 use Rattle.ppd_ast.specs.declared.status.SyncKind.{SyncKind}
 use Rattle.ppd_ast.specs.declared.status.SyncKind.TheVariants.{P, V, Send, Recv, Done}
-use Rattle.ppd_model.specs.FullTrace.{or_else}
+use Rattle.std.specs.Option.{option_or}
 use Rattle.ppd_sem.specs.Tables.{capacity_of}
-use Rattle.ppd_graph.specs.Refusals.{Missing, Numbered, absent, chan_misses, first_missing, missing_by, missing_of_chan, missing_of_places, missing_of_sem, number_if, of_kind, sem_misses, start_of}
+use Rattle.ppd_graph.specs.Refusals.{Missing, Numbered, absent, first_missing, missing_by, missing_of_chan, missing_of_places, missing_of_sem, number_if, of_kind, start_of}
+use Rattle.ppd_graph.proofs.Vocabulary.{chan_misses, sem_misses}
 use Rattle.law_logs.proofs.Graph.Numbers.{none_absent}
 
 -- all numbers after the first through the greatest are there
@@ -20,8 +21,8 @@ none_if kind o a b n le = ap (λ t. of_kind kind o (number_if t n)) (le-ltb a b 
 none_of : (kind : SyncKind) (o first last : ℕ) (ns : Numbered) → AreAll first last ns → of_kind kind o (absent first last ns.is_there) ≡ None
 none_of kind o first last ns all = ap (of_kind kind o) (none_absent first last ns.is_there all)
 
-or_rest : (x y : Option Missing) → x ≡ None → y ≡ None → or_else x y ≡ None
-or_rest x y e f = ap (λ z. or_else z y) e ∙ f
+or_rest : (x y : Option Missing) → x ≡ None → y ≡ None → option_or x y ≡ None
+or_rest x y e f = ap (λ z. option_or z y) e ∙ f
 
 -- a semaphore is taken no more often than given
 pub record IsSemWhole (start : ℕ) (taken given : Numbered) : Type 0 where

@@ -9,7 +9,8 @@ use Rattle.ppd_ast.proofs.ValidLaws.{slice_get_below}
 use Rattle.ppd_sem.specs.Tables.{capacity_of}
 use Rattle.ppd_sem.specs.declared.proc.Proc.{Proc}
 use Rattle.ppd_model.specs.declared.graph.NodeId.{NodeId}
-use Rattle.ppd_model.specs.HappenedBefore.{is_direct, is_next, own_syncs, sync_at}
+use Rattle.ppd_model.specs.HappenedBefore.{is_direct, own_syncs, sync_at}
+use Rattle.ppd_model.proofs.OrderWords.{is_next}
 use Rattle.ppd_model.specs.Story.{steps_of}
 use Rattle.ppd_model.specs.Synchronizations.{Sync, is_number, leads_at, led_to, syncs_of}
 use Rattle.ppd_model.specs.World.{change}

@@ -9,7 +9,8 @@ use Rattle.ppd_entry.specs.declared.entry.Logs.{Logs}
 use Rattle.ppd_model.specs.RecordedSets.{record_in, sync_in}
 use Rattle.ppd_model.specs.Synchronizations.{Sync}
 use Rattle.ppd_model.proofs.Changes.{some}
-use Rattle.ppd_graph.specs.Refusals.{placed, placed_from, placed_lists, sync_placed}
+use Rattle.ppd_graph.specs.Refusals.{placed, placed_from, sync_placed}
+use Rattle.ppd_graph.proofs.Vocabulary.{placed_lists}
 use Rattle.ppd_model.specs.SameSyncs.{same_sync}
 use Rattle.ppd_model.proofs.SameSyncs.{same_is, same_self}
 use Rattle.ppd_graph.proofs.Once.{map_both, placed_syncs}

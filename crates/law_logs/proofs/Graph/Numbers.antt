@@ -8,7 +8,9 @@ use Rattle.ppd_ast.specs.declared.status.SyncKind.{SyncKind}
 use Rattle.ppd_ast.specs.Members.{has}
 use Rattle.ppd_model.specs.Numbers.{sync}
 use Rattle.ppd_model.specs.Synchronizations.{Sync}
-use Rattle.ppd_graph.specs.Refusals.{absent, greatest, number_in, numbers_of}
+use Rattle.ppd_graph.specs.Refusals.{absent, numbers_of}
+use Rattle.ppd_graph.proofs.Vocabulary.{greatest}
+use Rattle.ppd_graph.proofs.Vocabulary.{number_in}
 use Rattle.ppd_model.specs.SameSyncs.{same_sync}
 use Rattle.ppd_model.proofs.SameSyncs.{same_is, same_kind_is, same_kind_self, same_self}
 use Rattle.law_logs.proofs.Graph.Flat.{stands}

@@ -18,7 +18,8 @@ use Rattle.ppd_sem.specs.declared.proc.Proc.{Proc}
 use Rattle.ppd_sem.specs.declared.proc.Todo.{Todo}
 use Rattle.ppd_sem.specs.Asked.{Asked}
 use Rattle.ppd_sem.specs.Deed.{Deed, set_local, set_shared, clear, branch, turn, leave, invoke, back, take, give, send, receive, print, pass, finish}
-use Rattle.ppd_sem.specs.Process.{act, entry_of, head_deed, need_by_entry, need_by_offer, need_of, need_of_asked, need_of_deed, need_of_leaving, need_of_running, need_of_send, offer_of, started}
+use Rattle.ppd_sem.specs.Process.{act, entry_of, head_deed, need_of, need_of_asked, need_of_deed, need_of_leaving, need_of_send, offer_of, started}
+use Rattle.ppd_sem.proofs.NeedWords.{need_by_entry, need_by_offer, need_of_running}
 use Rattle.ppd_sem.specs.Tables.{block_of, capacity_of}
 use Rattle.ppd_sem.proofs.Progress.{need_at_status}
 use Rattle.ppd_model.specs.declared.graph.NodeId.{NodeId}

@@ -24,7 +24,8 @@ use Rattle.ppd_model.specs.World.{World}
 use Rattle.ppd_model.proofs.Numbers.{are_counted}
 use Rattle.ppd_model.proofs.Prefixes.{objects_stay}
 use Rattle.ppd_model.proofs.RecordedSyncs.{record_syncs}
-use Rattle.ppd_graph.specs.Refusals.{has_object, is_from_start, placed, start_in, start_of, sync_placed, twice_after, without_object}
+use Rattle.ppd_graph.specs.Refusals.{has_object, is_from_start, placed, start_of, sync_placed, twice_after, without_object}
+use Rattle.ppd_graph.proofs.Vocabulary.{start_in}
 use Rattle.law_logs.proofs.Graph.Flat.{all_rows, EachOnce, flat, found_rows, once_rows, stands, stands_rows}
 use Rattle.law_logs.proofs.Graph.Offered.{completed_at_none}
 use Rattle.law_logs.proofs.Graph.Once.{none_twice, none_without}

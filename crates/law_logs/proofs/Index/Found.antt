@@ -12,8 +12,9 @@ use Rattle.ppd_entry.specs.declared.entry.Entry.TheVariants as entry
 use Rattle.ppd_entry.specs.IntervalLogs.{Indexing, begun_indexing, index_step}
 use Rattle.ppd_sem.specs.Process.{started}
 use Rattle.ppd_sem.specs.Tables.{unit_of}
-use Rattle.ppd_model.specs.FullTrace.{or_else}
-use Rattle.ppd_model.specs.Logs.{begun_log, closed_log, log_of, logs_from}
+use Rattle.std.specs.Option.{option_or}
+use Rattle.ppd_model.specs.Logs.{begun_log, closed_log, log_of}
+use Rattle.ppd_model.proofs.LogWords.{logs_from}
 use Rattle.ppd_model.specs.Story.{Moment, cells_of_unit, own_moments, told, values_of_unit}
 use Rattle.ppd_model.proofs.Prefixes.{objects_stay}
 use Rattle.law_steps.specs.OpenBlocks.Run.{IsRun}
@@ -77,7 +78,7 @@ module _ (program : Program) (policy : Policy) (budget : ℕ) (v : IsValid progr
       let z : q + 0 ≡ q = omega arith in
       let first : first_bad program plan q (closed_log (log_of program plan budget q ms)) ≡ None =
       subst (λ k. first_bad program plan k (closed_log (log_of program plan budget k ms)) ≡ None) z (each 0 (omega arith)) in
-      ap (λ o. or_else o (first_in_lists program plan (q + 1) (map closed_log (logs_from program plan budget (q + 1) rest)))) first
+      ap (λ o. option_or o (first_in_lists program plan (q + 1) (map closed_log (logs_from program plan budget (q + 1) rest)))) first
       ∙ lists_pass (q + 1) rest
       (λ i lt. (let same : q + suc i ≡ q + 1 + i = omega arith in
       subst (λ k. first_bad program plan k (closed_log (log_of program plan budget k (get_or rest i []))) ≡ None) same (each (suc i) (omega (arith, lt)))))

@@ -5,7 +5,7 @@ use Rattle.std.proofs.lemmas.List.{length-append, length-map}
 use Rattle.std.proofs.lemmas.List.FromFn.{length-range_with_len}
 use Rattle.std.proofs.lemmas.Option.{none-some}
 use Rattle.std.specs.Prelude.{nat_le, ◌&&◌, is_some, option_to_list, slice_get}
-use Rattle.ppd_ast.specs.Bare.{gives}
+use Rattle.ppd_ast.proofs.Vocabulary.{gives}
 use Rattle.ppd_ast.specs.Valid.{IsValid}
 use Rattle.ppd_ast.specs.declared.plan.BlockKind.TheVariants as block
 use Rattle.ppd_ast.specs.declared.plan.Plan.{Plan}
@@ -14,10 +14,12 @@ use Rattle.ppd_ast.specs.declared.plan.Start.TheVariants as start
 use Rattle.ppd_ast.specs.declared.program.Body.{Body}
 use Rattle.ppd_ast.specs.declared.program.Program.{Program}
 use Rattle.ppd_ast.specs.declared.status.Trap.TheVariants as trap
-use Rattle.ppd_ast.specs.Lookups.{kind_of, body_of, params_of_body}
+use Rattle.ppd_ast.specs.Lookups.{kind_of, body_of}
+use Rattle.ppd_ast.proofs.Vocabulary.{params_of_body}
 use Rattle.ppd_ast.specs.Counting.{one_if}
 use Rattle.ppd_ast.specs.declared.limits.TheConstants.{MOST_CALLS}
-use Rattle.ppd_blocks.specs.Blocks.{params_of, plan_of}
+use Rattle.ppd_blocks.specs.Blocks.{plan_of}
+use Rattle.ppd_blocks.proofs.Vocabulary.{params_of}
 use Rattle.ppd_sem.specs.declared.asking.Pause.TheVariants.{Wants, Traps}
 use Rattle.ppd_sem.specs.declared.proc.Frame.{Frame}
 use Rattle.ppd_sem.specs.declared.proc.Need.{Need}
@@ -28,8 +30,10 @@ use Rattle.ppd_sem.specs.Ask.{cell_of}
 use Rattle.ppd_sem.specs.Asked.{Asked, outcome}
 use Rattle.ppd_sem.specs.Blocks.{postlog_cells, prelog_cells}
 use Rattle.ppd_sem.specs.Deed.{Deed, set_local, set_shared, clear, branch, turn, leave, invoke, back, take, give, send, receive, print, pass, finish}
-use Rattle.ppd_sem.specs.Passed.{arguments_at, arguments_by, arguments_of_head, result_at, result_by, result_of_head}
-use Rattle.ppd_sem.specs.Process.{call_unit, cost, entry_of, head_deed, loop_of, need_by_entry, need_by_offer, need_of, need_of_asked, need_of_deed, need_of_head, need_of_leaving, need_of_running, need_of_send, offer_of, top_body, top_call, top_cells}
+use Rattle.ppd_sem.specs.Passed.{arguments_at, arguments_by, result_at, result_by}
+use Rattle.ppd_sem.proofs.EventWords.{arguments_of_head, result_of_head}
+use Rattle.ppd_sem.specs.Process.{call_unit, cost, entry_of, head_deed, loop_of, need_of, need_of_asked, need_of_deed, need_of_head, need_of_leaving, need_of_send, offer_of, top_body, top_call, top_cells}
+use Rattle.ppd_sem.proofs.NeedWords.{need_by_entry, need_by_offer, need_of_running}
 use Rattle.ppd_sem.specs.Tables.{block_of, capacity_of, unit_of}
 use Rattle.ppd_sem.proofs.Progress.{need_at_todo}
 use Rattle.ppd_sem.specs.Runs.{bodies_in}
@@ -42,7 +46,8 @@ use Rattle.law_steps.proofs.OpenBlocks.Framed.{body_is, head_returns}
 use Rattle.law_steps.proofs.OpenBlocks.Planned.{postlog_cells_are, prelog_cells_are}
 use Rattle.law_steps.proofs.OpenBlocks.Moving.{top_is}
 use Rattle.law_logs.proofs.Index.OfKind.{kind_found, postlog_fits, prelog_fits}
-use Rattle.ppd_index.specs.Refusals.{fits_postlog, fits_prelog, is_of_function, is_process, kind_at}
+use Rattle.ppd_index.specs.Refusals.{is_of_function, is_process, kind_at}
+use Rattle.ppd_index.proofs.Vocabulary.{fits_postlog, fits_prelog}
 
 -- fewer frames of blocks than frames
 few_blocks : (plan : Plan) (f : Frame) (fs : List Frame) → block_frames plan (f ∷ fs) ≤ length fs

@@ -11,11 +11,13 @@ use Rattle.ppd_ast.specs.declared.plan.Plan.{Plan}
 use Rattle.ppd_ast.specs.declared.plan.Policy.{Policy}
 use Rattle.ppd_ast.specs.declared.program.Program.{Program}
 use Rattle.ppd_blocks.specs.Blocks.{plan_of, postlog_of, prelog_of}
-use Rattle.ppd_blocks.specs.Blocks.{block_of as block_from}
-use Rattle.ppd_sem.specs.Tables.{block_of, or_zero}
+use Rattle.ppd_blocks.proofs.Vocabulary.{block_of as block_from}
+use Rattle.ppd_sem.specs.Tables.{block_of}
 use Rattle.law_steps.specs.OpenBlocks.Stack.{process_block}
 use Rattle.law_steps.proofs.OpenBlocks.Planned.{block_there, process_found}
-use Rattle.ppd_index.specs.Refusals.{fits_postlog, fits_prelog, kind_at, kind_there}
+use Rattle.ppd_index.specs.Refusals.{kind_at}
+use Rattle.ppd_index.proofs.Vocabulary.{fits_postlog, fits_prelog, kind_there}
+use Rattle.ppd_sem.proofs.TableWords.{or_zero}
 
 module _ (program : Program) (policy : Policy) (v : IsValid program) where
   abbrev plan : Plan

@@ -31,7 +31,8 @@ use Rattle.law_replay.proofs.Vocabulary.Nested.{HasStopped}
 use Rattle.law_replay.proofs.Coming.Later.{closing, news}
 use Rattle.law_replay.proofs.Coming.Shapes.{Shape, closes, ends, opens, passes, shape, stops}
 use Rattle.law_replay.proofs.Coming.Stacked.{stopped_run}
-use Rattle.ppd_index.specs.Refusals.{fits_postlog, fits_unit, is_of_function, kind_at}
+use Rattle.ppd_index.specs.Refusals.{is_of_function, kind_at}
+use Rattle.ppd_index.proofs.Vocabulary.{fits_postlog, fits_unit}
 use Rattle.law_logs.proofs.Index.Endings.{IsEnding, ending, inside_end, inside_some}
 use Rattle.law_logs.proofs.Index.OfKind.{own_fits}
 use Rattle.law_logs.proofs.Index.Standing.{Stands, after_postlog, after_prelog, after_sync, after_unit, next_later}

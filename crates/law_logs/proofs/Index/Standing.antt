@@ -10,7 +10,7 @@ use Rattle.ppd_entry.specs.IntervalLogs.{Indexed, Indexing, add_piece, add_piece
 use Rattle.ppd_entry.specs.Pieces.{Piece, nested, postlog, sync, unit}
 use Rattle.ppd_sem.specs.Blocks.{block_kind, is_function}
 use Rattle.law_steps.specs.OpenBlocks.Stack.{functions_in}
-use Rattle.ppd_index.specs.Refusals.{innermost_of}
+use Rattle.ppd_index.proofs.Vocabulary.{innermost_of}
 use Rattle.law_replay.proofs.Coming.Indexes.{falls_on}
 use Rattle.law_replay.proofs.Coming.IndexSteps.{piece_length}
 use Rattle.law_replay.proofs.Coming.Depths.{depth_at}

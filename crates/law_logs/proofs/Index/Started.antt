@@ -22,7 +22,7 @@ use Rattle.law_steps.specs.OpenBlocks.Stack.{IsInOrder}
 use Rattle.law_steps.proofs.Units.InForce.{HasHeadOf, starts_body, steps_on}
 use Rattle.law_steps.proofs.Units.Needs.{AreCalled, starts_called, stays_called}
 use Rattle.law_steps.proofs.Units.Numbers.{unit_there}
-use Rattle.ppd_index.specs.Refusals.{fits_unit}
+use Rattle.ppd_index.proofs.Vocabulary.{fits_unit}
 
 module _ (program : Program) (policy : Policy) (v : IsValid program) where
   abbrev plan : Plan

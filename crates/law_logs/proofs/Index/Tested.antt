@@ -11,10 +11,11 @@ use Rattle.ppd_entry.specs.declared.entry.Entry.TheVariants as entry
 use Rattle.ppd_entry.specs.IntervalLogs.{Indexing, depth_of, index_step}
 use Rattle.ppd_entry.specs.Entries.{is_end}
 use Rattle.law_steps.specs.OpenBlocks.Stack.{functions_in}
-use Rattle.ppd_model.specs.FullTrace.{or_else}
-use Rattle.ppd_index.specs.Refusals.{bad, begins, continues, ends_there, fault_of, first_from, innermost_of, is_fitting, is_of_function, is_paired, is_process, is_same, kind_at, standing}
+use Rattle.ppd_index.specs.Refusals.{bad, begins, continues, ends_there, fault_of, first_from, is_fitting, is_of_function, is_process, kind_at, standing}
+use Rattle.ppd_index.proofs.Vocabulary.{innermost_of, is_paired, is_same}
 use Rattle.ppd_index.specs.declared.standing.Fault.TheVariants as fault
 use Rattle.law_logs.proofs.Index.Standing.{Stands, depth_by, innermost_by, none_by}
+use Rattle.std.specs.Option.{option_or}
 
 -- an end that stands inside an interval
 abbrev pub IsInsideEnd : Status → Type 0
@@ -79,9 +80,9 @@ module _ (plan : Plan) where
 
     pub one_more : (x : Indexing) (e : Entry) (es : List Entry) → IsFit body x e → is_end e ≡ false → Passes (index_step plan x e) es → Passes x (e ∷ es)
     one_more x e es fit goes rest =
-        ap (λ f. or_else (option_map (bad p x.entry) f) (first_from plan body p (index_step plan x e) (is_end e) es)) fit
+        ap (λ f. option_or (option_map (bad p x.entry) f) (first_from plan body p (index_step plan x e) (is_end e) es)) fit
         ∙ ap (λ b. first_from plan body p (index_step plan x e) b es) goes ∙ rest
 
     pub last_one : (x : Indexing) (how : Status) (rest : ℕ) (reads writes : List ℕ) → IsFit body x (entry.End how rest reads writes) → Passes x (entry.End how rest reads writes ∷ [])
     last_one x how rest reads writes fit =
-        ap (λ f. or_else (option_map (bad p x.entry) f) (first_from plan body p (index_step plan x (entry.End how rest reads writes)) true [])) fit
+        ap (λ f. option_or (option_map (bad p x.entry) f) (first_from plan body p (index_step plan x (entry.End how rest reads writes)) true [])) fit

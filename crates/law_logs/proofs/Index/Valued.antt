@@ -7,7 +7,8 @@ use Rattle.ppd_ast.specs.declared.program.Program.{Program}
 use Rattle.ppd_sem.specs.declared.proc.Proc.{Proc}
 use Rattle.ppd_model.specs.Laws.{begins}
 use Rattle.ppd_model.specs.Schedule.{started_world}
-use Rattle.ppd_model.specs.Story.{Moment, Telling, cells_of_unit, moment_of, own_moments, tell, told, unit_started, values_at_start}
+use Rattle.ppd_model.specs.Story.{Moment, Telling, cells_of_unit, moment_of, own_moments, tell, told, unit_started}
+use Rattle.ppd_model.proofs.WorldWords.{values_at_start}
 use Rattle.ppd_model.specs.World.{change, step}
 
 -- a unit that the step starts has a value for each of its cells

@@ -15,7 +15,8 @@ use Rattle.ppd_sem.specs.declared.proc.Answer.{Answer}
 use Rattle.ppd_sem.specs.declared.proc.Frame.{Frame}
 use Rattle.ppd_sem.specs.declared.proc.Proc.{Proc}
 use Rattle.ppd_sem.specs.declared.proc.Todo.{Todo}
-use Rattle.ppd_sem.specs.Described.{described, frame_of, trap_of, evaluates, value_at, value_if, valued, writes_by}
+use Rattle.ppd_sem.specs.Described.{described, frame_of, trap_of, evaluates, value_at, valued, writes_by}
+use Rattle.ppd_sem.proofs.EventWords.{value_if}
 use Rattle.ppd_sem.specs.Process.{head_deed, need_of, top_cells}
 use Rattle.ppd_sem.specs.Reads.{reads_of_kind}
 use Rattle.law_replay.proofs.Vocabulary.Over.{IsKindOver, SameIn}

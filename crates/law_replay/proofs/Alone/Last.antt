@@ -25,7 +25,8 @@ use Rattle.ppd_model.specs.Synchronizations.{kind_of_sync}
 use Rattle.ppd_emul_model.specs.Fits.{fits, found_of, same_trap, wanted_of}
 use Rattle.ppd_emul_model.specs.declared.wanted.Wanted.{Wanted}
 use Rattle.ppd_emul_model.specs.declared.wanted.Wanted.TheVariants as wanted
-use Rattle.ppd_emul_model.specs.Replay.{Replaying, done, counted, fail, finished, is_budget, turn_by_end, turn_within, next_piece, replay_from, step_with, with_event}
+use Rattle.ppd_emul_model.specs.Replay.{Replaying, done, counted, fail, finished, is_budget, turn_by_end, next_piece, replay_from, step_with, with_event}
+use Rattle.ppd_emul_model.proofs.Vocabulary.{turn_within}
 use Rattle.law_replay.proofs.Vocabulary.Relation.{HasEnds, IsBlock}
 use Rattle.law_replay.specs.Coming.Pieces.{at_rest}
 use Rattle.law_steps.specs.OpenBlocks.Run.{IsRun}

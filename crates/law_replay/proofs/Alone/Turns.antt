@@ -19,7 +19,8 @@ use Rattle.ppd_model.specs.declared.trace.EventId.{EventId}
 use Rattle.ppd_model.specs.Story.{Moment}
 use Rattle.ppd_emul_model.specs.Laws.{IsOneStep, TakesOneStep}
 use Rattle.ppd_emul_model.proofs.Turns.{turns_are_steps}
-use Rattle.ppd_emul_model.specs.Replay.{Replaying, Replayed, more, done, end_here, go_on, next_piece, replay_from, turn, with_event, with_event_of}
+use Rattle.ppd_emul_model.specs.Replay.{Replaying, Replayed, more, done, end_here, go_on, next_piece, replay_from, turn, with_event}
+use Rattle.ppd_emul_model.proofs.Vocabulary.{with_event_of}
 use Rattle.law_replay.specs.Coming.Pieces.{Coming, before}
 use Rattle.law_replay.proofs.Coming.Late.{IsLate, first_piece, next_is, not_here}
 

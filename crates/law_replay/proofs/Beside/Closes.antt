@@ -18,13 +18,16 @@ use Rattle.ppd_sem.specs.declared.proc.Todo.{Todo}
 use Rattle.ppd_sem.specs.Ask.{cell_of}
 use Rattle.ppd_sem.specs.Asked.{Asked, outcome}
 use Rattle.ppd_sem.specs.Deed.{Deed, set_local, set_shared, clear, branch, turn, leave, invoke, back, take, give, send, receive, print, pass, finish}
-use Rattle.ppd_sem.specs.Passed.{result_at, result_by, result_of_head}
-use Rattle.ppd_sem.specs.Process.{call_unit, cost, entry_of, head_deed, need_by_entry, need_of, need_of_asked, need_of_deed, need_of_head, need_of_leaving, need_of_send, need_by_offer, offer_of, top_body, top_call, top_cells, within_budget}
-use Rattle.ppd_sem.specs.Tables.{block_of, capacity_of, or_zero, unit_of}
+use Rattle.ppd_sem.specs.Passed.{result_at, result_by}
+use Rattle.ppd_sem.proofs.EventWords.{result_of_head}
+use Rattle.ppd_sem.specs.Process.{call_unit, cost, entry_of, head_deed, need_of, need_of_asked, need_of_deed, need_of_head, need_of_leaving, need_of_send, offer_of, top_body, top_call, top_cells, within_budget}
+use Rattle.ppd_sem.proofs.NeedWords.{need_by_entry, need_by_offer}
+use Rattle.ppd_sem.specs.Tables.{block_of, capacity_of, unit_of}
+use Rattle.ppd_sem.proofs.TableWords.{or_zero}
 use Rattle.ppd_sem.proofs.Paid.{need-paid}
 use Rattle.ppd_sem.proofs.Progress.{need_at_todo}
 use Rattle.ppd_model.specs.Marks.{Mark, closed}
-use Rattle.ppd_emul_model.specs.Fits.{postlog_wanted}
+use Rattle.ppd_emul_model.proofs.Vocabulary.{postlog_wanted}
 use Rattle.ppd_emul_model.specs.Replay.{is_budget}
 use Rattle.law_replay.proofs.Vocabulary.Alone.{IsClosing}
 use Rattle.law_replay.proofs.Vocabulary.Relation.{HasEnds, IsBeside, IsBlock, Stacked, at_base, called}

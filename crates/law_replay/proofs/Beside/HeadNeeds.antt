@@ -16,7 +16,8 @@ use Rattle.ppd_ast.specs.Lookups.{kind_of}
 use Rattle.ppd_ast.specs.declared.limits.TheConstants.{MOST_CALLS}
 use Rattle.ppd_sem.specs.declared.proc.Need.{Need}
 use Rattle.ppd_sem.specs.declared.proc.Need.TheVariants.{Invoke, Back, Trap}
-use Rattle.ppd_sem.specs.Process.{need_of_deed, need_of_asked, need_by_entry, need_of_head, need_of_call, need_by_offer, offer_of, call_unit, top_body, top_call, head_deed, top_cells, entry_of}
+use Rattle.ppd_sem.specs.Process.{need_of_deed, need_of_asked, need_of_head, need_of_call, offer_of, call_unit, top_body, top_call, head_deed, top_cells, entry_of}
+use Rattle.ppd_sem.proofs.NeedWords.{need_by_entry, need_by_offer}
 use Rattle.law_replay.proofs.Vocabulary.Relation.{Stacked, at_base, called, HasEnds, IsBlock, IsBeside, Suits, Stays, StaysAt, Yields, IsCalled}
 use Rattle.law_replay.proofs.Beside.Asked.{deed_same}
 use Rattle.law_replay.proofs.Beside.Deeds.{suits}

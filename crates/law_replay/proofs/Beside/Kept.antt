@@ -9,7 +9,8 @@ use Rattle.ppd_ast.specs.Lookups.{kind_of}
 use Rattle.ppd_sem.specs.declared.proc.Frame.{Frame}
 use Rattle.ppd_sem.specs.declared.proc.Proc.{Proc}
 use Rattle.ppd_sem.specs.declared.proc.Todo.{Todo}
-use Rattle.ppd_sem.specs.Described.{ends_body, frame_of, has_interval, is_block}
+use Rattle.ppd_sem.specs.Described.{ends_body, frame_of, is_block}
+use Rattle.ppd_sem.proofs.EventWords.{has_interval}
 use Rattle.ppd_sem.specs.Process.{top_body}
 use Rattle.law_replay.proofs.Vocabulary.Relation.{HasEnd, IsBeside, IsLast, IsOwnTodo, Stacked, at_base, called}
 use Rattle.law_replay.proofs.Beside.Events.{called_frame, top_of_list, taken}

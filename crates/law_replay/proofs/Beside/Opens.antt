@@ -15,7 +15,8 @@ use Rattle.ppd_sem.specs.declared.proc.Todo.{Todo}
 use Rattle.ppd_sem.specs.Asked.{Asked}
 use Rattle.ppd_sem.specs.Deed.{Deed, set_local, set_shared, clear, branch, turn, leave, invoke, back, take, give, send, receive, print, pass, finish}
 use Rattle.ppd_sem.specs.Described.{ends_body}
-use Rattle.ppd_sem.specs.Process.{act, act_at, act_by_asked, act_by_need, head_deed, need_of, need_of_asked, need_of_deed, need_of_head, need_of_leaving, call_unit, cost, entry_of, loop_of, need_by_entry, need_by_offer, need_of_send, offer_of, todos, top_body, top_call, top_cells}
+use Rattle.ppd_sem.specs.Process.{act, act_by_asked, act_by_need, head_deed, need_of, need_of_asked, need_of_deed, need_of_head, need_of_leaving, call_unit, cost, entry_of, loop_of, need_of_send, offer_of, todos, top_body, top_call, top_cells}
+use Rattle.ppd_sem.proofs.NeedWords.{act_at, need_by_entry, need_by_offer}
 use Rattle.ppd_sem.specs.Tables.{block_of, capacity_of, unit_of}
 use Rattle.ppd_sem.proofs.Progress.{need_at_todo}
 use Rattle.ppd_ast.specs.declared.plan.Start.TheVariants as start

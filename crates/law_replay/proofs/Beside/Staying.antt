@@ -14,7 +14,8 @@ use Rattle.ppd_sem.specs.declared.proc.Todo.{Todo}
 use Rattle.ppd_sem.specs.Asked.{Asked}
 use Rattle.ppd_sem.specs.Deed.{Deed, set_local, set_shared, clear, branch, turn, leave, invoke, back, take, give, send, receive, print, pass, finish}
 use Rattle.ppd_sem.specs.Described.{ends_body}
-use Rattle.ppd_sem.specs.Process.{call_unit, entry_of, head_deed, need_by_entry, need_by_offer, need_of, offer_of, need_of_leaving, top_body, top_call, top_cells}
+use Rattle.ppd_sem.specs.Process.{call_unit, entry_of, head_deed, need_of, offer_of, need_of_leaving, top_body, top_call, top_cells}
+use Rattle.ppd_sem.proofs.NeedWords.{need_by_entry, need_by_offer}
 use Rattle.ppd_sem.specs.Tables.{block_of}
 use Rattle.ppd_model.specs.Marks.{closed}
 use Rattle.ppd_emul_model.specs.Replay.{is_budget}

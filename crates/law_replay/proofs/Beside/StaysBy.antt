@@ -17,7 +17,8 @@ use Rattle.ppd_ast.specs.declared.limits.TheConstants.{MOST_CALLS}
 use Rattle.ppd_sem.specs.declared.asking.Pause.TheVariants.{Wants, Traps}
 use Rattle.ppd_sem.specs.declared.proc.Need.{Need}
 use Rattle.ppd_sem.specs.declared.proc.Need.TheVariants.{Invoke, Offer, Done, Trap}
-use Rattle.ppd_sem.specs.Process.{need_of_deed, need_of_asked, need_by_entry, need_of_head, need_of_leaving, need_of_send, need_by_offer, offer_of, head_deed, entry_of}
+use Rattle.ppd_sem.specs.Process.{need_of_deed, need_of_asked, need_of_head, need_of_leaving, need_of_send, offer_of, head_deed, entry_of}
+use Rattle.ppd_sem.proofs.NeedWords.{need_by_entry, need_by_offer}
 use Rattle.ppd_sem.specs.Described.{ends_body}
 use Rattle.law_replay.proofs.Vocabulary.Relation.{Rests, Stacked, Stays, StaysAt, Yields}
 use Rattle.law_replay.proofs.Beside.Sends.{offered_goes_on}

@@ -15,7 +15,8 @@ use Rattle.ppd_ast.specs.Lookups.{kind_of}
 use Rattle.ppd_ast.specs.declared.status.Status.{Status}
 use Rattle.ppd_sem.specs.declared.proc.Need.{Need}
 use Rattle.ppd_sem.specs.declared.proc.Need.TheVariants.{Enter, Offer, Done, Trap, Budget, Stopped}
-use Rattle.ppd_sem.specs.Process.{act, act_at, act_by_need, act_by_asked, charged, cost, within_budget, need_of, need_by_status, need_of_running, need_of_head, offer_of, head_deed, top_cells, value_of}
+use Rattle.ppd_sem.specs.Process.{act, act_by_need, act_by_asked, charged, cost, within_budget, need_of, need_of_head, offer_of, head_deed, top_cells, value_of}
+use Rattle.ppd_sem.proofs.NeedWords.{act_at, need_by_status, need_of_running}
 use Rattle.law_replay.proofs.Vocabulary.Relation.{HasEnds, IsBlock, IsBeside, Suits, Stays, StaysAt, Yields}
 use Rattle.law_replay.proofs.Beside.Deeds.{suits}
 use Rattle.law_replay.proofs.Beside.Frames.{marked_stacked}

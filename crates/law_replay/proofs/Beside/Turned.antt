@@ -13,14 +13,16 @@ use Rattle.ppd_sem.specs.declared.proc.Proc.{Proc}
 use Rattle.ppd_sem.specs.declared.proc.Todo.{Todo}
 use Rattle.ppd_sem.specs.Asked.{Asked}
 use Rattle.ppd_sem.specs.Deed.{Deed, finish as finishes}
-use Rattle.ppd_sem.specs.Process.{act, act_at, act_by_asked, act_by_deed, act_by_need, cost, head_deed, need_by_entry, need_by_offer, need_of, need_of_asked, need_of_deed, need_of_head, entry_of, offer_of}
+use Rattle.ppd_sem.specs.Process.{act, act_by_asked, act_by_deed, act_by_need, cost, head_deed, need_of, need_of_asked, need_of_deed, need_of_head, entry_of, offer_of}
+use Rattle.ppd_sem.proofs.NeedWords.{act_at, need_by_entry, need_by_offer}
 use Rattle.ppd_sem.proofs.Progress.{need_at_todo}
 use Rattle.ppd_model.specs.Logs.{status_of}
 use Rattle.ppd_model.specs.Story.{cells_of_unit}
 use Rattle.ppd_emul_model.specs.Fits.{fits, found_of, wanted_of}
 use Rattle.ppd_emul_model.specs.declared.wanted.Wanted.{Wanted}
 use Rattle.ppd_emul_model.specs.declared.wanted.Wanted.TheVariants as wanted
-use Rattle.ppd_emul_model.specs.Replay.{Replaying, more, end_here, fail, is_budget, next_piece, past_piece, step_with, step_without, take_unit, turn, turn_by_end, turn_by_wanted, turn_within, unit_taken}
+use Rattle.ppd_emul_model.specs.Replay.{Replaying, more, end_here, fail, is_budget, next_piece, past_piece, step_with, step_without, take_unit, turn, turn_by_end, turn_by_wanted, unit_taken}
+use Rattle.ppd_emul_model.proofs.Vocabulary.{turn_within}
 use Rattle.law_replay.proofs.Beside.Needs.{is_done, is_enter}
 
 module _ (program : Program) (plan : Plan) where

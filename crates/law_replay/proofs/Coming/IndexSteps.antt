@@ -3,7 +3,8 @@ use Rattle.std.proofs.Common.{◌≡◌, ℕ, zero, suc, ◌+◌, ◌<◌, ◌�
 use Rattle.std.proofs.lemmas.List.{length-append}
 use Rattle.std.proofs.lemmas.Option.{none-some}
 use Rattle.std.specs.Prelude.{slice_get, ℤ}
-use Rattle.ppd_entry.specs.IntervalLogs.{Indexed, add_piece, add_piece_at, interval_at, left_open, with_piece}
+use Rattle.ppd_entry.specs.IntervalLogs.{Indexed, add_piece, add_piece_at, interval_at, left_open}
+use Rattle.ppd_entry.proofs.Vocabulary.{with_piece}
 use Rattle.ppd_entry.specs.Pieces.{Piece, nested, unfinished, postlog}
 use Rattle.law_replay.specs.Coming.Pieces.{Inner}
 use Rattle.law_replay.proofs.Coming.Indexes.{added_length, At, Grows, IsInside, Past, Rests, falls_on, falls_rest, more, piece_inner, piece_own, piece_past, put_block, put_last, put_last_block, put_there, runs_alike, same}

@@ -3,7 +3,8 @@ use Rattle.std.proofs.Common.{◌≡◌, ℕ, zero, suc, ◌+◌, ◌<◌, List,
 use Rattle.std.proofs.lemmas.Option.{none-some}
 use Rattle.std.specs.Prelude.{⊤, slice_get, option_map}
 use Rattle.std.proofs.lemmas.List.{map-append}
-use Rattle.ppd_entry.specs.IntervalLogs.{Indexed, add_piece, add_piece_at, interval_at, with_piece}
+use Rattle.ppd_entry.specs.IntervalLogs.{Indexed, add_piece, add_piece_at, interval_at}
+use Rattle.ppd_entry.proofs.Vocabulary.{with_piece}
 use Rattle.ppd_entry.specs.Pieces.{Piece}
 use Rattle.law_replay.specs.Coming.Pieces.{Inner}
 use Rattle.ppd_model.proofs.Extents.{Fall}

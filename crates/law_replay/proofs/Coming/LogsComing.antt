@@ -8,7 +8,8 @@ use Rattle.ppd_ast.specs.declared.plan.Policy.{Policy}
 use Rattle.ppd_ast.specs.declared.program.Program.{Program}
 use Rattle.ppd_ast.specs.Valid.{IsValid}
 use Rattle.law_steps.specs.Blocks.{plan_of}
-use Rattle.ppd_entry.specs.IntervalLogs.{Indexed, no_interval}
+use Rattle.ppd_entry.specs.IntervalLogs.{Indexed}
+use Rattle.ppd_entry.proofs.Vocabulary.{no_interval}
 use Rattle.ppd_sem.specs.Process.{started}
 use Rattle.ppd_model.specs.Logs.{begun_log}
 use Rattle.ppd_model.specs.Schedule.{started_world}

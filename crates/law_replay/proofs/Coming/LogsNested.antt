@@ -4,9 +4,11 @@ use Rattle.std.proofs.lemmas.Option.{none-some, same_Some}
 use Rattle.std.specs.Prelude.{slice_get}
 use Rattle.ppd_ast.specs.declared.plan.Plan.{Plan}
 use Rattle.ppd_ast.specs.declared.program.Program.{Program}
-use Rattle.ppd_entry.specs.IntervalLogs.{Indexed, Indexing, begun_indexing, index_step, interval_log, log_in}
+use Rattle.ppd_entry.specs.IntervalLogs.{Indexed, Indexing, begun_indexing, index_step, interval_log}
+use Rattle.ppd_entry.proofs.Vocabulary.{log_in}
 use Rattle.ppd_sem.specs.Process.{started}
-use Rattle.ppd_model.specs.Logs.{begun_log, closed_log, closed_logs, log_of, logs_from}
+use Rattle.ppd_model.specs.Logs.{begun_log, closed_log, closed_logs, log_of}
+use Rattle.ppd_model.proofs.LogWords.{logs_from}
 use Rattle.ppd_model.specs.Story.{Moment, own_moments, told}
 use Rattle.law_steps.specs.OpenBlocks.Stack.{block_frames}
 use Rattle.law_replay.specs.Coming.Pieces.{coming}

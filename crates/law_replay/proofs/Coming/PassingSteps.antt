@@ -4,7 +4,8 @@ use Rattle.std.specs.Prelude.{slice_get, ℤ, fold}
 use Rattle.ppd_ast.specs.declared.plan.Plan.{Plan}
 use Rattle.ppd_ast.specs.declared.program.Program.{Program}
 use Rattle.ppd_entry.specs.declared.entry.Entry.TheVariants as entry
-use Rattle.ppd_entry.specs.IntervalLogs.{Indexed, Indexing, index_step, with_piece}
+use Rattle.ppd_entry.specs.IntervalLogs.{Indexed, Indexing, index_step}
+use Rattle.ppd_entry.proofs.Vocabulary.{with_piece}
 use Rattle.ppd_entry.specs.Pieces.{unit, sync}
 use Rattle.ppd_sem.specs.declared.proc.Proc.{Proc}
 use Rattle.ppd_model.specs.declared.tracing.Taken.{Taken}

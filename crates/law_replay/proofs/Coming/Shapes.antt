@@ -4,7 +4,8 @@ use Rattle.std.specs.Prelude.{ℤ, drop, fold}
 use Rattle.ppd_ast.specs.declared.plan.Plan.{Plan}
 use Rattle.ppd_ast.specs.declared.program.Program.{Program}
 use Rattle.ppd_ast.specs.declared.status.Status.{Status}
-use Rattle.ppd_entry.specs.IntervalLogs.{Indexed, Indexing, add_piece, add_piece_at, index_step, interval_at, left_interval, with_piece}
+use Rattle.ppd_entry.specs.IntervalLogs.{Indexed, Indexing, add_piece, add_piece_at, index_step, interval_at, left_interval}
+use Rattle.ppd_entry.proofs.Vocabulary.{with_piece}
 use Rattle.ppd_entry.specs.Pieces.{Piece, unit, nested, postlog}
 use Rattle.ppd_sem.specs.declared.proc.Need.{Need}
 use Rattle.ppd_sem.specs.declared.proc.Need.TheVariants.{Read, Write, Plain, Enter, Leave, Invoke, Back, P, V, Send, Offer, Done, Recv, End, Trap, Budget, Stopped}

@@ -7,7 +7,8 @@ use Rattle.ppd_ast.specs.declared.status.Status.{Status}
 use Rattle.ppd_ast.specs.Valid.{IsValid}
 use Rattle.ppd_sem.specs.declared.proc.Need.TheVariants.{Stopped}
 use Rattle.ppd_sem.specs.declared.proc.Proc.{Proc}
-use Rattle.ppd_sem.specs.Process.{act, need_by_status, need_of}
+use Rattle.ppd_sem.specs.Process.{act, need_of}
+use Rattle.ppd_sem.proofs.NeedWords.{need_by_status}
 use Rattle.ppd_model.specs.Logs.{status_of}
 use Rattle.ppd_model.specs.Marks.{Mark, opened, closed}
 use Rattle.ppd_model.specs.Story.{Moment, unit_started}

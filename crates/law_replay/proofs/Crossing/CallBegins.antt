@@ -18,7 +18,8 @@ use Rattle.ppd_sem.specs.declared.proc.Proc.{Proc}
 use Rattle.ppd_sem.specs.declared.proc.Todo.{Todo}
 use Rattle.ppd_sem.specs.Asked.{Asked}
 use Rattle.ppd_sem.specs.Deed.{Deed, invoke, leave, send}
-use Rattle.ppd_sem.specs.Process.{act, act_at, act_by_asked, act_by_need, charged, cost, entry_of, head_deed, need_by_entry, need_of, need_of_asked, need_of_deed, need_of_head, need_of_leaving, need_of_send, new_frame, todos, top_cells}
+use Rattle.ppd_sem.specs.Process.{act, act_by_asked, act_by_need, charged, cost, entry_of, head_deed, need_of, need_of_asked, need_of_deed, need_of_head, need_of_leaving, need_of_send, new_frame, todos, top_cells}
+use Rattle.ppd_sem.proofs.NeedWords.{act_at, need_by_entry}
 use Rattle.ppd_sem.specs.Tables.{block_of, capacity_of, unit_of}
 use Rattle.ppd_model.specs.Marks.{closed}
 use Rattle.ppd_emul_model.specs.Replay.{is_budget}

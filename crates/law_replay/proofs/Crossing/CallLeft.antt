@@ -16,8 +16,10 @@ use Rattle.ppd_sem.specs.declared.proc.Todo.{Todo}
 use Rattle.ppd_sem.specs.Asked.{outcome}
 use Rattle.ppd_sem.specs.Deed.{leave}
 use Rattle.ppd_sem.specs.Described.{ends_body}
-use Rattle.ppd_sem.specs.Passed.{result_at, result_by, result_of_head}
-use Rattle.ppd_sem.specs.Process.{act, act_at, act_by_need, call_unit, cost, need_of, need_of_head, returned, top_call}
+use Rattle.ppd_sem.specs.Passed.{result_at, result_by}
+use Rattle.ppd_sem.proofs.EventWords.{result_of_head}
+use Rattle.ppd_sem.specs.Process.{act, act_by_need, call_unit, cost, need_of, need_of_head, returned, top_call}
+use Rattle.ppd_sem.proofs.NeedWords.{act_at}
 use Rattle.ppd_sem.specs.Tables.{unit_of}
 use Rattle.ppd_model.specs.Logs.{status_of}
 use Rattle.ppd_model.specs.Marks.{Mark, opened, closed}

@@ -17,7 +17,8 @@ use Rattle.ppd_sem.specs.declared.proc.Todo.{Todo}
 use Rattle.ppd_sem.specs.Asked.{Asked}
 use Rattle.ppd_sem.specs.Deed.{Deed, back, finish}
 use Rattle.ppd_sem.specs.Described.{ends_body}
-use Rattle.ppd_sem.specs.Process.{act, call_unit, entry_of, head_deed, need_by_entry, need_by_offer, need_of, need_of_asked, need_of_head, top_body, top_call, top_cells}
+use Rattle.ppd_sem.specs.Process.{act, call_unit, entry_of, head_deed, need_of, need_of_asked, need_of_head, top_body, top_call, top_cells}
+use Rattle.ppd_sem.proofs.NeedWords.{need_by_entry, need_by_offer}
 use Rattle.ppd_sem.specs.Tables.{block_of}
 use Rattle.ppd_sem.proofs.Progress.{act-stopped, need_at_status}
 use Rattle.ppd_model.specs.Logs.{status_of}

@@ -16,7 +16,8 @@ use Rattle.ppd_sem.specs.declared.proc.Proc.{Proc}
 use Rattle.ppd_sem.specs.declared.proc.Todo.{Todo}
 use Rattle.ppd_sem.specs.Asked.{Asked}
 use Rattle.ppd_sem.specs.Deed.{Deed, leave, invoke, back, send, finish}
-use Rattle.ppd_sem.specs.Process.{act_by_asked, act_by_need, call_unit, charged, cost, entry_of, head_deed, need_by_entry, need_of_asked, need_of_deed, need_of_head, need_of_leaving, need_of_send, returned, top_body, top_call, top_cells}
+use Rattle.ppd_sem.specs.Process.{act_by_asked, act_by_need, call_unit, charged, cost, entry_of, head_deed, need_of_asked, need_of_deed, need_of_head, need_of_leaving, need_of_send, returned, top_body, top_call, top_cells}
+use Rattle.ppd_sem.proofs.NeedWords.{need_by_entry}
 use Rattle.ppd_sem.specs.Tables.{block_of, capacity_of, unit_of}
 use Rattle.law_replay.proofs.Vocabulary.Relation.{IsReturn, Suits, Yields}
 use Rattle.law_replay.proofs.Beside.Deeds.{suits}

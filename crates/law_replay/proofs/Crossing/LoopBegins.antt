@@ -11,7 +11,8 @@ use Rattle.ppd_sem.specs.declared.proc.Frame.{Frame}
 use Rattle.ppd_sem.specs.declared.proc.Need.TheVariants.{Enter, Budget}
 use Rattle.ppd_sem.specs.declared.proc.Proc.{Proc}
 use Rattle.ppd_sem.specs.declared.proc.Todo.{Todo}
-use Rattle.ppd_sem.specs.Process.{act, act_at, act_by_need, cost, entry_of, head_deed, need_by_entry, need_by_offer, need_of, need_of_head, offer_of}
+use Rattle.ppd_sem.specs.Process.{act, act_by_need, cost, entry_of, head_deed, need_of, need_of_head, offer_of}
+use Rattle.ppd_sem.proofs.NeedWords.{act_at, need_by_entry, need_by_offer}
 use Rattle.ppd_sem.proofs.Progress.{need_at_todo}
 use Rattle.law_replay.proofs.Vocabulary.Across.{IsInLoop}
 use Rattle.law_replay.proofs.Vocabulary.Relation.{IsBeside, Stacked, at_base, called}

@@ -14,7 +14,8 @@ use Rattle.ppd_sem.specs.declared.proc.Need.TheVariants.{Leave}
 use Rattle.ppd_sem.specs.declared.proc.Proc.{Proc}
 use Rattle.ppd_sem.specs.declared.proc.Todo.{Todo}
 use Rattle.ppd_sem.specs.Described.{ends_body}
-use Rattle.ppd_sem.specs.Process.{act, act_at, cost, need_of, need_of_head}
+use Rattle.ppd_sem.specs.Process.{act, cost, need_of, need_of_head}
+use Rattle.ppd_sem.proofs.NeedWords.{act_at}
 use Rattle.ppd_sem.specs.Tables.{block_of, unit_of}
 use Rattle.ppd_model.specs.Logs.{status_of}
 use Rattle.ppd_model.specs.Marks.{Mark, opened, closed, values_at}

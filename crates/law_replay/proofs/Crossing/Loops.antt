@@ -16,7 +16,8 @@ use Rattle.ppd_sem.specs.declared.proc.Proc.{Proc}
 use Rattle.ppd_sem.specs.declared.proc.Todo.{Todo}
 use Rattle.ppd_sem.specs.Asked.{Asked}
 use Rattle.ppd_sem.specs.Deed.{Deed}
-use Rattle.ppd_sem.specs.Process.{act, entry_of, head_deed, need_by_entry, need_of}
+use Rattle.ppd_sem.specs.Process.{act, entry_of, head_deed, need_of}
+use Rattle.ppd_sem.proofs.NeedWords.{need_by_entry}
 use Rattle.ppd_sem.specs.Tables.{block_of}
 use Rattle.ppd_sem.proofs.Progress.{act-stopped, need_at_status}
 use Rattle.ppd_model.specs.Logs.{status_of}

@@ -15,7 +15,8 @@ use Rattle.ppd_sem.specs.declared.proc.Todo.{Todo}
 use Rattle.ppd_sem.specs.Asked.{Asked}
 use Rattle.ppd_sem.specs.Deed.{Deed, set_local, set_shared, clear, branch, turn, leave, invoke, back, take, give, send, receive, print, pass, finish}
 use Rattle.ppd_sem.specs.Described.{ends_body}
-use Rattle.ppd_sem.specs.Process.{act, act_at, act_by_asked, act_by_deed, act_by_need, head_deed, into_of, need_of, receive_at, returned, returned_from, todos, top_cells, value_of}
+use Rattle.ppd_sem.specs.Process.{act, act_by_asked, act_by_deed, act_by_need, head_deed, into_of, need_of, receive_at, returned, returned_from, todos, top_cells, value_of}
+use Rattle.ppd_sem.proofs.NeedWords.{act_at}
 use Rattle.ppd_sem.proofs.Offers.{CompletesSend, completes}
 use Rattle.law_replay.proofs.Vocabulary.Relation.{HasEnds, Suits, Yields, past_body}
 use Rattle.law_replay.proofs.Vocabulary.Calls.{IsPastFrames, past_all}

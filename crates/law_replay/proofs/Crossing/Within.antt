@@ -19,7 +19,8 @@ use Rattle.ppd_ast.specs.declared.status.Trap.TheVariants as trap
 use Rattle.ppd_ast.specs.Lookups.{kind_of}
 use Rattle.ppd_ast.specs.declared.limits.TheConstants.{MOST_CALLS}
 use Rattle.ppd_sem.specs.Described.{ends_body}
-use Rattle.ppd_sem.specs.Process.{act, act_at, act_by_asked, act_by_need, charged, entry_of, head_deed, need_by_entry, need_by_offer, need_of, need_of_asked, need_of_deed, need_of_head, need_of_leaving, need_of_send, offer_of, top_cells}
+use Rattle.ppd_sem.specs.Process.{act, act_by_asked, act_by_need, charged, entry_of, head_deed, need_of, need_of_asked, need_of_deed, need_of_head, need_of_leaving, need_of_send, offer_of, top_cells}
+use Rattle.ppd_sem.proofs.NeedWords.{act_at, need_by_entry, need_by_offer}
 use Rattle.ppd_sem.proofs.Offers.{DoneSuch, entry_done}
 use Rattle.ppd_sem.proofs.Progress.{SamePurse, asked_purse}
 use Rattle.ppd_model.specs.Logs.{status_of}

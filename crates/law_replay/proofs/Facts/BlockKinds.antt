@@ -10,8 +10,11 @@ use Rattle.ppd_ast.specs.declared.plan.Policy.{Policy}
 use Rattle.ppd_ast.specs.declared.program.Body.{Body}
 use Rattle.ppd_ast.specs.declared.program.Program.{Program}
 use Rattle.ppd_ast.specs.declared.program.Stmt.{Stmt}
-use Rattle.ppd_ast.specs.Numbered.{blocks_by, blocks_of, body_kind, each_from, is_block_body, is_block_loop, loops_at, loops_of, numbers_of}
-use Rattle.ppd_blocks.specs.Blocks.{block_of as block_from, plan_of}
+use Rattle.ppd_ast.specs.Numbered.{blocks_by, blocks_of, each_from, is_block_body, is_block_loop, loops_at, numbers_of}
+use Rattle.ppd_ast.proofs.Vocabulary.{body_kind}
+use Rattle.ppd_ast.proofs.Vocabulary.{loops_of}
+use Rattle.ppd_blocks.specs.Blocks.{plan_of}
+use Rattle.ppd_blocks.proofs.Vocabulary.{block_of as block_from}
 use Rattle.ppd_sem.specs.Tables.{block_of}
 use Rattle.law_steps.proofs.OpenBlocks.Planned.{block_there}
 use Rattle.ppd_model.proofs.Changes.{some}

@@ -12,12 +12,15 @@ use Rattle.ppd_ast.specs.declared.program.Kind.{Kind}
 use Rattle.ppd_ast.specs.declared.program.Kind.TheVariants as kind
 use Rattle.ppd_ast.specs.declared.program.Program.{Program}
 use Rattle.ppd_ast.specs.declared.program.Stmt.{Stmt}
-use Rattle.ppd_ast.specs.Numbered.{has_call, is_call, is_call_of, numbers_of}
-use Rattle.ppd_ast.specs.Order.{inner, inner_at, inner_of, preorder}
+use Rattle.ppd_ast.specs.Numbered.{has_call, is_call, numbers_of}
+use Rattle.ppd_ast.proofs.Vocabulary.{is_call_of}
+use Rattle.ppd_ast.specs.Order.{inner, preorder}
+use Rattle.ppd_ast.proofs.Vocabulary.{inner_at, inner_of}
 use Rattle.ppd_ast.specs.Valid.{EndsBody, IsValid}
 use Rattle.ppd_ast.proofs.ValidLaws.{some_and, stmt_in_body, valid_body, valid_stmt}
 use Rattle.ppd_ast.specs.Members.{has}
-use Rattle.ppd_ast.specs.Lookups.{kind_of_stmt, kind_of, body_of_stmt}
+use Rattle.ppd_ast.specs.Lookups.{kind_of, body_of_stmt}
+use Rattle.ppd_ast.proofs.Vocabulary.{kind_of_stmt}
 use Rattle.ppd_ast.proofs.Members.{has_cons, any_from, in_bounds_has, below_range, flat_gives, flat_from, all_has}
 use Rattle.ppd_ast.specs.declared.limits.TheConstants.{MOST_NESTING}
 use Rattle.ppd_blocks.specs.Blocks.{plan_of}

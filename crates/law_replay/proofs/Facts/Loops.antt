@@ -15,7 +15,8 @@ use Rattle.ppd_ast.specs.Lookups.{kind_of, body_of_stmt}
 use Rattle.ppd_ast.proofs.Members.{has_first, has_later, has_cons, has_left, has_right, has_filter, below_range}
 use Rattle.ppd_ast.specs.declared.limits.TheConstants.{MOST_SHARED_CELLS}
 use Rattle.ppd_blocks.specs.Blocks.{plan_of, prelog_of}
-use Rattle.ppd_sem.specs.Blocks.{postlog_cells, postlog_in}
+use Rattle.ppd_sem.specs.Blocks.{postlog_cells}
+use Rattle.ppd_sem.proofs.TableWords.{postlog_in}
 use Rattle.ppd_sem.specs.declared.proc.Todo.{Todo}
 use Rattle.ppd_sem.specs.Described.{ends_body}
 use Rattle.ppd_sem.specs.Tables.{block_of}

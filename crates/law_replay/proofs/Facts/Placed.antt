@@ -12,7 +12,8 @@ use Rattle.ppd_ast.specs.Order.{StandIn, inner}
 use Rattle.ppd_ast.specs.Valid.{CallsRightly, EndsBody, IsEnding, IsValid, last_of}
 use Rattle.ppd_ast.proofs.Standing.{All-append_parts}
 use Rattle.ppd_ast.proofs.ValidLaws.{some_and, stmt_in_body, valid_body, valid_stmt}
-use Rattle.ppd_ast.specs.Lookups.{kind_of_stmt, kind_of, top_of_body, body_of_stmt}
+use Rattle.ppd_ast.specs.Lookups.{kind_of, top_of_body, body_of_stmt}
+use Rattle.ppd_ast.proofs.Vocabulary.{kind_of_stmt}
 use Rattle.ppd_cfg.specs.Flow.{follow}
 use Rattle.law_steps.proofs.Course.Chains.{IsChain, top_chain}
 use Rattle.law_steps.proofs.Course.Last.{ends_are_last}

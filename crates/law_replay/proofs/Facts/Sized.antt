@@ -12,13 +12,15 @@ use Rattle.ppd_ast.specs.declared.program.Program.{Program}
 use Rattle.ppd_ast.specs.declared.program.Stmt.{Stmt}
 use Rattle.ppd_ast.specs.Valid.{CallsRightly, IsValid}
 use Rattle.ppd_ast.proofs.ValidLaws.{slice_get_there, stmt_in_body}
-use Rattle.ppd_ast.specs.Lookups.{kind_of_stmt, kind_of, params_of_body, body_of}
+use Rattle.ppd_ast.specs.Lookups.{kind_of, body_of}
+use Rattle.ppd_ast.proofs.Vocabulary.{kind_of_stmt, params_of_body}
 use Rattle.ppd_sem.specs.declared.proc.Answer.{Answer}
 use Rattle.ppd_sem.specs.declared.proc.Frame.{Frame}
 use Rattle.ppd_sem.specs.declared.proc.Proc.{Proc}
 use Rattle.ppd_sem.specs.declared.proc.Todo.{Todo}
 use Rattle.ppd_sem.specs.Deed.{Deed, set_local, clear, invoke, back, receive}
-use Rattle.ppd_sem.specs.Process.{act, act_by_deed, cells_for, clear_top, into_of, new_frame, receive_at, returned, returned_from, started, top_cells, write_top}
+use Rattle.ppd_sem.specs.Process.{act, act_by_deed, clear_top, into_of, new_frame, receive_at, returned, returned_from, started, top_cells, write_top}
+use Rattle.ppd_sem.proofs.NeedWords.{cells_for}
 use Rattle.ppd_sem.specs.Runs.{LeadsOn, size_if, size_of, stmt_size}
 use Rattle.ppd_sem.proofs.Kept.{leads_at, length-clear}
 use Rattle.ppd_sem.proofs.Validity.{valid-runnable}

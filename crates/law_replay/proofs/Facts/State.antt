@@ -7,7 +7,8 @@ use Rattle.ppd_ast.specs.declared.plan.Policy.{Policy}
 use Rattle.ppd_ast.specs.declared.program.Program.{Program}
 use Rattle.ppd_ast.specs.Valid.{IsValid}
 use Rattle.ppd_ast.proofs.ValidLaws.{slice_get_there}
-use Rattle.ppd_ast.specs.Lookups.{kind_of_stmt, kind_of, body_of_stmt}
+use Rattle.ppd_ast.specs.Lookups.{kind_of, body_of_stmt}
+use Rattle.ppd_ast.proofs.Vocabulary.{kind_of_stmt}
 use Rattle.ppd_blocks.specs.Blocks.{plan_of}
 use Rattle.law_steps.specs.Course.{GoesUntilEnd}
 use Rattle.law_steps.proofs.Course.Ending.{never_runs_out}
@@ -17,7 +18,8 @@ use Rattle.ppd_sem.specs.declared.proc.Need.{Need}
 use Rattle.ppd_sem.specs.declared.proc.Need.TheVariants.{Enter, Offer, Done, Trap, Budget, Stopped}
 use Rattle.ppd_sem.specs.declared.proc.Proc.{Proc}
 use Rattle.ppd_sem.specs.declared.proc.Todo.{Todo}
-use Rattle.ppd_sem.specs.Process.{act, act_at, act_by_need, entry_of, head_deed, need_of, started, top_body}
+use Rattle.ppd_sem.specs.Process.{act, act_by_need, entry_of, head_deed, need_of, started, top_body}
+use Rattle.ppd_sem.proofs.NeedWords.{act_at}
 use Rattle.ppd_sem.specs.Offers.{OffersAtHead}
 use Rattle.ppd_sem.specs.Runs.{IsRunning, bodies_in}
 use Rattle.ppd_sem.proofs.Kept.{act-runs}

@@ -18,7 +18,8 @@ use Rattle.ppd_model.specs.Forward.{edge_in}
 use Rattle.ppd_model.specs.Races.{races}
 use Rattle.ppd_model.specs.Schedule.{run, started_world}
 use Rattle.ppd_model.specs.Story.{Moment, Telling, moment_of, own_moments, own_steps, steps_of, story, told}
-use Rattle.ppd_model.specs.World.{World, answer, need, need_at}
+use Rattle.ppd_model.specs.World.{World, answer, need}
+use Rattle.ppd_model.proofs.WorldWords.{need_at}
 use Rattle.ppd_model.proofs.Stories.{steps_append}
 use Rattle.law_steps.specs.Units.{IsCellOf, unit_in_force}
 use Rattle.law_steps.proofs.Units.Reading.{reads_lie}

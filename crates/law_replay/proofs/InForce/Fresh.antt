@@ -13,7 +13,8 @@ use Rattle.ppd_sem.specs.Tables.{unit_of}
 use Rattle.ppd_model.specs.Forward.{edge_in}
 use Rattle.ppd_model.specs.Schedule.{started_world}
 use Rattle.ppd_model.specs.SharedReads.{need_after}
-use Rattle.ppd_model.specs.Story.{Moment, Telling, moment_of, own_moments, steps_of, told, unit_started, values_at_start}
+use Rattle.ppd_model.specs.Story.{Moment, Telling, moment_of, own_moments, steps_of, told, unit_started}
+use Rattle.ppd_model.proofs.WorldWords.{values_at_start}
 use Rattle.ppd_model.specs.Synchronizations.{kind_of_sync, numbered, sync_of, syncs_of}
 use Rattle.ppd_model.specs.World.{effect, need}
 use Rattle.ppd_model.proofs.Numbers.{syncs-append}

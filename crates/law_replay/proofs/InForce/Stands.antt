@@ -13,7 +13,8 @@ use Rattle.ppd_sem.specs.declared.proc.Need.TheVariants.{Read, Done, Budget, Sto
 use Rattle.ppd_sem.specs.declared.proc.Proc.{Proc}
 use Rattle.ppd_sem.specs.Process.{act, need_of, started, todos}
 use Rattle.ppd_model.specs.Story.{Telling, moment_of, own_moments, told}
-use Rattle.ppd_model.specs.World.{answer, change, need, need_at}
+use Rattle.ppd_model.specs.World.{answer, change, need}
+use Rattle.ppd_model.proofs.WorldWords.{need_at}
 use Rattle.ppd_model.proofs.Changes.{change-at, change-else, some}
 use Rattle.ppd_model.proofs.OfferMarks.{AreUnmarked, IsMarked, HasEnded, IsUnmarked, marked_step, offer_step, over_step, unmarked_step}
 use Rattle.ppd_model.proofs.Stories.{told-append}

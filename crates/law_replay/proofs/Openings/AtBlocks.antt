@@ -16,8 +16,10 @@ use Rattle.ppd_entry.specs.Pieces.{unit}
 use Rattle.ppd_sem.specs.Blocks.{block_todo, block_unit}
 use Rattle.ppd_sem.specs.declared.proc.Proc.{Proc}
 use Rattle.ppd_sem.specs.declared.proc.Todo.{Todo}
-use Rattle.ppd_sem.specs.Process.{act, need_by_status, need_of, new_frame, started}
-use Rattle.ppd_sem.specs.Tables.{block_of, or_zero, unit_of}
+use Rattle.ppd_sem.specs.Process.{act, need_of, new_frame, started}
+use Rattle.ppd_sem.proofs.NeedWords.{need_by_status}
+use Rattle.ppd_sem.specs.Tables.{block_of, unit_of}
+use Rattle.ppd_sem.proofs.TableWords.{or_zero}
 use Rattle.ppd_model.specs.Marks.{Mark, opened}
 use Rattle.ppd_model.specs.Story.{Moment, unit_started, values_of_unit}
 use Rattle.law_replay.specs.Coming.Pieces.{unit_pieces}

@@ -12,7 +12,8 @@ use Rattle.ppd_sem.specs.Blocks.{at_block, block_body, block_todo, prelog_cells,
 use Rattle.ppd_sem.specs.declared.proc.Frame.{Frame}
 use Rattle.ppd_sem.specs.declared.proc.Proc.{Proc}
 use Rattle.ppd_sem.specs.Ask.{cell_of}
-use Rattle.ppd_sem.specs.Process.{cells_for, new_frame}
+use Rattle.ppd_sem.specs.Process.{new_frame}
+use Rattle.ppd_sem.proofs.NeedWords.{cells_for}
 use Rattle.ppd_sem.specs.Runs.{size_if, size_of}
 use Rattle.law_replay.proofs.Vocabulary.Relation.{IsBeside, IsSameIn, Stacked, at_base}
 use Rattle.law_replay.specs.Coming.Openings.{Opening}

@@ -10,13 +10,15 @@ use Rattle.ppd_ast.specs.declared.program.Kind.TheVariants as kind
 use Rattle.ppd_ast.specs.declared.program.Program.{Program}
 use Rattle.ppd_ast.specs.declared.status.Trap.TheVariants as trap
 use Rattle.ppd_ast.specs.Valid.{IsValid}
-use Rattle.ppd_ast.specs.Lookups.{kind_of, params_of_body, body_of}
+use Rattle.ppd_ast.specs.Lookups.{kind_of, body_of}
+use Rattle.ppd_ast.proofs.Vocabulary.{params_of_body}
 use Rattle.ppd_ast.specs.declared.limits.TheConstants.{MOST_CALLS}
 use Rattle.ppd_sem.specs.Blocks.{block_body, block_todo, block_unit, prelog_cells}
 use Rattle.ppd_sem.specs.declared.asking.Pause.TheVariants.{Wants, Traps}
 use Rattle.ppd_sem.specs.Ask.{cell_of}
 use Rattle.ppd_sem.specs.Offers.{OffersAtHead}
-use Rattle.ppd_sem.specs.Passed.{arguments_at, arguments_by, arguments_of_head}
+use Rattle.ppd_sem.specs.Passed.{arguments_at, arguments_by}
+use Rattle.ppd_sem.proofs.EventWords.{arguments_of_head}
 use Rattle.ppd_sem.specs.declared.proc.Answer.{Answer}
 use Rattle.ppd_sem.specs.declared.proc.Frame.{Frame}
 use Rattle.ppd_sem.specs.declared.proc.Need.{Need}
@@ -25,7 +27,8 @@ use Rattle.ppd_sem.specs.declared.proc.Proc.{Proc}
 use Rattle.ppd_sem.specs.declared.proc.Todo.{Todo}
 use Rattle.ppd_sem.specs.Asked.{Asked, outcome}
 use Rattle.ppd_sem.specs.Deed.{Deed, leave, invoke, send}
-use Rattle.ppd_sem.specs.Process.{act, act_at, act_by_asked, act_by_need, cells_for, chan_of, cost, entry_of, head_deed, loop_of, need_by_entry, need_by_offer, need_of, need_of_asked, need_of_deed, need_of_head, need_of_leaving, need_of_send, new_frame, offer_of, top_cells}
+use Rattle.ppd_sem.specs.Process.{act, act_by_asked, act_by_need, chan_of, cost, entry_of, head_deed, loop_of, need_of, need_of_asked, need_of_deed, need_of_head, need_of_leaving, need_of_send, new_frame, offer_of, top_cells}
+use Rattle.ppd_sem.proofs.NeedWords.{act_at, cells_for, need_by_entry, need_by_offer}
 use Rattle.ppd_sem.specs.Tables.{block_of, capacity_of, unit_of}
 use Rattle.ppd_sem.proofs.Progress.{need_at_todo}
 use Rattle.ppd_sem.specs.Runs.{bodies_in}

@@ -11,11 +11,13 @@ use Rattle.ppd_sem.specs.Blocks.{block_body, prelog_cells}
 use Rattle.ppd_ast.specs.declared.program.Program.{Program}
 use Rattle.ppd_ast.specs.Members.{has}
 use Rattle.ppd_ast.proofs.Members.{in_bounds_has}
-use Rattle.ppd_ast.specs.Lookups.{params_of_body}
-use Rattle.ppd_blocks.specs.Blocks.{params_of, prelog_of}
+use Rattle.ppd_ast.proofs.Vocabulary.{params_of_body}
+use Rattle.ppd_blocks.specs.Blocks.{prelog_of}
+use Rattle.ppd_blocks.proofs.Vocabulary.{params_of}
 use Rattle.ppd_sem.specs.declared.proc.Frame.{Frame}
 use Rattle.ppd_sem.specs.Ask.{cell_of}
-use Rattle.ppd_sem.specs.Process.{cells_for, new_frame}
+use Rattle.ppd_sem.specs.Process.{new_frame}
+use Rattle.ppd_sem.proofs.NeedWords.{cells_for}
 use Rattle.law_replay.proofs.Vocabulary.Held.{Among}
 use Rattle.law_replay.proofs.Openings.Blocks.{IsBodyThere, used_in}
 use Rattle.law_replay.proofs.Facts.Loops.{among}

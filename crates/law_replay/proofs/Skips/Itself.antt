@@ -21,8 +21,10 @@ use Rattle.ppd_sem.specs.declared.proc.Proc.{Proc}
 use Rattle.ppd_sem.specs.declared.proc.Todo.{Todo}
 use Rattle.ppd_sem.specs.Blocks.{block_body, frames_past, skipped, write_all}
 use Rattle.ppd_sem.specs.Described.{ends_body}
-use Rattle.ppd_sem.specs.Process.{act, act_at, act_by_need, cost, need_of, need_of_head, new_frame, receive_at, started}
-use Rattle.ppd_sem.specs.Tables.{block_of, or_zero}
+use Rattle.ppd_sem.specs.Process.{act, act_by_need, cost, need_of, need_of_head, new_frame, receive_at, started}
+use Rattle.ppd_sem.proofs.NeedWords.{act_at}
+use Rattle.ppd_sem.specs.Tables.{block_of}
+use Rattle.ppd_sem.proofs.TableWords.{or_zero}
 use Rattle.ppd_sem.proofs.Paid.{need-paid}
 use Rattle.ppd_model.proofs.Changes.{some}
 use Rattle.ppd_model.specs.Marks.{Mark, opened, closed}

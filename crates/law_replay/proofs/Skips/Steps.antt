@@ -22,7 +22,8 @@ use Rattle.ppd_model.specs.declared.tracing.Story.{Story}
 use Rattle.ppd_model.specs.declared.tracing.Taken.{Taken}
 use Rattle.ppd_model.specs.declared.tracing.Tracing.{Tracing}
 use Rattle.ppd_model.specs.FullTrace.{Tag, me_in, top_tags}
-use Rattle.ppd_model.specs.Intervals.{Span, Split, begin_if, change_first, control_by, end_if, left_by, nested, new_span, split_step, with_own, with_part, with_step}
+use Rattle.ppd_model.specs.Intervals.{Span, Split, change_first, control_by, left_by, nested, new_span, split_step, with_own, with_part, with_step}
+use Rattle.ppd_model.proofs.IntervalWords.{begin_if, end_if}
 use Rattle.ppd_model.specs.Logs.{status_of}
 use Rattle.ppd_model.specs.Marks.{Mark, opened, closed}
 use Rattle.ppd_model.specs.World.{change}

@@ -17,7 +17,8 @@ use Rattle.ppd_model.specs.declared.flow.Item.TheVariants as item
 use Rattle.ppd_model.specs.declared.trace.EventId.{EventId}
 use Rattle.ppd_model.specs.declared.tracing.Story.{Story}
 use Rattle.ppd_model.specs.FullTrace.{Tag, event_of}
-use Rattle.ppd_model.specs.Intervals.{Part, Span, Split, begin_span, end_span, item_of, item_of_span, nested, split_step, with_part}
+use Rattle.ppd_model.specs.Intervals.{Part, Span, Split, begin_span, end_span, item_of, nested, split_step, with_part}
+use Rattle.ppd_model.proofs.IntervalWords.{item_of_span}
 use Rattle.ppd_model.specs.Marks.{Mark}
 use Rattle.ppd_model.specs.Story.{Moment, steps_of, unit_started}
 use Rattle.ppd_model.proofs.Extents.{Fall}

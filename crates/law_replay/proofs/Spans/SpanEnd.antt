@@ -7,7 +7,8 @@ use Rattle.ppd_model.specs.declared.flow.Item.{Item}
 use Rattle.ppd_model.specs.declared.flow.Item.TheVariants as item
 use Rattle.ppd_entry.specs.Pieces.{Piece}
 use Rattle.ppd_model.specs.declared.trace.TracedEvent.{TracedEvent}
-use Rattle.ppd_model.specs.Intervals.{Part, Span, Split, item_of, item_of_event, item_of_span, nested, own}
+use Rattle.ppd_model.specs.Intervals.{Part, Span, Split, item_of, nested, own}
+use Rattle.ppd_model.proofs.IntervalWords.{item_of_event, item_of_span}
 use Rattle.law_replay.specs.Coming.Pieces.{Coming, Inner, at_rest, before}
 use Rattle.law_replay.proofs.Spans.Grown.{IsGrown}
 use Rattle.law_replay.proofs.Spans.SpanBody.{gain}

@@ -10,7 +10,8 @@ use Rattle.ppd_model.specs.declared.trace.EventId.{EventId}
 use Rattle.ppd_model.specs.declared.tracing.Story.{Story}
 use Rattle.ppd_model.specs.declared.tracing.Taken.{Taken}
 use Rattle.ppd_model.specs.FullTrace.{Tag, me_in, top_tags}
-use Rattle.ppd_model.specs.Intervals.{Span, Split, begin_if, begin_span, change_first, control_by, end_if, end_span, left_by, nested, new_span, own, split_step, with_marks, with_part}
+use Rattle.ppd_model.specs.Intervals.{Span, Split, begin_span, change_first, control_by, end_span, left_by, nested, new_span, own, split_step, with_marks, with_part}
+use Rattle.ppd_model.proofs.IntervalWords.{begin_if, end_if}
 use Rattle.ppd_model.specs.Marks.{Mark, opened, closed}
 use Rattle.ppd_model.proofs.Extents.{Fall}
 use Rattle.ppd_model.proofs.Items.{first_length}

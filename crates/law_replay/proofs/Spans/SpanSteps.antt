@@ -5,7 +5,8 @@ use Rattle.std.proofs.lemmas.Option.{none-some}
 use Rattle.std.specs.Prelude.{slice_get, option_map, drop}
 use Rattle.ppd_model.specs.declared.flow.Item.{Item}
 use Rattle.ppd_model.specs.declared.flow.Item.TheVariants as item
-use Rattle.ppd_model.specs.Intervals.{Span, change_first, item_of_span}
+use Rattle.ppd_model.specs.Intervals.{Span, change_first}
+use Rattle.ppd_model.proofs.IntervalWords.{item_of_span}
 use Rattle.ppd_model.specs.World.{change}
 use Rattle.ppd_model.proofs.Changes.{length-change}
 use Rattle.ppd_model.proofs.Extents.{Fall}

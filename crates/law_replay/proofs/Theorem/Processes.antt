@@ -4,8 +4,10 @@ use Rattle.std.specs.Prelude.{is_some, slice_get}
 use Rattle.std.proofs.lemmas.Option.{slice_get_within}
 use Rattle.ppd_ast.specs.declared.plan.Plan.{Plan}
 use Rattle.ppd_ast.specs.declared.program.Program.{Program}
-use Rattle.ppd_model.specs.Intervals.{Split, splits, splits_from}
-use Rattle.ppd_model.specs.Logs.{closed_log, closed_logs, logs_from}
+use Rattle.ppd_model.specs.Intervals.{Split, splits}
+use Rattle.ppd_model.proofs.IntervalWords.{splits_from}
+use Rattle.ppd_model.specs.Logs.{closed_log, closed_logs}
+use Rattle.ppd_model.proofs.LogWords.{logs_from}
 use Rattle.ppd_model.specs.Story.{Moment, steps_of, story, told}
 use Rattle.ppd_model.specs.declared.tracing.Story.{Story}
 use Rattle.law_replay.proofs.Coming.LogsComing.{how_many}

@@ -1,5 +1,5 @@
 -- Where each interval of a process begins, and what its log and its span then are.
-use Rattle.std.specs.Prelude.{◌≡◌, ℕ, zero, suc, ◌+◌, ◌<◌, ⊤, length, List, [], ◌∷◌, map, get_or, slice_get, Option, Some, None}
+use Rattle.std.specs.Prelude.{◌≡◌, ℕ, zero, suc, ◌+◌, ◌<◌, ⊤, length, List, [], ◌∷◌, map, get_or, slice_get, Option, Some, None, unwrap_or}
 use Rattle.ppd_ast.specs.declared.plan.BlockKind.TheVariants as block
 use Rattle.ppd_ast.specs.declared.plan.Plan.{Plan}
 use Rattle.ppd_ast.specs.declared.plan.Policy.{Policy}
@@ -11,7 +11,7 @@ use Rattle.ppd_entry.specs.IntervalLogs.{IntervalLog, interval_log}
 use Rattle.ppd_entry.specs.Pieces.{Piece}
 use Rattle.ppd_sem.specs.declared.proc.Proc.{Proc}
 use Rattle.ppd_sem.specs.Process.{act, started}
-use Rattle.ppd_sem.specs.Tables.{block_of, or_zero, unit_of}
+use Rattle.ppd_sem.specs.Tables.{block_of, unit_of}
 use Rattle.ppd_model.specs.Intervals.{Split, Span, items_of, splits}
 use Rattle.ppd_model.specs.Logs.{closed_logs}
 use Rattle.ppd_model.specs.Marks.{Mark, mark, opened}
@@ -47,7 +47,7 @@ opening_of program plan budget p moments zero =
     let body = program.functions + p in
     let u = unit_of plan (start.Entry body) in
     Some (record {
-      mark = mark (or_zero (block_of plan (block.Process body))) [];
+      mark = mark (unwrap_or (block_of plan (block.Process body)) 0) [];
       units = unit_pieces (Some u) (values_of_unit plan program.starts u);
       proc = started program plan p budget;
       rest = moments;

@@ -6,7 +6,8 @@ use Rattle.ppd_ast.specs.declared.program.Body.{Body}
 use Rattle.ppd_ast.specs.declared.program.Kind.{Kind}
 use Rattle.ppd_ast.specs.declared.program.Kind.TheVariants as K
 use Rattle.ppd_ast.specs.declared.program.Program.{Program}
-use Rattle.ppd_ast.specs.Order.{inner, inner_at}
+use Rattle.ppd_ast.specs.Order.{inner}
+use Rattle.ppd_ast.proofs.Vocabulary.{inner_at}
 use Rattle.ppd_ast.specs.Valid.{IsValid}
 use Rattle.ppd_ast.specs.Members.{has, RisesFrom}
 use Rattle.ppd_ast.specs.Lookups.{kind_of, top_of_body, top_of}

@@ -16,7 +16,8 @@ use Rattle.ppd_ast.specs.declared.status.Trap.TheVariants as trap
 use Rattle.ppd_ast.specs.Valid.{EndsBody, IsEnding, IsValid, IsValidBody, last_of}
 use Rattle.ppd_ast.proofs.ValidLaws.{slice_get_there, some_and, stmt_in_body, valid_body}
 use Rattle.ppd_ast.specs.Members.{has}
-use Rattle.ppd_ast.specs.Lookups.{kind_of_stmt, kind_of, top_of_body}
+use Rattle.ppd_ast.specs.Lookups.{kind_of, top_of_body}
+use Rattle.ppd_ast.proofs.Vocabulary.{kind_of_stmt}
 use Rattle.ppd_ast.proofs.Members.{has_first, has_later}
 use Rattle.ppd_ast.specs.declared.limits.TheConstants.{MOST_CALLS}
 use Rattle.ppd_sem.specs.declared.asking.Pause.TheVariants.{Wants, Traps}
@@ -28,7 +29,8 @@ use Rattle.ppd_sem.specs.declared.proc.Todo.{Todo}
 use Rattle.ppd_sem.specs.Asked.{Asked, gives}
 use Rattle.ppd_sem.specs.Deed.{Deed, set_local, set_shared, clear, branch, turn, leave, invoke, back, take, give, send, receive, print, pass, finish, ask_deed}
 use Rattle.ppd_sem.proofs.Offers.{CompletesSend, completes}
-use Rattle.ppd_sem.specs.Process.{chan_of, need_by_offer, need_of_send, offer_of, act, act_at, act_by_asked, act_by_deed, act_by_need, cost, entry_of, head_deed, need_by_entry, need_of, need_of_deed, need_of_head, need_of_leaving, need_of_running, todos, top_cells}
+use Rattle.ppd_sem.specs.Process.{chan_of, need_of_send, offer_of, act, act_by_asked, act_by_deed, act_by_need, cost, entry_of, head_deed, need_of, need_of_deed, need_of_head, need_of_leaving, todos, top_cells}
+use Rattle.ppd_sem.proofs.NeedWords.{act_at, need_by_entry, need_by_offer, need_of_running}
 use Rattle.ppd_sem.specs.Tables.{capacity_of, block_of, unit_of}
 use Rattle.ppd_sem.proofs.Progress.{act-stopped, need_at_status, need_at_todo}
 use Rattle.law_steps.specs.Course.{EndsWithEnd, GoesUntilEnd}

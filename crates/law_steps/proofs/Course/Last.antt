@@ -8,7 +8,7 @@ use Rattle.ppd_ast.specs.declared.program.Program.{Program}
 use Rattle.ppd_ast.specs.declared.program.Stmt.{Stmt}
 use Rattle.ppd_ast.specs.Valid.{EndsBody, IsEnding, IsValid, last_of}
 use Rattle.ppd_ast.proofs.ValidLaws.{stmt_in_body}
-use Rattle.ppd_ast.specs.Lookups.{kind_of_stmt}
+use Rattle.ppd_ast.proofs.Vocabulary.{kind_of_stmt}
 use Rattle.ppd_ast.specs.declared.limits.TheConstants.{MOST_NESTING}
 use Rattle.ppd_cfg.specs.Flow.{follow}
 use Rattle.ppd_cfg.proofs.Depths.{follow_none}

@@ -23,7 +23,8 @@ use Rattle.ppd_sem.specs.declared.proc.Todo.{Todo}
 use Rattle.ppd_sem.specs.Asked.{Asked}
 use Rattle.ppd_sem.specs.Deed.{Deed, set_local, set_shared, clear, branch, turn, leave, invoke, back, take, give, send, receive, print, pass, finish}
 use Rattle.ppd_sem.proofs.Offers.{offer_there, send_stays}
-use Rattle.ppd_sem.specs.Process.{chan_of, need_by_offer, need_of_send, offer_of, act, act_at, act_by_asked, act_by_need, call_unit, charged, clear_top, cost, entry_of, head_deed, loop_of, need_by_entry, need_of, need_of_asked, need_of_deed, need_of_head, need_of_leaving, returned, top_call, top_cells, value_of, within_budget, write_top}
+use Rattle.ppd_sem.specs.Process.{chan_of, need_of_send, offer_of, act, act_by_asked, act_by_need, call_unit, charged, clear_top, cost, entry_of, head_deed, loop_of, need_of, need_of_asked, need_of_deed, need_of_head, need_of_leaving, returned, top_call, top_cells, value_of, within_budget, write_top}
+use Rattle.ppd_sem.proofs.NeedWords.{act_at, need_by_entry, need_by_offer}
 use Rattle.ppd_sem.specs.Runs.{returns}
 use Rattle.ppd_sem.specs.Tables.{capacity_of, block_of, unit_of}
 use Rattle.ppd_sem.proofs.Progress.{act-stopped, need_at_status, need_at_todo}

@@ -26,7 +26,8 @@ use Rattle.ppd_sem.specs.declared.proc.Todo.{Todo}
 use Rattle.ppd_sem.specs.Ask.{ask, calc, cell_of, checked, element, is_zero, truth}
 use Rattle.ppd_sem.specs.Asked.{Asked, and_then, gives, lift, read_shared}
 use Rattle.ppd_sem.specs.Deed.{Deed, set_local, set_shared, branch, turn, leave, invoke, back, send, print, pass, ask_all, ask_deed, ask_stored}
-use Rattle.ppd_sem.specs.Process.{need_by_offer, offer_of, cost, entry_of, head_deed, need_by_entry, need_by_status, need_of_deed, need_of_head, need_of_running, top_cells}
+use Rattle.ppd_sem.specs.Process.{offer_of, cost, entry_of, head_deed, need_of_deed, need_of_head, top_cells}
+use Rattle.ppd_sem.proofs.NeedWords.{need_by_entry, need_by_offer, need_by_status, need_of_running}
 use Rattle.ppd_sem.specs.Passed.{next_stmt_of}
 use Rattle.ppd_sem.proofs.Offers.{IsDeedNeed, deed_need}
 use Rattle.ppd_sem.proofs.Needs.{free}

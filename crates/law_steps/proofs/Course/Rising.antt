@@ -6,11 +6,13 @@ use Rattle.std.proofs.lemmas.Bool.{cases_eq}
 use Rattle.ppd_ast.specs.declared.program.Body.{Body}
 use Rattle.ppd_ast.specs.declared.program.Program.{Program}
 use Rattle.ppd_ast.specs.declared.program.Stmt.{Stmt}
-use Rattle.ppd_ast.specs.Order.{inner, inner_at, inner_of, preorder}
+use Rattle.ppd_ast.specs.Order.{inner, preorder}
+use Rattle.ppd_ast.proofs.Vocabulary.{inner_at, inner_of}
 use Rattle.ppd_ast.specs.Valid.{IsValid, IsValidBody}
 use Rattle.ppd_ast.proofs.ValidLaws.{slice_get_below, some_and, valid_body, valid_stmt}
 use Rattle.ppd_ast.specs.Members.{has, RisesFrom}
-use Rattle.ppd_ast.specs.Lookups.{kind_of_stmt, kind_of}
+use Rattle.ppd_ast.specs.Lookups.{kind_of}
+use Rattle.ppd_ast.proofs.Vocabulary.{kind_of_stmt}
 use Rattle.ppd_ast.proofs.Members.{has_first, has_cons, in_bounds_has, flat_gives, all_has}
 use Rattle.ppd_ast.specs.declared.limits.TheConstants.{MOST_NESTING}
 use Rattle.ppd_cfg.proofs.Following.{in_some}

@@ -14,7 +14,8 @@ use Rattle.ppd_ast.specs.Order.{inner}
 use Rattle.ppd_ast.specs.Valid.{IsValid}
 use Rattle.ppd_ast.proofs.ValidLaws.{slice_get_below}
 use Rattle.ppd_ast.specs.Members.{has}
-use Rattle.ppd_ast.specs.Lookups.{kind_of_stmt, kind_of, top_of_body, top_of}
+use Rattle.ppd_ast.specs.Lookups.{kind_of, top_of_body, top_of}
+use Rattle.ppd_ast.proofs.Vocabulary.{kind_of_stmt}
 use Rattle.ppd_ast.proofs.Members.{has_first, has_left, has_right, all_has}
 use Rattle.ppd_cfg.specs.Flow.{follow, next_of, successors}
 use Rattle.ppd_cfg.specs.Lists.{first_or, rising}

@@ -19,7 +19,8 @@ use Rattle.ppd_sem.specs.declared.proc.Todo.{Todo}
 use Rattle.ppd_sem.specs.Blocks.{block_kind, is_function}
 use Rattle.ppd_sem.specs.Process.{loop_of}
 use Rattle.ppd_sem.specs.Runs.{returns, bodies_in}
-use Rattle.ppd_sem.specs.Tables.{block_of, or_zero}
+use Rattle.ppd_sem.specs.Tables.{block_of}
+use Rattle.ppd_sem.proofs.TableWords.{or_zero}
 use Rattle.law_steps.specs.OpenBlocks.Stack.{block_frames, entered_block, functions_in, open_blocks, process_block, returned_block, returning}
 use Rattle.law_steps.proofs.OpenBlocks.Planned.{kind_is, process_found}
 

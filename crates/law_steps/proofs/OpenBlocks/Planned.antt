@@ -10,11 +10,14 @@ use Rattle.ppd_ast.specs.declared.plan.BlockKind.TheVariants.{Function, Process,
 use Rattle.ppd_ast.specs.declared.plan.Policy.{Policy}
 use Rattle.ppd_ast.specs.declared.program.Body.{Body}
 use Rattle.ppd_ast.specs.declared.program.Program.{Program}
-use Rattle.ppd_ast.specs.Numbered.{blocks_by, blocks_of, body_kind, has_call, is_block_body, loops_at, numbers_of}
-use Rattle.law_steps.specs.Blocks.{block_of as block_from, plan_of, postlog_of, prelog_of}
-use Rattle.ppd_sem.specs.Blocks.{block_kind, kind_in, postlog_cells, postlog_in, prelog_cells, prelog_in}
+use Rattle.ppd_ast.specs.Numbered.{blocks_by, blocks_of, has_call, is_block_body, loops_at, numbers_of}
+use Rattle.ppd_ast.proofs.Vocabulary.{body_kind}
+use Rattle.law_steps.specs.Blocks.{plan_of, postlog_of, prelog_of}
+use Rattle.ppd_blocks.proofs.Vocabulary.{block_of as block_from}
+use Rattle.ppd_sem.specs.Blocks.{block_kind, postlog_cells, prelog_cells}
 use Rattle.ppd_sem.specs.Tables.{block_of, same_block}
 use Rattle.law_steps.proofs.Units.Listed.{IsListed, found, found_passes, listed_each, listed_left}
+use Rattle.ppd_sem.proofs.TableWords.{kind_in, postlog_in, prelog_in}
 
 block_itself : (k : BlockKind) → same_block k k ≡ true
 block_itself (Function f) = eq-eqb f f refl

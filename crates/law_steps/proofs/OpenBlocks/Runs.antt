@@ -21,7 +21,8 @@ use Rattle.ppd_model.specs.States.{act_on, state_of, states_from}
 use Rattle.ppd_model.specs.Story.{Moment, Telling, moment_of, number_of, own_moments, steps_of, tell, told}
 use Rattle.ppd_model.specs.Synchronizations.{kind_of_sync, numbered}
 use Rattle.ppd_model.specs.declared.tracing.Taken.{Taken}
-use Rattle.ppd_model.specs.World.{World, answer, can, change, enabled, need, need_at}
+use Rattle.ppd_model.specs.World.{World, answer, can, change, enabled, need}
+use Rattle.ppd_model.proofs.WorldWords.{need_at}
 use Rattle.ppd_model.proofs.Bounded.{goes}
 use Rattle.ppd_model.proofs.LocalTags.{own_steps_told}
 use Rattle.ppd_model.proofs.Numbered.{next_numbered}

@@ -13,7 +13,8 @@ use Rattle.law_steps.proofs.Course.Leading.{stays_on_course}
 use Rattle.ppd_sem.specs.declared.proc.Answer.{Answer}
 use Rattle.ppd_sem.specs.declared.proc.Proc.{Proc}
 use Rattle.ppd_sem.specs.declared.proc.Todo.{Todo}
-use Rattle.ppd_sem.specs.Process.{act, act_at, act_by_need, need_of, need_of_running, todos}
+use Rattle.ppd_sem.specs.Process.{act, act_by_need, need_of, todos}
+use Rattle.ppd_sem.proofs.NeedWords.{act_at, need_of_running}
 use Rattle.ppd_sem.specs.Runs.{IsInner, bodies_in}
 use Rattle.ppd_sem.proofs.Progress.{need_at_todo}
 use Rattle.ppd_model.specs.Logs.{status_of}

@@ -14,10 +14,12 @@ use Rattle.ppd_ast.specs.declared.program.Kind.TheVariants.{Call, While}
 use Rattle.ppd_ast.specs.declared.program.Program.{Program}
 use Rattle.ppd_ast.specs.declared.program.Stmt.{Stmt}
 use Rattle.ppd_ast.proofs.ValidLaws.{slice_get_there}
-use Rattle.ppd_ast.specs.Lookups.{kind_of_stmt, kind_of, parent_if}
+use Rattle.ppd_ast.specs.Lookups.{kind_of, parent_if}
+use Rattle.ppd_ast.proofs.Vocabulary.{kind_of_stmt}
 use Rattle.ppd_deps.specs.declared.edges.StaticEdge.{StaticEdge}
 use Rattle.ppd_deps.specs.declared.edges.StaticEdge.TheVariants.{ControlEntry, Control}
-use Rattle.ppd_deps.specs.Edges.{control_into, control_of, data_into, edges_of, outer_edge}
+use Rattle.ppd_deps.specs.Edges.{control_into, data_into, edges_of}
+use Rattle.ppd_deps.proofs.Vocabulary.{control_of, outer_edge}
 use Rattle.ppd_sem.specs.declared.proc.Todo.{Todo}
 use Rattle.ppd_sem.specs.Process.{need_of, started}
 use Rattle.ppd_sem.specs.Described.{is_event}

@@ -10,7 +10,8 @@ use Rattle.ppd_cfg.specs.Reach.{Reached}
 use Rattle.ppd_cfg.proofs.Leading.{leads-tests}
 use Rattle.ppd_deps.specs.declared.edges.StaticEdge.{StaticEdge}
 use Rattle.ppd_deps.specs.declared.edges.StaticEdge.TheVariants.{Data}
-use Rattle.ppd_deps.specs.Edges.{begins, comes_to, control_into, data_from, data_into, edges_of, kept_rows, local_edge, locals_from, shared_edge, shared_from}
+use Rattle.ppd_deps.specs.Edges.{begins, comes_to, control_into, data_into, edges_of, kept_rows, locals_from}
+use Rattle.ppd_deps.proofs.Vocabulary.{data_from, local_edge, shared_edge, shared_from}
 use Rattle.ppd_deps.specs.Named.{local_reads, shared_reads, shared_writes}
 use Rattle.law_steps.proofs.StaticEdges.Lists.{here, in_left, in_right, there}
 

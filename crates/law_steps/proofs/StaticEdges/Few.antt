@@ -10,7 +10,7 @@ use Rattle.ppd_ast.specs.declared.program.Body.{Body}
 use Rattle.ppd_ast.specs.declared.program.Program.{Program}
 use Rattle.ppd_ast.specs.declared.program.Var.{Var}
 use Rattle.ppd_ast.proofs.ValidLaws.{valid_body}
-use Rattle.ppd_ast.specs.Lookups.{locals_of_body}
+use Rattle.ppd_ast.proofs.Vocabulary.{locals_of_body}
 use Rattle.ppd_ast.specs.Counting.{one_if}
 use Rattle.ppd_ast.specs.declared.limits.TheConstants.{MOST_SHARED_CELLS, MOST_LOCAL_CELLS}
 use Rattle.law_steps.specs.Sound.{HaveCells, VariablesAreFew}

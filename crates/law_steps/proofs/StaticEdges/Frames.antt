@@ -13,7 +13,7 @@ use Rattle.ppd_cfg.specs.Lists.{row}
 use Rattle.ppd_cfg.specs.Reach.{Reached, next, start}
 use Rattle.ppd_cfg.proofs.Rows.{row_at}
 use Rattle.law_steps.proofs.Course.Deeds.{Fits, deed_fits}
-use Rattle.ppd_deps.specs.Named.{processes}
+use Rattle.ppd_deps.proofs.Vocabulary.{processes}
 use Rattle.ppd_deps.proofs.Arriving.{body_there}
 use Rattle.ppd_deps.proofs.Bodies.{stands_among}
 use Rattle.ppd_sem.specs.declared.asking.Pause.TheVariants.{Wants, Traps}
@@ -25,8 +25,10 @@ use Rattle.ppd_sem.specs.declared.proc.Proc.{Proc}
 use Rattle.ppd_sem.specs.declared.proc.Todo.{Todo}
 use Rattle.ppd_sem.specs.Asked.{Asked}
 use Rattle.ppd_sem.specs.Deed.{Deed, set_local, clear, invoke, back, receive}
-use Rattle.ppd_sem.specs.Process.{act, act_at, act_by_asked, act_by_deed, act_by_need, clear_top, head_deed, into_of, need_of, receive_at, returned, returned_from, started, top_cells, write_top}
-use Rattle.ppd_sets.specs.Used.{call_rows, callee, calls_at, stmts_at}
+use Rattle.ppd_sem.specs.Process.{act, act_by_asked, act_by_deed, act_by_need, clear_top, head_deed, into_of, need_of, receive_at, returned, returned_from, started, top_cells, write_top}
+use Rattle.ppd_sets.specs.Used.{call_rows, callee, stmts_at}
+use Rattle.ppd_sets.proofs.Vocabulary.{calls_at}
+use Rattle.ppd_sem.proofs.NeedWords.{act_at}
 
 -- ---- links
 

@@ -15,7 +15,8 @@ use Rattle.ppd_ast.specs.Lookups.{top_of_body}
 use Rattle.ppd_sem.specs.declared.proc.Answer.{Answer}
 use Rattle.ppd_sem.specs.declared.proc.Proc.{Proc}
 use Rattle.ppd_sem.specs.declared.proc.Todo.{Todo}
-use Rattle.ppd_sem.specs.Process.{act, cells_for, need_by_status, need_of, need_of_running, started, todos}
+use Rattle.ppd_sem.specs.Process.{act, need_of, started, todos}
+use Rattle.ppd_sem.proofs.NeedWords.{cells_for, need_by_status, need_of_running}
 use Rattle.ppd_sem.specs.Runs.{AreOver, IsRunning}
 use Rattle.ppd_sem.proofs.Kept.{act-runs}
 use Rattle.ppd_sem.proofs.Running.{head_over}

@@ -15,11 +15,15 @@ use Rattle.ppd_ast.specs.declared.program.Target.TheVariants as T
 use Rattle.ppd_ast.specs.declared.program.Var.{Var}
 use Rattle.ppd_ast.proofs.ValidLaws.{some_and, valid_body, valid_stmt}
 use Rattle.ppd_ast.specs.Members.{has}
-use Rattle.ppd_ast.specs.Lookups.{kind_of_stmt, kind_of, body_of_stmt, body_of, locals_of_body, params_of_body, params_of, locals_of}
+use Rattle.ppd_ast.specs.Lookups.{kind_of, body_of_stmt, body_of, params_of, locals_of}
+use Rattle.ppd_ast.proofs.Vocabulary.{locals_of_body}
+use Rattle.ppd_ast.proofs.Vocabulary.{kind_of_stmt, params_of_body}
 use Rattle.ppd_ast.proofs.Members.{filter_has, any_from, from_zero, below_range}
-use Rattle.ppd_sets.specs.Named.{receiving, target_cells, writes}
+use Rattle.ppd_sets.specs.Named.{target_cells, writes}
+use Rattle.ppd_sets.proofs.Vocabulary.{receiving}
 use Rattle.ppd_sets.specs.Used.{is_met, vars_met, writes_at}
-use Rattle.ppd_deps.specs.Edges.{ends_paths, is_cell, scalar_written}
+use Rattle.ppd_deps.specs.Edges.{ends_paths, scalar_written}
+use Rattle.ppd_deps.proofs.Vocabulary.{is_cell}
 use Rattle.law_steps.specs.Sound.{IsCellOf}
 
 -- ---- a variable of which a cell is named

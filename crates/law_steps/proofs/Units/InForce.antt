@@ -16,15 +16,16 @@ use Rattle.ppd_ast.specs.declared.plan.Start.TheVariants as start
 use Rattle.ppd_ast.specs.Numbered.{is_left, is_while}
 use Rattle.ppd_ast.specs.Valid.{IsValid}
 use Rattle.ppd_ast.specs.Members.{has}
-use Rattle.ppd_ast.specs.Lookups.{kind_of_stmt, kind_of, top_of_body, top_of}
+use Rattle.ppd_ast.specs.Lookups.{kind_of, top_of_body, top_of}
+use Rattle.ppd_ast.proofs.Vocabulary.{kind_of_stmt}
 use Rattle.ppd_ast.proofs.Members.{has_first}
 use Rattle.ppd_cfg.specs.Flow.{follow}
 use Rattle.ppd_cfg.specs.Lists.{first_or}
 use Rattle.ppd_cfg.specs.Reach.{Reached, next, start as starts_at}
-use Rattle.ppd_blocks.specs.Starts.{all_starts}
+use Rattle.ppd_blocks.proofs.Vocabulary.{all_starts, block_loops}
 use Rattle.ppd_blocks.specs.Walk.{begin_of, enters, is_between, leaves, stands_in, unit_rows, unless}
 use Rattle.ppd_blocks.proofs.Staying.{row_from, unless_no}
-use Rattle.ppd_blocks.specs.Blocks.{block_loops, plan_of}
+use Rattle.ppd_blocks.specs.Blocks.{plan_of}
 use Rattle.ppd_sem.specs.declared.proc.Answer.{Answer}
 use Rattle.ppd_sem.specs.declared.proc.Need.{Need}
 use Rattle.ppd_sem.specs.declared.proc.Need.TheVariants.{Read, Write, Plain, Enter, Leave, Invoke, Back, P, V, Send, Offer, Done, Recv, End, Trap, Budget, Stopped}

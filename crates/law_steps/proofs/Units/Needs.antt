@@ -22,7 +22,8 @@ use Rattle.ppd_sem.specs.Asked.{Asked}
 use Rattle.ppd_sem.specs.Deed.{Deed, set_local, set_shared, clear, branch, turn, leave, invoke, back, take, give, send, receive, print, pass, finish, ask_deed}
 use Rattle.ppd_sem.proofs.Offers.{offer_there}
 use Rattle.std.proofs.lemmas.Option.{none-some}
-use Rattle.ppd_sem.specs.Process.{chan_of, need_by_offer, need_of_send, offer_of, act, act_at, act_by_asked, act_by_deed, act_by_need, clear_top, entry_of, head_deed, into_of, loop_of, need_by_entry, need_by_status, need_of, need_of_asked, need_of_leaving, need_of_running, receive_at, returned, returned_from, started, top_call, write_top}
+use Rattle.ppd_sem.specs.Process.{chan_of, need_of_send, offer_of, act, act_by_asked, act_by_deed, act_by_need, clear_top, entry_of, head_deed, into_of, loop_of, need_of, need_of_asked, need_of_leaving, receive_at, returned, returned_from, started, top_call, write_top}
+use Rattle.ppd_sem.proofs.NeedWords.{act_at, need_by_entry, need_by_offer, need_by_status, need_of_running}
 use Rattle.ppd_sem.specs.Tables.{capacity_of, block_of}
 use Rattle.ppd_sem.proofs.OfKind.{IsDeedOf, OfAsked, asked_holds, invokes, receives, releases, sends, takes}
 

@@ -15,16 +15,20 @@ use Rattle.ppd_ast.specs.declared.plan.Policy.{Policy}
 use Rattle.ppd_ast.specs.declared.plan.Start.{Start}
 use Rattle.ppd_ast.specs.declared.plan.Start.TheVariants.{Entry, After, Enter, Exit}
 use Rattle.ppd_ast.specs.declared.plan.Unit.{Unit as UnitOf}
-use Rattle.ppd_ast.specs.Numbered.{blocks_by, in_while, inside_count, is_block_loop, is_left, is_while, numbers_of}
+use Rattle.ppd_ast.specs.Numbered.{blocks_by, in_while, is_block_loop, is_left, is_while, numbers_of}
+use Rattle.ppd_ast.proofs.Vocabulary.{inside_count}
 use Rattle.ppd_ast.specs.Valid.{IsValid}
 use Rattle.ppd_ast.specs.Members.{has}
-use Rattle.ppd_ast.specs.Lookups.{kind_of_stmt, kind_of}
+use Rattle.ppd_ast.specs.Lookups.{kind_of}
+use Rattle.ppd_ast.proofs.Vocabulary.{kind_of_stmt}
 use Rattle.ppd_ast.proofs.Members.{has_first, has_cons, has_left, has_right, in_bounds_has}
 use Rattle.ppd_cfg.proofs.Following.{in_some}
-use Rattle.ppd_blocks.specs.Starts.{all_starts, unit_starts_at, starts_in, unit_of as unit_from}
-use Rattle.ppd_blocks.specs.Blocks.{block_loops, block_of as block_from, loop_in, plan_of}
+use Rattle.ppd_blocks.specs.Starts.{unit_starts_at, unit_of as unit_from}
+use Rattle.ppd_blocks.proofs.Vocabulary.{all_starts, starts_in, block_loops, block_of as block_from}
+use Rattle.ppd_blocks.specs.Blocks.{loop_in, plan_of}
 use Rattle.ppd_blocks.proofs.Listing.{IsLoop, by_policy}
-use Rattle.ppd_sem.specs.Tables.{block_of, or_zero, same_block, same_start, unit_of}
+use Rattle.ppd_sem.specs.Tables.{block_of, same_block, same_start, unit_of}
+use Rattle.ppd_sem.proofs.TableWords.{or_zero}
 use Rattle.law_steps.proofs.Units.Listed.{IsListed, found, found_passes, listed_each, listed_flat, listed_right}
 
 -- ---- units

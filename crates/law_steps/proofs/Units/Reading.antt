@@ -18,12 +18,14 @@ use Rattle.ppd_blocks.specs.Starts.{unit_of as unit_from}
 use Rattle.ppd_blocks.specs.Walk.{begin_of, unit_cells, unit_rows}
 use Rattle.ppd_blocks.proofs.Paths.{sorted_from}
 use Rattle.ppd_blocks.proofs.Reading.{read_is_stmt, reads_below}
-use Rattle.ppd_blocks.specs.Blocks.{block_loops, plan_of}
+use Rattle.ppd_blocks.specs.Blocks.{plan_of}
+use Rattle.ppd_blocks.proofs.Vocabulary.{block_loops}
 use Rattle.ppd_sem.specs.declared.proc.Need.{Need}
 use Rattle.ppd_sem.specs.declared.proc.Need.TheVariants.{Read}
 use Rattle.ppd_sem.specs.declared.proc.Proc.{Proc}
 use Rattle.ppd_sem.specs.declared.proc.Todo.{Todo}
-use Rattle.ppd_sem.specs.Process.{act, act_at, need_of, started}
+use Rattle.ppd_sem.specs.Process.{act, need_of, started}
+use Rattle.ppd_sem.proofs.NeedWords.{act_at}
 use Rattle.ppd_sem.specs.Tables.{unit_of}
 use Rattle.ppd_sem.specs.Passed.{next_stmt_of}
 use Rattle.ppd_model.specs.declared.tracing.Taken.{Taken}

@@ -1,6 +1,6 @@
 -- Which blocks are open by what is still to do, the innermost first: entered loops, the functions of
 -- the returns to come, and last the process's own.
-use Rattle.std.specs.Prelude.{◌≡◌, ℕ, ◌+◌, ◌<◌, List, [], ◌∷◌, ◌++◌, length, option_to_list, is_some, Option, Some, None, if◌then◌else◌}
+use Rattle.std.specs.Prelude.{◌≡◌, ℕ, ◌+◌, ◌<◌, List, [], ◌∷◌, ◌++◌, length, option_to_list, is_some, Option, Some, None, if◌then◌else◌, unwrap_or}
 use Rattle.ppd_ast.specs.Valid.{IsValid}
 use Rattle.ppd_ast.specs.declared.plan.BlockKind.TheVariants as block
 use Rattle.ppd_ast.specs.declared.plan.Plan.{Plan}
@@ -17,7 +17,7 @@ use Rattle.ppd_sem.specs.declared.proc.Todo.{Todo}
 use Rattle.ppd_sem.specs.Blocks.{block_kind, is_function}
 use Rattle.ppd_sem.specs.Process.{act, loop_of, need_of, started}
 use Rattle.ppd_sem.specs.Runs.{returns, bodies_in}
-use Rattle.ppd_sem.specs.Tables.{block_of, or_zero}
+use Rattle.ppd_sem.specs.Tables.{block_of}
 use Rattle.ppd_model.specs.Logs.{status_of}
 use Rattle.ppd_model.specs.Marks.{Mark, opened, closed}
 
@@ -43,7 +43,7 @@ open_blocks program plan (t ∷ ts) = (entered_block program plan t ++ returned_
 
 -- the block of process p
 abbrev pub process_block : Program → Plan → ℕ → ℕ
-process_block program plan p = or_zero (block_of plan (block.Process (program.functions + p)))
+process_block program plan p = unwrap_or (block_of plan (block.Process (program.functions + p))) 0
 
 -- all blocks in which process p runs, the innermost first
 abbrev pub stack : Program → Plan → ℕ → Proc → List ℕ

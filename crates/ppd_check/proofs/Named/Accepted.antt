@@ -11,7 +11,7 @@ use Rattle.ppd_parse.specs.Limits.{IsTree}
 use Rattle.ppd_check_names.specs.Names.{Scope}
 use Rattle.ppd_check_names.specs.Reading.{source_of}
 use Rattle.ppd_check_names.specs.Syntax.{Source}
-use Rattle.ppd_check_bodies.specs.Sources.{heads, head_faults, head_code, head_frame, vars, core, Accepted}
+use Rattle.ppd_check_bodies.specs.Sources.{heads, head_faults, head_code, head_frame, vars, core_of, faults_in}
 use Rattle.ppd_check_names.specs.Globals.{Head, globals}
 use Rattle.ppd_check.proofs.Named.Rightly.{AreThere, AreNamedRightly}
 use Rattle.ppd_check.proofs.Named.Terms.{nil_left, nil_right}
@@ -44,14 +44,14 @@ source_allowed s none = let few : AreFew (globals s) = are_few (globals s) none.
 
 -- the statements of each body of an accepted program name whole variables of its frame and of the shared ones, objects that are there,
 -- and functions with their parameters and values
-pub accepted_heads : (ts : List Token) (t : Shape) → IsTree ts (t ∷ []) → Accepted t → All (IsNamedHead (core t) (globals (source_of t)).scope) (heads (globals (source_of t)))
+pub accepted_heads : (ts : List Token) (t : Shape) → IsTree ts (t ∷ []) → (faults_in (source_of t) ≡ []) → All (IsNamedHead (core_of (source_of t)) (globals (source_of t)).scope) (heads (globals (source_of t)))
 accepted_heads ts t tree a =
     let s : Source = source_of t in
     let none : BreaksNone s = breaks_none s a in
-    each_named (core t) (globals s).scope (heads (globals s)) (λ locals. names_there s.items locals (source_allowed s none)) (tree_steps ts t tree) none.bodies
+    each_named (core_of (source_of t)) (globals s).scope (heads (globals s)) (λ locals. names_there s.items locals (source_allowed s none)) (tree_steps ts t tree) none.bodies
 
-pub accepted_counted : (t : Shape) → Accepted t → AreCounted (core t)
+pub accepted_counted : (t : Shape) → (faults_in (source_of t) ≡ []) → AreCounted (core_of (source_of t))
 accepted_counted t a = counted (source_of t) (breaks_none (source_of t) a)
 
-pub accepted_cells : (t : Shape) → Accepted t → CoverCells (core t).shared (length (core t).starts)
+pub accepted_cells : (t : Shape) → (faults_in (source_of t) ≡ []) → CoverCells (core_of (source_of t)).shared (length (core_of (source_of t)).starts)
 accepted_cells t a = shared_cells (source_of t) (are_few (globals (source_of t)) (breaks_none (source_of t) a).counts)

@@ -14,13 +14,14 @@ use Rattle.ppd_check_names.specs.declared.fault.Cause.TheVariants.{Arity, VoidVa
 use Rattle.ppd_check_names.specs.Names.{Scope, meaning, fits_index, is_semaphore, is_channel, semaphore_of, channel_of, function_of}
 use Rattle.ppd_check_names.specs.declared.meaning.Meaning.{Meaning}
 use Rattle.ppd_check_names.specs.declared.meaning.Meaning.TheVariants as M
-use Rattle.ppd_check_names.specs.Faults.{unless, if_so}
+use Rattle.ppd_check_names.specs.Faults.{if_so}
 use Rattle.ppd_check_stmts.specs.Code as C
 use Rattle.ppd_check_stmts.specs.Code.{Spot}
 use Rattle.ppd_check_stmts.specs.Table.{roots, target, spot_terms, kind}
 use Rattle.ppd_check_names.specs.Syntax.{Name, Formula, Goal, scalar, item, Value, plain, result, received}
 use Rattle.ppd_check_names.specs.Reading.{goal_formula}
-use Rattle.ppd_check_stmts.specs.Expressions.{read_scalar, read_element, term_of, wrong_use, name_faults, formula_faults, wrong_call, call_faults}
+use Rattle.ppd_check_stmts.specs.Expressions.{read_scalar, read_element, term_of, name_faults, formula_faults, wrong_call, call_faults}
+use Rattle.ppd_check_stmts.proofs.Vocabulary.{wrong_use}
 use Rattle.ppd_check_stmts.specs.Statements.{spot, spot_of, put, value_faults}
 use Rattle.ppd_check_stmts.proofs.Costs.Tables.{length_roots}
 use Rattle.ppd_check.proofs.Named.Rightly.{IsThere, AreAllThere, IsNamedRightly}
@@ -151,13 +152,13 @@ module _ (p : Program) (locals : List Var) where
       as_many =
           nat_eq_same (length args) params
           (unless_true (nat_eq (length args) params) q Arity
-          (nil_left (unless (nat_eq (length args) params) q Arity) (if_so (is_some into && not gives) q VoidValue) h))
+          (nil_left (if_so (not (nat_eq (length args) params)) q Arity) (if_so (is_some into && not gives) q VoidValue) h))
 
       gives_one : IsSome into → IsTrue gives
       gives_one =
           received_given into gives
           (if_so_false (is_some into && not gives) q VoidValue
-          (nil_right (unless (nat_eq (length args) params) q Arity) (if_so (is_some into && not gives) q VoidValue) h))
+          (nil_right (if_so (not (nat_eq (length args) params)) q Arity) (if_so (is_some into && not gives) q VoidValue) h))
 
       go : (o : Option Body) → IsSomeAnd o (λ g. (params ≡ g.params) × (gives ≡ g.value)) → IsSomeAnd o (λ g. (length (roots m args) ≡ g.params) × (IsSome into → IsTrue g.value))
       go None b = b

@@ -12,7 +12,7 @@ use Rattle.ppd_check_names.specs.declared.fault.Cause.TheVariants.{TooMany}
 use Rattle.ppd_check_names.specs.declared.fault.Limit.{Limit}
 use Rattle.ppd_check_names.specs.declared.frame.Variable.{Variable}
 use Rattle.ppd_check_names.specs.Faults.{if_so}
-use Rattle.ppd_check_names.specs.Fitted.{as_short}
+use Rattle.ppd_check_names.specs.Fitted.{fitted}
 use Rattle.ppd_check_names.specs.Syntax.{Name}
 use Rattle.ppd_check_names.specs.Frames.{after_cells, variable_of}
 use Rattle.ppd_check_bodies.specs.Sources.{vars}
@@ -22,7 +22,7 @@ use Rattle.ppd_check.proofs.Named.Terms.{nil_left, nil_right, if_so_false}
 
 -- Numbers.
 
-short_is : (n most : ℕ) → most < 2 ^ 16 - 1 → as_short n ≤ most → as_short n ≡ n
+short_is : (n most : ℕ) → most < 2 ^ 16 - 1 → fitted 16 n ≤ most → fitted 16 n ≡ n
 short_is n most small h = omega (arith, small, h)
 
 holds_inside : (n c e : ℕ) → n ≤ c → c < e → nat_le n c && nat_lt c e ≡ true

@@ -10,12 +10,10 @@ use Rattle.ppd_check_names.specs.declared.fault.Cause.TheVariants.{TooMany}
 use Rattle.ppd_check_names.specs.declared.fault.Limit.{Limit}
 use Rattle.ppd_check_names.specs.declared.fault.Limit.TheVariants as L
 use Rattle.ppd_check_names.specs.Faults.{at, by_then}
-use Rattle.ppd_check_names.specs.Fitted.{as_short}
 use Rattle.ppd_check_names.specs.Syntax.{Name}
-use Rattle.ppd_check_stmts.specs.Code.{Code, done, act, choice, loop, places, count}
-use Rattle.ppd_check_stmts.specs.Table.{stmts, weight, weights, terms, act_terms}
 use Rattle.ppd_check.proofs.PastMost.{up_to_itself, count_all}
-use Rattle.ppd_check_bodies.specs.Sources.{is_up_to, past_statements, all_stmts}
+use Rattle.ppd_check_bodies.specs.Sources.{past_statements}
+use Rattle.ppd_check.proofs.Vocabulary.{is_up_to}
 use Rattle.ppd_check_names.specs.Globals.{past}
 
 -- Places in order.
@@ -103,36 +101,3 @@ few_names n limit xs h =
     let a : length (drop n xs) ≡ length xs - n = length-drop n xs in
     let b : length (drop n xs) ≡ 0 = ap length e in
     omega (arith, a, b)
-
--- As many statements as places.
-
-length_both : {X Y : Type 0} (xs xs' : List X) (ys ys' : List Y) → length xs ≡ length ys → length xs' ≡ length ys' → length (xs ++ xs') ≡ length (ys ++ ys')
-length_both xs xs' ys ys' h i =
-    let a : length (xs ++ xs') ≡ length xs + length xs' = length-append xs xs' in
-    let b : length (ys ++ ys') ≡ length ys + length ys' = length-append ys ys' in
-    omega (arith, a, b, h, i)
-
-length_stmts : (b : ℕ) (parent : Option ℕ) (n m : ℕ) (c : Code) → length (stmts b parent n m c) ≡ length (places c)
-length_stmts b parent n m done = refl
-length_stmts b parent n m (act p a c) = ap suc (length_stmts b parent (n + 1) (m + weights (act_terms a)) c)
-length_stmts b parent n m (choice p e x y c) =
-    let n1 : ℕ = n + 1 in
-    let n2 : ℕ = n1 + count x in
-    let m1 : ℕ = m + weight e in
-    let m2 : ℕ = m1 + weights (terms x) in
-    let rest : ℕ = m2 + weights (terms y) in
-    ap suc
-    (length_both (stmts b (Some n) n1 m1 x) (stmts b (Some n) n2 m2 y ++ stmts b parent (n2 + count y) rest c) (places x) (places y ++ places c) (length_stmts b (Some n) n1 m1 x)
-    (length_both (stmts b (Some n) n2 m2 y) (stmts b parent (n2 + count y) rest c) (places y) (places c) (length_stmts b (Some n) n2 m2 y) (length_stmts b parent (n2 + count y) rest c)))
-length_stmts b parent n m (loop p e inside c) =
-    let n1 : ℕ = n + 1 in
-    let m1 : ℕ = m + weight e in
-    let rest : ℕ = m1 + weights (terms inside) in
-    ap suc
-    (length_both (stmts b (Some n) n1 m1 inside) (stmts b parent (n1 + count inside) rest c) (places inside) (places c) (length_stmts b (Some n) n1 m1 inside) (length_stmts b parent (n1 + count inside) rest c))
-
-pub length_all_stmts : (b n m : ℕ) (cs : List Code) → length (all_stmts b n m cs) ≡ length (flat_map places cs)
-length_all_stmts b n m [] = refl
-length_all_stmts b n m (c ∷ cs) =
-    length_both (stmts (as_short b) None n m c) (all_stmts (b + 1) (n + count c) (m + weights (terms c)) cs) (places c) (flat_map places cs)
-    (length_stmts (as_short b) None n m c) (length_all_stmts (b + 1) (n + count c) (m + weights (terms c)) cs)

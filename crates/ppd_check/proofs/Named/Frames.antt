@@ -9,9 +9,10 @@ use Rattle.ppd_ast.specs.Cells.{IsScalarOf}
 use Rattle.ppd_check_names.specs.declared.frame.Variable.{Variable}
 use Rattle.ppd_check_names.specs.declared.frame.Frame.{Frame}
 use Rattle.ppd_check_names.specs.declared.meaning.Meaning.TheVariants as M
-use Rattle.ppd_check_names.specs.Fitted.{as_short}
+use Rattle.ppd_check_names.specs.Fitted.{fitted}
 use Rattle.ppd_check_names.specs.Syntax.{Name, Simple, fresh, array, store, change, call, give_back, take, give, send, print, assert, Row, stop, simple, block, choice, repeat, count}
-use Rattle.ppd_check_stmts.specs.Statements.{opened, with_scopes_of, goal_name, spot_of, via_hidden, return_via_hidden, hidden_if, after, after_any, after_row}
+use Rattle.ppd_check_stmts.specs.Statements.{opened, with_scopes_of, goal_name, spot_of, via_hidden, return_via_hidden, after, after_row}
+use Rattle.ppd_check_stmts.proofs.Vocabulary.{hidden_if, after_any}
 use Rattle.ppd_check_names.specs.Frames.{after_cells, variable_of, declared, with_hidden}
 use Rattle.ppd_check_names.proofs.Declared.Counted.{end_cells, end_cells_more}
 use Rattle.ppd_check_bodies.specs.Sources.{vars}
@@ -124,7 +125,7 @@ module _ (p : Program) (vs : List Variable) where
 
   pub after_on : (s : Simple) (f : Frame) → IsOnTheWay p vs f → LeadsTo (after s f).variables vs → IsOnTheWay p vs (after s f)
   after_on (fresh x v) f way l = declared_on x None f way l
-  after_on (array x n) f way l = declared_on x (Some (as_short n.value)) f way l
+  after_on (array x n) f way l = declared_on x (Some (fitted 16 n.value)) f way l
   after_on (store g v) f way l = hidden_on (via_hidden (spot_of f.scopes g) v) (goal_name g).place f way l
   after_on (change g op e) f way l = way
   after_on (call g args) f way l = way

@@ -9,15 +9,17 @@ use Rattle.ppd_check_names.specs.declared.fault.Fault.{Fault}
 use Rattle.ppd_check_names.specs.declared.fault.Limit.TheVariants as L
 use Rattle.ppd_check_names.specs.declared.frame.Variable.{Variable}
 use Rattle.ppd_check_names.specs.declared.frame.Frame.{Frame}
-use Rattle.ppd_check_names.specs.Fitted.{as_short}
+use Rattle.ppd_check_names.specs.Fitted.{fitted}
 use Rattle.ppd_check_names.specs.Names.{Scope}
 use Rattle.ppd_check_stmts.specs.Code.{count}
 use Rattle.ppd_check_stmts.specs.Table.{flats, terms}
 use Rattle.ppd_check_names.specs.Syntax.{Name, Item, shared, shared_array, semaphore, channel, function, process}
 use Rattle.ppd_check_stmts.specs.Statements.{row_faults}
 use Rattle.ppd_check_names.specs.Frames.{after_cells, variable_of, declared}
-use Rattle.ppd_check_bodies.specs.Sources.{with_params, params_faults, outer, entry, head_code, head_frame, return_faults, head_faults, heads, codes, vars, body, bodies, all_stmts}
-use Rattle.ppd_check_names.specs.Globals.{Head, Globals, with_item, with_items, past_cells, sem, chan}
+use Rattle.ppd_check_bodies.specs.Sources.{params_faults, outer, entry, head_code, head_frame, head_faults, heads, codes, vars, body, bodies, all_stmts}
+use Rattle.ppd_check_bodies.specs.Bodies.{with_params, return_faults}
+use Rattle.ppd_check_names.specs.Globals.{Head, Globals, with_item, past_cells}
+use Rattle.ppd_check_names.specs.Holding.{with_items, sem, chan}
 use Rattle.ppd_check_names.proofs.Declared.Counted.{end_cells, end_cells_more}
 use Rattle.ppd_check.proofs.Named.Terms.{nil_left, nil_right}
 use Rattle.ppd_check.proofs.Named.Frames.{LeadsTo, leads_itself, leads_further, leads_on, row_leads}
@@ -30,7 +32,7 @@ table_of g =
       exprs = flats 0 (flat_map terms (codes g));
       stmts = all_stmts 0 0 0 (codes g);
       bodies = bodies g.scope 0 (heads g);
-      functions = as_short (length g.functions);
+      functions = fitted 16 (length g.functions);
       shared = vars 0 g.shared;
       starts = g.starts;
       sems = map sem g.semaphores;
@@ -83,7 +85,7 @@ has_items (i ∷ is) g = has_further g (with_item i g) (with_items is (with_item
 
 pub item_cells : (i : Item) (g : Globals) → g.cells ≡ end_cells 0 g.shared → (with_item i g).cells ≡ end_cells 0 (with_item i g).shared
 item_cells (shared x v) g h = ap (λ c. after_cells c None) h ∙ sym (end_cells_more 0 g.shared (variable_of x None))
-item_cells (shared_array x n) g h = ap (λ c. after_cells c (Some (as_short n.value))) h ∙ sym (end_cells_more 0 g.shared (variable_of x (Some (as_short n.value))))
+item_cells (shared_array x n) g h = ap (λ c. after_cells c (Some (fitted 16 n.value))) h ∙ sym (end_cells_more 0 g.shared (variable_of x (Some (fitted 16 n.value))))
 item_cells (semaphore x n) g h = h
 item_cells (channel x n) g h = h
 item_cells (function gives x params b) g h = h
@@ -102,7 +104,7 @@ more_starts starts more xs v h e =
 item_starts : (i : Item) (g : Globals) → length g.starts ≡ total g.shared → length (with_item i g).starts ≡ total (with_item i g).shared
 item_starts (shared x v) g h = more_starts g.starts (v ∷ []) g.shared (variable_of x None) h refl
 item_starts (shared_array x n) g h =
-    more_starts g.starts (replicate (as_short n.value) (pos 0)) g.shared (variable_of x (Some (as_short n.value))) h (length-replicate (as_short n.value) (pos 0))
+    more_starts g.starts (replicate (fitted 16 n.value) (pos 0)) g.shared (variable_of x (Some (fitted 16 n.value))) h (length-replicate (fitted 16 n.value) (pos 0))
 item_starts (semaphore x n) g h = h
 item_starts (channel x n) g h = h
 item_starts (function gives x params b) g h = h
@@ -148,7 +150,7 @@ cells_faults scope h e =
 pub few_locals : MOST_LOCAL_CELLS < 2 ^ 16 - 1
 few_locals = omega arith
 
-pub few_params : (scope : Scope) (h : Head) → head_faults scope h ≡ [] → as_short (length h.params) ≡ length h.params
+pub few_params : (scope : Scope) (h : Head) → head_faults scope h ≡ [] → fitted 16 (length h.params) ≡ length h.params
 few_params scope h e =
     let lead : LeadsTo (map (λ x. variable_of x None) h.params) (head_frame scope h).variables = params_lead scope h in
     let within : past_cells MOST_LOCAL_CELLS L.Locals 0 (head_frame scope h).variables ≡ [] = cells_faults scope h e in
@@ -157,5 +159,5 @@ few_params scope h e =
     let c : length h.params ≤ total (head_frame scope h).variables = subst (λ l. length h.params ≤ total l) (sym lead.1) (names_total h.params lead.0) in
     short_small (length h.params) (omega (arith, a, b, c))
   where
-    short_small : (n : ℕ) → n ≤ MOST_LOCAL_CELLS → as_short n ≡ n
+    short_small : (n : ℕ) → n ≤ MOST_LOCAL_CELLS → fitted 16 n ≡ n
     short_small n le = omega (arith, le)

@@ -1,26 +1,28 @@
 -- The numbers of an accepted source are within the limits.
-use Rattle.std.proofs.Common.{◌≡◌, refl, sym, subst, ◌∙◌, ℕ, ◌+◌, ◌-◌, ◌^◌, ◌<◌, ◌≤◌, arith, Bool, true, false, ◌&&◌, nat_lt, nat_le, List, [], ◌∷◌, ◌++◌, map, length}
+use Rattle.std.proofs.Common.{◌≡◌, refl, sym, subst, ◌∙◌, ℕ, ◌+◌, ◌-◌, ◌^◌, ◌<◌, ◌≤◌, arith, Bool, true, false, ◌&&◌, nat_lt, nat_le, List, [], ◌∷◌, ◌++◌, map, length, not}
 use Rattle.std.specs.List.{All, flat_map}
 use Rattle.std.proofs.lemmas.List.{length-append, length-map}
 use Rattle.std.proofs.lemmas.List.Elements.{All-nil, All-push, All-weaker, All-map}
 use Rattle.std.proofs.lemmas.Bool.{ltb-true}
 use Rattle.ppd_ast.specs.declared.limits.TheConstants.{MOST_STATEMENTS, MOST_FUNCTIONS, MOST_PROCESSES, MOST_SHARED_CELLS, MOST_SEMAPHORES, MOST_CHANNELS, MOST_START, LEAST_CAPACITY, MOST_CAPACITY}
 use Rattle.ppd_ast.specs.Cells.{CoverCells}
+use Rattle.ppd_check.specs.Placed.{place_of}
 use Rattle.ppd_check_names.specs.declared.fault.Cause.TheVariants.{NoProcess, BadSize}
 use Rattle.ppd_check_names.specs.declared.fault.Fault.{Fault}
 use Rattle.ppd_check_names.specs.declared.fault.Limit.TheVariants as L
-use Rattle.ppd_check_names.specs.Faults.{unless}
-use Rattle.ppd_check_names.specs.Fitted.{as_byte, as_short, as_word}
-use Rattle.ppd_check_stmts.specs.Code.{places}
+use Rattle.ppd_check_names.specs.Faults.{if_so}
+use Rattle.ppd_check_names.specs.Fitted.{fitted}
 use Rattle.ppd_check_names.specs.Syntax.{Number, Item, shared, shared_array, semaphore, channel, function, process, Source}
 use Rattle.ppd_check_names.specs.Frames.{twice_faults, size_faults}
-use Rattle.ppd_check_bodies.specs.Sources.{past_statements, head_faults, heads, codes, vars, bodies, core_of, faults_in}
+use Rattle.ppd_check_bodies.specs.Sources.{past_statements, head_faults, heads, codes, vars, bodies, core_of, faults_in, all_stmts}
 use Rattle.ppd_check_bodies.proofs.Heading.{length_bodies}
-use Rattle.ppd_check_names.specs.Globals.{Object, Globals, no_globals, item_name, item_size_faults, with_item, with_items, globals, items_faults, past, past_cells, head_name, object_name, count_faults, sem, chan}
+use Rattle.ppd_check_names.specs.Globals.{Object, Globals, no_globals, item_name, item_size_faults, with_item, globals, items_faults, past, past_cells, count_faults}
+use Rattle.ppd_check_names.specs.Holding.{with_items, sem, chan}
+use Rattle.ppd_check_names.proofs.Words.{head_name, object_name}
 use Rattle.ppd_check_names.proofs.Declared.Counted.{end_cells, le_true}
 use Rattle.ppd_check.proofs.Named.Terms.{nil_left, nil_right, unless_true}
 use Rattle.ppd_check.proofs.Named.Cells.{total, cells_total, cells_within, cover_cells}
-use Rattle.ppd_check.proofs.Named.Counts.{few_statements, few_names, length_all_stmts}
+use Rattle.ppd_check.proofs.Named.Counts.{few_statements, few_names}
 use Rattle.ppd_check.proofs.Named.Items.{items_starts}
 use Rattle.ppd_check.proofs.Valid.Facts.{AreCounted}
 
@@ -79,22 +81,22 @@ pub record BreaksNone (s : Source) : Type 0 where
   pub counts : count_faults (globals s) ≡ []
   pub process : 0 < length (globals s).processes
   pub bodies : flat_map (head_faults (globals s).scope) (heads (globals s)) ≡ []
-  pub statements : past_statements (flat_map places (codes (globals s))) ≡ []
+  pub statements : past_statements (map place_of (all_stmts 0 0 0 (codes (globals s)))) ≡ []
 
 pub breaks_none : (s : Source) → faults_in s ≡ [] → BreaksNone s
 breaks_none s h =
     let g : Globals = globals s in
-    let f4 : List Fault = past_statements (flat_map places (codes g)) in
+    let f4 : List Fault = past_statements (map place_of (all_stmts 0 0 0 (codes g))) in
     let f3 : List Fault = flat_map (head_faults g.scope) (heads g) ++ f4 in
-    let f2 : List Fault = unless (nat_lt 0 (length g.processes)) s.end NoProcess ++ f3 in
+    let f2 : List Fault = if_so (not (nat_lt 0 (length g.processes))) s.end NoProcess ++ f3 in
     let f1 : List Fault = count_faults g ++ f2 in
     let h1 : f1 ≡ [] = nil_right (items_faults s.items no_globals) f1 h in
     let h2 : f2 ≡ [] = nil_right (count_faults g) f2 h1 in
-    let h3 : f3 ≡ [] = nil_right (unless (nat_lt 0 (length g.processes)) s.end NoProcess) f3 h2 in
+    let h3 : f3 ≡ [] = nil_right (if_so (not (nat_lt 0 (length g.processes))) s.end NoProcess) f3 h2 in
     record {
       items = nil_left (items_faults s.items no_globals) f1 h;
       counts = nil_left (count_faults g) f2 h1;
-      process = ltb-true 0 (length g.processes) (unless_true (nat_lt 0 (length g.processes)) s.end NoProcess (nil_left (unless (nat_lt 0 (length g.processes)) s.end NoProcess) f3 h2));
+      process = ltb-true 0 (length g.processes) (unless_true (nat_lt 0 (length g.processes)) s.end NoProcess (nil_left (if_so (not (nat_lt 0 (length g.processes))) s.end NoProcess) f3 h2));
       bodies = nil_left (flat_map (head_faults g.scope) (heads g)) f4 h3;
       statements = nil_right (flat_map (head_faults g.scope) (heads g)) f4 h3;
     }
@@ -148,20 +150,20 @@ few_starts s few =
     omega (arith, a, b, c)
 
 -- numbers within the limits are not capped
-pub functions_fit : (n : ℕ) → n ≤ MOST_FUNCTIONS → as_short n ≡ n
+pub functions_fit : (n : ℕ) → n ≤ MOST_FUNCTIONS → fitted 16 n ≡ n
 functions_fit n h = omega (arith, h)
 
-pub start_fits : (n : ℕ) → n ≤ MOST_START → as_word n ≡ n
+pub start_fits : (n : ℕ) → n ≤ MOST_START → fitted 32 n ≡ n
 start_fits n h = omega (arith, h)
 
-pub capacity_fits : (n : ℕ) → n ≤ MOST_CAPACITY → as_byte n ≡ n
+pub capacity_fits : (n : ℕ) → n ≤ MOST_CAPACITY → fitted 8 n ≡ n
 capacity_fits n h = omega (arith, h)
 
 -- the numbers of a program's parts, its start values and its capacities are as the limits have it
 pub counted : (s : Source) → BreaksNone s → AreCounted (core_of s)
 counted s none =
     record {
-      stmts = subst (λ n. n ≤ MOST_STATEMENTS) (sym (length_all_stmts 0 0 0 (codes (globals s)))) (few_statements (flat_map places (codes (globals s))) none.statements);
+      stmts = subst (λ n. n ≤ MOST_STATEMENTS) (length-map (all_stmts 0 0 0 (codes (globals s))) place_of) (few_statements (map place_of (all_stmts 0 0 0 (codes (globals s)))) none.statements);
       functions = subst (λ n. n ≤ MOST_FUNCTIONS) (sym fit) few.functions;
       process = bounds.0;
       processes = bounds.1;
@@ -178,7 +180,7 @@ counted s none =
     sizes : AreSized (globals s)
     sizes = source_sized s none
 
-    fit : as_short (length (globals s).functions) ≡ length (globals s).functions
+    fit : fitted 16 (length (globals s).functions) ≡ length (globals s).functions
     fit = functions_fit (length (globals s).functions) few.functions
 
     many : length (bodies (globals s).scope 0 (heads (globals s))) ≡ length (globals s).functions + length (globals s).processes
@@ -187,16 +189,16 @@ counted s none =
     between : (f f' ps n : ℕ) → f' ≡ f → n ≡ f + ps → 0 < ps → ps ≤ MOST_PROCESSES → (f' < n) × (n ≤ f' + MOST_PROCESSES)
     between f f' ps n a b c d = (omega (arith, a, b, c), omega (arith, a, b, d))
 
-    bounds : (as_short (length (globals s).functions) < length (bodies (globals s).scope 0 (heads (globals s)))) × (length (bodies (globals s).scope 0 (heads (globals s))) ≤ as_short (length (globals s).functions) + MOST_PROCESSES)
-    bounds = between (length (globals s).functions) (as_short (length (globals s).functions)) (length (globals s).processes) (length (bodies (globals s).scope 0 (heads (globals s)))) fit many none.process few.processes
+    bounds : (fitted 16 (length (globals s).functions) < length (bodies (globals s).scope 0 (heads (globals s)))) × (length (bodies (globals s).scope 0 (heads (globals s))) ≤ fitted 16 (length (globals s).functions) + MOST_PROCESSES)
+    bounds = between (length (globals s).functions) (fitted 16 (length (globals s).functions)) (length (globals s).processes) (length (bodies (globals s).scope 0 (heads (globals s)))) fit many none.process few.processes
 
     starts : All (λ x. x.start ≤ MOST_START) (map sem (globals s).semaphores)
     starts =
         All-map (λ x. x.start ≤ MOST_START) sem (globals s).semaphores
-        (All-weaker StartsWithin (λ o. as_word o.number ≤ MOST_START) (λ o h. subst (λ n. n ≤ MOST_START) (sym (start_fits o.number h)) h) (globals s).semaphores sizes.semaphores)
+        (All-weaker StartsWithin (λ o. fitted 32 o.number ≤ MOST_START) (λ o h. subst (λ n. n ≤ MOST_START) (sym (start_fits o.number h)) h) (globals s).semaphores sizes.semaphores)
 
     holds : All (λ x. (LEAST_CAPACITY ≤ x.capacity) × (x.capacity ≤ MOST_CAPACITY)) (map chan (globals s).channels)
     holds =
         All-map (λ x. (LEAST_CAPACITY ≤ x.capacity) × (x.capacity ≤ MOST_CAPACITY)) chan (globals s).channels
-        (All-weaker HoldsWithin (λ o. (LEAST_CAPACITY ≤ as_byte o.number) × (as_byte o.number ≤ MOST_CAPACITY))
+        (All-weaker HoldsWithin (λ o. (LEAST_CAPACITY ≤ fitted 8 o.number) × (fitted 8 o.number ≤ MOST_CAPACITY))
         (λ o h. subst (λ n. (LEAST_CAPACITY ≤ n) × (n ≤ MOST_CAPACITY)) (sym (capacity_fits o.number h.1)) h) (globals s).channels sizes.channels)

@@ -9,7 +9,7 @@ use Rattle.ppd_ast.specs.Cells.{IsScalarOf}
 use Rattle.ppd_check_names.specs.declared.fault.Fault.{Fault}
 use Rattle.ppd_check_names.specs.declared.frame.Variable.{Variable}
 use Rattle.ppd_check_names.specs.declared.frame.Frame.{Frame}
-use Rattle.ppd_check_names.specs.Fitted.{as_short}
+use Rattle.ppd_check_names.specs.Fitted.{fitted}
 use Rattle.ppd_check_names.specs.Names.{innermost, is_channel}
 use Rattle.ppd_check_stmts.specs.Code as C
 use Rattle.ppd_check_stmts.specs.Code.{Spot, Act, Code, done, act, choice, loop, join, acts}
@@ -17,7 +17,9 @@ use Rattle.ppd_check_names.specs.Syntax.{Value, plain, result, received, Simple,
 use Rattle.ppd_check_names.specs.Syntax as S
 use Rattle.ppd_check_names.specs.Reading.{goal_formula}
 use Rattle.ppd_check_stmts.specs.Expressions.{term_of, name_faults, formula_faults}
-use Rattle.ppd_check_stmts.specs.Statements.{opened, with_scopes_of, goal_name, spot_of, via_hidden, hidden_if, after, after_any, after_row, put, store_acts, place_of, acts_of, code_of, code_of_any, row_code, value_faults, faults_of, faults_of_any, row_faults}
+use Rattle.ppd_check_stmts.specs.Statements.{opened, with_scopes_of, goal_name, spot_of, via_hidden, after, after_row, put, store_acts, place_of, acts_of, code_of, row_code, value_faults, faults_of, row_faults}
+use Rattle.ppd_check_stmts.proofs.Vocabulary.{hidden_if, after_any}
+use Rattle.ppd_check_stmts.specs.Plain.{code_of_any, faults_of_any}
 use Rattle.ppd_check_names.specs.Frames.{declared, twice_faults}
 use Rattle.ppd_check_bodies.specs.Sources.{vars}
 use Rattle.ppd_check.proofs.Named.Rightly.{IsNamedRightly, AreNamedRightly}
@@ -115,7 +117,7 @@ module _ (p : Program) (vs : List Variable) where
             (local_there p vs None x f way l),
         tt,
       )
-  simple_rightly (array x n) f way l h = (clear_rightly p (vars 0 vs) f.cells (as_short n.value) (local_there p vs (Some (as_short n.value)) x f way l), tt)
+  simple_rightly (array x n) f way l h = (clear_rightly p (vars 0 vs) f.cells (fitted 16 n.value) (local_there p vs (Some (fitted 16 n.value)) x f way l), tt)
   simple_rightly (store g v) f way l h =
       store_rightly (spot_of f.scopes g) v (goal_name g).place f way l
       (spot_whole p (vars 0 vs) f.scopes g way.names (nil_left (formula_faults f.scopes (goal_formula g)) (value_faults f.scopes v) h))

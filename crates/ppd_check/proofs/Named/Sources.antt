@@ -11,15 +11,17 @@ use Rattle.ppd_check_names.specs.declared.fault.Limit.TheVariants as L
 use Rattle.ppd_check_names.specs.declared.frame.Variable.{Variable}
 use Rattle.ppd_check_names.specs.declared.frame.Frame.{Frame}
 use Rattle.ppd_check_names.specs.declared.meaning.Meaning.TheVariants as M
-use Rattle.ppd_check_names.specs.Fitted.{as_byte, as_short}
+use Rattle.ppd_check_names.specs.Fitted.{fitted}
 use Rattle.ppd_check_names.specs.Names.{Scope}
 use Rattle.ppd_check_stmts.specs.Code as C
 use Rattle.ppd_check_stmts.specs.Code.{act, done}
 use Rattle.ppd_check_names.specs.Syntax.{Name, Item, shared, shared_array, semaphore, channel, function, process}
 use Rattle.ppd_check_stmts.specs.Statements.{row_code, row_faults}
 use Rattle.ppd_check_names.specs.Frames.{variable_of, declared}
-use Rattle.ppd_check_bodies.specs.Sources.{with_params, params_faults, outer, entry, ends_with_return, close_code, head_code, head_frame, return_faults, head_faults, heads, vars, body, bodies}
-use Rattle.ppd_check_names.specs.Globals.{Head, Globals, no_globals, item_name, item_meaning, with_item, with_items, past_cells, sem, chan}
+use Rattle.ppd_check_bodies.specs.Sources.{params_faults, outer, entry, ends_with_return, head_code, head_frame, head_faults, heads, vars, body, bodies}
+use Rattle.ppd_check_bodies.specs.Bodies.{with_params, close_code, return_faults}
+use Rattle.ppd_check_names.specs.Globals.{Head, Globals, no_globals, item_name, item_meaning, with_item, past_cells}
+use Rattle.ppd_check_names.specs.Holding.{with_items, sem, chan}
 use Rattle.ppd_check_names.proofs.Declared.Counted.{end_cells}
 use Rattle.ppd_check.proofs.Named.Rightly.{IsThere, AreThere, AreNamedRightly}
 use Rattle.ppd_check.proofs.Named.Terms.{nil_left, nil_right, declare_there}
@@ -39,13 +41,13 @@ longer xs x ys l =
     omega (arith, a, b, c)
 
 -- a number below a length is still below it where it is capped
-capped_byte : (n m : ℕ) → n < m → as_byte n < m
+capped_byte : (n m : ℕ) → n < m → fitted 8 n < m
 capped_byte n m h = omega (arith, h)
 
-capped_short : (n m : ℕ) → n < m → m ≤ MOST_FUNCTIONS → as_short n < as_short m
+capped_short : (n m : ℕ) → n < m → m ≤ MOST_FUNCTIONS → fitted 16 n < fitted 16 m
 capped_short n m h le = omega (arith, h, le)
 
-short_same : (n m : ℕ) → n < m → m ≤ MOST_FUNCTIONS → as_short n ≡ n
+short_same : (n m : ℕ) → n < m → m ≤ MOST_FUNCTIONS → fitted 16 n ≡ n
 short_same n m h le = omega (arith, h, le)
 
 -- what the rules leave of what is declared: few functions, and bodies that break none
@@ -55,7 +57,7 @@ pub record IsAllowed (g : Globals) : Type 0 where
 
 -- a function's number is that of its body
 function_there : (g : Globals) (locals : List Var) (before : List Head) (h : Head) → IsAllowed g → LeadsTo (before ++ h ∷ []) g.functions
-    → IsThere (table_of g) locals (M.Function (as_short (length before)) (length h.params) h.gives)
+    → IsThere (table_of g) locals (M.Function (fitted 16 (length before)) (length h.params) h.gives)
 function_there g locals before h allowed lead = (
   capped_short (length before) (length g.functions) below allowed.functions,
   subst (λ k. IsSomeAnd (slice_get (bodies g.scope 0 (heads g)) k) (λ b. (length h.params ≡ b.params) × (h.gives ≡ b.value)))
@@ -84,11 +86,11 @@ function_there g locals before h allowed lead = (
 -- what the next item declares is there
 item_there : (g : Globals) (locals : List Var) (i : Item) (k : Globals) → IsAllowed g → k.cells ≡ end_cells 0 k.shared → HasAll (with_item i k) g → IsThere (table_of g) locals (item_meaning k i)
 item_there g locals (shared x v) k allowed cells has = last_there g.shared k.shared (variable_of x None) k.cells has.shared cells
-item_there g locals (shared_array x n) k allowed cells has = last_there g.shared k.shared (variable_of x (Some (as_short n.value))) k.cells has.shared cells
+item_there g locals (shared_array x n) k allowed cells has = last_there g.shared k.shared (variable_of x (Some (fitted 16 n.value))) k.cells has.shared cells
 item_there g locals (semaphore x n) k allowed cells has =
-    subst (λ m. as_byte (length k.semaphores) < m) (sym (length-map g.semaphores sem)) (capped_byte (length k.semaphores) (length g.semaphores) (longer k.semaphores _ g.semaphores has.semaphores))
+    subst (λ m. fitted 8 (length k.semaphores) < m) (sym (length-map g.semaphores sem)) (capped_byte (length k.semaphores) (length g.semaphores) (longer k.semaphores _ g.semaphores has.semaphores))
 item_there g locals (channel x n) k allowed cells has =
-    subst (λ m. as_byte (length k.channels) < m) (sym (length-map g.channels chan)) (capped_byte (length k.channels) (length g.channels) (longer k.channels _ g.channels has.channels))
+    subst (λ m. fitted 8 (length k.channels) < m) (sym (length-map g.channels chan)) (capped_byte (length k.channels) (length g.channels) (longer k.channels _ g.channels has.channels))
 item_there g locals (function gives x params b) k allowed cells has =
     function_there g locals k.functions (record { process = false; gives = gives; name = x; params = params; block = b }) allowed has.functions
 item_there g locals (process x b) k allowed cells has = tt
@@ -150,7 +152,7 @@ head_rightly p scope h there steps e =
 pub record HasFrame (scope : Scope) (h : Head) : Type 0 where
   pub frame : (head_frame scope h).cells ≤ MOST_LOCAL_CELLS
   pub cells : CoverCells (vars 0 (head_frame scope h).variables) (head_frame scope h).cells
-  pub params : AreParams (vars 0 (head_frame scope h).variables) (as_short (length h.params))
+  pub params : AreParams (vars 0 (head_frame scope h).variables) (fitted 16 (length h.params))
 
 frame_of : (vs : List Variable) (cells n : ℕ) (xs : List Name) → cells ≡ end_cells 0 vs → n ≤ length xs → LeadsTo (map (λ x. variable_of x None) xs) vs → past_cells MOST_LOCAL_CELLS L.Locals 0 vs ≡ []
     → (cells ≤ MOST_LOCAL_CELLS) × CoverCells (vars 0 vs) cells × AreParams (vars 0 vs) n
@@ -164,12 +166,12 @@ frame_of vs cells n xs is few lead h =
           (params_first MOST_LOCAL_CELLS L.Locals few_locals xs lead.0 n few (subst (λ l. past_cells MOST_LOCAL_CELLS L.Locals 0 l ≡ []) lead.1 h)),
     )
 
-short_at_most : (n : ℕ) → as_short n ≤ n
+short_at_most : (n : ℕ) → fitted 16 n ≤ n
 short_at_most n = omega arith
 
 pub head_has_frame : (p : Program) (scope : Scope) (h : Head) → AreThere p (vars 0 (head_frame scope h).variables) scope → head_faults scope h ≡ [] → HasFrame scope h
 head_has_frame p scope h there e =
     let way : IsOnTheWay p (head_frame scope h).variables (head_frame scope h) =
     row_on p (head_frame scope h).variables h.block.row (entry scope h) (entry_on p scope h there) (leads_itself (head_frame scope h).variables) in
-    let facts = frame_of (head_frame scope h).variables (head_frame scope h).cells (as_short (length h.params)) h.params way.cells (short_at_most (length h.params)) (params_lead scope h) (cells_faults scope h e) in
+    let facts = frame_of (head_frame scope h).variables (head_frame scope h).cells (fitted 16 (length h.params)) h.params way.cells (short_at_most (length h.params)) (params_lead scope h) (cells_faults scope h e) in
     record { frame = facts.0; cells = facts.1; params = facts.2 }

@@ -1,5 +1,5 @@
 -- Expressions and statements that break no rule name what is there.
-use Rattle.std.proofs.Common.{◌≡◌, refl, ℕ, Bool, true, false, if◌then◌else◌, List, [], ◌∷◌, ◌++◌, map, Option, Some, None, is_some, IfSome}
+use Rattle.std.proofs.Common.{◌≡◌, refl, ℕ, Bool, true, false, if◌then◌else◌, List, [], ◌∷◌, ◌++◌, map, Option, Some, None, is_some, IfSome, not}
 use Rattle.std.specs.List.{All, flat_map}
 use Rattle.std.specs.Prelude.{bytes_eq}
 use Rattle.std.proofs.lemmas.List.Elements.{All-nil, All-cons}
@@ -9,12 +9,16 @@ use Rattle.ppd_ast.specs.declared.program.Program.{Program}
 use Rattle.ppd_ast.specs.Term.{Term}
 use Rattle.ppd_ast.specs.Cells.{NamesWhole}
 use Rattle.ppd_check_names.specs.declared.fault.Cause.{Cause}
-use Rattle.ppd_check_names.specs.Names.{Scope, found, else_in, meaning, declare, in_innermost, fits_index}
+use Rattle.ppd_check_names.specs.Names.{Scope, meaning, declare, fits_index}
+use Rattle.ppd_check_names.specs.Declaring.{in_innermost}
+use Rattle.ppd_lex.specs.Front.{looked_up}
+use Rattle.std.specs.Option.{option_or}
 use Rattle.ppd_check_names.specs.declared.meaning.Meaning.{Meaning}
 use Rattle.ppd_check_names.specs.declared.meaning.Meaning.TheVariants as M
-use Rattle.ppd_check_names.specs.Faults.{unless, if_so}
+use Rattle.ppd_check_names.specs.Faults.{if_so}
 use Rattle.ppd_check_names.specs.Syntax.{Formula, number, variable, element, negated, inverted, two, both, either}
-use Rattle.ppd_check_stmts.specs.Expressions.{read_scalar, read_element, term_of, wrong_use, name_faults, formula_faults}
+use Rattle.ppd_check_stmts.specs.Expressions.{read_scalar, read_element, term_of, name_faults, formula_faults}
+use Rattle.ppd_check_stmts.proofs.Vocabulary.{wrong_use}
 use Rattle.ppd_check.proofs.Named.Rightly.{IsThere, AreThere, AreAllThere}
 
 -- Lists of no faults.
@@ -30,7 +34,7 @@ nil_right (x ∷ xs) ys h = cc
 pub not_nil : {X : Type 0} (x : X) (xs : List X) → x ∷ xs ≡ [] → ⊥
 not_nil x xs h = cc
 
-pub unless_true : (b : Bool) (q : Place) (c : Cause) → unless b q c ≡ [] → b ≡ true
+pub unless_true : (b : Bool) (q : Place) (c : Cause) → if_so (not b) q c ≡ [] → b ≡ true
 unless_true true q c h = refl
 unless_true false q c h = absurd (not_nil _ _ h)
 
@@ -55,19 +59,19 @@ array_used P s l o q h = absurd (not_nil _ _ h)
 module _ (p : Program) (locals : List Var) where
   -- What a name means is there.
 
-  found_there : (scope : Scope) (x : List ℕ) → AreThere p locals scope → IfSome (found scope x) (IsThere p locals)
+  found_there : (scope : Scope) (x : List ℕ) → AreThere p locals scope → IfSome (looked_up scope x) (IsThere p locals)
   found_there [] x h = tt
   found_there (e ∷ scope) x h = go (bytes_eq x e.0) (found_there scope x h.1)
     where
-      go : (b : Bool) → IfSome (found scope x) (IsThere p locals) → IfSome (if b then Some e.1 else found scope x) (IsThere p locals)
+      go : (b : Bool) → IfSome (looked_up scope x) (IsThere p locals) → IfSome (if b then Some e.1 else looked_up scope x) (IsThere p locals)
       go true r = h.0
       go false r = r
 
   pub meaning_there : (scopes : List Scope) (x : List ℕ) → AreAllThere p locals scopes → IfSome (meaning scopes x) (IsThere p locals)
   meaning_there [] x h = tt
-  meaning_there (scope ∷ scopes) x h = go (found scope x) (found_there scope x h.0) (meaning_there scopes x h.1)
+  meaning_there (scope ∷ scopes) x h = go (looked_up scope x) (found_there scope x h.0) (meaning_there scopes x h.1)
     where
-      go : (o : Option Meaning) → IfSome o (IsThere p locals) → IfSome (meaning scopes x) (IsThere p locals) → IfSome (else_in o (meaning scopes x)) (IsThere p locals)
+      go : (o : Option Meaning) → IfSome o (IsThere p locals) → IfSome (meaning scopes x) (IsThere p locals) → IfSome (option_or o (meaning scopes x)) (IsThere p locals)
       go None a b = b
       go (Some m) a b = a
 
@@ -76,7 +80,7 @@ module _ (p : Program) (locals : List Var) where
   there_last (e ∷ scope) x m a h = (h.0, there_last scope x m a h.1)
 
   pub declare_there : (scope : Scope) (x : List ℕ) (m : Meaning) → IsThere p locals m → AreThere p locals scope → AreThere p locals (declare x m scope)
-  declare_there scope x m a h = go (is_some (found scope x))
+  declare_there scope x m a h = go (is_some (looked_up scope x))
     where
       go : (b : Bool) → AreThere p locals (if b then scope else scope ++ (x, m) ∷ [])
       go true = h

@@ -14,11 +14,12 @@ use Rattle.ppd_ast.specs.Order.{StandIn}
 use Rattle.ppd_ast.specs.Uses.{kind_uses}
 use Rattle.ppd_ast.specs.Cells.{NamesWhole, WritesWhole}
 use Rattle.ppd_ast.specs.Valid.{Follow, HasObject, CallsRightly, IsValidUse, IsValidKind, IsValidStmt, IsValidBody}
-use Rattle.ppd_check_names.specs.Fitted.{as_short}
+use Rattle.ppd_check_names.specs.Fitted.{fitted}
 use Rattle.ppd_check_names.specs.Names.{Scope}
 use Rattle.ppd_check_stmts.specs.Code.{Code, Act, done, act, choice, loop, count}
 use Rattle.ppd_check_stmts.specs.Table.{weight, weights, root, roots, flats, terms, act_terms, kind, numbers, stmts}
-use Rattle.ppd_check_bodies.specs.Sources.{head_code, head_frame, return_faults, vars, body, bodies, all_stmts}
+use Rattle.ppd_check_bodies.specs.Sources.{head_code, head_frame, vars, body, bodies, all_stmts}
+use Rattle.ppd_check_bodies.specs.Bodies.{return_faults}
 use Rattle.ppd_check_names.specs.Globals.{Head}
 use Rattle.ppd_check_stmts.proofs.Table.Joined.{flats_append}
 use Rattle.ppd_check_stmts.proofs.Table.Writing.{length_flats, length_stmts}
@@ -147,7 +148,7 @@ pub record IsRightHead (p : Program) (scope : Scope) (h : Head) : Type 0 where
   pub names : HeadNames p scope h
   pub sizes : HeadSizes scope h
 
-short : (j : ℕ) → j < 65536 → as_short j ≡ j
+short : (j : ℕ) → j < 65536 → fitted 16 j ≡ j
 short j h = omega (arith, h)
 
 module _ (p : Program) (scope : Scope) where
@@ -155,7 +156,7 @@ module _ (p : Program) (scope : Scope) where
       → IsValidBody p j (body scope n h)
   head_valid h j n m here x r e = record {
     process = e;
-    plain = λ t. (ap (λ l. as_short (length l)) (r.plain t).0, (r.plain t).1);
+    plain = λ t. (ap (λ l. fitted 16 (length l)) (r.plain t).0, (r.plain t).1);
     name = r.sizes.name;
     names = r.sizes.names;
     frame = r.names.frame;
@@ -182,14 +183,14 @@ module _ (p : Program) (scope : Scope) where
       let cs : List Code = map (head_code scope) hs in
       let n1 : ℕ = n + count c in
       let m1 : ℕ = m + weights (terms c) in
-      let is : as_short j ≡ j = short j (omega (arith, l)) in
-      let xs = stands_stmts p.stmts (as_short j) None n m c (all_stmts (j + 1) n1 m1 cs) x in
+      let is : fitted 16 j ≡ j = short j (omega (arith, l)) in
+      let xs = stands_stmts p.stmts (fitted 16 j) None n m c (all_stmts (j + 1) n1 m1 cs) x in
       let own : Stands p.stmts n (stmts j None n m c) = subst (λ i. Stands p.stmts n (stmts i None n m c)) is xs.0 in
       let ys = stands_flats p.exprs m (terms c) (flat_map terms cs) y in
       let rest = heads_valid hs (j + 1) n1 m1 (omega (arith, l)) b.1 xs.1 ys.1 r.1 e.1 in
       let mine : EachFrom (IsValidStmt p) n (stmts j None n m c) = head_stmts h j n m b.0 own ys.0 r.0 in (
         (head_valid h j n m b.0 own r.0 e.0, rest.0),
-        each_append (IsValidStmt p) n n1 (stmts (as_short j) None n m c) (all_stmts (j + 1) n1 m1 cs) (ap (λ k. n + k) (length_stmts (as_short j) None n m c))
+        each_append (IsValidStmt p) n n1 (stmts (fitted 16 j) None n m c) (all_stmts (j + 1) n1 m1 cs) (ap (λ k. n + k) (length_stmts (fitted 16 j) None n m c))
             (subst (λ i. EachFrom (IsValidStmt p) n (stmts i None n m c)) (sym is) mine) rest.1,
       )
 
@@ -201,6 +202,6 @@ follow scope (h ∷ hs) j n m =
     let cs : List Code = map (head_code scope) hs in
     let n1 : ℕ = n + count c in
     let m1 : ℕ = m + weights (terms c) in
-    let l : length (stmts (as_short j) None n m c ++ all_stmts (j + 1) n1 m1 cs) ≡ length (stmts (as_short j) None n m c) + length (all_stmts (j + 1) n1 m1 cs) = length-append (stmts (as_short j) None n m c) (all_stmts (j + 1) n1 m1 cs) in
-    let e : n1 + length (all_stmts (j + 1) n1 m1 cs) ≡ n + length (stmts (as_short j) None n m c ++ all_stmts (j + 1) n1 m1 cs) = omega (arith, l, length_stmts (as_short j) None n m c) in
+    let l : length (stmts (fitted 16 j) None n m c ++ all_stmts (j + 1) n1 m1 cs) ≡ length (stmts (fitted 16 j) None n m c) + length (all_stmts (j + 1) n1 m1 cs) = length-append (stmts (fitted 16 j) None n m c) (all_stmts (j + 1) n1 m1 cs) in
+    let e : n1 + length (all_stmts (j + 1) n1 m1 cs) ≡ n + length (stmts (fitted 16 j) None n m c ++ all_stmts (j + 1) n1 m1 cs) = omega (arith, l, length_stmts (fitted 16 j) None n m c) in
     (refl, omega arith, subst (Follow n1 (bodies scope n1 hs)) e (follow scope hs (j + 1) n1 m1))

@@ -1,5 +1,5 @@
 -- The table of an accepted source that is not too large is a valid program, by what its names give.
-use Rattle.std.proofs.Common.{◌≡◌, ◌∙◌, subst, ℕ, ◌+◌, ◌<◌, ◌≤◌, nat_lt, nat_le, Bool, true, false, arith, List, [], ◌∷◌, ◌++◌, length, IsTrue}
+use Rattle.std.proofs.Common.{◌≡◌, ◌∙◌, subst, ℕ, ◌+◌, ◌<◌, ◌≤◌, nat_lt, nat_le, Bool, true, false, arith, List, [], ◌∷◌, ◌++◌, length, IsTrue, not, map}
 use Rattle.std.specs.List.{AllByRecursion, flat_map}
 use Rattle.std.proofs.lemmas.List.Elements.{recursion_from_All}
 use Rattle.std.proofs.lemmas.Bool.Decides.{nat_tests}
@@ -8,16 +8,18 @@ use Rattle.ppd_ast.specs.declared.program.Program.{Program}
 use Rattle.ppd_ast.specs.Table.{AreChildrenBelow}
 use Rattle.ppd_ast.specs.Valid.{Follow, IsValid, IsValidBody, IsValidStmt}
 use Rattle.ppd_parse.specs.Grammar.{Shape}
+use Rattle.ppd_check.specs.Placed.{place_of}
 use Rattle.ppd_check_names.specs.declared.fault.Fault.{Fault}
 use Rattle.ppd_check_names.specs.declared.fault.Cause.TheVariants.{NoProcess}
-use Rattle.ppd_check_names.specs.Faults.{unless}
-use Rattle.ppd_check_names.specs.Fitted.{as_short}
+use Rattle.ppd_check_names.specs.Faults.{if_so}
+use Rattle.ppd_check_names.specs.Fitted.{fitted}
 use Rattle.ppd_check_names.specs.Names.{Scope}
-use Rattle.ppd_check_stmts.specs.Code.{Code, places}
+use Rattle.ppd_check_stmts.specs.Code.{Code}
 use Rattle.ppd_check_names.specs.Reading.{source_of}
 use Rattle.ppd_check_stmts.specs.Table.{terms}
 use Rattle.ppd_check_stmts.specs.Statements.{row_faults}
-use Rattle.ppd_check_bodies.specs.Sources.{head_faults, params_faults, return_faults, past_statements, heads, codes, bodies, all_stmts, outer, entry, core, Accepted}
+use Rattle.ppd_check_bodies.specs.Sources.{head_faults, params_faults, past_statements, heads, codes, bodies, all_stmts, outer, entry, core_of, faults_in}
+use Rattle.ppd_check_bodies.specs.Bodies.{return_faults}
 use Rattle.ppd_check_names.specs.Globals.{Head, Globals, no_globals, globals, items_faults, count_faults}
 use Rattle.ppd_check.proofs.Vocabulary.Sizes.{SourceFits}
 use Rattle.ppd_check_stmts.proofs.Table.Writing.{length_flats}
@@ -58,12 +60,12 @@ flat_nil : {X Y : Type 0} (f : X → List Y) (xs : List X) → flat_map f xs ≡
 flat_nil f [] e = tt
 flat_nil f (x ∷ xs) e = let n : (f x ≡ []) × (flat_map f xs ≡ []) = nil_parts (f x) (flat_map f xs) e in (n.0, flat_nil f xs n.1)
 
-heads_unbroken : (t : Shape) → Accepted t → AllByRecursion (λ h. head_faults (globals (source_of t)).scope h ≡ []) (heads (globals (source_of t)))
+heads_unbroken : (t : Shape) → (faults_in (source_of t) ≡ []) → AllByRecursion (λ h. head_faults (globals (source_of t)).scope h ≡ []) (heads (globals (source_of t)))
 heads_unbroken t a =
     let g : Globals = globals (source_of t) in
     let bodies_part : List Fault = flat_map (head_faults g.scope) (heads g) in
-    let table_part : List Fault = past_statements (flat_map places (codes g)) in
-    let end_part : List Fault = unless (nat_lt 0 (length g.processes)) (source_of t).end NoProcess in
+    let table_part : List Fault = past_statements (map place_of (all_stmts 0 0 0 (codes g))) in
+    let end_part : List Fault = if_so (not (nat_lt 0 (length g.processes))) (source_of t).end NoProcess in
     let x = nil_parts (items_faults (source_of t).items no_globals) _ a in
     let y = nil_parts (count_faults g) _ x.1 in
     let z = nil_parts end_part (bodies_part ++ table_part) y.1 in
@@ -100,13 +102,13 @@ heads_right p scope g s f e n =
 
 -- The whole table.
 
-small : (n : ℕ) → as_short n ≤ MOST_FUNCTIONS → n ≡ as_short n
+small : (n : ℕ) → fitted 16 n ≤ MOST_FUNCTIONS → n ≡ fitted 16 n
 small n h = omega (arith, h)
 
 -- the law, from what names and sizes give
-pub core_valid : (t : Shape) → Accepted t → SourceNames t → SourceFits (source_of t) → IsValid (core t)
+pub core_valid : (t : Shape) → (faults_in (source_of t) ≡ []) → SourceNames t → SourceFits (source_of t) → IsValid (core_of (source_of t))
 core_valid t a n fits =
-    let p : Program = core t in
+    let p : Program = core_of (source_of t) in
     let g : Globals = globals (source_of t) in
     let hs : List Head = heads g in
     let cs : List Code = codes g in

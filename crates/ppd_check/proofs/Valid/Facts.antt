@@ -9,12 +9,12 @@ use Rattle.ppd_ast.specs.Uses.{operators_of, depth_of}
 use Rattle.ppd_ast.specs.Cells.{CoverCells, AreParams, NamesWhole, WritesWhole}
 use Rattle.ppd_ast.specs.Valid.{IsName, AreNamed, HasObject, CallsRightly}
 use Rattle.ppd_parse.specs.Grammar.{Shape}
-use Rattle.ppd_check_names.specs.Fitted.{as_short}
+use Rattle.ppd_check_names.specs.Fitted.{fitted}
 use Rattle.ppd_check_names.specs.Names.{Scope}
 use Rattle.ppd_check_stmts.specs.Code.{Act, Code, done, act, choice, loop}
 use Rattle.ppd_check_names.specs.Reading.{source_of}
 use Rattle.ppd_check_stmts.specs.Table.{terms, kind}
-use Rattle.ppd_check_bodies.specs.Sources.{head_code, head_frame, vars, heads, core}
+use Rattle.ppd_check_bodies.specs.Sources.{head_code, head_frame, vars, heads, core_of}
 use Rattle.ppd_check_names.specs.Globals.{Head, globals}
 
 -- the statements that have none inside them, in order
@@ -48,7 +48,7 @@ pub record CodeNames (p : Program) (locals : List Var) (c : Code) : Type 0 where
 pub record HeadNames (p : Program) (scope : Scope) (h : Head) : Type 0 where
   pub frame : (head_frame scope h).cells ≤ MOST_LOCAL_CELLS
   pub cells : CoverCells (vars 0 (head_frame scope h).variables) (head_frame scope h).cells
-  pub params : AreParams (vars 0 (head_frame scope h).variables) (as_short (length h.params))
+  pub params : AreParams (vars 0 (head_frame scope h).variables) (fitted 16 (length h.params))
   pub code : CodeNames p (vars 0 (head_frame scope h).variables) (head_code scope h)
 
 -- of the numbers of a program's parts, and of initial values and capacities
@@ -65,9 +65,9 @@ pub record AreCounted (p : Program) : Type 0 where
 
 -- of a whole source
 pub record SourceNames (t : Shape) : Type 0 where
-  pub counted : AreCounted (core t)
-  pub cells : CoverCells (core t).shared (length (core t).starts)
-  pub heads : All (HeadNames (core t) (globals (source_of t)).scope) (heads (globals (source_of t)))
+  pub counted : AreCounted (core_of (source_of t))
+  pub cells : CoverCells (core_of (source_of t)).shared (length (core_of (source_of t)).starts)
+  pub heads : All (HeadNames (core_of (source_of t)) (globals (source_of t)).scope) (heads (globals (source_of t)))
 
 -- What its sizes give.
 

@@ -9,8 +9,9 @@ use Rattle.ppd_ast.specs.Valid.{IsName, AreWithinLimits}
 use Rattle.ppd_parse.specs.Grammar.{Shape}
 use Rattle.ppd_check_names.specs.Syntax.{Source, Item, shared, shared_array, semaphore, channel, function, process}
 use Rattle.ppd_check_names.specs.Reading.{source_of, said, as_items}
-use Rattle.ppd_check_bodies.specs.Sources.{vars, core}
-use Rattle.ppd_check_names.specs.Globals.{Head, Object, Globals, no_globals, with_item, with_items, globals, sem, chan}
+use Rattle.ppd_check_bodies.specs.Sources.{vars, core_of}
+use Rattle.ppd_check_names.specs.Globals.{Head, Object, Globals, no_globals, with_item, globals}
+use Rattle.ppd_check_names.specs.Holding.{with_items, sem, chan}
 use Rattle.ppd_check.proofs.Vocabulary.Sizes.{IsShort, ItemFits, SourceFits}
 use Rattle.ppd_check.proofs.Valid.Facts.{AreCounted}
 use Rattle.ppd_check.proofs.Valid.Headers.{HeadersPass, ItemPasses, tree_passes}
@@ -129,7 +130,7 @@ chans_fit : (os : List Object) → AllByRecursion ObjectFits os → AllByRecursi
 chans_fit [] h i = tt
 chans_fit (o ∷ os) h i = ((h.0, i.0.0, i.0.1), chans_fit os h.1 i.1)
 
-pub within_limits : (t : Shape) → AreCounted (core t) → AreFit (globals (source_of t)) → AreWithinLimits (core t)
+pub within_limits : (t : Shape) → AreCounted (core_of (source_of t)) → AreFit (globals (source_of t)) → AreWithinLimits (core_of (source_of t))
 within_limits t c f =
     let g : Globals = globals (source_of t) in
     record {

@@ -4,7 +4,8 @@ use Rattle.std.specs.Prelude.{slice_get, IsSomeAnd}
 use Rattle.std.specs.List.{AllByRecursion, flat_map, range_with_len}
 use Rattle.std.proofs.lemmas.Grind.{flat_map-append}
 use Rattle.ppd_ast.specs.declared.program.Stmt.{Stmt}
-use Rattle.ppd_ast.specs.Order.{inner, inner_of, inner_at, preorder}
+use Rattle.ppd_ast.specs.Order.{inner, preorder}
+use Rattle.ppd_ast.proofs.Vocabulary.{inner_of, inner_at}
 use Rattle.ppd_check_stmts.specs.Code.{Code, Act, done, act, choice, loop, count}
 use Rattle.ppd_check_stmts.specs.Code as C
 use Rattle.ppd_check_stmts.specs.Table.{weight, weights, terms, act_terms, kind, numbers, stmts}

@@ -1,5 +1,5 @@
 -- A body's core statements end with a `Return` or an `End`, and none of those before is one.
-use Rattle.std.proofs.Common.{◌≡◌, refl, sym, ap, ◌∙◌, subst, ℕ, ◌+◌, ◌-◌, arith, Bool, true, false, not, ◌&&◌, ◌||◌, if◌then◌else◌, List, [], ◌∷◌, ◌++◌, length, Option, Some, None, is_some}
+use Rattle.std.proofs.Common.{◌≡◌, refl, sym, ap, ◌∙◌, subst, ℕ, ◌+◌, ◌-◌, arith, Bool, true, false, not, ◌&&◌, ◌||◌, if◌then◌else◌, List, [], ◌∷◌, ◌++◌, length, Option, Some, None, is_some, option_map}
 use Rattle.std.specs.Prelude.{slice_get, IsSomeAnd, ⊤}
 use Rattle.std.specs.List.{AllByRecursion}
 use Rattle.std.proofs.lemmas.List.{length-append, append_assoc}
@@ -10,16 +10,19 @@ use Rattle.ppd_ast.specs.Term.{Term}
 use Rattle.ppd_ast.specs.Valid.{EndsBody, IsEnding, last_of}
 use Rattle.ppd_check_names.specs.declared.fault.Cause.TheVariants.{ReturnPlace}
 use Rattle.ppd_check_names.specs.declared.frame.Frame.{Frame}
-use Rattle.ppd_check_names.specs.Faults.{unless, if_so}
+use Rattle.ppd_check_names.specs.Faults.{if_so}
 use Rattle.ppd_check_names.specs.Names.{Scope}
 use Rattle.ppd_check_stmts.specs.Code.{Code, Act, Spot, done, act, choice, loop, join, acts, count}
 use Rattle.ppd_check_stmts.specs.Code as C
-use Rattle.ppd_check_stmts.specs.Table.{weights, terms, kind, numbers, stmts, some_root}
-use Rattle.ppd_check_stmts.specs.Statements.{spot_of, put, store_acts, acts_of, code_of, code_of_any, row_code, opened, with_scopes_of, after_row, after_any, after, place_of}
+use Rattle.ppd_check_stmts.specs.Table.{weights, terms, kind, numbers, stmts, root}
+use Rattle.ppd_check_stmts.specs.Statements.{spot_of, put, store_acts, acts_of, code_of, row_code, opened, with_scopes_of, after_row, after, place_of}
+use Rattle.ppd_check_stmts.proofs.Vocabulary.{after_any}
+use Rattle.ppd_check_stmts.specs.Plain.{code_of_any}
 use Rattle.ppd_check_names.specs.Frames.{declared}
 use Rattle.ppd_check_names.specs.Syntax as S
 use Rattle.ppd_check_names.specs.Syntax.{Simple, Row, Value}
-use Rattle.ppd_check_bodies.specs.Sources.{simple_returns, returns, last_return, return_faults, ends_with_return, head_code, entry}
+use Rattle.ppd_check_bodies.specs.Sources.{simple_returns, returns, last_return, ends_with_return, head_code, entry}
+use Rattle.ppd_check_bodies.specs.Bodies.{return_faults}
 use Rattle.ppd_check_names.specs.Globals.{Head}
 use Rattle.ppd_check_stmts.proofs.Table.Joined.{numbers_join, stmts_join}
 use Rattle.ppd_check_stmts.proofs.Rows.Nested.{join_done}
@@ -149,7 +152,7 @@ ends_behind Ends c d h i = record {
 }
 
 -- a last `return` gives a value just where its function does
-rightly : (gives : Bool) (v : Option Value) (p : Place) → unless (is_some v && gives || not (is_some v) && not gives) p ReturnPlace ≡ [] → is_some v ≡ gives
+rightly : (gives : Bool) (v : Option Value) (p : Place) → if_so (not (is_some v && gives || not (is_some v) && not gives)) p ReturnPlace ≡ [] → is_some v ≡ gives
 rightly true (Some v) p h = refl
 rightly false None p h = refl
 rightly true None p h = absurd (cc)
@@ -285,7 +288,7 @@ last_is xs x =
     let e : length (xs ++ x ∷ []) - 1 ≡ length xs = omega (arith, length-append xs (x ∷ [])) in
     ap (slice_get (xs ++ x ∷ [])) e ∙ seam xs x
 
-same_some : (m : ℕ) (v : Option Term) → is_some (some_root m v) ≡ is_some v
+same_some : (m : ℕ) (v : Option Term) → is_some (option_map (root m) v) ≡ is_some v
 same_some m None = refl
 same_some m (Some t) = refl
 

@@ -13,7 +13,7 @@ use Rattle.ppd_ast.specs.Valid.{IsName}
 use Rattle.ppd_check_names.specs.declared.meaning.Meaning.TheVariants as M
 use Rattle.ppd_check_names.specs.declared.frame.Variable.{Variable}
 use Rattle.ppd_check_names.specs.declared.frame.Frame.{Frame}
-use Rattle.ppd_check_names.specs.Fitted.{as_short}
+use Rattle.ppd_check_names.specs.Fitted.{fitted}
 use Rattle.ppd_check_names.specs.declared.meaning.Meaning.{Meaning}
 use Rattle.ppd_check_names.specs.Names.{Scope, meaning}
 use Rattle.ppd_check_stmts.specs.Code.{Code, Act, Spot, done, act, choice, loop, join, acts}
@@ -23,9 +23,13 @@ use Rattle.ppd_check_names.specs.Reading.{goal_formula}
 use Rattle.ppd_check_names.specs.Syntax.{Name, Formula, number, variable, element, negated, inverted, two, both, either, Goal, scalar, item, Value, plain, result, received, Simple, Row}
 use Rattle.ppd_check_names.specs.Syntax as S
 use Rattle.ppd_check_stmts.specs.Table.{spot_terms, act_terms, terms}
-use Rattle.ppd_check_stmts.specs.Statements.{spot, spot_of, put, store_acts, return_acts, acts_of, code_of, code_of_any, row_code, hidden_if, via_hidden, return_via_hidden, goal_name, opened, with_scopes_of, after, after_any, after_row, place_of}
-use Rattle.ppd_check_names.specs.Frames.{declared, hidden_name, after_cells}
-use Rattle.ppd_check_bodies.specs.Sources.{close_code, head_code, head_frame, outer, entry, with_params, ends_with_return, vars}
+use Rattle.ppd_check_stmts.specs.Statements.{spot, spot_of, put, store_acts, return_acts, acts_of, code_of, row_code, via_hidden, return_via_hidden, goal_name, opened, with_scopes_of, after, after_row, place_of}
+use Rattle.ppd_check_stmts.proofs.Vocabulary.{hidden_if, after_any}
+use Rattle.ppd_check_stmts.specs.Plain.{code_of_any}
+use Rattle.ppd_check_names.specs.Frames.{declared, after_cells}
+use Rattle.ppd_check_names.proofs.Words.{hidden_name}
+use Rattle.ppd_check_bodies.specs.Sources.{head_code, head_frame, outer, entry, ends_with_return, vars}
+use Rattle.ppd_check_bodies.specs.Bodies.{close_code, with_params}
 use Rattle.ppd_check_names.specs.Globals.{Head}
 use Rattle.ppd_check.proofs.Vocabulary.Sizes.{operators_in, depth_in, IsSmall, AreSmall, IsShort, GoalFits, ValueFits, ValueFitsIfAny, SimpleFits, SimpleFitsIfAny, RowFits, nested}
 use Rattle.ppd_check_stmts.proofs.Table.Joined.{terms_join}
@@ -247,10 +251,10 @@ head_nesting scope h n =
 abbrev pub AreShort : List Variable → Type 0
 AreShort vs = AllByRecursion (λ v. IsName v.name) vs
 
-hidden_short : (n : ℕ) → IsName (hidden_name (as_short n))
+hidden_short : (n : ℕ) → IsName (hidden_name (fitted 16 n))
 hidden_short n =
-    let few : as_short n < 2 ^ 16 = omega arith in
-    let l : length (decimal (as_short n)) ≤ 5 = length-decimal-le 5 (as_short n) (omega arith) (omega (arith, few)) (omega (arith, few)) in
+    let few : fitted 16 n < 2 ^ 16 = omega arith in
+    let l : length (decimal (fitted 16 n)) ≤ 5 = length-decimal-le 5 (fitted 16 n) (omega arith) (omega (arith, few)) (omega (arith, few)) in
     omega (arith, l)
 
 declared_short : (x : Name) (o : Option ℕ) (f : Frame) → IsShort x → AreShort f.variables → AreShort (declared x o f).variables
@@ -262,7 +266,7 @@ hidden_frame false p f h = h
 
 after_short : (s : Simple) (f : Frame) → SimpleFits s → AreShort f.variables → AreShort (after s f).variables
 after_short (S.fresh x v) f h i = declared_short x None f h.0 i
-after_short (S.array x n) f h i = declared_short x (Some (as_short n.value)) f h i
+after_short (S.array x n) f h i = declared_short x (Some (fitted 16 n.value)) f h i
 after_short (S.store g v) f h i = hidden_frame (via_hidden (spot_of f.scopes g) v) (goal_name g).place f i
 after_short (S.give_back p v) f h i = hidden_frame (return_via_hidden v) p f i
 after_short s f h i = i

@@ -12,7 +12,7 @@ use Rattle.ppd_ast.specs.Term.{Term, const, local, local_at, shared, shared_at, 
 use Rattle.ppd_ast.specs.Uses.{children, kind_uses, stmt_uses}
 use Rattle.ppd_check_stmts.specs.Code.{Code, Act, done, act, choice, loop, count}
 use Rattle.ppd_check_stmts.specs.Code as C
-use Rattle.ppd_check_names.specs.Fitted.{as_short}
+use Rattle.ppd_check_names.specs.Fitted.{fitted}
 use Rattle.ppd_check_stmts.specs.Table.{weight, weights, root, roots, flat, flats, terms, act_terms, kind, stmts}
 use Rattle.ppd_check_bodies.specs.Sources.{all_stmts}
 use Rattle.ppd_check_stmts.proofs.Table.Writing.{roots_append}
@@ -177,8 +177,8 @@ bodies_uses : (b n m : ℕ) (cs : List Code) → flat_map stmt_uses (all_stmts b
 bodies_uses b n m [] = refl
 bodies_uses b n m (c ∷ cs) =
     let rest : List Stmt = all_stmts (b + 1) (n + count c) (m + weights (terms c)) cs in
-    flat_map-append stmt_uses (stmts (as_short b) None n m c) rest
-    ∙ ap (λ l. l ++ flat_map stmt_uses rest) (row_uses (as_short b) None n m c)
+    flat_map-append stmt_uses (stmts (fitted 16 b) None n m c) rest
+    ∙ ap (λ l. l ++ flat_map stmt_uses rest) (row_uses (fitted 16 b) None n m c)
     ∙ ap (λ l. roots m (terms c) ++ l) (bodies_uses (b + 1) (n + count c) (m + weights (terms c)) cs)
     ∙ sym (roots_append m (terms c) (flat_map terms cs))
 

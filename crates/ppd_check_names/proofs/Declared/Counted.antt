@@ -8,12 +8,14 @@ use Rattle.ppd_check_names.specs.declared.fault.Limit.{Limit}
 use Rattle.ppd_check_names.specs.declared.fault.Limit.TheVariants as L
 use Rattle.ppd_check_names.specs.declared.frame.Variable.{Variable}
 use Rattle.ppd_check_names.specs.Faults.{at, if_so, first, first_of_both}
-use Rattle.ppd_check_names.specs.Fitted.{as_short}
+use Rattle.ppd_check_names.specs.Fitted.{fitted}
 use Rattle.ppd_check_names.specs.Frames.{after_cells, variable_of, twice_faults}
 use Rattle.ppd_check_names.specs.Syntax.{Name, Item, shared, shared_array, semaphore, channel, function, process}
 use Rattle.ppd_check_names.specs.Declaring.{counted}
 use Rattle.ppd_check_names.specs.Holding.{item_counted, noted}
-use Rattle.ppd_check_names.specs.Globals.{Globals, Head, Object, no_globals, item_name, with_item, with_items, item_size_faults, items_faults, past, past_cells, head_name, object_name, count_faults}
+use Rattle.ppd_check_names.specs.Globals.{Globals, Head, Object, no_globals, item_name, with_item, item_size_faults, items_faults, past, past_cells, count_faults}
+use Rattle.ppd_check_names.specs.Holding.{with_items}
+use Rattle.ppd_check_names.proofs.Words.{head_name, object_name}
 use Rattle.ppd_check_names.proofs.Found.First.{first-append, first_of_both_assoc, first_of_both_swap}
 
 -- The first of two broken rules, in any order.
@@ -133,7 +135,7 @@ Celled s = s.cells ≡ end_cells 0 s.shared
 
 pub celled_item : (i : Item) (s : Globals) → Celled s → Celled (with_item i s)
 celled_item (shared x v) s h = ap (λ n. after_cells n None) h ∙ sym (end_cells_more 0 s.shared (variable_of x None))
-celled_item (shared_array x n) s h = ap (λ k. after_cells k (Some (as_short n.value))) h ∙ sym (end_cells_more 0 s.shared (variable_of x (Some (as_short n.value))))
+celled_item (shared_array x n) s h = ap (λ k. after_cells k (Some (fitted 16 n.value))) h ∙ sym (end_cells_more 0 s.shared (variable_of x (Some (fitted 16 n.value))))
 celled_item (semaphore x n) s h = h
 celled_item (channel x n) s h = h
 celled_item (function gives x params b) s h = h
@@ -203,7 +205,7 @@ one_count (shared x v) s h =
     (cells_item s (variable_of x None) h)
 one_count (shared_array x n) s h =
     more_5 (functions_part s) (processes_part s) (semaphores_part s) (channels_part s) (cells_part s) (item_counted (shared_array x n) s) (cells_part (with_item (shared_array x n) s))
-    (cells_item s (variable_of x (Some (as_short n.value))) h)
+    (cells_item s (variable_of x (Some (fitted 16 n.value))) h)
 one_count (semaphore x n) s h =
     more_3 (functions_part s) (processes_part s) (semaphores_part s) (channels_part s) (cells_part s) (item_counted (semaphore x n) s) (semaphores_part (with_item (semaphore x n) s))
     (past_objects MOST_SEMAPHORES L.Semaphores s.semaphores (record { name = x; number = n.value }))

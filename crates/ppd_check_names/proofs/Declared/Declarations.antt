@@ -12,7 +12,7 @@ use Rattle.ppd_check_names.specs.declared.globals.Globals.{Globals}
 use Rattle.ppd_check_names.specs.declared.globals.Sort.{Sort}
 use Rattle.ppd_check_names.specs.declared.globals.Sort.TheVariants.{Array, Semaphore, Channel}
 use Rattle.ppd_check_names.specs.Faults.{first, first_of_both}
-use Rattle.ppd_check_names.specs.Fitted.{as_byte, as_short}
+use Rattle.ppd_check_names.specs.Fitted.{fitted}
 use Rattle.ppd_check_names.specs.Names.{Meaning, Scope, innermost}
 use Rattle.ppd_check_names.specs.Names as N
 use Rattle.ppd_check_names.specs.Frames.{after_cells, variable_of, twice_faults, size_faults}
@@ -23,7 +23,8 @@ use Rattle.ppd_check_names.specs.Declaring.{named, kept, with_shared, with_numbe
 use Rattle.ppd_check_names.specs.Items.{numbered_item, least_number, most_number}
 use Rattle.ppd_check_names.specs.Holding.{head_of, head_at, IsHeadAt, Holds, item_counted, noted_at, noted, Declares}
 use Rattle.ppd_check_names.specs.Globals as S
-use Rattle.ppd_check_names.specs.Globals.{Object, sem, chan, item_name, item_size_faults, with_item, with_items}
+use Rattle.ppd_check_names.specs.Globals.{Object, item_name, item_size_faults, with_item}
+use Rattle.ppd_check_names.specs.Holding.{sem, chan, with_items}
 use Rattle.ppd_check_names.proofs.Found.First.{found_in_both, first_of_both_none}
 
 with_both : (is js : List Item) (s : S.Globals) → with_items (is ++ js) s ≡ with_items js (with_items is s)
@@ -82,7 +83,7 @@ declares_function ns i gives x params b old new f f' at is e a =
     kept_function : (s : S.Globals) → Holds ns old s → Holds ns (with_function i x (length params) gives old) (with_item (function gives x params b) s)
     kept_function s h =
         record {
-          scopes = named_one x _ _ old.scopes s.scope h.scopes (ap (λ k. N.function (as_short k) (length params) gives) (number s h));
+          scopes = named_one x _ _ old.scopes s.scope h.scopes (ap (λ k. N.function (fitted 16 k) (length params) gives) (number s h));
           shared = h.shared;
           cells = h.cells;
           starts = h.starts;
@@ -185,11 +186,11 @@ pub declares_numbered : (ns : List Node) (sort : Sort) (x : Name) (n : Number) (
     → f'' ≡ first_of_both f' (first (size_faults (least_number sort) (most_number sort) n)) → Declares ns (numbered_item sort x n ∷ []) old new f f''
 declares_numbered ns Array x n old new f f' f'' =
     declares_one ns (shared_array x n) old (with_numbered Array x n.value old) new f f' f'' _
-    (λ s h. holds_shared ns x (Some (as_short n.value)) (replicate (as_short n.value) (pos 0)) old s (with_item (shared_array x n) s) h refl)
-    (λ s h. ap (λ k. celled x (Some (as_short n.value)) (record old { cells = k })) h.cells)
+    (λ s h. holds_shared ns x (Some (fitted 16 n.value)) (replicate (fitted 16 n.value) (pos 0)) old s (with_item (shared_array x n) s) h refl)
+    (λ s h. ap (λ k. celled x (Some (fitted 16 n.value)) (record old { cells = k })) h.cells)
 declares_numbered ns Semaphore x n old new f f' f'' =
     declares_one ns (semaphore x n) old (with_numbered Semaphore x n.value old) new f f' f'' _
-    (λ s h. holds_objects ns old s _ _ _ _ _ _ h (named_one x _ _ old.scopes s.scope h.scopes (ap (λ k. N.semaphore (as_byte k)) (number s h)))
+    (λ s h. holds_objects ns old s _ _ _ _ _ _ h (named_one x _ _ old.scopes s.scope h.scopes (ap (λ k. N.semaphore (fitted 8 k)) (number s h)))
     (one_more sem old.sems s.semaphores (record { name = x; number = n.value }) h.sems) h.chans)
     (λ s h. ap (λ k. counted MOST_SEMAPHORES k L.Semaphores x.place) (number s h))
   where
@@ -197,7 +198,7 @@ declares_numbered ns Semaphore x n old new f f' f'' =
     number s h = sym (as_many sem s.semaphores old.sems (sym h.sems))
 declares_numbered ns Channel x n old new f f' f'' =
     declares_one ns (channel x n) old (with_numbered Channel x n.value old) new f f' f'' _
-    (λ s h. holds_objects ns old s _ _ _ _ _ _ h (named_one x _ _ old.scopes s.scope h.scopes (ap (λ k. N.channel (as_byte k)) (number s h))) h.sems
+    (λ s h. holds_objects ns old s _ _ _ _ _ _ h (named_one x _ _ old.scopes s.scope h.scopes (ap (λ k. N.channel (fitted 8 k)) (number s h))) h.sems
     (one_more chan old.chans s.channels (record { name = x; number = n.value }) h.chans))
     (λ s h. ap (λ k. counted MOST_CHANNELS k L.Channels x.place) (number s h))
   where

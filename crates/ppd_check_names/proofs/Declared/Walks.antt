@@ -14,7 +14,8 @@ use Rattle.ppd_check_names.specs.Nodes.{phrase_of, phrases_of, phrases_below, ch
 use Rattle.ppd_check_names.specs.Declaring.{nothing}
 use Rattle.ppd_check_names.specs.Holding.{head_at, IsHeadAt, Holds, Declares}
 use Rattle.ppd_check_names.specs.Globals as S
-use Rattle.ppd_check_names.specs.Globals.{no_globals, with_items, items_faults, count_faults}
+use Rattle.ppd_check_names.specs.Globals.{no_globals, items_faults, count_faults}
+use Rattle.ppd_check_names.specs.Holding.{with_items}
 use Rattle.ppd_check_names.proofs.Declared.Counted.{noted_all}
 use Rattle.ppd_check_names.proofs.Declared.Declarations.{declares_both}
 

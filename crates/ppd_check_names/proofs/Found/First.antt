@@ -5,7 +5,8 @@ use Rattle.ppd_check_names.specs.declared.fault.Fault.{Fault}
 use Rattle.ppd_check_names.specs.declared.fault.Cause.{Cause}
 use Rattle.ppd_check_names.specs.declared.fault.Cause.TheVariants as R
 use Rattle.ppd_check_names.specs.declared.fault.Limit.TheVariants as L
-use Rattle.ppd_check_names.specs.Faults.{by_then, rank, is_before, first_of_two, first, first_of_both}
+use Rattle.ppd_check_names.specs.Faults.{by_then, rank, is_before, first, first_of_both}
+use Rattle.ppd_check_names.proofs.Words.{first_of_two}
 
 -- a before b, as numbers
 abbrev Lex : ℕ → ℕ → Type 0 → Type 0

@@ -5,10 +5,13 @@ use Rattle.std.specs.Map.{lookup}
 use Rattle.std.proofs.lemmas.List.{take_more, map-append, reverse-append, length-reverse, length-map}
 use Rattle.std.proofs.lemmas.Bool.{true≢false}
 use Rattle.indexmap.specs.IndexMap.{IndexMap, get_by, insert_entry}
-use Rattle.ppd_check_names.specs.Names.{Meaning, Scope, found, else_in, meaning, scope_of, declare, in_innermost}
+use Rattle.ppd_check_names.specs.Names.{Meaning, Scope, meaning, scope_of, declare}
+use Rattle.ppd_check_names.specs.Declaring.{in_innermost}
+use Rattle.ppd_lex.specs.Front.{looked_up}
+use Rattle.std.specs.Option.{option_or}
 
-declare_last : (s : Scope) (x : List ℕ) (v : Meaning) → is_some (found s x) ≡ false → s ++ (x, v) ∷ [] ≡ declare x v s
-declare_last s x v h = go (is_some (found s x)) h
+declare_last : (s : Scope) (x : List ℕ) (v : Meaning) → is_some (looked_up s x) ≡ false → s ++ (x, v) ∷ [] ≡ declare x v s
+declare_last s x v h = go (is_some (looked_up s x)) h
   where
     go : (b : Bool) → b ≡ false → s ++ (x, v) ∷ [] ≡ (if b then s else s ++ (x, v) ∷ [])
     go false e = refl
@@ -22,17 +25,17 @@ module _ {A : Type 0} where
   abbrev pub is_key : List ℕ → Vec ℕ A → Bool
   is_key x k = pointwise nat_eq x k.items
 
-  found_lookup : (es : List (Vec ℕ A × Meaning)) (x : List ℕ) → found (map (λ e. (e.0.items, e.1)) es) x ≡ lookup (is_key x) es
+  found_lookup : (es : List (Vec ℕ A × Meaning)) (x : List ℕ) → looked_up (map (λ e. (e.0.items, e.1)) es) x ≡ lookup (is_key x) es
   found_lookup [] x = refl
   found_lookup (e ∷ es) x = ap (λ o. cond (is_key x e.0) (Some e.1) o) (found_lookup es x)
 
-  pub found_get : {S : Type 0} (m : IndexMap (Vec ℕ A) Meaning S) (x : List ℕ) → found (scope_of m) x ≡ get_by (is_key x) m
+  pub found_get : {S : Type 0} (m : IndexMap (Vec ℕ A) Meaning S) (x : List ℕ) → looked_up (scope_of m) x ≡ get_by (is_key x) m
   found_get m x = found_lookup m.entries x
 
   -- the last of the first n maps decides, or else the maps before it
   pub meaning_at : {S : Type 0} (ms : List (IndexMap (Vec ℕ A) Meaning S)) (x : List ℕ) (n : ℕ) (m : IndexMap (Vec ℕ A) Meaning S) (o : Option Meaning) → 0 < n → n ≤ length ms
       → m ≡ get_or ms (n - 1) m → o ≡ get_by (is_key x) m
-      → meaning (reverse (map scope_of (take n ms))) x ≡ else_in o (meaning (reverse (map scope_of (take (n - 1) ms))) x)
+      → meaning (reverse (map scope_of (take n ms))) x ≡ option_or o (meaning (reverse (map scope_of (take (n - 1) ms))) x)
   meaning_at ms x n m o positive within is value =
       let i = n - 1 in
       let back : i + 1 ≡ n = omega arith in
@@ -42,7 +45,7 @@ module _ {A : Type 0} where
       ∙ ap (λ d. meaning (reverse (map scope_of (take i ms ++ d ∷ []))) x) (sym is)
       ∙ ap (λ l. meaning (reverse l) x) (map-append scope_of (take i ms) (m ∷ []))
       ∙ ap (λ l. meaning l x) (reverse-append (map scope_of (take i ms)) (scope_of m ∷ []))
-      ∙ ap (λ o. else_in o (meaning (reverse (map scope_of (take i ms))) x)) (found_get m x ∙ sym value)
+      ∙ ap (λ o. option_or o (meaning (reverse (map scope_of (take i ms))) x)) (found_get m x ∙ sym value)
 
   -- a name that is not there goes last
   insert_last : (eq : Vec ℕ A → Vec ℕ A → Bool) → ((a b : Vec ℕ A) → eq a b ≡ is_key a.items b) → (es : List (Vec ℕ A × Meaning)) (k : Vec ℕ A) (v : Meaning)
@@ -56,7 +59,7 @@ module _ {A : Type 0} where
       go false is rest = ap (λ l. e ∷ l) (rest (ap (λ b. is_some (cond b (Some e.1) (lookup (is_key k.items) es))) is ∙ h))
 
   pub declare_new : {S : Type 0} (eq : Vec ℕ A → Vec ℕ A → Bool) → ((a b : Vec ℕ A) → eq a b ≡ is_key a.items b) → (m n : IndexMap (Vec ℕ A) Meaning S) (k : Vec ℕ A) (x : List ℕ) (v : Meaning)
-      → k.items ≡ x → is_some (found (scope_of m) x) ≡ false → n.entries ≡ insert_entry eq m.entries k v → scope_of n ≡ declare x v (scope_of m)
+      → k.items ≡ x → is_some (looked_up (scope_of m) x) ≡ false → n.entries ≡ insert_entry eq m.entries k v → scope_of n ≡ declare x v (scope_of m)
   declare_new eq same m n k x v is h e =
       let none : is_some (lookup (is_key k.items) m.entries) ≡ false = ap (λ y. is_some (lookup (is_key y) m.entries)) is ∙ sym (ap is_some (found_lookup m.entries x)) ∙ h in
       ap (λ l. map (λ e. (e.0.items, e.1)) l) (e ∙ insert_last eq same m.entries k v none)

@@ -8,15 +8,18 @@ use Rattle.ppd_check_names.specs.declared.frame.Frame.{Frame}
 use Rattle.ppd_check_names.specs.declared.meaning.Meaning.TheVariants as M
 use Rattle.ppd_check_names.specs.declared.meaning.Meaning.{Meaning}
 use Rattle.ppd_check_names.specs.Names.{Scope, meaning}
-use Rattle.ppd_check_names.specs.Fitted.{as_short}
+use Rattle.ppd_check_names.specs.Fitted.{fitted}
 use Rattle.ppd_check_stmts.specs.Code as C
 use Rattle.ppd_check_stmts.specs.Code.{Spot, Act, Code, done, act, choice, loop, join, acts}
 use Rattle.ppd_check_stmts.specs.Expressions.{term_of, read_scalar, read_element}
 use Rattle.ppd_check_names.specs.Reading.{goal_formula}
 use Rattle.ppd_check_names.specs.Syntax as S
 use Rattle.ppd_check_names.specs.Syntax.{Name, Formula, Goal, Value, plain, result, received, Simple, fresh, array, store, change, call, give_back, take, give, send, print, assert, Row, stop, simple, block, repeat, count}
-use Rattle.ppd_check_stmts.specs.Statements.{opened, with_scopes_of, spot, spot_of, via_hidden, return_via_hidden, hidden_if, after, after_any, after_row, place_of, put, store_acts, return_acts, acts_of, code_of, code_of_any, row_code, goal_name}
-use Rattle.ppd_check_names.specs.Frames.{variable_of, declared, hidden_name}
+use Rattle.ppd_check_stmts.specs.Statements.{opened, with_scopes_of, spot, spot_of, via_hidden, return_via_hidden, after, after_row, place_of, put, store_acts, return_acts, acts_of, code_of, row_code, goal_name}
+use Rattle.ppd_check_stmts.proofs.Vocabulary.{hidden_if, after_any}
+use Rattle.ppd_check_stmts.specs.Plain.{code_of_any}
+use Rattle.ppd_check_names.specs.Frames.{variable_of, declared}
+use Rattle.ppd_check_names.proofs.Words.{hidden_name}
 use Rattle.ppd_check_stmts.specs.Table.{weight, weights, spot_terms}
 use Rattle.ppd_check_stmts.proofs.Table.Joined.{weights_append}
 use Rattle.ppd_check_stmts.proofs.Costs.Tables.{act_load, load}
@@ -142,7 +145,7 @@ set_load : (m : Spot) (t : Term) → act_load (C.set m t) ≡ 2 + weights (spot_
 set_load m t = omega (arith, weights_append (spot_terms m) (t ∷ []))
 
 hidden_more : (b : Bool) (p : Place) (f : Frame) → length (hidden_if b p f).variables ≤ length f.variables + 1
-hidden_more true p f = omega (arith, length-append f.variables (record { name = hidden_name (as_short (f.hidden + 1)); length = None; place = p } ∷ []))
+hidden_more true p f = omega (arith, length-append f.variables (record { name = hidden_name (fitted 16 (f.hidden + 1)); length = None; place = p } ∷ []))
 hidden_more false p f = omega arith
 
 declared_more : (x : Name) (n : Option ℕ) (f : Frame) → length (declared x n f).variables ≡ length f.variables + 1
@@ -164,7 +167,7 @@ return_load (Some (received x)) f = omega arith
 -- a statement's core statements and the variables after it
 simple_load : (s : Simple) (f : Frame) → acts_load (acts_of s f) + length (after s f).variables ≤ length f.variables + simple_size s
 simple_load (fresh x v) f = omega (arith, put_load (declared x None f).scopes f.cells v, declared_more x None f)
-simple_load (array x n) f = omega (arith, declared_more x (Some (as_short n.value)) f)
+simple_load (array x n) f = omega (arith, declared_more x (Some (fitted 16 n.value)) f)
 simple_load (store g v) f = omega (arith, store_load (spot_of f.scopes g) v f, spot_weight f.scopes g, hidden_more (via_hidden (spot_of f.scopes g) v) (goal_name g).place f)
 simple_load (change g op e) f =
     let t : Term = T.two op (term_of f.scopes (goal_formula g)) (term_of f.scopes e) in
@@ -185,12 +188,12 @@ any_load None f = omega arith
 any_load (Some s) f = code_load s f
 
 hidden_grows : (b : Bool) (p : Place) (f : Frame) → length f.variables ≤ length (hidden_if b p f).variables
-hidden_grows true p f = omega (arith, length-append f.variables (record { name = hidden_name (as_short (f.hidden + 1)); length = None; place = p } ∷ []))
+hidden_grows true p f = omega (arith, length-append f.variables (record { name = hidden_name (fitted 16 (f.hidden + 1)); length = None; place = p } ∷ []))
 hidden_grows false p f = omega arith
 
 simple_grows : (s : Simple) (f : Frame) → length f.variables ≤ length (after s f).variables
 simple_grows (fresh x v) f = omega (arith, declared_more x None f)
-simple_grows (array x n) f = omega (arith, declared_more x (Some (as_short n.value)) f)
+simple_grows (array x n) f = omega (arith, declared_more x (Some (fitted 16 n.value)) f)
 simple_grows (store g v) f = hidden_grows (via_hidden (spot_of f.scopes g) v) (goal_name g).place f
 simple_grows (give_back p v) f = hidden_grows (return_via_hidden v) p f
 simple_grows (change g op e) f = omega arith

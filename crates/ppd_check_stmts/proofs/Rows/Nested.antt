@@ -7,10 +7,12 @@ use Rattle.ppd_check_names.specs.declared.frame.Frame.{Frame}
 use Rattle.ppd_check_names.specs.declared.writer.Writer.{Writer}
 use Rattle.ppd_check_names.specs.declared.writer.Site.{Site}
 use Rattle.ppd_check_stmts.specs.Code.{Code, done, act, choice as choose, loop, join}
-use Rattle.ppd_check_names.specs.Names.{Scope, in_innermost}
+use Rattle.ppd_check_names.specs.Names.{Scope}
+use Rattle.ppd_check_names.specs.Declaring.{in_innermost}
 use Rattle.ppd_check_names.specs.Nodes.{phrase_of, phrases_of}
 use Rattle.ppd_check_names.specs.Reading.{Phrase, as_row, rows, followed}
-use Rattle.ppd_check_stmts.specs.Statements.{after, after_any, after_row, hidden_if, opened, with_scopes_of, row_code, row_faults}
+use Rattle.ppd_check_stmts.specs.Statements.{after, after_row, opened, with_scopes_of, row_code, row_faults}
+use Rattle.ppd_check_stmts.proofs.Vocabulary.{after_any, hidden_if}
 use Rattle.ppd_check_names.specs.Syntax.{Simple, fresh, array, store, change, call, give_back, take as take_sem, give, send, print, assert, Row, stop, simple, block, choice, repeat, count}
 use Rattle.ppd_check_stmts.specs.Writing.{Wrote, Walked}
 use Rattle.ppd_check_stmts.proofs.Rows.Declaring.{walked_followed, phrases_more}

@@ -20,7 +20,8 @@ use Rattle.ppd_check_names.specs.Nodes.{phrase_of, phrases_of, phrases_below, ch
 use Rattle.ppd_check_names.specs.Reading.{Phrase, as_row, before, beyond, for_row, for_start, for_test, formula_at, formulas, kind, last, locals, phrase, place_at, rows, some_change, statement, worded}
 use Rattle.ppd_check_stmts.specs.Code.{Code}
 use Rattle.ppd_check_stmts.specs.Plain.{row_any, plain_statement}
-use Rattle.ppd_check_stmts.specs.Statements.{code_of_any, faults_of_any, opened}
+use Rattle.ppd_check_stmts.specs.Statements.{opened}
+use Rattle.ppd_check_stmts.specs.Plain.{code_of_any, faults_of_any}
 use Rattle.ppd_check_names.specs.Syntax.{Simple, Formula, Row, stop, choice, repeat, count}
 use Rattle.ppd_check_stmts.specs.Writing.{Began, Walked, Wrote, inside}
 use Rattle.ppd_check_stmts.proofs.Rows.Declaring.{walked_none}

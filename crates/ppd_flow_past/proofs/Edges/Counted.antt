@@ -7,7 +7,7 @@ use Rattle.std.proofs.lemmas.List.Recursion.{is_count_by}
 use Rattle.ppd_entry.specs.declared.entry.Entry.{Entry}
 use Rattle.ppd_entry.specs.declared.entry.Entry.TheVariants as entry
 use Rattle.ppd_model.specs.RecordedSets.{sync_in}
-use Rattle.ppd_flow_model.specs.Ends.{is_sync}
+use Rattle.ppd_flow_model.proofs.Vocabulary.{is_sync}
 
 abbrev found : {A B : Type 0} → (A → Option B) → List A → ℕ
 found f xs = length (filter_map f xs)

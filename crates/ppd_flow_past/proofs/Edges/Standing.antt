@@ -13,7 +13,8 @@ use Rattle.ppd_model.proofs.Lists.{left_from}
 use Rattle.ppd_flow_past.specs.declared.past.Past.{Past}
 use Rattle.ppd_flow_past.proofs.Outward.{extent_at, rows_are}
 use Rattle.ppd_flow_past.specs.Edges.Found.{stands_there}
-use Rattle.ppd_flow_model.specs.Ends.{begins_in, first_edge, innermost_from, syncs_before, syncs_inside}
+use Rattle.ppd_flow_model.specs.Ends.{first_edge, innermost_from, syncs_before, syncs_inside}
+use Rattle.ppd_flow_model.proofs.Vocabulary.{begins_in}
 use Rattle.ppd_ast.proofs.ValidLaws.{slice_get_there}
 
 abbrev first_or : List Entry → Option Interval → ℕ

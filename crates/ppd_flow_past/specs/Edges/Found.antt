@@ -1,18 +1,17 @@
 -- What is found of internal edges in the index and the graph of a past.
-use Rattle.std.specs.Prelude.{ℕ, ◌+◌, Bool, true, false, ◌&&◌, List, [], ◌∷◌, Option, Some, None, if◌then◌else◌, ⊤}
+use Rattle.std.specs.Prelude.{ℕ, ◌+◌, Bool, true, false, ◌&&◌, List, [], ◌∷◌, Option, Some, None, if◌then◌else◌, ⊤, nat_lt, nat_le, unwrap_or}
 use Rattle.ppd_ast.specs.Members.{has}
 use Rattle.ppd_race.specs.EdgeSets.{EdgeSets}
 use Rattle.ppd_race.specs.SyncGraph.{SyncGraph}
 use Rattle.ppd_race.specs.Graphs.{IsEdge}
 use Rattle.ppd_model.specs.declared.graph.EdgeId.{EdgeId}
 use Rattle.ppd_model.specs.Extents.{Extent}
-use Rattle.ppd_flow_model.specs.Ends.{is_in_extent}
 use Rattle.ppd_flow_model.specs.Shared.{greater}
 
 -- entry n stands in the interval, which is there
 abbrev pub stands_there : ℕ → Option Extent → Bool
 stands_there n None = false
-stands_there n (Some x) = is_in_extent n x
+stands_there n (Some x) = nat_lt x.prelog n && nat_le n (unwrap_or x.last 0)
 
 -- the edge is one of the graph, if there is one
 abbrev pub IsEdgeIf : SyncGraph → Option EdgeId → Type 0

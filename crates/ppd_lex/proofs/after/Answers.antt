@@ -1,6 +1,6 @@
 use Rattle.std.proofs.Common.{◌≤◌, ◌∙◌, ap, sym, subst, get_or, drop, ◌+◌, arith}
 use Rattle.ppd_ast.specs.declared.program.Place.{Place}
-use Rattle.ppd_lex.specs.Tokens.{after_bytes}
+use Rattle.ppd_lex.proofs.Words.{after_bytes}
 use Rattle.ppd_lex.proofs.Places.{after_more, after_byte_bound}
 use Rattle.ppd_lex.proofs.after.Goals as goal
 

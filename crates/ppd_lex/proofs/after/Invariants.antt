@@ -1,5 +1,5 @@
 use Rattle.std.proofs.Common.{◌≡◌, ◌≤◌, ◌+◌, drop}
-use Rattle.ppd_lex.specs.Tokens.{after_bytes}
+use Rattle.ppd_lex.proofs.Words.{after_bytes}
 use Rattle.ppd_lex.proofs.after.Given as goal
 
 abbrev pub invariant-loop-b : goal.invariant-loop-b

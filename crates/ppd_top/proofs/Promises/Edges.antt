@@ -15,24 +15,28 @@ use Rattle.ppd_model.specs.declared.flow.Item.{Item}
 use Rattle.ppd_model.specs.declared.trace.TracedEvent.{TracedEvent}
 use Rattle.ppd_model.specs.declared.tracing.Taken.{Taken}
 use Rattle.ppd_model.specs.declared.tracing.Tracing.{Tracing}
-use Rattle.ppd_model.specs.FlowbackEdges.{edges, edges_if, edges_in, edges_of_event, part_in}
-use Rattle.ppd_model.specs.FullTrace.{events_from, full_trace}
-use Rattle.ppd_model.specs.Intervals.{Span, Split, items, items_at, items_in, items_of, split_of, splits_from}
+use Rattle.ppd_model.specs.FlowbackEdges.{edges, edges_of_event}
+use Rattle.ppd_model.proofs.EdgeWords.{edges_if, edges_in, part_in}
+use Rattle.ppd_model.specs.FullTrace.{full_trace}
+use Rattle.ppd_model.proofs.TraceWords.{events_from}
+use Rattle.ppd_model.specs.Intervals.{Span, Split, items, items_of, split_of}
+use Rattle.ppd_model.proofs.IntervalWords.{items_at, items_in, splits_from}
 use Rattle.ppd_model.specs.Items.{IsReferred, ItemsAreWhole}
 use Rattle.ppd_model.specs.Races.{races_of}
 use Rattle.ppd_model.specs.declared.tracing.Story.{Story}
 use Rattle.ppd_model.specs.Story.{story}
 use Rattle.ppd_model.specs.Laws.{ProcessesFollowTheirSteps}
 use Rattle.ppd_session.specs.Laws.{RunsAreAnswered}
-use Rattle.ppd_session.specs.Known.{Flow, Known, Told, flow_told, known_of_run, of_processes, told_of_split, unless_raced}
+use Rattle.ppd_session.specs.Known.{Flow, Known, Told, known_of_run, of_processes, told_of_split, unless_raced}
 use Rattle.ppd_session.specs.Questions.{asked}
 use Rattle.ppd_session.proofs.Tables.{flow_inside, flow_nowhere, flow_past}
-use Rattle.ppd_session.specs.Texts.{answer_text, at_interval, flow_at, flow_text, intervals_at, no_event, raced, text_of, told_at, told_text}
+use Rattle.ppd_session.specs.Texts.{answer_text, flow_at, flow_text, intervals_at, no_event, raced, text_of, told_at, told_text}
 use Rattle.ppd_text.specs.Edges.{why_text}
 use Rattle.ppd_top.specs.Promises.Answered.{AreEdgesOf, AsksEdges, HasEdges, HasItsEdges, IsItem, MissesNoEdge, told_if}
 use Rattle.ppd_top.specs.Promises.Runs.{Run, plan_in, splits_in, story_in}
 use Rattle.ppd_top.proofs.Promises.Tables.{count_in, count_row, told_in, told_in_span, told_row}
 use Rattle.ppd_top.proofs.Promises.Values.{told_as, told_here}
+use Rattle.ppd_session.proofs.KnownWords.{flow_told, at_interval}
 
 found : (o : Option (List FlowEdge)) (es : List FlowEdge) → edges_or_none o ≡ Ok es → o ≡ Some es
 found None es e = absurd (cc)

@@ -18,11 +18,12 @@ use Rattle.ppd_flow_model.specs.Shared.{found_last, last_replays}
 use Rattle.ppd_flow_past.specs.declared.flow_error.FlowError.{FlowError}
 use Rattle.ppd_flow_past.specs.ByReplays.{first_failed, unless_kept}
 use Rattle.ppd_flow_past.specs.Pasts.{items_kept}
-use Rattle.ppd_flow_past.specs.SeenBy.{failed_at, failure_of, own_steps_of, steps_of}
+use Rattle.ppd_flow_past.specs.SeenBy.{failed_at, own_steps_of, steps_of}
 use Rattle.ppd_flow_shared.specs.SharedCells.{answer_of}
 use Rattle.ppd_model.specs.declared.flow.FlowEdge.{FlowEdge}
 use Rattle.ppd_model.specs.declared.flow.Origin.{Origin}
-use Rattle.ppd_model.specs.FlowbackEdges.{edges_in, last}
+use Rattle.ppd_model.specs.FlowbackEdges.{last}
+use Rattle.ppd_model.proofs.EdgeWords.{edges_in}
 use Rattle.ppd_model.specs.Intervals.{Span, Split}
 use Rattle.ppd_model.specs.NearIntervals.{last_steps, near_steps}
 use Rattle.ppd_model.specs.Races.{races}
@@ -32,6 +33,7 @@ use Rattle.ppd_session.proofs.Honest.{all_there}
 use Rattle.ppd_top.specs.Promises.Answered.{HasEdges}
 use Rattle.ppd_top.specs.Promises.Replayed.{Kept, ReplaysAreFew, kept_of}
 use Rattle.ppd_top.specs.Promises.Runs.{Run, logs_in, plan_in, splits_in, story_in}
+use Rattle.ppd_flow_past.proofs.SeenWords.{failure_of}
 
 -- ---- an interval that is there, or not
 

@@ -11,7 +11,8 @@ use Rattle.ppd_model.specs.declared.graph.Race.{Race}
 use Rattle.ppd_model.specs.declared.graph.RaceKind.{RaceKind}
 use Rattle.ppd_model.specs.declared.graph.RaceKind.TheVariants.{ReadWrite, WriteRead, WriteWrite}
 use Rattle.ppd_model.specs.HappenedBefore.{edge, is_edge_before}
-use Rattle.ppd_model.specs.Races.{Edges, are_apart, candidates, edges_of_story, first_writes, has_access, is_race, kinds, own_edges, race, races, races_of, second_writes, writes_or_not}
+use Rattle.ppd_model.specs.Races.{Edges, candidates, edges_of_story, first_writes, has_access, is_race, kinds, race, races, races_of, second_writes, writes_or_not}
+use Rattle.ppd_model.proofs.OrderWords.{are_apart, own_edges}
 use Rattle.ppd_model.specs.Record.{SharedAccess, accesses, accesses_from, record_of}
 use Rattle.ppd_model.specs.declared.tracing.Story.{Story}
 use Rattle.ppd_model.specs.declared.tracing.Taken.{Taken}

@@ -4,7 +4,8 @@ use Rattle.std.specs.List.{range_with_len}
 use Rattle.std.specs.Prelude.{⊤}
 use Rattle.ppd_model.specs.declared.graph.Race.{Race}
 use Rattle.ppd_model.specs.declared.graph.RaceKind.{RaceKind}
-use Rattle.ppd_model.specs.Races.{Edges, candidates, kinds, own_edges, race}
+use Rattle.ppd_model.specs.Races.{Edges, candidates, kinds, race}
+use Rattle.ppd_model.proofs.OrderWords.{own_edges}
 use Rattle.ppd_top.proofs.Promises.Members.{Member, either, of_filter, of_flat, of_map, of_range}
 
 abbrev pub Once : {A : Type 0} → List A → Type 0

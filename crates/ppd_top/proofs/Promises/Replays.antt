@@ -3,17 +3,19 @@ use Rattle.std.specs.Prelude.{None, Some, option_map, slice_get}
 use Rattle.std.proofs.Common.{◌≡◌, ℕ, ◌+◌, ◌<◌, [], Option, arith, get_or, length, map, refl, ap, ◌∙◌, subst}
 use Rattle.ppd_ast.specs.Valid.{IsValid}
 use Rattle.ppd_emul_model.specs.Replay.{replay}
-use Rattle.ppd_entry.specs.IntervalLogs.{Indexed, indexed, interval_log, log_in}
+use Rattle.ppd_entry.specs.IntervalLogs.{Indexed, indexed, interval_log}
+use Rattle.ppd_entry.proofs.Vocabulary.{log_in}
 use Rattle.ppd_entry.specs.Entries.{entries_at}
 use Rattle.ppd_model.specs.Races.{races}
 use Rattle.ppd_model.specs.Schedule.{IsWhole}
 use Rattle.ppd_race.specs.Races.{races_of_logs}
 use Rattle.ppd_session.specs.Laws.{LogsTellRuns}
-use Rattle.ppd_session.specs.Known.{Known, flow_by, known_of_logs, known_of_run, last_by, of_cells, told_by, told_of_entries, unless_raced}
+use Rattle.ppd_session.specs.Known.{Known, flow_by, known_of_logs, known_of_run, last_by, told_by, told_of_entries, unless_raced}
 use Rattle.ppd_session.specs.Texts.{told_at}
 use Rattle.ppd_session.proofs.Tables.{cell_at, flow_inside, told_logs}
 use Rattle.ppd_top.specs.Promises.Replayed.{AreByReplays, told_by_replay}
 use Rattle.ppd_top.specs.Promises.Runs.{Run, logs_in, plan_in}
+use Rattle.ppd_session.proofs.KnownWords.{of_cells}
 
 replayed : (r : Run) (o : Option Indexed) → option_map (λ (i : Indexed). told_by (replay r.program (plan_in r) i.log r.budget).answer) o ≡ told_by_replay r (log_in o)
 replayed r None = refl

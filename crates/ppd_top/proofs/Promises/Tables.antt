@@ -3,8 +3,9 @@ use Rattle.std.specs.Prelude.{None, Some, option_map, slice_get}
 use Rattle.std.proofs.Common.{◌≡◌, ℕ, zero, suc, List, [], ◌∷◌, Option, Ok, get_or, length, map, refl, ap, sym, ◌∙◌}
 use Rattle.std.proofs.lemmas.Option.{slice_get-map}
 use Rattle.ppd_model.specs.Intervals.{Span, Split, items_of}
-use Rattle.ppd_session.specs.Known.{Told, of_span, of_split, told_of_split}
+use Rattle.ppd_session.specs.Known.{Told, told_of_split}
 use Rattle.ppd_session.proofs.Tables.{no_element, no_place}
+use Rattle.ppd_session.proofs.KnownWords.{of_split, of_span}
 
 abbrev pub told_in_span : Split → Option Span → Option Told
 told_in_span y None = None

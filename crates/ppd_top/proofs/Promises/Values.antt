@@ -8,14 +8,15 @@ use Rattle.ppd_flow_model.specs.Seen.{Seen, seen_of}
 use Rattle.ppd_model.specs.declared.flow.Item.{Item}
 use Rattle.ppd_model.specs.declared.tracing.Taken.{Taken}
 use Rattle.ppd_model.specs.declared.tracing.Tracing.{Tracing}
-use Rattle.ppd_model.specs.FullTrace.{events_from}
-use Rattle.ppd_model.specs.Intervals.{Span, Split, items_at as items_at_span, items_in, items_of, splits_from}
+use Rattle.ppd_model.proofs.TraceWords.{events_from}
+use Rattle.ppd_model.specs.Intervals.{Span, Split, items_of}
+use Rattle.ppd_model.proofs.IntervalWords.{items_at as items_at_span, items_in, splits_from}
 use Rattle.ppd_model.specs.Races.{races_of}
 use Rattle.ppd_model.specs.declared.tracing.Story.{Story}
 use Rattle.ppd_model.specs.Story.{story}
 use Rattle.ppd_model.specs.Laws.{ProcessesFollowTheirSteps}
 use Rattle.ppd_model.proofs.OneHistory.{map-map}
-use Rattle.ppd_session.specs.Known.{Known, known_of_run, last_told, of_cells, told_of_split, unless_raced}
+use Rattle.ppd_session.specs.Known.{Known, known_of_run, told_of_split, unless_raced}
 use Rattle.ppd_session.specs.Texts.{told_at}
 use Rattle.ppd_session.proofs.Tables.{cell_at}
 use Rattle.law_whole.specs.Joined.{events_in, events_of_items, joined}
@@ -23,6 +24,7 @@ use Rattle.law_whole.specs.Laws.{JoinedAreEvents, bare}
 use Rattle.ppd_top.specs.Promises.Answered.{AreValuesOf, events_told, items_told, told_if}
 use Rattle.ppd_top.specs.Promises.Runs.{Run, plan_in, splits_in, story_in}
 use Rattle.ppd_top.proofs.Promises.Tables.{told_in, told_in_span, told_row}
+use Rattle.ppd_session.proofs.KnownWords.{of_cells, last_told}
 
 -- ---- events
 

@@ -6,7 +6,8 @@ use Rattle.std.proofs.lemmas.List.{take_more, length-take-le}
 use Rattle.ppd_ast.specs.declared.program.Program.{Program}
 use Rattle.ppd_ast.specs.Lookups.{name_of_body}
 use Rattle.ppd_model.specs.declared.closed.ProcEnd.{ProcEnd}
-use Rattle.ppd_top_runs.specs.Summary.{print_text, end_text, end_texts}
+use Rattle.ppd_top_runs.specs.Summary.{print_text, end_text}
+use Rattle.ppd_top_runs.proofs.RunWords.{end_texts}
 
 prints-more : (name : List ℕ) (vs : List ℤ) (v : ℤ) → flat_map (print_text name) (vs ++ v ∷ []) ≡ flat_map (print_text name) vs ++ print_text name v
 prints-more name [] v = append-nil (print_text name v)

@@ -9,7 +9,8 @@ use Rattle.ppd_lex.specs.declared.token.TokenKind.TheVariants as T
 use Rattle.ppd_parse.specs.declared.symbol.Rule.TheVariants as R
 use Rattle.ppd_parse.specs.declared.node.Node.{Node}
 use Rattle.ppd_parse.specs.Tree.{tree_of}
-use Rattle.ppd_check_bodies.specs.Sources.{core, faults}
+use Rattle.ppd_check_bodies.specs.Sources.{core_of, faults_in}
+use Rattle.ppd_check_names.specs.Reading.{source_of}
 use Rattle.rows_programs.proofs.CoreForm.RowTables.{place, node, tok, stmt}
 
 -- chan c[4]; shared int g[3], h = -7; int f(int a) { return f(a); } process p { int b[2]; g[1] += 2; b[0]--; b[b[1]] -= h; g[0] = f(1); h = recv(c); b[1] = recv(c); int k = f(2); k = f(3); f(4); ; { } }
@@ -194,10 +195,10 @@ forms =
     tok (T.Mark W.RightBrace) 199 200 1 200 ∷
     tok T.End 200 200 1 201 ∷ []
 
-forms_accepted : faults (tree_of forms) ≡ []
+forms_accepted : faults_in (source_of (tree_of forms)) ≡ []
 forms_accepted = refl
 
-forms_core : core (tree_of forms) ≡ record {
+forms_core : core_of (source_of (tree_of forms)) ≡ record {
   exprs = E.Local 0 ∷
       E.Local 1 ∷
       E.Const (pos 1) ∷
@@ -375,10 +376,10 @@ turns =
     tok (T.Mark W.RightBrace) 144 145 1 145 ∷
     tok T.End 145 145 1 146 ∷ []
 
-turns_accepted : faults (tree_of turns) ≡ []
+turns_accepted : faults_in (source_of (tree_of turns)) ≡ []
 turns_accepted = refl
 
-turns_core : core (tree_of turns) ≡ record {
+turns_core : core_of (source_of (tree_of turns)) ≡ record {
   exprs = E.Const (pos 9) ∷
       E.Local 1 ∷
       E.Local 1 ∷
@@ -532,10 +533,10 @@ scopes =
     tok (T.Mark W.RightBrace) 143 144 1 144 ∷
     tok T.End 144 144 1 145 ∷ []
 
-scopes_accepted : faults (tree_of scopes) ≡ []
+scopes_accepted : faults_in (source_of (tree_of scopes)) ≡ []
 scopes_accepted = refl
 
-scopes_core : core (tree_of scopes) ≡ record {
+scopes_core : core_of (source_of (tree_of scopes)) ≡ record {
   exprs = E.Local 1 ∷
       E.Local 1 ∷
       E.Local 0 ∷
@@ -610,10 +611,10 @@ order =
     tok (T.Mark W.RightBrace) 62 63 1 63 ∷
     tok T.End 63 63 1 64 ∷ []
 
-order_accepted : faults (tree_of order) ≡ []
+order_accepted : faults_in (source_of (tree_of order)) ≡ []
 order_accepted = refl
 
-order_core : core (tree_of order) ≡ record {
+order_core : core_of (source_of (tree_of order)) ≡ record {
   exprs = [];
   stmts = stmt (place 1 31) 0 None (K.Return None) ∷
       stmt (place 1 58) 1 None (K.Call 0 [] None) ∷
@@ -714,10 +715,10 @@ arithmetic =
     tok (T.Mark W.RightBrace) 92 93 1 93 ∷
     tok T.End 93 93 1 94 ∷ []
 
-arithmetic_accepted : faults (tree_of arithmetic) ≡ []
+arithmetic_accepted : faults_in (source_of (tree_of arithmetic)) ≡ []
 arithmetic_accepted = refl
 
-arithmetic_core : core (tree_of arithmetic) ≡ record {
+arithmetic_core : core_of (source_of (tree_of arithmetic)) ≡ record {
   exprs = E.Const (pos 1) ∷
       E.Const (pos 2) ∷
       E.Two O.Add 0 1 ∷

@@ -9,7 +9,8 @@ use Rattle.ppd_lex.specs.declared.token.TokenKind.TheVariants as T
 use Rattle.ppd_parse.specs.declared.symbol.Rule.TheVariants as R
 use Rattle.ppd_parse.specs.declared.node.Node.{Node}
 use Rattle.ppd_parse.specs.Tree.{tree_of}
-use Rattle.ppd_check_bodies.specs.Sources.{core, faults}
+use Rattle.ppd_check_bodies.specs.Sources.{core_of, faults_in}
+use Rattle.ppd_check_names.specs.Reading.{source_of}
 use Rattle.rows_programs.proofs.CoreForm.RowTables.{place, node, tok, stmt}
 
 -- process a { int i = 3; while (i < 3) { i = i + 1; } print(i); }
@@ -69,10 +70,10 @@ loop_never_entered =
     tok (T.Mark W.RightBrace) 62 63 1 63 ∷
     tok T.End 63 63 1 64 ∷ []
 
-loop_never_entered_accepted : faults (tree_of loop_never_entered) ≡ []
+loop_never_entered_accepted : faults_in (source_of (tree_of loop_never_entered)) ≡ []
 loop_never_entered_accepted = refl
 
-loop_never_entered_core : core (tree_of loop_never_entered) ≡ record {
+loop_never_entered_core : core_of (source_of (tree_of loop_never_entered)) ≡ record {
   exprs = E.Const (pos 3) ∷
       E.Local 0 ∷
       E.Const (pos 3) ∷
@@ -196,10 +197,10 @@ recursion =
     tok (T.Mark W.RightBrace) 119 120 11 1 ∷
     tok T.End 120 120 11 2 ∷ []
 
-recursion_accepted : faults (tree_of recursion) ≡ []
+recursion_accepted : faults_in (source_of (tree_of recursion)) ≡ []
 recursion_accepted = refl
 
-recursion_core : core (tree_of recursion) ≡ record {
+recursion_core : core_of (source_of (tree_of recursion)) ≡ record {
   exprs = E.Const (pos 0) ∷
       E.Local 0 ∷
       E.Const (pos 0) ∷
@@ -336,10 +337,10 @@ short_circuit =
     tok (T.Mark W.RightBrace) 118 119 8 1 ∷
     tok T.End 119 119 8 2 ∷ []
 
-short_circuit_accepted : faults (tree_of short_circuit) ≡ []
+short_circuit_accepted : faults_in (source_of (tree_of short_circuit)) ≡ []
 short_circuit_accepted = refl
 
-short_circuit_core : core (tree_of short_circuit) ≡ record {
+short_circuit_core : core_of (source_of (tree_of short_circuit)) ≡ record {
   exprs = E.Const (pos 0) ∷
       E.Const (pos 0) ∷
       E.Const (pos 5) ∷

@@ -7,8 +7,9 @@ use Rattle.ppd_parse.specs.declared.node.Node.{Node}
 use Rattle.ppd_parse.specs.Tree.{tree_of}
 use Rattle.ppd_check_names.specs.declared.fault.Cause.TheVariants.{Twice, Unknown, WrongKind, Arity, NoProcess, TooMany}
 use Rattle.ppd_check_names.specs.declared.fault.Limit.TheVariants as L
-use Rattle.ppd_check_names.specs.Faults.{at}
-use Rattle.ppd_check_bodies.specs.Sources.{first_fault}
+use Rattle.ppd_check_names.specs.Faults.{at, first}
+use Rattle.ppd_check_bodies.specs.Sources.{faults_in}
+use Rattle.ppd_check_names.specs.Reading.{source_of}
 use Rattle.rows_programs.proofs.CoreForm.RowTables.{place, node, tok}
 
 --
@@ -17,7 +18,7 @@ nothing =
     node R.Source (1 ∷ []) ∷
     tok T.End 0 0 1 1 ∷ []
 
-nothing_first : first_fault (tree_of nothing) ≡ Some (at (place 1 1) NoProcess)
+nothing_first : first (faults_in (source_of (tree_of nothing))) ≡ Some (at (place 1 1) NoProcess)
 nothing_first = refl
 
 -- process p1 { }
@@ -144,7 +145,7 @@ seventeen_processes =
     tok (T.Mark W.RightBrace) 261 262 17 15 ∷
     tok T.End 262 262 17 16 ∷ []
 
-seventeen_processes_first : first_fault (tree_of seventeen_processes) ≡ Some (at (place 17 9) (TooMany L.Processes))
+seventeen_processes_first : first (faults_in (source_of (tree_of seventeen_processes))) ≡ Some (at (place 17 9) (TooMany L.Processes))
 seventeen_processes_first = refl
 
 -- process a { y = 1; }
@@ -167,7 +168,7 @@ unknown_name =
     tok (T.Mark W.RightBrace) 19 20 1 20 ∷
     tok T.End 20 20 1 21 ∷ []
 
-unknown_name_first : first_fault (tree_of unknown_name) ≡ Some (at (place 1 13) Unknown)
+unknown_name_first : first (faults_in (source_of (tree_of unknown_name))) ≡ Some (at (place 1 13) Unknown)
 unknown_name_first = refl
 
 -- process a { int x; int x; }
@@ -192,7 +193,7 @@ twice_in_one_scope =
     tok (T.Mark W.RightBrace) 26 27 1 27 ∷
     tok T.End 27 27 1 28 ∷ []
 
-twice_in_one_scope_first : first_fault (tree_of twice_in_one_scope) ≡ Some (at (place 1 24) Twice)
+twice_in_one_scope_first : first (faults_in (source_of (tree_of twice_in_one_scope))) ≡ Some (at (place 1 24) Twice)
 twice_in_one_scope_first = refl
 
 -- shared int a; process a { }
@@ -213,7 +214,7 @@ twice_as_process =
     tok (T.Mark W.RightBrace) 26 27 1 27 ∷
     tok T.End 27 27 1 28 ∷ []
 
-twice_as_process_first : first_fault (tree_of twice_as_process) ≡ Some (at (place 1 23) Twice)
+twice_as_process_first : first (faults_in (source_of (tree_of twice_as_process))) ≡ Some (at (place 1 23) Twice)
 twice_as_process_first = refl
 
 -- void f(int a, int a) { } process p { }
@@ -242,7 +243,7 @@ twice_in_parameters =
     tok (T.Mark W.RightBrace) 37 38 1 38 ∷
     tok T.End 38 38 1 39 ∷ []
 
-twice_in_parameters_first : first_fault (tree_of twice_in_parameters) ≡ Some (at (place 1 19) Twice)
+twice_in_parameters_first : first (faults_in (source_of (tree_of twice_in_parameters))) ≡ Some (at (place 1 19) Twice)
 twice_in_parameters_first = refl
 
 -- void f(int a) { int a; } process p { }
@@ -273,7 +274,7 @@ outer_name_twice =
     tok (T.Mark W.RightBrace) 37 38 1 38 ∷
     tok T.End 38 38 1 39 ∷ []
 
-outer_name_twice_first : first_fault (tree_of outer_name_twice) ≡ Some (at (place 1 21) Twice)
+outer_name_twice_first : first (faults_in (source_of (tree_of outer_name_twice))) ≡ Some (at (place 1 21) Twice)
 outer_name_twice_first = refl
 
 -- process a { x = 1; int x; }
@@ -301,7 +302,7 @@ before_its_name =
     tok (T.Mark W.RightBrace) 26 27 1 27 ∷
     tok T.End 27 27 1 28 ∷ []
 
-before_its_name_first : first_fault (tree_of before_its_name) ≡ Some (at (place 1 13) Unknown)
+before_its_name_first : first (faults_in (source_of (tree_of before_its_name))) ≡ Some (at (place 1 13) Unknown)
 before_its_name_first = refl
 
 -- shared int a[2]; process p { print(a); }
@@ -333,7 +334,7 @@ array_without_index =
     tok (T.Mark W.RightBrace) 39 40 1 40 ∷
     tok T.End 40 40 1 41 ∷ []
 
-array_without_index_first : first_fault (tree_of array_without_index) ≡ Some (at (place 1 36) WrongKind)
+array_without_index_first : first (faults_in (source_of (tree_of array_without_index))) ≡ Some (at (place 1 36) WrongKind)
 array_without_index_first = refl
 
 -- shared int a; process p { a[0] = 1; }
@@ -366,7 +367,7 @@ scalar_with_index =
     tok (T.Mark W.RightBrace) 36 37 1 37 ∷
     tok T.End 37 37 1 38 ∷ []
 
-scalar_with_index_first : first_fault (tree_of scalar_with_index) ≡ Some (at (place 1 27) WrongKind)
+scalar_with_index_first : first (faults_in (source_of (tree_of scalar_with_index))) ≡ Some (at (place 1 27) WrongKind)
 scalar_with_index_first = refl
 
 -- void f() { } process p { int f; f(); }
@@ -400,7 +401,7 @@ local_hides_a_function =
     tok (T.Mark W.RightBrace) 37 38 1 38 ∷
     tok T.End 38 38 1 39 ∷ []
 
-local_hides_a_function_first : first_fault (tree_of local_hides_a_function) ≡ Some (at (place 1 33) WrongKind)
+local_hides_a_function_first : first (faults_in (source_of (tree_of local_hides_a_function))) ≡ Some (at (place 1 33) WrongKind)
 local_hides_a_function_first = refl
 
 -- sem s; process p { send(s, 1); }
@@ -428,7 +429,7 @@ semaphore_as_channel =
     tok (T.Mark W.RightBrace) 31 32 1 32 ∷
     tok T.End 32 32 1 33 ∷ []
 
-semaphore_as_channel_first : first_fault (tree_of semaphore_as_channel) ≡ Some (at (place 1 25) WrongKind)
+semaphore_as_channel_first : first (faults_in (source_of (tree_of semaphore_as_channel))) ≡ Some (at (place 1 25) WrongKind)
 semaphore_as_channel_first = refl
 
 -- int f(int a) { return a; } process p { f(); }
@@ -466,5 +467,5 @@ missing_argument =
     tok (T.Mark W.RightBrace) 44 45 1 45 ∷
     tok T.End 45 45 1 46 ∷ []
 
-missing_argument_first : first_fault (tree_of missing_argument) ≡ Some (at (place 1 40) Arity)
+missing_argument_first : first (faults_in (source_of (tree_of missing_argument))) ≡ Some (at (place 1 40) Arity)
 missing_argument_first = refl

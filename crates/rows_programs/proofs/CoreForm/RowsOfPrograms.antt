@@ -9,7 +9,8 @@ use Rattle.ppd_lex.specs.declared.token.TokenKind.TheVariants as T
 use Rattle.ppd_parse.specs.declared.symbol.Rule.TheVariants as R
 use Rattle.ppd_parse.specs.declared.node.Node.{Node}
 use Rattle.ppd_parse.specs.Tree.{tree_of}
-use Rattle.ppd_check_bodies.specs.Sources.{core, faults}
+use Rattle.ppd_check_bodies.specs.Sources.{core_of, faults_in}
+use Rattle.ppd_check_names.specs.Reading.{source_of}
 use Rattle.rows_programs.proofs.CoreForm.RowTables.{place, node, tok, stmt}
 
 -- shared int x; process a { x = 2; print(x + 3); }
@@ -50,10 +51,10 @@ smallest =
     tok (T.Mark W.RightBrace) 47 48 1 48 ∷
     tok T.End 48 48 1 49 ∷ []
 
-smallest_accepted : faults (tree_of smallest) ≡ []
+smallest_accepted : faults_in (source_of (tree_of smallest)) ≡ []
 smallest_accepted = refl
 
-smallest_core : core (tree_of smallest) ≡ record {
+smallest_core : core_of (source_of (tree_of smallest)) ≡ record {
   exprs = E.Const (pos 2) ∷
       E.Shared 0 ∷
       E.Const (pos 3) ∷
@@ -150,10 +151,10 @@ lock_order =
     tok (T.Mark W.RightBrace) 97 98 1 98 ∷
     tok T.End 98 98 1 99 ∷ []
 
-lock_order_accepted : faults (tree_of lock_order) ≡ []
+lock_order_accepted : faults_in (source_of (tree_of lock_order)) ≡ []
 lock_order_accepted = refl
 
-lock_order_core : core (tree_of lock_order) ≡ record {
+lock_order_core : core_of (source_of (tree_of lock_order)) ≡ record {
   exprs = E.Shared 0 ∷
       E.Const (pos 1) ∷
       E.Two O.Add 0 1 ∷
@@ -268,10 +269,10 @@ bounded_channel =
     tok (T.Mark W.RightBrace) 125 126 1 126 ∷
     tok T.End 126 126 1 127 ∷ []
 
-bounded_channel_accepted : faults (tree_of bounded_channel) ≡ []
+bounded_channel_accepted : faults_in (source_of (tree_of bounded_channel)) ≡ []
 bounded_channel_accepted = refl
 
-bounded_channel_core : core (tree_of bounded_channel) ≡ record {
+bounded_channel_core : core_of (source_of (tree_of bounded_channel)) ≡ record {
   exprs = E.Const (pos 7) ∷
       E.Const (pos 8) ∷
       E.Const (pos 2) ∷
@@ -347,10 +348,10 @@ array_cells =
     tok (T.Mark W.RightBrace) 63 64 1 64 ∷
     tok T.End 64 64 1 65 ∷ []
 
-array_cells_accepted : faults (tree_of array_cells) ≡ []
+array_cells_accepted : faults_in (source_of (tree_of array_cells)) ≡ []
 array_cells_accepted = refl
 
-array_cells_core : core (tree_of array_cells) ≡ record {
+array_cells_core : core_of (source_of (tree_of array_cells)) ≡ record {
   exprs = E.Const (pos 0) ∷
       E.Const (pos 1) ∷
       E.Const (pos 1) ∷
@@ -435,10 +436,10 @@ unread_snapshot =
     tok (T.Mark W.RightBrace) 88 89 1 89 ∷
     tok T.End 89 89 1 90 ∷ []
 
-unread_snapshot_accepted : faults (tree_of unread_snapshot) ≡ []
+unread_snapshot_accepted : faults_in (source_of (tree_of unread_snapshot)) ≡ []
 unread_snapshot_accepted = refl
 
-unread_snapshot_core : core (tree_of unread_snapshot) ≡ record {
+unread_snapshot_core : core_of (source_of (tree_of unread_snapshot)) ≡ record {
   exprs = E.Shared 1 ∷
       E.Shared 0 ∷
       E.Const (pos 5) ∷ [];
@@ -514,10 +515,10 @@ callee_write =
     tok (T.Mark W.RightBrace) 68 69 1 69 ∷
     tok T.End 69 69 1 70 ∷ []
 
-callee_write_accepted : faults (tree_of callee_write) ≡ []
+callee_write_accepted : faults_in (source_of (tree_of callee_write)) ≡ []
 callee_write_accepted = refl
 
-callee_write_core : core (tree_of callee_write) ≡ record {
+callee_write_core : core_of (source_of (tree_of callee_write)) ≡ record {
   exprs = E.Const (pos 4) ∷
       E.Const (pos 1) ∷
       E.Shared 0 ∷ [];

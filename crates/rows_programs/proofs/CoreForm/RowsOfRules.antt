@@ -7,8 +7,9 @@ use Rattle.ppd_parse.specs.declared.node.Node.{Node}
 use Rattle.ppd_parse.specs.Tree.{tree_of}
 use Rattle.ppd_check_names.specs.declared.fault.Cause.TheVariants.{Unknown, Arity, ReturnPlace, VoidValue, TooMany, BadSize}
 use Rattle.ppd_check_names.specs.declared.fault.Limit.TheVariants as L
-use Rattle.ppd_check_names.specs.Faults.{at}
-use Rattle.ppd_check_bodies.specs.Sources.{first_fault}
+use Rattle.ppd_check_names.specs.Faults.{at, first}
+use Rattle.ppd_check_bodies.specs.Sources.{faults_in}
+use Rattle.ppd_check_names.specs.Reading.{source_of}
 use Rattle.rows_programs.proofs.CoreForm.RowTables.{place, node, tok}
 
 -- process p { return; }
@@ -26,7 +27,7 @@ return_in_a_process =
     tok (T.Mark W.RightBrace) 20 21 1 21 ∷
     tok T.End 21 21 1 22 ∷ []
 
-return_in_a_process_first : first_fault (tree_of return_in_a_process) ≡ Some (at (place 1 13) ReturnPlace)
+return_in_a_process_first : first (faults_in (source_of (tree_of return_in_a_process))) ≡ Some (at (place 1 13) ReturnPlace)
 return_in_a_process_first = refl
 
 -- int f() { return 1; ; } process p { }
@@ -56,7 +57,7 @@ return_not_last =
     tok (T.Mark W.RightBrace) 36 37 1 37 ∷
     tok T.End 37 37 1 38 ∷ []
 
-return_not_last_first : first_fault (tree_of return_not_last) ≡ Some (at (place 1 11) ReturnPlace)
+return_not_last_first : first (faults_in (source_of (tree_of return_not_last))) ≡ Some (at (place 1 11) ReturnPlace)
 return_not_last_first = refl
 
 -- void f() { if (1) return; } process p { }
@@ -88,7 +89,7 @@ return_in_a_branch =
     tok (T.Mark W.RightBrace) 40 41 1 41 ∷
     tok T.End 41 41 1 42 ∷ []
 
-return_in_a_branch_first : first_fault (tree_of return_in_a_branch) ≡ Some (at (place 1 19) ReturnPlace)
+return_in_a_branch_first : first (faults_in (source_of (tree_of return_in_a_branch))) ≡ Some (at (place 1 19) ReturnPlace)
 return_in_a_branch_first = refl
 
 -- void f() { return 1; } process p { }
@@ -116,7 +117,7 @@ return_with_a_value =
     tok (T.Mark W.RightBrace) 35 36 1 36 ∷
     tok T.End 36 36 1 37 ∷ []
 
-return_with_a_value_first : first_fault (tree_of return_with_a_value) ≡ Some (at (place 1 12) ReturnPlace)
+return_with_a_value_first : first (faults_in (source_of (tree_of return_with_a_value))) ≡ Some (at (place 1 12) ReturnPlace)
 return_with_a_value_first = refl
 
 -- int f() { return; } process p { }
@@ -142,7 +143,7 @@ return_without_a_value =
     tok (T.Mark W.RightBrace) 32 33 1 33 ∷
     tok T.End 33 33 1 34 ∷ []
 
-return_without_a_value_first : first_fault (tree_of return_without_a_value) ≡ Some (at (place 1 11) ReturnPlace)
+return_without_a_value_first : first (faults_in (source_of (tree_of return_without_a_value))) ≡ Some (at (place 1 11) ReturnPlace)
 return_without_a_value_first = refl
 
 -- int f() { } process p { }
@@ -165,7 +166,7 @@ no_last_return =
     tok (T.Mark W.RightBrace) 24 25 1 25 ∷
     tok T.End 25 25 1 26 ∷ []
 
-no_last_return_first : first_fault (tree_of no_last_return) ≡ Some (at (place 1 11) ReturnPlace)
+no_last_return_first : first (faults_in (source_of (tree_of no_last_return))) ≡ Some (at (place 1 11) ReturnPlace)
 no_last_return_first = refl
 
 -- void f() { } process p { int x = f(); }
@@ -199,7 +200,7 @@ void_value =
     tok (T.Mark W.RightBrace) 38 39 1 39 ∷
     tok T.End 39 39 1 40 ∷ []
 
-void_value_first : first_fault (tree_of void_value) ≡ Some (at (place 1 34) VoidValue)
+void_value_first : first (faults_in (source_of (tree_of void_value))) ≡ Some (at (place 1 34) VoidValue)
 void_value_first = refl
 
 -- void f(int a) { } process p { int x = f(); }
@@ -236,7 +237,7 @@ arity_before_void_value =
     tok (T.Mark W.RightBrace) 43 44 1 44 ∷
     tok T.End 44 44 1 45 ∷ []
 
-arity_before_void_value_first : first_fault (tree_of arity_before_void_value) ≡ Some (at (place 1 39) Arity)
+arity_before_void_value_first : first (faults_in (source_of (tree_of arity_before_void_value))) ≡ Some (at (place 1 39) Arity)
 arity_before_void_value_first = refl
 
 -- process p { int b[300]; }
@@ -259,7 +260,7 @@ local_length =
     tok (T.Mark W.RightBrace) 24 25 1 25 ∷
     tok T.End 25 25 1 26 ∷ []
 
-local_length_first : first_fault (tree_of local_length) ≡ Some (at (place 1 17) (TooMany L.Locals))
+local_length_first : first (faults_in (source_of (tree_of local_length))) ≡ Some (at (place 1 17) (TooMany L.Locals))
 local_length_first = refl
 
 -- shared int a[2000]; process p { }
@@ -283,7 +284,7 @@ shared_length =
     tok (T.Mark W.RightBrace) 32 33 1 33 ∷
     tok T.End 33 33 1 34 ∷ []
 
-shared_length_first : first_fault (tree_of shared_length) ≡ Some (at (place 1 12) (TooMany L.Shared))
+shared_length_first : first (faults_in (source_of (tree_of shared_length))) ≡ Some (at (place 1 12) (TooMany L.Shared))
 shared_length_first = refl
 
 -- shared int a[0]; process p { }
@@ -307,7 +308,7 @@ length_zero =
     tok (T.Mark W.RightBrace) 29 30 1 30 ∷
     tok T.End 30 30 1 31 ∷ []
 
-length_zero_first : first_fault (tree_of length_zero) ≡ Some (at (place 1 14) BadSize)
+length_zero_first : first (faults_in (source_of (tree_of length_zero))) ≡ Some (at (place 1 14) BadSize)
 length_zero_first = refl
 
 -- chan c[65]; process p { }
@@ -329,7 +330,7 @@ capacity =
     tok (T.Mark W.RightBrace) 24 25 1 25 ∷
     tok T.End 25 25 1 26 ∷ []
 
-capacity_first : first_fault (tree_of capacity) ≡ Some (at (place 1 8) BadSize)
+capacity_first : first (faults_in (source_of (tree_of capacity))) ≡ Some (at (place 1 8) BadSize)
 capacity_first = refl
 
 -- sem s = 65536; process p { }
@@ -350,7 +351,7 @@ start_value =
     tok (T.Mark W.RightBrace) 27 28 1 28 ∷
     tok T.End 28 28 1 29 ∷ []
 
-start_value_first : first_fault (tree_of start_value) ≡ Some (at (place 1 9) BadSize)
+start_value_first : first (faults_in (source_of (tree_of start_value))) ≡ Some (at (place 1 9) BadSize)
 start_value_first = refl
 
 -- shared int a[2]; int f() { return 1; } process p { int b[256]; a[0] = f(); }
@@ -409,7 +410,7 @@ hidden_local_past_the_limit =
     tok (T.Mark W.RightBrace) 75 76 1 76 ∷
     tok T.End 76 76 1 77 ∷ []
 
-hidden_local_past_the_limit_first : first_fault (tree_of hidden_local_past_the_limit) ≡ Some (at (place 1 64) (TooMany L.Locals))
+hidden_local_past_the_limit_first : first (faults_in (source_of (tree_of hidden_local_past_the_limit))) ≡ Some (at (place 1 64) (TooMany L.Locals))
 hidden_local_past_the_limit_first = refl
 
 -- process p { int b[255], c, d; }
@@ -438,7 +439,7 @@ last_cell =
     tok (T.Mark W.RightBrace) 30 31 1 31 ∷
     tok T.End 31 31 1 32 ∷ []
 
-last_cell_first : first_fault (tree_of last_cell) ≡ Some (at (place 1 28) (TooMany L.Locals))
+last_cell_first : first (faults_in (source_of (tree_of last_cell))) ≡ Some (at (place 1 28) (TooMany L.Locals))
 last_cell_first = refl
 
 -- process p { print(1); q = z; } shared int p;
@@ -475,7 +476,7 @@ rules_at_later_places =
     tok (T.Mark W.Semicolon) 43 44 1 44 ∷
     tok T.End 44 44 1 45 ∷ []
 
-rules_at_later_places_first : first_fault (tree_of rules_at_later_places) ≡ Some (at (place 1 23) Unknown)
+rules_at_later_places_first : first (faults_in (source_of (tree_of rules_at_later_places))) ≡ Some (at (place 1 23) Unknown)
 rules_at_later_places_first = refl
 
 -- process p { for (; ; x = 1) y = 2; }
@@ -510,5 +511,5 @@ step_before_body =
     tok (T.Mark W.RightBrace) 35 36 1 36 ∷
     tok T.End 36 36 1 37 ∷ []
 
-step_before_body_first : first_fault (tree_of step_before_body) ≡ Some (at (place 1 22) Unknown)
+step_before_body_first : first (faults_in (source_of (tree_of step_before_body))) ≡ Some (at (place 1 22) Unknown)
 step_before_body_first = refl

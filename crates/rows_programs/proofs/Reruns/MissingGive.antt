@@ -58,4 +58,4 @@ other f = clash 0 1 (ap first_count f.record_is) refl
 
 pub verdict_is : IsVerdict program plan 100000 logs (verdict.No (Record 5))
 unfolding terms
-verdict_is = record { length_is = refl; other = other }
+verdict_is = (refl, other)

@@ -101,10 +101,10 @@ same_turns (suc q) m lt = absurd (omega (arith, lt))
 
 pub verdict_turns : IsVerdict program plan 100000 (logs in_turns) (verdict.No (Interval 1 0))
 unfolding terms
-verdict_turns = record {
-  follows = record { whole = whole; record_is = refl };
-  first = record { other = other_turns; processes = same_turns; intervals = λ m lt. absurd (omega (arith, lt)) };
-}
+verdict_turns = (
+  record { whole = whole; record_is = refl },
+  record { other = other_turns; processes = same_turns; intervals = λ m lt. absurd (omega (arith, lt)) },
+)
 
 -- recorded with b first
 other_b : IsSame program plan 100000 (logs first_b) first_a 1 0 → ⊥
@@ -119,7 +119,7 @@ same_b (suc q) m lt = absurd (omega (arith, lt))
 
 pub verdict_b : IsVerdict program plan 100000 (logs first_b) (verdict.No (Interval 1 0))
 unfolding terms
-verdict_b = record {
-  follows = record { whole = whole; record_is = refl };
-  first = record { other = other_b; processes = same_b; intervals = λ m lt. absurd (omega (arith, lt)) };
-}
+verdict_b = (
+  record { whole = whole; record_is = refl },
+  record { other = other_b; processes = same_b; intervals = λ m lt. absurd (omega (arith, lt)) },
+)

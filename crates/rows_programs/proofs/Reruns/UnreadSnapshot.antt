@@ -77,4 +77,4 @@ same (suc (suc p)) k = tt
 
 pub verdict_is : IsVerdict program plan 100000 logs (verdict.Yes again)
 unfolding terms
-verdict_is = record { schedule = refl; follows = follows; same = same }
+verdict_is = (refl, follows, same)

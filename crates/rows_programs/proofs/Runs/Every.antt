@@ -9,7 +9,8 @@ use Rattle.ppd_sem.specs.Process.{act}
 use Rattle.ppd_model.specs.declared.closed.ProcEnd.{ProcEnd}
 use Rattle.ppd_model.specs.declared.graph.Race.{Race}
 use Rattle.ppd_model.specs.Schedule.{IsOver, IsWhole, run_from, started_world}
-use Rattle.ppd_model.specs.World.{World, answer, can, enabled, need, need_at, step}
+use Rattle.ppd_model.specs.World.{World, answer, can, enabled, need, step}
+use Rattle.ppd_model.proofs.WorldWords.{need_at}
 use Rattle.ppd_model.specs.Races.{races}
 use Rattle.ppd_model.specs.Logs.{close}
 use Rattle.ppd_model.proofs.Bounded.{Goes, goes, started_count}

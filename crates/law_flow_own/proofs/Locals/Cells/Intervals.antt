@@ -6,7 +6,8 @@ use Rattle.ppd_ast.specs.declared.plan.Plan.{Plan}
 use Rattle.ppd_ast.specs.declared.program.Program.{Program}
 use Rattle.ppd_ast.specs.Lookups.{kind_of}
 use Rattle.ppd_sem.specs.Blocks.{block_kind, postlog_cells}
-use Rattle.ppd_model.specs.FullTrace.{Tag, or_else}
+use Rattle.ppd_model.specs.FullTrace.{Tag}
+use Rattle.std.specs.Option.{option_or}
 use Rattle.ppd_model.specs.Intervals.{nested, Span, Split, is_closed}
 use Rattle.ppd_model.specs.NearIntervals.{is_in}
 use Rattle.ppd_model.specs.declared.flow.Item.TheVariants as item
@@ -23,12 +24,12 @@ use Rattle.law_flow_own.proofs.Vocabulary.LoopTells.{here, of_scan}
 use Rattle.ppd_sem.specs.Process.{into_of}
 use Rattle.ppd_model.specs.Synchronizations.{is_number}
 
-else_assoc : (a b c : Option Origin) → or_else (or_else a b) c ≡ or_else a (or_else b c)
+else_assoc : (a b c : Option Origin) → option_or (option_or a b) c ≡ option_or a (option_or b c)
 else_assoc None b c = refl
 else_assoc (Some x) b c = refl
 
 pub says_both : (y : Split) (p : ℕ) (a b : Option Origin) (w : Tag) (P : Type 0) → SaysOr y p a w (SaysOr y p b w P)
-    → SaysOr y p (or_else a b) w P
+    → SaysOr y p (option_or a b) w P
 says_both y p None b w P h = h
 says_both y p (Some x) b w P h = h
 
@@ -138,15 +139,15 @@ module _ (program : Program) (plan : Plan) (p : ℕ) (y : Split) where
       pub here_loop : (inner : Level) → inner.interval ≡ m → items_at (seen_of y) m ≡ items_so_far y inner
           → (scan program plan 0 c (items_so_far y inner)).loops ≡ [] → is_of ≡ true
           → here program plan p y (put (nested m) l) f c
-          ≡ or_else (here program plan p y inner 0 c) (here program plan p y l f c)
+          ≡ option_or (here program plan p y inner 0 c) (here program plan p y l f c)
       here_loop inner number items none h =
           let found : writer_at (seen_of y) p m (scan program plan 0 c (items_at (seen_of y) m)).writer
           ≡ here program plan p y inner 0 c =
           ap₂ (λ k xs. writer_at (seen_of y) p k (scan program plan 0 c xs).writer) (sym number) items
-          ∙ ap (λ ms. or_else (in_loops program plan (seen_of y) p c ms)
+          ∙ ap (λ ms. option_or (in_loops program plan (seen_of y) p c ms)
           (writer_at (seen_of y) p inner.interval (scan program plan 0 c (items_so_far y inner)).writer)) (sym none) in
           ap (λ (s : Scan). of_scan program plan p y l.interval c s) (scan_loop true h)
-          ∙ ap (λ o. or_else (or_else o (in_loops program plan (seen_of y) p c scanned.loops))
+          ∙ ap (λ o. option_or (option_or o (in_loops program plan (seen_of y) p c scanned.loops))
           (writer_at (seen_of y) p l.interval scanned.writer)) found
           ∙ else_assoc (here program plan p y inner 0 c) (in_loops program plan (seen_of y) p c scanned.loops)
           (writer_at (seen_of y) p l.interval scanned.writer)

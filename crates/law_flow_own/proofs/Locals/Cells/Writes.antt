@@ -10,7 +10,8 @@ use Rattle.law_replay.proofs.Vocabulary.Held.{Among, IsWriting, MayWrite}
 use Rattle.law_replay.proofs.Beside.Writes.{writes_at_most}
 use Rattle.ppd_sem.specs.Asked.{Asked}
 use Rattle.ppd_sem.specs.Deed.{Deed, set_local, set_shared, clear, branch, turn, leave, invoke, back, take, give, send, receive, print, pass, finish}
-use Rattle.ppd_sem.specs.Described.{cleared, frame_of, parameters, trap_of, writes_by, writes_of_asked, writes_of_deed}
+use Rattle.ppd_sem.specs.Described.{cleared, frame_of, parameters, trap_of, writes_by, writes_of_deed}
+use Rattle.ppd_sem.proofs.EventWords.{writes_of_asked}
 use Rattle.ppd_sem.specs.Process.{head_deed, need_of, top_cells}
 use Rattle.ppd_ast.specs.declared.status.Trap.{Trap as TrapOf}
 use Rattle.ppd_ast.specs.Lookups.{kind_of}

@@ -6,7 +6,7 @@ use Rattle.ppd_ast.specs.declared.plan.Plan.{Plan}
 use Rattle.ppd_ast.specs.declared.program.Program.{Program}
 use Rattle.ppd_sem.specs.Blocks.{block_kind}
 use Rattle.ppd_model.specs.declared.flow.Origin.{Origin}
-use Rattle.ppd_model.specs.FullTrace.{or_else}
+use Rattle.std.specs.Option.{option_or}
 use Rattle.ppd_model.specs.Intervals.{Span, Split}
 use Rattle.ppd_model.specs.NearIntervals.{is_loop}
 use Rattle.ppd_model.proofs.Changes.{some}
@@ -59,7 +59,7 @@ module _ (program : Program) (plan : Plan) (x : Split) (tree : HasTree x) (p c :
       alone found = record { each = λ z i. inl (subst (λ y. In y (m ∷ ms)) (sym (in_one z m i)) first_in); once = distinct_one m }
 
       by : AreOf k (in_loops program plan seen p c ms) ms (loop_replays program plan seen p c ms) → (w : Writer) → (scan program plan 0 c (items_at seen m)).writer ≡ w
-          → AreOf k (or_else (writer_at seen p m w) (in_loops program plan seen p c ms)) (m ∷ ms) (m ∷ writer_replays w ++ unless (writer_at seen p m w) (loop_replays program plan seen p c ms))
+          → AreOf k (option_or (writer_at seen p m w) (in_loops program plan seen p c ms)) (m ∷ ms) (m ∷ writer_replays w ++ unless (writer_at seen p m w) (loop_replays program plan seen p c ms))
       by rest Before e = record {
         each = λ z i. elim (in_cases z m (loop_replays program plan seen p c ms) i) [
           | inl same ↦ inl (subst (λ y. In y (m ∷ ms)) (sym same) first_in)
@@ -73,8 +73,8 @@ module _ (program : Program) (plan : Plan) (x : Split) (tree : HasTree x) (p c :
           rest.once,
         );
       }
-      by rest Fresh e = alone (or_else (writer_at seen p m Fresh) (in_loops program plan seen p c ms))
-      by rest (At i) e = alone (or_else (writer_at seen p m (At i)) (in_loops program plan seen p c ms))
+      by rest Fresh e = alone (option_or (writer_at seen p m Fresh) (in_loops program plan seen p c ms))
+      by rest (At i) e = alone (option_or (writer_at seen p m (At i)) (in_loops program plan seen p c ms))
       by rest (Of z) e =
           let o : IsOtherIn plan x m z = inner z e in
           let lt = l.below in
@@ -103,7 +103,7 @@ module _ (program : Program) (plan : Plan) (x : Split) (tree : HasTree x) (p c :
     loops = loop_replays program plan seen p c s.loops
 
     abbrev Now : Option Origin → Writer → Type 0
-    Now o w = AreGood k (or_else o (writer_at seen p k w)) (loops ++ unless o (writer_replays w))
+    Now o w = AreGood k (option_or o (writer_at seen p k w)) (loops ++ unless o (writer_replays w))
 
     only : (o found : Option Origin) → in_loops program plan seen p c s.loops ≡ o → (o ≡ None) ⊎ (found ≡ o) → AreGood k found (loops ++ [])
     only o found e f = record {

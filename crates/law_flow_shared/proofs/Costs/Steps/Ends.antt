@@ -12,7 +12,8 @@ use Rattle.ppd_entry.specs.declared.entry.Entry.{Entry}
 use Rattle.ppd_entry.specs.declared.entry.Entry.TheVariants as entry
 use Rattle.ppd_entry.specs.Entries.{entries_at}
 use Rattle.ppd_model.specs.Extents.{Extending}
-use Rattle.ppd_model.specs.FlowbackEdges.{part_at, part_in}
+use Rattle.ppd_model.specs.FlowbackEdges.{part_at}
+use Rattle.ppd_model.proofs.EdgeWords.{part_in}
 use Rattle.ppd_model.specs.Intervals.{Part, own, Span, Split, item_of, splits}
 use Rattle.ppd_model.specs.Items.{IsReferred}
 use Rattle.ppd_model.specs.Logs.{closed_logs}

@@ -5,8 +5,10 @@ use Rattle.std.proofs.lemmas.Option.{none-some}
 use Rattle.ppd_ast.specs.declared.plan.Plan.{Plan}
 use Rattle.ppd_ast.specs.declared.program.Program.{Program}
 use Rattle.ppd_entry.specs.Entries.{entries_at}
-use Rattle.ppd_model.specs.Intervals.{Split, splits_from, splits}
-use Rattle.ppd_model.specs.Logs.{closed_log, closed_logs, log_of, logs_from}
+use Rattle.ppd_model.specs.Intervals.{Split, splits}
+use Rattle.ppd_model.proofs.IntervalWords.{splits_from}
+use Rattle.ppd_model.specs.Logs.{closed_log, closed_logs, log_of}
+use Rattle.ppd_model.proofs.LogWords.{logs_from}
 use Rattle.ppd_model.specs.Story.{Moment, own_moments, steps_of, story, told}
 use Rattle.ppd_model.specs.declared.tracing.Story.{Story}
 

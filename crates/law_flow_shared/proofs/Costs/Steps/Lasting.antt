@@ -10,7 +10,8 @@ use Rattle.ppd_sem.specs.Process.{started}
 use Rattle.ppd_sem.specs.declared.proc.Need.{Need}
 use Rattle.ppd_sem.specs.declared.proc.Need.TheVariants as n
 use Rattle.ppd_model.specs.FullTrace.{Tag, me_in, top_tags}
-use Rattle.ppd_model.specs.Intervals.{Part, own, nested, Span, Split, begin_if, begun_split, change_first, control_by, end_if, innermost, left_by, new_span, split_of, split_step, with_own, with_part, with_step}
+use Rattle.ppd_model.specs.Intervals.{Part, own, nested, Span, Split, begun_split, change_first, control_by, innermost, left_by, new_span, split_of, split_step, with_own, with_part, with_step}
+use Rattle.ppd_model.proofs.IntervalWords.{begin_if, end_if}
 use Rattle.ppd_model.specs.Marks.{Mark, closed, opened}
 use Rattle.ppd_model.specs.World.{change}
 use Rattle.ppd_model.specs.declared.trace.EventId.{EventId}

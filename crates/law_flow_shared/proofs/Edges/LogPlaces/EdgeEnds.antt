@@ -11,10 +11,12 @@ use Rattle.ppd_entry.specs.declared.entry.Entry.TheVariants as entry
 use Rattle.ppd_entry.specs.Entries.{is_end}
 use Rattle.ppd_model.specs.declared.trace.TracedEvent.{TracedEvent}
 use Rattle.ppd_model.specs.Extents.{Extending}
-use Rattle.ppd_model.specs.FlowbackEdges.{part_at, part_in}
+use Rattle.ppd_model.specs.FlowbackEdges.{part_at}
+use Rattle.ppd_model.proofs.EdgeWords.{part_in}
 use Rattle.ppd_model.specs.Intervals.{Part, own, Span, Split, item_of}
 use Rattle.ppd_model.specs.RecordedSets.{sync_in}
-use Rattle.ppd_flow_model.specs.Ends.{edge_at, end_interval, end_item, ending, ends_edge, first_edge, innermost_at, is_sync, sync_item}
+use Rattle.ppd_flow_model.specs.Ends.{edge_at, end_interval, end_item, ending, ends_edge, first_edge, innermost_at, sync_item}
+use Rattle.ppd_flow_model.proofs.Vocabulary.{is_sync}
 use Rattle.ppd_flow_model.specs.Seen.{items_at, seen_of}
 use Rattle.ppd_flow_model.specs.Walk.{walk}
 use Rattle.law_flow_shared.proofs.Vocabulary.Events.{IsWalk, synchronizes}

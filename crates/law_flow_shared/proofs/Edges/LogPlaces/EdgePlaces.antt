@@ -10,13 +10,16 @@ use Rattle.ppd_entry.specs.declared.entry.Entry.TheVariants as entry
 use Rattle.ppd_model.specs.declared.flow.Item.{Item}
 use Rattle.ppd_model.specs.declared.flow.Item.TheVariants as item
 use Rattle.ppd_model.specs.declared.trace.TracedEvent.{TracedEvent}
-use Rattle.ppd_model.specs.Extents.{Extending, Extent, begun_extents, extend, extents, left_by as extents_left}
-use Rattle.ppd_model.specs.Intervals.{Part, own, nested, Span, Split, is_closed, item_of, item_of_event, item_of_span}
+use Rattle.ppd_model.specs.Extents.{Extending, Extent, extend, extents}
+use Rattle.ppd_model.proofs.ExtentWords.{begun_extents, left_by as extents_left}
+use Rattle.ppd_model.specs.Intervals.{Part, own, nested, Span, Split, is_closed, item_of}
+use Rattle.ppd_model.proofs.IntervalWords.{item_of_event, item_of_span}
 use Rattle.ppd_model.specs.RecordedSets.{sync_in}
 use Rattle.ppd_model.proofs.Changes.{change-at, some}
 use Rattle.ppd_model.proofs.CountedOn.{last_at}
 use Rattle.ppd_model.proofs.Extents.{IsIn, entry_number, Fall}
-use Rattle.ppd_flow_model.specs.Ends.{begins_in, edge_at, first_edge, is_sync_item, sync_item, syncs_before, syncs_inside, syncs_of_item}
+use Rattle.ppd_flow_model.specs.Ends.{edge_at, first_edge, is_sync_item, sync_item, syncs_before, syncs_inside, syncs_of_item}
+use Rattle.ppd_flow_model.proofs.Vocabulary.{begins_in}
 use Rattle.ppd_flow_model.specs.Seen.{seen_of}
 use Rattle.law_flow_shared.proofs.Edges.LogPlaces.Extended.{is_log, stays, still_one}
 use Rattle.law_flow_shared.proofs.Edges.Spans.Facts.{LeavesAt, Logged, OpensAt, at, count_to, syncs}

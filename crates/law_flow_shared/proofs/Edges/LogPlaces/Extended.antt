@@ -5,7 +5,8 @@ use Rattle.std.proofs.lemmas.Bool.{cases_eq}
 use Rattle.std.proofs.lemmas.Option.{none-some}
 use Rattle.ppd_entry.specs.declared.entry.Entry.{Entry}
 use Rattle.ppd_entry.specs.declared.entry.Entry.TheVariants as entry
-use Rattle.ppd_model.specs.Extents.{Extending, Extent, begun_extents, ended_by, extend, first_of, left_by}
+use Rattle.ppd_model.specs.Extents.{Extending, Extent, extend, first_of}
+use Rattle.ppd_model.proofs.ExtentWords.{begun_extents, ended_by, left_by}
 use Rattle.ppd_model.specs.World.{change}
 use Rattle.ppd_model.proofs.Changes.{change-at, change-else, length-change, some}
 use Rattle.ppd_model.proofs.CountedOn.{kept_at}

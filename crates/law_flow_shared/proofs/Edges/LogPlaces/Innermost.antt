@@ -9,12 +9,14 @@ use Rattle.ppd_ast.specs.declared.status.Status.{Status}
 use Rattle.ppd_ast.proofs.ValidLaws.{slice_get_there, slice_get_below}
 use Rattle.ppd_entry.specs.declared.entry.Entry.{Entry}
 use Rattle.ppd_entry.specs.declared.entry.Entry.TheVariants as entry
-use Rattle.ppd_model.specs.Extents.{Extending, Extent, begun_extents, ended_by, extend, extents, left_by}
+use Rattle.ppd_model.specs.Extents.{Extending, Extent, extend, extents}
+use Rattle.ppd_model.proofs.ExtentWords.{begun_extents, ended_by, left_by}
 use Rattle.ppd_model.specs.World.{change}
 use Rattle.ppd_model.proofs.Changes.{change-at, some}
 use Rattle.ppd_model.proofs.CountedOn.{kept_at}
 use Rattle.ppd_model.proofs.Extents.{IsIn, entry_number, Fall, in_below, ended_length, close_by}
-use Rattle.ppd_flow_model.specs.Ends.{innermost_at, innermost_from, is_in_extent}
+use Rattle.ppd_flow_model.specs.Ends.{innermost_at, innermost_from}
+use Rattle.ppd_flow_model.proofs.Vocabulary.{is_in_extent}
 use Rattle.law_flow_shared.proofs.Edges.Spans.Facts.{at}
 use Rattle.law_flow_shared.proofs.Edges.LogPlaces.Extended.{Became, came, ended_in, ended_one, is_log, left_length, left_one, new_cases, still_one}
 

@@ -9,7 +9,8 @@ use Rattle.ppd_ast.specs.declared.program.Program.{Program}
 use Rattle.ppd_ast.proofs.ValidLaws.{slice_get_below}
 use Rattle.ppd_sem.specs.Blocks.{block_kind}
 use Rattle.ppd_model.specs.declared.trace.TracedEvent.{TracedEvent}
-use Rattle.ppd_model.specs.FlowbackEdges.{edges, part_at, part_in}
+use Rattle.ppd_model.specs.FlowbackEdges.{edges, part_at}
+use Rattle.ppd_model.proofs.EdgeWords.{part_in}
 use Rattle.ppd_model.specs.Intervals.{own, Span, Split, splits}
 use Rattle.ppd_model.specs.Logs.{closed_log, log_of}
 use Rattle.ppd_model.specs.NearIntervals.{edge_of_event, edges_or_none, is_in, is_inside, is_loop, is_near, is_near_origin, is_open_at, is_open_in, is_round, surroundings}

@@ -5,7 +5,8 @@ use Rattle.std.specs.List.{flat_map}
 use Rattle.ppd_model.specs.declared.flow.Item.{Item}
 use Rattle.ppd_model.specs.declared.flow.Item.TheVariants as item
 use Rattle.ppd_model.specs.declared.trace.TracedEvent.{TracedEvent}
-use Rattle.ppd_model.specs.Intervals.{Part, own, nested, Span, Split, is_closed, item_of, item_of_event, item_of_span}
+use Rattle.ppd_model.specs.Intervals.{Part, own, nested, Span, Split, is_closed, item_of}
+use Rattle.ppd_model.proofs.IntervalWords.{item_of_event, item_of_span}
 use Rattle.ppd_model.proofs.Changes.{some}
 use Rattle.ppd_model.proofs.CountedOn.{kept_at}
 use Rattle.ppd_model.proofs.Tested.{In, here as first_in, there as later_in}

@@ -16,7 +16,8 @@ use Rattle.ppd_model.specs.declared.state.Logging.{Logging}
 use Rattle.ppd_model.specs.declared.tracing.Story.{Story}
 use Rattle.ppd_model.specs.declared.trace.TracedEvent.{TracedEvent}
 use Rattle.ppd_model.specs.Bounds.{AreEach}
-use Rattle.ppd_model.specs.Extents.{Extending, Extent, begun_extents, extend, extents, left_by as extents_left}
+use Rattle.ppd_model.specs.Extents.{Extending, Extent, extend, extents}
+use Rattle.ppd_model.proofs.ExtentWords.{begun_extents, left_by as extents_left}
 use Rattle.ppd_model.specs.Intervals.{Span, Split, begun_split, is_closed, split_of}
 use Rattle.ppd_model.specs.Logs.{begun_log, closed_log, entries_of, log_of, log_step}
 use Rattle.ppd_model.specs.RecordedSets.{sync_in}

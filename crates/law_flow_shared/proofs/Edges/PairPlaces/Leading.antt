@@ -8,7 +8,8 @@ use Rattle.ppd_ast.specs.declared.program.Program.{Program}
 use Rattle.ppd_ast.specs.Counting.{one_if}
 use Rattle.ppd_model.specs.declared.trace.EventId.{EventId}
 use Rattle.ppd_model.specs.declared.tracing.Taken.{Taken}
-use Rattle.ppd_model.specs.Synchronizations.{Sync, event_or, leading_from, leading_in, leads_at, sync_of, syncs_of}
+use Rattle.ppd_model.specs.Synchronizations.{Sync, leading_from, leading_in, leads_at, sync_of, syncs_of}
+use Rattle.ppd_model.proofs.OrderWords.{event_or}
 use Rattle.ppd_model.proofs.Changes.{some}
 use Rattle.law_steps.proofs.StaticEdges.SharedCells.Writers.{events_in}
 

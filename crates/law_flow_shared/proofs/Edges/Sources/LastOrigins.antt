@@ -16,9 +16,11 @@ use Rattle.ppd_model.specs.declared.tracing.Taken.{Taken}
 use Rattle.ppd_model.specs.FlowbackEdges.{from_writer, last}
 use Rattle.ppd_model.specs.Forward.{edge_in}
 use Rattle.ppd_model.specs.HappenedBefore.{EdgeBefore, edge, is_edge_before}
-use Rattle.ppd_model.specs.Intervals.{Split, ref, splits, splits_from}
+use Rattle.ppd_model.specs.Intervals.{Split, ref, splits}
+use Rattle.ppd_model.proofs.IntervalWords.{splits_from}
 use Rattle.ppd_model.specs.Laws.{IsAtStart, IsUnwritten, begins}
-use Rattle.ppd_model.specs.Logs.{closed_log, closed_logs, logs_from}
+use Rattle.ppd_model.specs.Logs.{closed_log, closed_logs}
+use Rattle.ppd_model.proofs.LogWords.{logs_from}
 use Rattle.ppd_model.specs.Races.{races}
 use Rattle.ppd_model.specs.Record.{sync_record}
 use Rattle.ppd_model.specs.RecordedSets.{last_edge, record_in}

@@ -6,7 +6,8 @@ use Rattle.std.proofs.lemmas.Option.{none-some}
 use Rattle.ppd_entry.specs.declared.entry.Entry.{Entry}
 use Rattle.ppd_entry.specs.declared.entry.Entry.TheVariants as entry
 use Rattle.ppd_model.specs.declared.trace.TracedEvent.{TracedEvent}
-use Rattle.ppd_model.specs.Extents.{Extending, begun_extents, extend}
+use Rattle.ppd_model.specs.Extents.{Extending, extend}
+use Rattle.ppd_model.proofs.ExtentWords.{begun_extents}
 use Rattle.ppd_model.specs.Intervals.{Part, own, Span}
 use Rattle.ppd_model.specs.RecordedSets.{sync_in}
 use Rattle.law_flow_shared.proofs.Edges.Spans.Tiles.{HaveGrown}

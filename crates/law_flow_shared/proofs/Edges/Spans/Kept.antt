@@ -13,7 +13,8 @@ use Rattle.ppd_model.specs.declared.state.Logging.{Logging}
 use Rattle.ppd_model.specs.declared.tracing.Story.{Story}
 use Rattle.ppd_model.specs.declared.tracing.Taken.{Taken}
 use Rattle.ppd_model.specs.FullTrace.{me_in, top_tags}
-use Rattle.ppd_model.specs.Intervals.{Span, Split, begun_split, control_by, end_if, left_by, split_of, split_step, with_own, with_step}
+use Rattle.ppd_model.specs.Intervals.{Span, Split, begun_split, control_by, left_by, split_of, split_step, with_own, with_step}
+use Rattle.ppd_model.proofs.IntervalWords.{end_if}
 use Rattle.ppd_model.specs.LocalTags.{AreOwn}
 use Rattle.ppd_model.specs.Logs.{begun_log, entries_of, log_of, log_step}
 use Rattle.ppd_model.specs.Marks.{closed, opened}

@@ -6,7 +6,8 @@ use Rattle.std.proofs.lemmas.Option.{none-some}
 use Rattle.ppd_entry.specs.declared.entry.Entry.{Entry}
 use Rattle.ppd_entry.specs.declared.entry.Entry.TheVariants as entry
 use Rattle.ppd_model.specs.declared.trace.TracedEvent.{TracedEvent}
-use Rattle.ppd_model.specs.Extents.{Extending, Extent, left_by as extents_left}
+use Rattle.ppd_model.specs.Extents.{Extending, Extent}
+use Rattle.ppd_model.proofs.ExtentWords.{left_by as extents_left}
 use Rattle.ppd_model.specs.FullTrace.{Tag}
 use Rattle.ppd_model.specs.Intervals.{nested, Span, is_closed, with_part}
 use Rattle.ppd_model.specs.World.{change}

@@ -23,7 +23,8 @@ use Rattle.ppd_model.specs.declared.tracing.Story.{Story}
 use Rattle.ppd_model.specs.declared.tracing.Taken.{Taken}
 use Rattle.ppd_model.specs.declared.tracing.Tracing.{Tracing}
 use Rattle.ppd_model.specs.FullTrace.{Tag, event_of, me_in, top_tags, trace_by, traced_by}
-use Rattle.ppd_model.specs.Intervals.{own, nested, Span, Split, begin_if, change_first, control_by, end_if, innermost, left_by, split_step, with_marks, with_own, with_part, with_step}
+use Rattle.ppd_model.specs.Intervals.{own, nested, Span, Split, change_first, control_by, innermost, left_by, split_step, with_marks, with_own, with_part, with_step}
+use Rattle.ppd_model.proofs.IntervalWords.{begin_if, end_if}
 use Rattle.ppd_model.specs.Logs.{ends, entries_of, passed_value, postlogs, prelogs, status_of, syncs as sync_entries, units}
 use Rattle.ppd_model.specs.Marks.{Mark, closed, opened}
 use Rattle.ppd_model.specs.Story.{unit_started}

@@ -14,9 +14,11 @@ use Rattle.ppd_model.specs.declared.state.Logging.{Logging}
 use Rattle.ppd_model.specs.declared.tracing.Story.{Story}
 use Rattle.ppd_model.specs.declared.tracing.Tracing.{Tracing}
 use Rattle.ppd_model.specs.FullTrace.{tracing_of}
-use Rattle.ppd_model.specs.Intervals.{Split, split_of, splits, splits_from}
+use Rattle.ppd_model.specs.Intervals.{Split, split_of, splits}
+use Rattle.ppd_model.proofs.IntervalWords.{splits_from}
 use Rattle.ppd_model.specs.LocalTags.{AreOwn}
-use Rattle.ppd_model.specs.Logs.{closed_log, closed_logs, log_of, logs_from}
+use Rattle.ppd_model.specs.Logs.{closed_log, closed_logs, log_of}
+use Rattle.ppd_model.proofs.LogWords.{logs_from}
 use Rattle.ppd_model.specs.RecordedSets.{RecordsAccesses}
 use Rattle.ppd_model.specs.Written.{AreOfSteps}
 use Rattle.ppd_model.specs.Story.{Moment, own_moments, own_steps, steps_of, story, told}

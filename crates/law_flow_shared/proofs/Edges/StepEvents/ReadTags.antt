@@ -22,7 +22,8 @@ use Rattle.ppd_sem.specs.Asked.{Asked}
 use Rattle.ppd_sem.specs.Consumed.{Takes, WantsInTurn, shared_of, shared_with, values_read}
 use Rattle.ppd_sem.specs.Deed.{Deed}
 use Rattle.ppd_sem.specs.Described.{evaluates, frame_of, is_event}
-use Rattle.ppd_sem.specs.Process.{act, act_at, act_by_asked, act_by_need, head_deed, need_by_status, need_of, started, top_cells, value_of}
+use Rattle.ppd_sem.specs.Process.{act, act_by_asked, act_by_need, head_deed, need_of, started, top_cells, value_of}
+use Rattle.ppd_sem.proofs.NeedWords.{act_at, need_by_status}
 use Rattle.ppd_sem.specs.Reads.{reads_of_kind}
 use Rattle.ppd_sem.proofs.Consumed.{reads_taken}
 use Rattle.ppd_sem.proofs.Progress.{act-stopped}

@@ -17,7 +17,8 @@ use Rattle.ppd_model.specs.SharedReads.{need_after}
 use Rattle.ppd_model.specs.States.{states_from}
 use Rattle.ppd_model.specs.Story.{Moment, Telling, moment_of, number_of, own_moments, own_steps, steps_of, story, tell, told}
 use Rattle.ppd_model.specs.Synchronizations.{kind_of_sync}
-use Rattle.ppd_model.specs.World.{change, need, need_at, writes_cell}
+use Rattle.ppd_model.specs.World.{change, need, writes_cell}
+use Rattle.ppd_model.proofs.WorldWords.{need_at}
 use Rattle.ppd_model.proofs.States.{states_told}
 use Rattle.ppd_model.proofs.Stories.{steps_append}
 use Rattle.law_flow_shared.proofs.Edges.Spans.Steps.{IsNumbered, AreNumbered}

@@ -23,9 +23,11 @@ use Rattle.ppd_sem.specs.declared.proc.Todo.{Todo}
 use Rattle.ppd_sem.specs.Ask.{ask}
 use Rattle.ppd_sem.specs.Asked.{Asked, and_then, gives}
 use Rattle.ppd_sem.specs.Deed.{Deed, set_local, set_shared, clear, leave, invoke, send, receive, ask_deed}
-use Rattle.ppd_sem.specs.Described.{cleared, frame_of, local_write, parameters, trap_of, writes_by, writes_of_asked, is_event}
+use Rattle.ppd_sem.specs.Described.{cleared, frame_of, local_write, parameters, trap_of, writes_by, is_event}
+use Rattle.ppd_sem.proofs.EventWords.{writes_of_asked}
 use Rattle.ppd_sem.specs.Tables.{block_of, capacity_of, unit_of}
-use Rattle.ppd_sem.specs.Process.{chan_of, cost, entry_of, head_deed, need_by_entry, need_by_offer, need_by_status, need_of, need_of_call, need_of_deed, need_of_head, need_of_leaving, need_of_running, need_of_send, offer_of, top_cells}
+use Rattle.ppd_sem.specs.Process.{chan_of, cost, entry_of, head_deed, need_of, need_of_call, need_of_deed, need_of_head, need_of_leaving, need_of_send, offer_of, top_cells}
+use Rattle.ppd_sem.proofs.NeedWords.{need_by_entry, need_by_offer, need_by_status, need_of_running}
 use Rattle.ppd_model.specs.declared.tracing.Taken.{Taken}
 use Rattle.ppd_model.specs.FullTrace.{event_of}
 use Rattle.ppd_flow_model.specs.Walk.{is_shared, value_to}

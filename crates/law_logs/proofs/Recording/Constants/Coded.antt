@@ -18,11 +18,13 @@ use Rattle.ppd_parse.specs.Limits.{IsTree}
 use Rattle.ppd_parse.proofs.TreeLeaves.{program_leaves}
 use Rattle.ppd_check_stmts.specs.Code as C
 use Rattle.ppd_check_stmts.specs.Code.{done, act}
-use Rattle.ppd_check_names.specs.Fitted.{as_short}
+use Rattle.ppd_check_names.specs.Fitted.{fitted}
 use Rattle.ppd_check_names.specs.Names.{Scope}
 use Rattle.ppd_check_names.specs.Reading.{said, source_of, as_items, value_of}
-use Rattle.ppd_check_bodies.specs.Sources.{close_code, codes, ends_with_return, entry, head_code, heads}
-use Rattle.ppd_check_names.specs.Globals.{Globals, Head, globals, no_globals, with_item, with_items}
+use Rattle.ppd_check_bodies.specs.Sources.{codes, ends_with_return, entry, head_code, heads}
+use Rattle.ppd_check_bodies.specs.Bodies.{close_code}
+use Rattle.ppd_check_names.specs.Globals.{Globals, Head, globals, no_globals, with_item}
+use Rattle.ppd_check_names.specs.Holding.{with_items}
 use Rattle.ppd_check_stmts.specs.Statements.{row_code}
 use Rattle.ppd_check_names.specs.Syntax.{Item, shared, shared_array, semaphore, channel, function, process}
 use Rattle.ppd_check_stmts.specs.Table.{flat, flats, root, terms, weight}
@@ -62,7 +64,7 @@ zeros_fit (suc n) = (refl, zeros_fit n)
 
 with_fits : (i : Item) (g : Globals) → ItemFits i → GlobalsFit g → GlobalsFit (with_item i g)
 with_fits (shared x v) g h k = record { starts = all_append Fit g.starts (v ∷ []) k.starts (h, tt); functions = k.functions; processes = k.processes }
-with_fits (shared_array x n) g h k = record { starts = all_append Fit g.starts (replicate (as_short n.value) (pos 0)) k.starts (zeros_fit (as_short n.value)); functions = k.functions; processes = k.processes }
+with_fits (shared_array x n) g h k = record { starts = all_append Fit g.starts (replicate (fitted 16 n.value) (pos 0)) k.starts (zeros_fit (fitted 16 n.value)); functions = k.functions; processes = k.processes }
 with_fits (semaphore x n) g h k = record { starts = k.starts; functions = k.functions; processes = k.processes }
 with_fits (channel x n) g h k = record { starts = k.starts; functions = k.functions; processes = k.processes }
 with_fits (function gives x ps b) g h k = record { starts = k.starts; functions = all_append HeadFits g.functions _ k.functions (h, tt); processes = k.processes }

@@ -9,7 +9,9 @@ use Rattle.ppd_check_names.specs.Names.{Scope, meaning}
 use Rattle.ppd_check_names.specs.declared.meaning.Meaning.{Meaning}
 use Rattle.ppd_check_names.specs.declared.meaning.Meaning.TheVariants as N
 use Rattle.ppd_check_names.specs.Reading.{goal_formula}
-use Rattle.ppd_check_stmts.specs.Statements.{acts_of, after, after_any, after_row, with_scopes_of, code_of, code_of_any, opened, put, return_acts, row_code, spot, spot_of, store_acts}
+use Rattle.ppd_check_stmts.specs.Statements.{acts_of, after, after_row, with_scopes_of, code_of, opened, put, return_acts, row_code, spot, spot_of, store_acts}
+use Rattle.ppd_check_stmts.proofs.Vocabulary.{after_any}
+use Rattle.ppd_check_stmts.specs.Plain.{code_of_any}
 use Rattle.ppd_check_names.specs.Frames.{declared}
 use Rattle.ppd_check_names.specs.Syntax.{Formula, number, variable, element, negated, inverted, two, both, either, Goal, Value, plain, result, received, Simple, fresh, array, store, change, call, give_back, take, give, send, print, assert, Row, stop, simple, block, choice as choosing, repeat, count}
 use Rattle.ppd_check_stmts.specs.Table.{act_terms, spot_terms, terms}

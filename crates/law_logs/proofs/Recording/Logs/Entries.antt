@@ -24,7 +24,7 @@ use Rattle.ppd_sem.specs.declared.proc.Proc.{Proc}
 use Rattle.ppd_sem.specs.Ask.{cell_of}
 use Rattle.ppd_sem.specs.Blocks.{postlog_cells, prelog_cells}
 use Rattle.ppd_sem.specs.Laws.{NamesThere}
-use Rattle.ppd_sem.specs.Passed.{result_of_head}
+use Rattle.ppd_sem.proofs.EventWords.{result_of_head}
 use Rattle.ppd_sem.specs.Process.{top_cells, value_of}
 use Rattle.ppd_sem.proofs.Arithmetic.{true-fits}
 use Rattle.ppd_model.specs.declared.state.Logging.{Logging}

@@ -22,7 +22,8 @@ use Rattle.ppd_ast.specs.declared.program.Kind.TheVariants as kind
 use Rattle.ppd_ast.specs.declared.program.Program.{Program}
 use Rattle.ppd_ast.specs.declared.program.Stmt.{Stmt}
 use Rattle.ppd_ast.specs.declared.status.Status.{Status}
-use Rattle.ppd_ast.specs.Lookups.{kind_of_stmt, kind_of}
+use Rattle.ppd_ast.specs.Lookups.{kind_of}
+use Rattle.ppd_ast.proofs.Vocabulary.{kind_of_stmt}
 use Rattle.ppd_ast.proofs.ValidLaws.{some_and, slice_get_below as is_below}
 use Rattle.ppd_sem.specs.declared.asking.Pause.TheVariants.{Wants, Traps}
 use Rattle.ppd_sem.specs.declared.proc.Need.{Need}
@@ -30,11 +31,13 @@ use Rattle.ppd_sem.specs.declared.proc.Need.TheVariants as n
 use Rattle.ppd_sem.specs.declared.proc.Proc.{Proc}
 use Rattle.ppd_sem.specs.declared.proc.Todo.{Todo}
 use Rattle.ppd_sem.specs.Asked.{Asked}
-use Rattle.ppd_sem.specs.Blocks.{postlog_cells, postlog_in, prelog_cells, prelog_in}
+use Rattle.ppd_sem.specs.Blocks.{postlog_cells, prelog_cells}
+use Rattle.ppd_sem.proofs.TableWords.{or_zero, postlog_in, prelog_in}
 use Rattle.ppd_sem.specs.Deed.{Deed, set_local, set_shared, clear, branch, turn, leave, invoke, back, take, give, send, receive, print, pass, finish}
-use Rattle.ppd_sem.specs.Process.{call_unit, entry_of, head_deed, loop_of, need_by_entry, need_by_offer, need_of, need_of_asked, need_of_deed, need_of_leaving, need_of_running, need_of_send, offer_of, top_body, top_call}
+use Rattle.ppd_sem.specs.Process.{call_unit, entry_of, head_deed, loop_of, need_of, need_of_asked, need_of_deed, need_of_leaving, need_of_send, offer_of, top_body, top_call}
+use Rattle.ppd_sem.proofs.NeedWords.{need_by_entry, need_by_offer, need_of_running}
 use Rattle.ppd_sem.specs.Runs.{IsNumbered, IsRunnable, IsRunnableStmt, LeadsOn, size_if, size_of}
-use Rattle.ppd_sem.specs.Tables.{block_of, capacity_of, or_zero, same_block, same_start, unit_of}
+use Rattle.ppd_sem.specs.Tables.{block_of, capacity_of, same_block, same_start, unit_of}
 use Rattle.ppd_sem.proofs.Kept.{There, size_small, there_at}
 use Rattle.ppd_sem.proofs.Progress.{need_at_status}
 use Rattle.ppd_sem.proofs.Validity.{valid-numbered, valid-runnable}

@@ -15,16 +15,19 @@ use Rattle.ppd_sem.specs.declared.proc.Need.{Need}
 use Rattle.ppd_sem.specs.declared.proc.Proc.{Proc}
 use Rattle.ppd_sem.specs.Laws.{OffersAreCompleted}
 use Rattle.ppd_sem.specs.Process.{need_of, started}
-use Rattle.ppd_sem.specs.Tables.{block_of, or_zero, unit_of}
+use Rattle.ppd_sem.specs.Tables.{block_of, unit_of}
+use Rattle.ppd_sem.proofs.TableWords.{or_zero}
 use Rattle.ppd_sem.proofs.Marked.{at_head, no_done, unoffered_no_done}
 use Rattle.ppd_sem.proofs.Offering.{offers_completed}
 use Rattle.ppd_model.specs.declared.state.Logging.{Logging}
 use Rattle.ppd_model.specs.Costs.{HasWholePrelogs}
 use Rattle.ppd_model.specs.Laws.{logged_moment}
-use Rattle.ppd_model.specs.Logs.{begun_log, log_step, loggings, logs_from}
+use Rattle.ppd_model.specs.Logs.{begun_log, log_step, loggings}
+use Rattle.ppd_model.proofs.LogWords.{logs_from}
 use Rattle.ppd_model.specs.Schedule.{run, run_from, started_world}
-use Rattle.ppd_model.specs.Story.{Telling, begun, cells_of_unit, number_of, tell, told, unit_started, values_at_start, values_of_unit}
-use Rattle.ppd_model.specs.World.{World, answer, enabled, need, need_at, step}
+use Rattle.ppd_model.specs.Story.{Telling, begun, cells_of_unit, number_of, tell, told, unit_started, values_of_unit}
+use Rattle.ppd_model.proofs.WorldWords.{need_at, values_at_start}
+use Rattle.ppd_model.specs.World.{World, answer, enabled, need, step}
 use Rattle.ppd_model.proofs.Bounded.{Goes, bounded, goes, not_stopped}
 use Rattle.ppd_model.proofs.Prefixes.{objects_stay}
 use Rattle.ppd_model.proofs.Stories.{stories_are_of_runs}

@@ -19,7 +19,8 @@ use Rattle.ppd_sem.specs.declared.proc.Need.TheVariants as n
 use Rattle.ppd_sem.specs.Laws.{NamesThere, OffersAreCompleted}
 use Rattle.ppd_sem.specs.Offers.{Offers, OffersAtHead}
 use Rattle.ppd_sem.specs.Process.{need_of, value_of}
-use Rattle.ppd_sem.specs.Tables.{capacity_in, capacity_of}
+use Rattle.ppd_sem.specs.Tables.{capacity_of}
+use Rattle.ppd_sem.proofs.TableWords.{capacity_in}
 use Rattle.ppd_sem.proofs.Needs.{needs-there}
 use Rattle.ppd_sem.proofs.Offering.{offers_completed}
 use Rattle.ppd_sem.proofs.Progress.{need_at_status}

@@ -10,14 +10,16 @@ use Rattle.ppd_ast.specs.declared.program.Op.{Op}
 use Rattle.ppd_ast.specs.declared.program.Op.TheVariants as op
 use Rattle.ppd_ast.specs.declared.status.Trap.{Trap}
 use Rattle.ppd_ast.specs.declared.status.Trap.TheVariants as trap
+use Rattle.ppd_ast.specs.Term.{Term, node, term, term_at, terms}
 use Rattle.ppd_ast.specs.Term as T
-use Rattle.ppd_ast.specs.Term.{Term, node, term, term_at, terms, terms_after}
-use Rattle.ppd_sem.specs.Ask.{ask, calc, checked, divided, element, is_in_64_bits, is_zero, truth}
+use Rattle.ppd_ast.proofs.Vocabulary.{terms_after}
+use Rattle.ppd_sem.specs.Ask.{ask, calc, checked, element, is_in_64_bits, is_zero, truth}
 use Rattle.ppd_sem.specs.Asked.{Asked, and_then, gives, lift, read_shared}
 use Rattle.ppd_sem.proofs.Arithmetic.{fits-true}
 use Rattle.law_logs.specs.Recording.Values.{IsConstantOf64Bits}
 use Rattle.law_logs.proofs.Recording.Fit.{All, Fit}
 use Rattle.law_logs.proofs.Recording.Terms.{TermFits}
+use Rattle.ppd_sem.proofs.EventWords.{divided}
 
 -- ---- the terms of a table
 

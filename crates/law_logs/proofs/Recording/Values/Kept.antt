@@ -17,8 +17,10 @@ use Rattle.ppd_sem.specs.declared.proc.Todo.{Todo}
 use Rattle.ppd_sem.specs.Ask.{cell_of}
 use Rattle.ppd_sem.specs.Asked.{Asked, outcome}
 use Rattle.ppd_sem.specs.Deed.{Deed, set_local, set_shared, clear, branch, turn, leave, invoke, back, take, give, send, receive, print, pass, finish}
-use Rattle.ppd_sem.specs.Passed.{arguments_at, arguments_by, arguments_of_head, result_at, result_by, result_of_head}
-use Rattle.ppd_sem.specs.Process.{act, act_at, act_by_asked, act_by_deed, act_by_need, cells_for, charged, clear_cells, clear_top, entry_of, head_deed, into_of, need_by_entry, need_by_offer, need_of, need_of_asked, need_of_deed, need_of_leaving, need_of_running, need_of_send, offer_of, receive_at, returned, returned_from, started, top_cells, value_of, write_top}
+use Rattle.ppd_sem.specs.Passed.{arguments_at, arguments_by, result_at, result_by}
+use Rattle.ppd_sem.proofs.EventWords.{arguments_of_head, result_of_head}
+use Rattle.ppd_sem.specs.Process.{act, act_by_asked, act_by_deed, act_by_need, charged, clear_cells, clear_top, entry_of, head_deed, into_of, need_of, need_of_asked, need_of_deed, need_of_leaving, need_of_send, offer_of, receive_at, returned, returned_from, started, top_cells, value_of, write_top}
+use Rattle.ppd_sem.proofs.NeedWords.{act_at, cells_for, need_by_entry, need_by_offer, need_of_running}
 use Rattle.ppd_sem.specs.Tables.{block_of, capacity_of}
 use Rattle.ppd_sem.proofs.Progress.{need_at_status}
 use Rattle.law_logs.specs.Recording.Values.{IsConstantOf64Bits}

@@ -16,7 +16,8 @@ use Rattle.ppd_sem.proofs.Arithmetic.{fits-true}
 use Rattle.ppd_model.specs.Schedule.{started_world}
 use Rattle.ppd_model.specs.Story.{Telling, begun, tell, told}
 use Rattle.ppd_model.specs.declared.state.Channel.{Channel}
-use Rattle.ppd_model.specs.World.{World, answer, effect, need, need_at, next_value, step}
+use Rattle.ppd_model.specs.World.{World, answer, effect, need, step}
+use Rattle.ppd_model.proofs.WorldWords.{need_at, next_value}
 use Rattle.law_logs.specs.Recording.Values.{HasConstantsOf64Bits, HasLocalsOf64Bits, IsConstantOf64Bits, ValuesHave64Bits}
 use Rattle.law_logs.proofs.Recording.Values.Asked.{CallIs}
 use Rattle.law_logs.proofs.Recording.Values.Asking.{get_fits}

@@ -12,7 +12,8 @@ use Rattle.ppd_cfg.specs.Flow.{successors}
 use Rattle.law_steps.proofs.Course.Deeds.{DeedFits, Fits}
 use Rattle.ppd_deps.specs.Edges.{scalar_written}
 use Rattle.ppd_model.specs.declared.trace.EventId.{EventId}
-use Rattle.ppd_model.specs.FullTrace.{tagged_after, tagged_at, tagged_by}
+use Rattle.ppd_model.specs.FullTrace.{tagged_after, tagged_by}
+use Rattle.ppd_model.proofs.TraceWords.{tagged_at}
 use Rattle.ppd_model.specs.LocalTags.{locals}
 use Rattle.ppd_model.proofs.Homes.{AskedOf, DeedOf, IsHome, head_of as head_tells}
 use Rattle.ppd_model.proofs.LocalSteps.{Fits as FitsNeed, IsSend}

@@ -2,13 +2,14 @@
 use Rattle.std.proofs.Common.{◌≡◌, ℕ, ◌-◌, ◌<◌, ℤ, true, List, [], ◌∷◌, ◌++◌, Option, Some, None, length, refl, sym, ap, ◌∙◌, subst}
 use Rattle.ppd_model.specs.declared.tracing.Activation.{Activation}
 use Rattle.std.specs.Prelude.{drop, is_some, slice_get}
-use Rattle.ppd_ast.specs.Bare.{gives as gives_value}
+use Rattle.ppd_ast.proofs.Vocabulary.{gives as gives_value}
 use Rattle.ppd_ast.specs.Valid.{IsValid}
 use Rattle.ppd_ast.specs.declared.plan.Plan.{Plan}
 use Rattle.ppd_ast.specs.declared.program.Kind.{Kind}
 use Rattle.ppd_ast.specs.declared.program.Kind.TheVariants as K
 use Rattle.ppd_ast.specs.declared.program.Program.{Program}
-use Rattle.ppd_ast.specs.Lookups.{kind_of, top_of_body, body_of, params_of_body}
+use Rattle.ppd_ast.specs.Lookups.{kind_of, top_of_body, body_of}
+use Rattle.ppd_ast.proofs.Vocabulary.{params_of_body}
 use Rattle.ppd_cfg.specs.Lists.{first_or}
 use Rattle.law_steps.specs.Course.{IsBehind, behind, calls_left, calls_of, follow_if, top_call_of}
 use Rattle.law_steps.proofs.Course.Deeds.{IsInvoke}

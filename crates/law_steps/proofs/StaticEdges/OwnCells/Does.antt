@@ -8,7 +8,8 @@ use Rattle.ppd_ast.specs.declared.program.Kind.TheVariants as K
 use Rattle.ppd_ast.specs.declared.program.Target.TheVariants as T
 use Rattle.ppd_ast.specs.Members.{has}
 use Rattle.ppd_ast.proofs.Members.{has_first, in_bounds_has}
-use Rattle.ppd_deps.specs.Edges.{is_cell, scalar_written}
+use Rattle.ppd_deps.specs.Edges.{scalar_written}
+use Rattle.ppd_deps.proofs.Vocabulary.{is_cell}
 use Rattle.ppd_sem.specs.Asked.{Asked}
 use Rattle.ppd_sem.specs.Deed.{Deed, set_local, set_shared, clear, branch, turn, leave, invoke, back, take, give, send, receive, print, pass, finish, ask_deed}
 use Rattle.ppd_sem.proofs.OfKind.{IsDeedOf, OfAsked, asked_holds, backs, backs_value, clears, finishes, invokes, receives, releases, sends, sets, sets_element, shares, shares_element, takes}

@@ -25,7 +25,8 @@ use Rattle.ppd_sem.specs.declared.proc.Frame.{Frame}
 use Rattle.ppd_sem.specs.declared.proc.Need.{Need}
 use Rattle.ppd_sem.specs.declared.proc.Proc.{Proc}
 use Rattle.ppd_sem.specs.declared.proc.Todo.{Todo}
-use Rattle.ppd_sem.specs.Process.{act, act_at, act_by_need, head_deed, need_of, started, top_cells}
+use Rattle.ppd_sem.specs.Process.{act, act_by_need, head_deed, need_of, started, top_cells}
+use Rattle.ppd_sem.proofs.NeedWords.{act_at}
 use Rattle.ppd_sem.specs.Runs.{IsRunning, bodies_in}
 use Rattle.ppd_sem.proofs.Kept.{act-runs}
 use Rattle.ppd_sem.proofs.Offers.{completes}

@@ -3,7 +3,7 @@ use Rattle.std.proofs.Common.{◌≡◌, ℕ, ◌<◌, ℤ, true, false, List, [
 use Rattle.std.specs.Prelude.{IsTrue, IsSome, nat_lt, is_some, replicate, slice_get, slice_set, if◌then◌else◌, option_to_list}
 use Rattle.std.specs.List.{filter, flat_map}
 use Rattle.std.proofs.lemmas.Bool.{and_from, cases_eq, cases_lt, cond-true, lt-ltb, ne_eqb}
-use Rattle.ppd_ast.specs.Bare.{gives as gives_value}
+use Rattle.ppd_ast.proofs.Vocabulary.{gives as gives_value}
 use Rattle.ppd_ast.specs.Valid.{CallsRightly, IsValid, IsValidKind}
 use Rattle.ppd_ast.specs.declared.program.Body.{Body}
 use Rattle.ppd_ast.specs.declared.program.Kind.{Kind}
@@ -12,13 +12,15 @@ use Rattle.ppd_ast.specs.declared.program.Program.{Program}
 use Rattle.ppd_ast.specs.declared.program.Stmt.{Stmt}
 use Rattle.ppd_ast.proofs.ValidLaws.{slice_get_below, some_and, valid_stmt}
 use Rattle.ppd_ast.specs.Members.{has}
-use Rattle.ppd_ast.specs.Lookups.{kind_of_stmt, kind_of, top_of, body_of, params_of}
+use Rattle.ppd_ast.specs.Lookups.{kind_of, top_of, body_of, params_of}
+use Rattle.ppd_ast.proofs.Vocabulary.{kind_of_stmt}
 use Rattle.ppd_ast.proofs.Members.{has_first, has_right, filter_has}
 use Rattle.ppd_cfg.specs.Flow.{follow, next_of, successors}
 use Rattle.ppd_cfg.specs.Lists.{first_or}
 use Rattle.ppd_cfg.specs.Reach.{start}
-use Rattle.ppd_deps.specs.Edges.{begins, is_cell, scalar_written}
-use Rattle.ppd_deps.specs.Named.{calls, local_writes, passes, places, places_by}
+use Rattle.ppd_deps.specs.Edges.{begins, scalar_written}
+use Rattle.ppd_deps.proofs.Vocabulary.{is_cell, passes}
+use Rattle.ppd_deps.specs.Named.{calls, local_writes, places, places_by}
 use Rattle.ppd_deps.proofs.Arriving.{IsOwn, own_by}
 use Rattle.ppd_deps.proofs.Bodies.{stands_among}
 use Rattle.ppd_model.specs.declared.trace.EventId.{EventId}

@@ -13,7 +13,8 @@ use Rattle.ppd_sem.specs.declared.proc.Proc.{Proc}
 use Rattle.ppd_sem.specs.declared.proc.Todo.{Todo}
 use Rattle.ppd_sem.specs.Asked.{Asked}
 use Rattle.ppd_sem.specs.Deed.{Deed}
-use Rattle.ppd_sem.specs.Process.{act_by_asked, act_by_need, head_deed, need_by_status, need_of_running}
+use Rattle.ppd_sem.specs.Process.{act_by_asked, act_by_need, head_deed}
+use Rattle.ppd_sem.proofs.NeedWords.{need_by_status, need_of_running}
 use Rattle.ppd_sem.specs.Described.{is_event}
 use Rattle.ppd_sem.specs.Passed.{next_stmt_of}
 

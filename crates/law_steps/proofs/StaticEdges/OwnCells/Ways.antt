@@ -13,8 +13,9 @@ use Rattle.ppd_ast.proofs.Members.{has_first, has_left, filter_has, flat_from}
 use Rattle.ppd_cfg.specs.Flow.{next_of}
 use Rattle.ppd_cfg.specs.Lists.{first_or, row}
 use Rattle.ppd_cfg.specs.Reach.{Reached, next, start}
-use Rattle.ppd_deps.specs.Edges.{begins, ends_paths, is_cell, kept_rows, scalar_written}
-use Rattle.ppd_deps.specs.Named.{local_writes, passes, places}
+use Rattle.ppd_deps.specs.Edges.{begins, ends_paths, kept_rows, scalar_written}
+use Rattle.ppd_deps.proofs.Vocabulary.{is_cell, passes}
+use Rattle.ppd_deps.specs.Named.{local_writes, places}
 use Rattle.ppd_deps.proofs.Arriving.{IsOwn}
 use Rattle.ppd_deps.proofs.Reaching.{kept_row_is}
 use Rattle.ppd_model.specs.declared.trace.EventId.{EventId}

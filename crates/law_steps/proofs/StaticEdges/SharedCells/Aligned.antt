@@ -23,7 +23,8 @@ use Rattle.ppd_sem.specs.declared.proc.Todo.{Todo}
 use Rattle.ppd_sem.specs.Asked.{Asked}
 use Rattle.ppd_sem.specs.Consumed.{WantsInTurn, shared_of, shared_with, values_read}
 use Rattle.ppd_sem.specs.Deed.{Deed, set_local, clear, invoke, back, receive, ask_deed}
-use Rattle.ppd_sem.specs.Process.{act, act_at, act_by_asked, act_by_deed, act_by_need, head_deed, need_by_status, need_of, started, top_cells, value_of}
+use Rattle.ppd_sem.specs.Process.{act, act_by_asked, act_by_deed, act_by_need, head_deed, need_of, started, top_cells, value_of}
+use Rattle.ppd_sem.proofs.NeedWords.{act_at, need_by_status}
 use Rattle.ppd_sem.proofs.Progress.{act-stopped}
 use Rattle.law_steps.proofs.StaticEdges.SharedCells.Asking.{Finishes, Tells, need_tells}
 use Rattle.law_steps.proofs.StaticEdges.SharedCells.Writers.{EachReadIs, IsWriter, ReadIs}

@@ -27,7 +27,8 @@ use Rattle.ppd_sem.specs.declared.proc.Proc.{Proc}
 use Rattle.ppd_sem.specs.declared.proc.Todo.{Todo}
 use Rattle.ppd_sem.specs.Consumed.{Takes, shared_of}
 use Rattle.ppd_sem.specs.Described.{evaluates, frame_of, is_event}
-use Rattle.ppd_sem.specs.Process.{need_by_status, need_of, started, top_cells}
+use Rattle.ppd_sem.specs.Process.{need_of, started, top_cells}
+use Rattle.ppd_sem.proofs.NeedWords.{need_by_status}
 use Rattle.ppd_sem.specs.Reads.{reads_of_kind}
 use Rattle.ppd_sem.proofs.Consumed.{reads_taken}
 use Rattle.ppd_sem.specs.Runs.{bodies_in}

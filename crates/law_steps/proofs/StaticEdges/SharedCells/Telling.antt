@@ -9,7 +9,8 @@ use Rattle.ppd_ast.proofs.ValidLaws.{slice_get_below}
 use Rattle.ppd_model.specs.Schedule.{started_world}
 use Rattle.ppd_model.specs.States.{states_from}
 use Rattle.ppd_model.specs.Story.{Moment, Telling, begun, moment_of, next_event, own_moments, own_steps, steps_of, story, tell, writer_of, writers_after}
-use Rattle.ppd_model.specs.World.{change, need, need_at}
+use Rattle.ppd_model.specs.World.{change, need}
+use Rattle.ppd_model.proofs.WorldWords.{need_at}
 use Rattle.ppd_model.proofs.Changes.{own-at}
 use Rattle.ppd_model.proofs.States.{states-begun, states-tell}
 use Rattle.ppd_model.proofs.Stories.{steps-change}

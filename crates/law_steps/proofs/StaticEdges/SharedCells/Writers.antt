@@ -5,7 +5,8 @@ use Rattle.std.specs.Prelude.{⊤}
 use Rattle.std.proofs.lemmas.List.Sums.{sum_by-append}
 use Rattle.ppd_model.specs.declared.trace.EventId.{EventId}
 use Rattle.ppd_model.specs.FullTrace.{Tag}
-use Rattle.ppd_model.specs.Story.{Moment, count_events, steps_of}
+use Rattle.ppd_model.specs.Story.{Moment, steps_of}
+use Rattle.ppd_model.proofs.WorldWords.{count_events}
 use Rattle.ppd_model.specs.World.{change}
 use Rattle.ppd_sem.specs.declared.proc.Need.{Need}
 use Rattle.ppd_sem.specs.declared.proc.Need.TheVariants.{Read, Write}

@@ -13,7 +13,8 @@ use Rattle.ppd_ast.proofs.Members.{filter_has, from_zero}
 use Rattle.ppd_ast.specs.Counting.{one_if}
 use Rattle.ppd_cfg.specs.Reach.{closure, leads}
 use Rattle.ppd_cfg.proofs.Leading.{leads-tests}
-use Rattle.ppd_deps.specs.Named.{processes, running}
+use Rattle.ppd_deps.specs.Named.{running}
+use Rattle.ppd_deps.proofs.Vocabulary.{processes}
 use Rattle.ppd_model.specs.FullTrace.{trace_by, trace_step}
 use Rattle.ppd_model.proofs.Homes.{AreHome}
 use Rattle.ppd_sem.specs.declared.proc.Frame.{Frame}

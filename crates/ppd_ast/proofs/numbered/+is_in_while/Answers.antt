@@ -1,7 +1,8 @@
 use Rattle.std.proofs.Common.{true, false, ◌≡◌, ◌∙◌, sym, ap, Option, Some, None, ◌-◌}
 use Rattle.std.specs.Prelude.{slice_get, ◌||◌}
 use Rattle.ppd_ast.specs.declared.program.Stmt.{Stmt}
-use Rattle.ppd_ast.specs.Numbered.{in_while, while_or, is_while}
+use Rattle.ppd_ast.specs.Numbered.{in_while, is_while}
+use Rattle.ppd_ast.proofs.Vocabulary.{while_or}
 use Rattle.ppd_ast.proofs.Walks.{got_some, got_none}
 use Rattle.ppd_ast.proofs.Whiles.{in_while_deep, in_while_top, in_while_some}
 use Rattle.ppd_ast.proofs.numbered.+is_in_while.Goals as goal

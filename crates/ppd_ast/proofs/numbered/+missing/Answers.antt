@@ -2,7 +2,8 @@ use Rattle.std.proofs.Common.{◌≡◌, ◌≤◌, suc, ap, arith, Option, Some
 use Rattle.std.specs.Prelude.{slice_get}
 use Rattle.std.specs.List.{flat_map}
 use Rattle.ppd_ast.specs.declared.program.Stmt.{Stmt}
-use Rattle.ppd_ast.specs.Order.{preorder, inner, inner_of, inner_at}
+use Rattle.ppd_ast.specs.Order.{preorder, inner}
+use Rattle.ppd_ast.proofs.Vocabulary.{inner_of, inner_at}
 use Rattle.ppd_ast.proofs.Walks.{got_some, got_none}
 use Rattle.ppd_ast.proofs.Countings.{preorder_none}
 use Rattle.ppd_ast.proofs.Whiles.{count_more, count_part}

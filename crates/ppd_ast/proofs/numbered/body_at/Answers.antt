@@ -1,6 +1,6 @@
 use Rattle.std.proofs.Common.{◌≡◌, true}
 use Rattle.ppd_ast.specs.declared.plan.Block.{Block}
-use Rattle.ppd_ast.specs.Numbered.{body_kind}
+use Rattle.ppd_ast.proofs.Vocabulary.{body_kind}
 use Rattle.ppd_ast.proofs.Beginnings.{begins_here, begins_not}
 use Rattle.ppd_ast.proofs.numbered.body_at.Goals as goal
 

@@ -1,6 +1,6 @@
 use Rattle.std.proofs.Common.{◌≡◌, ◌≤◌, ◌<◌, ◌∙◌, sym, ap, arith, Some, min, length, get_or}
 use Rattle.std.specs.Prelude.{slice_get}
-use Rattle.ppd_ast.specs.Numbered.{is_call_of}
+use Rattle.ppd_ast.proofs.Vocabulary.{is_call_of}
 use Rattle.std.proofs.lemmas.Option.{slice_get-get_or}
 use Rattle.ppd_ast.proofs.Ranges.{any_more, any_found}
 use Rattle.ppd_ast.proofs.numbered.has_call.Goals as goal

@@ -3,7 +3,8 @@ use Rattle.std.specs.Prelude.{slice_get}
 use Rattle.std.specs.List.{flat_map}
 use Rattle.std.proofs.lemmas.Grind.{flat_map-append}
 use Rattle.ppd_ast.specs.Counting.{counted}
-use Rattle.ppd_ast.specs.Order.{preorder, inner, inner_of, inner_at}
+use Rattle.ppd_ast.specs.Order.{preorder, inner}
+use Rattle.ppd_ast.proofs.Vocabulary.{inner_of, inner_at}
 use Rattle.ppd_ast.specs.declared.program.Stmt.{Stmt}
 use Rattle.ppd_ast.proofs.Walks.{got_some, got_none}
 use Rattle.ppd_ast.specs.declared.program.Kind.{Kind}

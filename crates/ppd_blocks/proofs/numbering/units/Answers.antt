@@ -1,6 +1,7 @@
 use Rattle.std.proofs.Common.{◌≡◌, List, [], ◌∷◌, ◌++◌, ap, ◌∙◌, append_assoc}
 use Rattle.ppd_ast.proofs.Growing.{bodies_grown}
-use Rattle.ppd_blocks.specs.Starts.{starts_in, unit_of}
+use Rattle.ppd_blocks.specs.Starts.{unit_of}
+use Rattle.ppd_blocks.proofs.Vocabulary.{starts_in}
 use Rattle.ppd_blocks.proofs.Staying.{entry_below}
 use Rattle.ppd_blocks.proofs.numbering.units.Goals as goal
 

@@ -1,6 +1,7 @@
 use Rattle.std.proofs.Common.{◌≡◌, map, take}
 use Rattle.ppd_ast.specs.Numbered.{each_from}
-use Rattle.ppd_blocks.specs.Starts.{starts_in, unit_of}
+use Rattle.ppd_blocks.specs.Starts.{unit_of}
+use Rattle.ppd_blocks.proofs.Vocabulary.{starts_in}
 use Rattle.ppd_blocks.proofs.numbering.units.Given as goal
 
 abbrev pub invariant-loop-number : goal.invariant-loop-number

@@ -1,5 +1,5 @@
 use Rattle.ppd_sets.proofs.Calling.{map_more}
-use Rattle.ppd_blocks.specs.Walk.{unit_next}
+use Rattle.ppd_blocks.proofs.Vocabulary.{unit_next}
 use Rattle.ppd_blocks.proofs.ways.unit_rows.Goals as goal
 
 pub loop-stmt-preserved : goal.loop-stmt-preserved

@@ -1,6 +1,6 @@
 use Rattle.std.proofs.Common.{◌≡◌, map}
 use Rattle.std.specs.List.{range_with_len}
-use Rattle.ppd_blocks.specs.Walk.{unit_next}
+use Rattle.ppd_blocks.proofs.Vocabulary.{unit_next}
 use Rattle.ppd_blocks.proofs.ways.unit_rows.Given as goal
 
 abbrev pub invariant-loop-stmt : goal.invariant-loop-stmt

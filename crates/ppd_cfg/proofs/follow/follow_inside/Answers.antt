@@ -1,6 +1,7 @@
 use Rattle.std.proofs.Common.{◌≡◌, ◌∙◌, ap, sym, true, false}
 use Rattle.ppd_ast.specs.Members.{has}
-use Rattle.ppd_ast.specs.Lookups.{kind_of, kind_of_stmt}
+use Rattle.ppd_ast.specs.Lookups.{kind_of}
+use Rattle.ppd_ast.proofs.Vocabulary.{kind_of_stmt}
 use Rattle.ppd_ast.specs.declared.program.Kind.TheVariants as K
 use Rattle.ppd_cfg.specs.Flow.{next_in}
 use Rattle.ppd_cfg.proofs.follow.follow_inside.Goals as goal

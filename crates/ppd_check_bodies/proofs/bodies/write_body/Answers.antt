@@ -1,5 +1,5 @@
 use Rattle.std.proofs.Common.{◌∙◌, ap, None, arith, length, ◌≡◌, refl, drop}
-use Rattle.ppd_check_names.specs.Fitted.{as_short}
+use Rattle.ppd_check_names.specs.Fitted.{fitted}
 use Rattle.ppd_check_names.specs.Faults.{first, first_of_both}
 use Rattle.ppd_check_names.specs.Holding.{head_said}
 use Rattle.ppd_check_names.specs.Nodes.{phrases_below}
@@ -25,8 +25,8 @@ returns-clause-wrote g c =
     c.new.result c.fill.new.out.row c.args.bodies.now c.push_body.new.bodies c.as_short-params.result c.in_ok-first.first c.in_ok-end.end c.label_at.result.text.now c.gives_at.result (vars 0 c.fill.new.frame.variables)
     c.requires.one c.requires.entered c.in_ok-declare_params.ensures.declares c.new.ensures c.in_ok-fill.ensures.filled
     (c.note_cells.ensures.faults ∙ ap (λ (l : List Variable). first_of_both c.fill.new.out.table.found (first (past_cells MOST_LOCAL_CELLS L.Locals 0 l))) c.as_slice.ensures)
-    (ap (λ (n : ℕ). record { body = n; parent = None }) (c.as_short.ensures ∙ ap as_short c.len.ensures))
-    (c.as_short-params.ensures ∙ ap as_short c.len-2.ensures)
+    (ap (λ (n : ℕ). record { body = n; parent = None }) (c.as_short.ensures ∙ ap (fitted 16) c.len.ensures))
+    (c.as_short-params.ensures ∙ ap (fitted 16) c.len-2.ensures)
     c.in_ok-first.ensures c.in_ok-end.ensures
     (ap (λ (x : Name). x.text) c.label_at.ensures)
     c.gives_at.ensures

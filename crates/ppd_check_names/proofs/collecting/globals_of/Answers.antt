@@ -2,7 +2,8 @@ use Rattle.std.proofs.Common.{subst, ◌≡◌, ◌++◌, List, OnOk, IfOk}
 use Rattle.ppd_check_names.specs.Syntax.{Item}
 use Rattle.ppd_check_names.specs.Faults.{first, first_of_both}
 use Rattle.ppd_check_names.specs.Holding.{Holds}
-use Rattle.ppd_check_names.specs.Globals.{no_globals, with_items, items_faults, count_faults}
+use Rattle.ppd_check_names.specs.Globals.{no_globals, items_faults, count_faults}
+use Rattle.ppd_check_names.specs.Holding.{with_items}
 use Rattle.ppd_check_names.proofs.Table.Roots.{items_root}
 use Rattle.ppd_check_names.proofs.collecting.globals_of.Goals as goal
 

@@ -1,8 +1,8 @@
 use Rattle.std.proofs.Common.{◌≡◌, ◌≤◌, ◌++◌, drop, length}
-use Rattle.law_clean.specs.Cuts.{cut_from}
 use Rattle.ppd_ast.specs.declared.limits.TheConstants.{MOST_NAMED}
 use Rattle.ppd_clean.specs.ByOrder.{cut_for, last_wanted}
 use Rattle.ppd_clean.proofs.cutting.cut_logs.Given as goal
+use Rattle.law_clean.proofs.PastWords.{cut_from}
 
 abbrev pub invariant-loop-number : goal.invariant-loop-number
 invariant-loop-number l = record {

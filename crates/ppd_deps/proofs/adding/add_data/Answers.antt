@@ -3,7 +3,8 @@ use Rattle.std.specs.List.{filter}
 use Rattle.ppd_ast.specs.Members.{has}
 use Rattle.ppd_deps.proofs.Added.{adds_as, adds_then}
 use Rattle.ppd_deps.proofs.Graphs.{data_more}
-use Rattle.ppd_deps.specs.Edges.{data_from, local_edge, locals_from, shared_edge}
+use Rattle.ppd_deps.specs.Edges.{locals_from}
+use Rattle.ppd_deps.proofs.Vocabulary.{data_from, local_edge, shared_edge}
 use Rattle.ppd_deps.specs.Named.{shared_reads}
 use Rattle.ppd_deps.specs.Rows.{Adds}
 use Rattle.ppd_deps.proofs.adding.add_data.Goals as goal

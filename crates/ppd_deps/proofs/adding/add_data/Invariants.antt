@@ -1,5 +1,5 @@
 use Rattle.std.specs.List.{flat_map, range_with_len}
-use Rattle.ppd_deps.specs.Edges.{data_from}
+use Rattle.ppd_deps.proofs.Vocabulary.{data_from}
 use Rattle.ppd_deps.specs.Rows.{Adds}
 use Rattle.ppd_deps.proofs.adding.add_data.Given as goal
 

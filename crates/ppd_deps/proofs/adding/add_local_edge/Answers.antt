@@ -2,7 +2,7 @@ use Rattle.std.proofs.Common.{◌∙◌, ◌<◌, ◌++◌, ◌∷◌, [], ap, a
 use Rattle.std.proofs.lemmas.List.{get_or_default}
 use Rattle.std.specs.Prelude.{if◌then◌else◌}
 use Rattle.ppd_deps.proofs.Added.{first_push}
-use Rattle.ppd_deps.specs.Edges.{local_edge}
+use Rattle.ppd_deps.proofs.Vocabulary.{local_edge}
 use Rattle.ppd_deps.specs.Rows.{row_at}
 use Rattle.ppd_deps.proofs.adding.add_local_edge.Goals as goal
 

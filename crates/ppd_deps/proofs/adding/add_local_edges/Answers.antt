@@ -8,7 +8,8 @@ use Rattle.ppd_deps.proofs.Added.{adds_as, adds_none}
 use Rattle.ppd_deps.proofs.Arriving.{none_begin}
 use Rattle.ppd_deps.proofs.Graphs.{empty_is}
 use Rattle.ppd_deps.proofs.Reaching.{begins_below}
-use Rattle.ppd_deps.specs.Edges.{kept_rows, local_edge}
+use Rattle.ppd_deps.specs.Edges.{kept_rows}
+use Rattle.ppd_deps.proofs.Vocabulary.{local_edge}
 use Rattle.ppd_deps.specs.Rows.{is_reader}
 use Rattle.ppd_deps.proofs.adding.add_local_edges.Goals as goal
 

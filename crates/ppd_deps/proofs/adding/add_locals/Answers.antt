@@ -4,7 +4,8 @@ use Rattle.ppd_ast.specs.Members.{those}
 use Rattle.ppd_ast.specs.Lookups.{locals_of}
 use Rattle.ppd_deps.proofs.Added.{adds_as, adds_then}
 use Rattle.ppd_deps.proofs.Arriving.{body_edges, one_more}
-use Rattle.ppd_deps.specs.Edges.{comes_to, local_edge}
+use Rattle.ppd_deps.specs.Edges.{comes_to}
+use Rattle.ppd_deps.proofs.Vocabulary.{local_edge}
 use Rattle.ppd_deps.specs.Rows.{is_reader}
 use Rattle.ppd_deps.proofs.adding.add_locals.Goals as goal
 

@@ -1,7 +1,8 @@
 use Rattle.std.proofs.Common.{map}
 use Rattle.std.specs.Prelude.{◌&&◌}
 use Rattle.ppd_ast.specs.Members.{those}
-use Rattle.ppd_deps.specs.Edges.{comes_to, local_edge}
+use Rattle.ppd_deps.specs.Edges.{comes_to}
+use Rattle.ppd_deps.proofs.Vocabulary.{local_edge}
 use Rattle.ppd_deps.specs.Rows.{Adds, is_reader}
 use Rattle.ppd_deps.proofs.adding.add_locals.Given as goal
 

@@ -1,9 +1,10 @@
 use Rattle.std.proofs.Common.{◌≡◌, ◌∙◌, ap, arith, length, map}
-use Rattle.ppd_ast.specs.Lookups.{kind_of_stmt}
+use Rattle.ppd_ast.proofs.Vocabulary.{kind_of_stmt}
 use Rattle.ppd_deps.proofs.Added.{adds_as, adds_then}
 use Rattle.ppd_deps.proofs.Arriving.{all_bodies, call_edges, next_body, own_by, own_edges}
 use Rattle.ppd_deps.proofs.Tabled.{stmt_got}
-use Rattle.ppd_deps.specs.Edges.{local_edge, locals_from}
+use Rattle.ppd_deps.specs.Edges.{locals_from}
+use Rattle.ppd_deps.proofs.Vocabulary.{local_edge}
 use Rattle.ppd_deps.proofs.adding.add_locals_from.Goals as goal
 
 pub loop-body-preserved : goal.loop-body-preserved

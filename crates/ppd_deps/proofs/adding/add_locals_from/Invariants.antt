@@ -1,7 +1,8 @@
 use Rattle.std.proofs.Common.{[], map}
 use Rattle.std.specs.Prelude.{nat_lt, if◌then◌else◌}
 use Rattle.ppd_ast.specs.Lookups.{body_of}
-use Rattle.ppd_deps.specs.Edges.{local_edge, locals_from}
+use Rattle.ppd_deps.specs.Edges.{locals_from}
+use Rattle.ppd_deps.proofs.Vocabulary.{local_edge}
 use Rattle.ppd_deps.specs.Rows.{Adds}
 use Rattle.ppd_deps.proofs.adding.add_locals_from.Given as goal
 

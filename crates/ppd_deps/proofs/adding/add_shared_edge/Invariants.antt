@@ -2,7 +2,7 @@ use Rattle.std.proofs.Common.{[], ◌∷◌}
 use Rattle.std.specs.Prelude.{if◌then◌else◌}
 use Rattle.ppd_ast.specs.Members.{has}
 use Rattle.ppd_deps.proofs.Added.{AddsFirst}
-use Rattle.ppd_deps.specs.Edges.{shared_edge}
+use Rattle.ppd_deps.proofs.Vocabulary.{shared_edge}
 use Rattle.ppd_deps.specs.Named.{shared_reads}
 use Rattle.ppd_deps.proofs.adding.add_shared_edge.Given as goal
 

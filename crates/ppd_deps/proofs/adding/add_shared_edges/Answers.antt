@@ -1,7 +1,7 @@
 use Rattle.ppd_ast.specs.Members.{has}
 use Rattle.ppd_deps.proofs.Added.{adds_as, adds_none, adds_then}
 use Rattle.ppd_deps.proofs.Graphs.{vars_all, vars_more}
-use Rattle.ppd_deps.specs.Edges.{shared_edge}
+use Rattle.ppd_deps.proofs.Vocabulary.{shared_edge}
 use Rattle.ppd_deps.specs.Named.{shared_reads}
 use Rattle.ppd_deps.proofs.adding.add_shared_edges.Goals as goal
 

@@ -1,7 +1,7 @@
 use Rattle.std.proofs.Common.{map, take}
 use Rattle.std.specs.List.{filter}
 use Rattle.ppd_ast.specs.Members.{has}
-use Rattle.ppd_deps.specs.Edges.{shared_edge}
+use Rattle.ppd_deps.proofs.Vocabulary.{shared_edge}
 use Rattle.ppd_deps.specs.Named.{shared_reads}
 use Rattle.ppd_deps.specs.Rows.{Adds}
 use Rattle.ppd_deps.proofs.adding.add_shared_edges.Given as goal

@@ -4,7 +4,8 @@ use Rattle.std.proofs.lemmas.Bool.{cond-true}
 use Rattle.ppd_ast.specs.Lookups.{kind_of, body_of, locals_of}
 use Rattle.ppd_cfg.specs.Flow.{next_of}
 use Rattle.ppd_deps.proofs.Tabled.{ok_as}
-use Rattle.ppd_deps.specs.Edges.{ends_paths, kept_next}
+use Rattle.ppd_deps.specs.Edges.{ends_paths}
+use Rattle.ppd_deps.proofs.Vocabulary.{kept_next}
 use Rattle.ppd_deps.proofs.locals.kept_row.Goals as goal
 
 pub returns-then-is_kept : goal.returns-then-is_kept

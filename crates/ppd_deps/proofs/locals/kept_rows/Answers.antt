@@ -1,6 +1,6 @@
 use Rattle.std.specs.Prelude.{slice_get}
 use Rattle.ppd_ast.specs.Lookups.{locals_of}
-use Rattle.ppd_deps.specs.Edges.{kept_next}
+use Rattle.ppd_deps.proofs.Vocabulary.{kept_next}
 use Rattle.ppd_sets.proofs.Calling.{map_more}
 use Rattle.ppd_deps.proofs.locals.kept_rows.Goals as goal
 

@@ -2,7 +2,7 @@ use Rattle.std.proofs.Common.{◌≡◌, map}
 use Rattle.std.specs.List.{range_with_len}
 use Rattle.std.specs.Prelude.{slice_get}
 use Rattle.ppd_ast.specs.Lookups.{locals_of}
-use Rattle.ppd_deps.specs.Edges.{kept_next}
+use Rattle.ppd_deps.proofs.Vocabulary.{kept_next}
 use Rattle.ppd_deps.proofs.locals.kept_rows.Given as goal
 
 abbrev pub invariant-loop-stmt : goal.invariant-loop-stmt

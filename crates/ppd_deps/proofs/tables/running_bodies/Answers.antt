@@ -6,7 +6,7 @@ use Rattle.ppd_sets.proofs.Calling.{call_rows_below, call_rows_long}
 use Rattle.ppd_sets.proofs.Meeting.{bodies_fit}
 use Rattle.ppd_sets.specs.Used.{call_rows}
 use Rattle.ppd_deps.proofs.Tabled.{processes_below}
-use Rattle.ppd_deps.specs.Named.{processes}
+use Rattle.ppd_deps.proofs.Vocabulary.{processes}
 use Rattle.ppd_deps.proofs.tables.running_bodies.Goals as goal
 
 pub reached-requires-clause-rows : goal.reached-requires-clause-rows

@@ -1,7 +1,7 @@
 use Rattle.std.proofs.Common.{arith, length, ap, subst, ◌∙◌, filter_map, map}
 use Rattle.ppd_graph.specs.ByNumber.{KeepsAll, partner_kept}
 use Rattle.ppd_model.specs.RecordedSets.{sync_in}
-use Rattle.ppd_graph.specs.Refusals.{placed_lists}
+use Rattle.ppd_graph.proofs.Vocabulary.{placed_lists}
 use Rattle.std.specs.List.{sum_by}
 use Rattle.ppd_graph.specs.Spending.{entries_in, list_cost, pass_cost}
 use Rattle.ppd_graph.proofs.Counted.{pair_spent, placed_within}

@@ -1,6 +1,7 @@
 use Rattle.std.proofs.Common.{◌≡◌, ℕ, drop, get_or, length, map, ◌+◌}
 use Rattle.ppd_ast.specs.declared.limits.TheConstants.{MOST_NAMED}
-use Rattle.ppd_graph.specs.Refusals.{greatest, numbers_of, sync_placed}
+use Rattle.ppd_graph.specs.Refusals.{numbers_of, sync_placed}
+use Rattle.ppd_graph.proofs.Vocabulary.{greatest}
 use Rattle.ppd_graph.proofs.greatest.greatest_of.Given as goal
 
 abbrev pub invariant-loop-one : goal.invariant-loop-one

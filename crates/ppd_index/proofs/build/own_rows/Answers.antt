@@ -1,6 +1,7 @@
 use Rattle.std.proofs.Common.{◌≡◌, ◌+◌, None, length, refl, ap, sym, subst, ◌∙◌, arith}
 use Rattle.std.proofs.lemmas.Result.{err_from_is_err_and}
-use Rattle.ppd_index.specs.Refusals.{IsRefused, refusal, unended}
+use Rattle.ppd_index.specs.Refusals.{IsRefused, refusal}
+use Rattle.ppd_index.proofs.Vocabulary.{unended}
 use Rattle.ppd_index.specs.Spending.{still_open}
 use Rattle.ppd_index.specs.Tables.{standing_in, table_step, tabled}
 use Rattle.ppd_index.proofs.Found.{found_end, found_next, refused_at, rows_next}

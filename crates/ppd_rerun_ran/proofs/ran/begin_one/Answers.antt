@@ -1,5 +1,5 @@
 use Rattle.std.proofs.Common.{◌≡◌, ℕ, IfOk, ap, subst, ◌∙◌}
-use Rattle.ppd_sem.specs.Tables.{or_zero}
+use Rattle.ppd_sem.proofs.TableWords.{or_zero}
 use Rattle.ppd_rerun_ran.specs.Holding.{begun_in}
 use Rattle.ppd_rerun_ran.specs.Seeing.{seen}
 use Rattle.ppd_rerun_ran.proofs.Runs.{zero_is}

@@ -3,6 +3,7 @@ use Rattle.ppd_sem.specs.Process.{cost, head_deed}
 use Rattle.ppd_sem.specs.declared.proc.Proc.{Proc}
 use Rattle.ppd_sem.proofs.Paid.{need-paid}
 use Rattle.ppd_sem.proofs.Progress.{SamePurse, asked_purse}
+use Rattle.ppd_sem.proofs.Running.{head_is}
 use Rattle.ppd_sem.proofs.feeding.step.Goals as goal
 
 pub charge-requires-in_default : goal.charge-requires-in_default
@@ -18,3 +19,7 @@ charge-requires-in_default c =
     let steps : after.steps ≡ before.steps = same.steps in
     let few : before.steps ≤ before.spent = c.requires.proc.steps in
     record { paid = omega arith; steps = omega arith }
+
+pub act_on_head-requires : goal.act_on_head-requires
+act_on_head-requires c =
+    head_is c.args.program.now c.args.proc.now c.args.todo c.requires.program c.requires.proc c.requires.head

@@ -1,9 +1,9 @@
 use Rattle.std.specs.Prelude.{OnOk}
 use Rattle.std.proofs.Common.{◌≡◌, ◌++◌, List, subst}
 use Rattle.ppd_session.specs.Known.{Interval}
-use Rattle.ppd_session.specs.Texts.{interval_lines}
 use Rattle.ppd_session.proofs.Indexed.{intervals_are}
 use Rattle.ppd_session.proofs.answers.put_blocks.Goals as goal
+use Rattle.ppd_session.proofs.KnownWords.{interval_lines}
 
 pub returns : goal.returns
 returns c =

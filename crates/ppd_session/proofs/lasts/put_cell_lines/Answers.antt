@@ -1,11 +1,12 @@
 use Rattle.std.proofs.Common.{◌<◌, [], arith, length, refl, sym}
 use Rattle.std.proofs.lemmas.List.{append-nil}
 use Rattle.std.proofs.lemmas.Result.{err_from_is_err_and}
-use Rattle.ppd_session.specs.Known.{last_by, of_cells}
+use Rattle.ppd_session.specs.Known.{last_by}
 use Rattle.ppd_session.specs.Sessions.{known_by, last_block}
 use Rattle.ppd_session.proofs.Keeping.{are_told, next_asked, part_asked}
 use Rattle.ppd_session.proofs.LastValues.{next, why}
 use Rattle.ppd_session.proofs.lasts.put_cell_lines.Goals as goal
+use Rattle.ppd_session.proofs.KnownWords.{of_cells}
 
 pub loop-cell-init : goal.loop-cell-init
 loop-cell-init c = record {

@@ -1,10 +1,11 @@
 use Rattle.std.proofs.Common.{◌≡◌, ◌++◌, [], None}
 use Rattle.ppd_session.specs.Keeping.{AreAsked}
 use Rattle.ppd_session.specs.LastTables.{AreOfLast}
-use Rattle.ppd_session.specs.Known.{last_by, of_cells}
+use Rattle.ppd_session.specs.Known.{last_by}
 use Rattle.ppd_session.specs.Sessions.{known_by, last_block}
 use Rattle.ppd_session.specs.Texts.{first_unfound, lasts_text}
 use Rattle.ppd_session.proofs.lasts.put_cell_lines.Given as goal
+use Rattle.ppd_session.proofs.KnownWords.{of_cells}
 
 abbrev pub invariant-loop-cell : goal.invariant-loop-cell
 invariant-loop-cell l = record {

@@ -3,7 +3,8 @@ use Rattle.std.specs.Prelude.{slice_get}
 use Rattle.ppd_ast.specs.declared.program.Body.{Body}
 use Rattle.ppd_ast.proofs.Walks.{got_some}
 use Rattle.ppd_ast.specs.Lookups.{kind_of}
-use Rattle.ppd_sets.specs.Used.{callee, calls_at}
+use Rattle.ppd_sets.specs.Used.{callee}
+use Rattle.ppd_sets.proofs.Vocabulary.{calls_at}
 use Rattle.ppd_sets.proofs.Calling.{map_more, at_body}
 use Rattle.ppd_sets.proofs.bodies.calls.Goals as goal
 

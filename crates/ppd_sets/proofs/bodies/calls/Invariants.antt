@@ -1,6 +1,6 @@
 use Rattle.std.proofs.Common.{◌≡◌, map}
 use Rattle.std.specs.List.{range_with_len}
-use Rattle.ppd_sets.specs.Used.{calls_at}
+use Rattle.ppd_sets.proofs.Vocabulary.{calls_at}
 use Rattle.ppd_sets.proofs.bodies.calls.Given as goal
 
 abbrev pub invariant-loop-number : goal.invariant-loop-number

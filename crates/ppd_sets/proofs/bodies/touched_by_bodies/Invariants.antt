@@ -1,6 +1,6 @@
 use Rattle.std.proofs.Common.{◌≡◌, length}
 use Rattle.ppd_ast.specs.Table.{EachAt}
-use Rattle.ppd_sets.specs.Used.{body_reads, body_writes}
+use Rattle.ppd_sets.proofs.Vocabulary.{body_reads, body_writes}
 use Rattle.ppd_sets.specs.Gained.{HasBoth}
 use Rattle.ppd_sets.proofs.bodies.touched_by_bodies.Given as goal
 

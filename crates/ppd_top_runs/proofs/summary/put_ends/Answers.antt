@@ -1,7 +1,8 @@
 use Rattle.std.proofs.Common.{◌+◌, take}
-use Rattle.ppd_top_runs.specs.Summary.{end_text, end_texts}
+use Rattle.ppd_top_runs.specs.Summary.{end_text}
 use Rattle.ppd_top_runs.proofs.ToldRuns.Printed.{end_texts-taken, appended}
 use Rattle.ppd_top_runs.proofs.summary.put_ends.Goals as goal
+use Rattle.ppd_top_runs.proofs.RunWords.{end_texts}
 
 pub loop-index-preserved : goal.loop-index-preserved
 loop-index-preserved c =

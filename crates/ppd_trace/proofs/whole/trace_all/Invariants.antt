@@ -1,6 +1,6 @@
 use Rattle.std.proofs.Common.{◌≡◌, ◌≤◌, ◌+◌, ◌*◌, ◌++◌, drop, length, take}
 use Rattle.std.specs.List.{sum_by}
-use Rattle.ppd_model.specs.FullTrace.{events_from}
+use Rattle.ppd_model.proofs.TraceWords.{events_from}
 use Rattle.ppd_trace.specs.Spending.{most_statement_cells}
 use Rattle.ppd_trace.proofs.whole.trace_all.Given as goal
 

@@ -2,7 +2,7 @@ use Rattle.std.proofs.Common.{rules, ◌≤◌, length, sym, arith}
 use Rattle.std.proofs.lemmas.Grind.{common_steps}
 use Rattle.ppd_world.proofs.objects.push_value.Goals as goal
 use Rattle.ppd_model.proofs.Lists.{change_past, set_is_change}
-use Rattle.ppd_model.specs.World.{with_value}
+use Rattle.ppd_world.specs.Parts.{with_value}
 
 pub returns-in-None-clause-ok : goal.returns-in-None-clause-ok
 returns-in-None-clause-ok c =

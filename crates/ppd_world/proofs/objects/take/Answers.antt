@@ -2,7 +2,7 @@ use Rattle.std.proofs.Common.{rules, ◌≤◌, length, sym, arith}
 use Rattle.std.proofs.lemmas.Grind.{common_steps}
 use Rattle.ppd_world.proofs.objects.take.Goals as goal
 use Rattle.ppd_model.proofs.Lists.{change_past, set_is_change}
-use Rattle.ppd_model.specs.World.{one_taken}
+use Rattle.ppd_world.specs.Parts.{one_taken}
 
 pub returns-in_default : goal.returns-in_default
 returns-in_default c =
