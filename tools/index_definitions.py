@@ -1,10 +1,12 @@
 #!/usr/bin/env python3
 """Writes the table of docs/definitions.md anew, which says of definitions what these say of themselves: those that the
 headline of README.md speaks of, in its order, each with how its own comment begins, its file and line, the call that
-promises it, and whether the clauses of the top call reach it, by way of other definitions. With --check it writes nothing, and status 1
-says that the table is stale. With --files it prints each file of definitions in the specs/ of a crate with the comment at
-its head and the code whose contracts cite it first.
+promises it, and whether the clauses of the top call reach it, by way of other definitions. With --check it writes
+nothing, and status 1 says that the table is stale. With --files it prints each file of definitions in the specs/ of a
+crate with the comment at its head and the code whose contracts cite it first. With --count it prints how many
+definitions the clauses of the top call reach, in each crate and in all.
 """
+import collections
 import os
 import re
 import sys
@@ -131,6 +133,8 @@ def defined(name, word):
 # a definition begins so, also one inside a module without a name
 DECLARED = re.compile(r" *(?:(?:abbrev|unfoldable) (?:pub )?|(?:pub )?(?:record|data) (?=.*:))(\w+)")
 MODULE = re.compile(r" *module _ ")
+# and so in a block of definitions that name one another
+MUTUAL = re.compile(r"  (?:pub )?(\w+) :")
 USED = re.compile(r"^(?:pub )?use Rattle\.([\w.]+?)(?:\.\{([^}]*)\}| as (\w+))?$", re.MULTILINE)
 WORD = re.compile(r"(?<![\w.])([^\W\d]\w*)(?:\.([^\W\d]\w*))?")
 
@@ -147,9 +151,10 @@ class Module:
                 self.names[other.strip() or name] = (module, name)
             if alias or not listed:
                 self.names[alias or module.rpartition(".")[2]] = (module, None)
-        word = None
+        word, is_mutual = None, False
         for line in text.splitlines():
-            declared = DECLARED.match(line)
+            is_mutual = line.startswith("abbrev mutual") or is_mutual and not re.match(r"\w", line)
+            declared = MUTUAL.match(line) if is_mutual else DECLARED.match(line)
             if declared or line.startswith(("use ", "pub use ", "pub mod ")) or MODULE.match(line):
                 word = declared and declared[1]
             if word:
@@ -198,6 +203,12 @@ def reached():
             other, name = texts.names[word]
             todo.append((other, name or word))
     return found
+
+
+def counted():
+    """A line for each crate with how many of its definitions the clauses of the top call reach, then all of them."""
+    by_crate = collections.Counter(module.partition(".")[0] for module, _ in reached())
+    return "".join(f"{crate} {count}\n" for crate, count in [*sorted(by_crate.items()), ("all", by_crate.total())])
 
 
 def beginning(said):
@@ -278,6 +289,9 @@ def main():
         text = file.read()
     if "--files" in sys.argv[1:]:
         print("".join(files()).lstrip("\n"), end="")
+        return 0
+    if "--count" in sys.argv[1:]:
+        print(counted(), end="")
         return 0
     new = with_part(text, WORDS, headline())
     if "--check" in sys.argv[1:]:
