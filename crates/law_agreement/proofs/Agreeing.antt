@@ -1,16 +1,15 @@
 -- Schedules that agree with one that has no race have one story.
 use Rattle.std.proofs.Common.{◌≡◌, ℕ, zero, suc, pos, List, [], ◌∷◌, Some, None, true, refl, ap, sym, subst, ◌∙◌, arith, length, map, take_all, true≢false}
-use Rattle.std.specs.Prelude.{slice_get}
+use Rattle.std.specs.Prelude.{slice_get, get_or}
 use Rattle.std.proofs.lemmas.List.{ext_get_or}
 use Rattle.std.proofs.lemmas.Option.{none-some}
 use Rattle.ppd_ast.specs.declared.plan.Plan.{Plan}
 use Rattle.ppd_ast.specs.declared.program.Program.{Program}
 use Rattle.ppd_model.specs.declared.tracing.Story.{Story}
 use Rattle.ppd_model.specs.Agreement.{Agree}
-use Rattle.ppd_model.specs.HappenedBefore.{own_syncs}
 use Rattle.ppd_model.specs.Laws.{begins}
 use Rattle.ppd_model.specs.Prefixes.{Good, told_to}
-use Rattle.ppd_model.specs.Races.{races, races_of}
+use Rattle.ppd_model.specs.Races.{races, races_among, edges_of_story}
 use Rattle.ppd_model.specs.Record.{record_of, sync_record}
 use Rattle.ppd_model.specs.Schedule as sched
 use Rattle.ppd_model.specs.Schedule.{run_from, started_world}
@@ -66,13 +65,13 @@ module _ (program : Program) (plan : Plan) (budget : ℕ) where
       true≢false (sym can_step ∙ ap (λ (a : World). enabled program plan a p) last_is ∙ w.over.nobody p)
 
   -- the run has the record of its schedule
-  pub recorded : (h : List ℕ) (w : sched.IsWhole program plan budget h) (syncs : List (List s.Sync)) → sync_record program plan budget h ≡ syncs → HasRecord (run_of program plan budget h w.last w.runs) (sheet (own_syncs syncs))
+  pub recorded : (h : List ℕ) (w : sched.IsWhole program plan budget h) (syncs : List (List s.Sync)) → sync_record program plan budget h ≡ syncs → HasRecord (run_of program plan budget h w.last w.runs) (sheet (λ q. get_or syncs q []))
   unfolding run_of ended
   recorded h w syncs e =
-      has_record program plan budget (run_of program plan budget h w.last w.runs) (own_syncs syncs)
+      has_record program plan budget (run_of program plan budget h w.last w.runs) (λ q. get_or syncs q [])
       (λ p. sym (syncs_at (map steps_of (ended h).moments) p)
-      ∙ ap (λ (t : Telling). own_syncs (record_of (record { steps = map steps_of t.moments; cells = t.world.shared; writers = t.writers })) p) (ended_is h)
-      ∙ ap (λ (ss : List (List s.Sync)). own_syncs ss p) e)
+      ∙ ap (λ (t : Telling). get_or (record_of (record { steps = map steps_of t.moments; cells = t.world.shared; writers = t.writers })) p []) (ended_is h)
+      ∙ ap (λ (ss : List (List s.Sync)). get_or ss p []) e)
 
   pub run_ordered : (h : List ℕ) (w : sched.IsWhole program plan budget h) → races program plan budget h ≡ [] → IsOrdered (run_of program plan budget h w.last w.runs)
   unfolding run_of ended
@@ -84,7 +83,7 @@ module _ (program : Program) (plan : Plan) (budget : ℕ) where
 
   runs_agree : (h h' : List ℕ) (a : Agree program plan budget h h') → races program plan budget h ≡ [] → Agrees (run_of program plan budget h a.first.last a.first.runs) (run_of program plan budget h' a.second.last a.second.runs)
   runs_agree h h' a none =
-      agree (run_of program plan budget h a.first.last a.first.runs) (sheet (own_syncs (sync_record program plan budget h)))
+      agree (run_of program plan budget h a.first.last a.first.runs) (sheet (λ q. get_or (sync_record program plan budget h) q []))
       (recorded h a.first (sync_record program plan budget h) refl)
       (run_ordered h a.first none)
       (run_of program plan budget h' a.second.last a.second.runs)
@@ -116,4 +115,4 @@ pub agreeing_histories : AgreeingSchedulesHaveOneHistory
 agreeing_histories program plan budget h h' a none = one_history program plan budget h h' (one_story program plan budget h h' a none)
 
 pub agreeing_races : AgreeingSchedulesHaveNoRace
-agreeing_races program plan budget h h' a none = ap (λ (s : Story). races_of program s) (sym (one_story program plan budget h h' a none)) ∙ none
+agreeing_races program plan budget h h' a none = ap (λ (s : Story). races_among (edges_of_story program s)) (sym (one_story program plan budget h h' a none)) ∙ none

@@ -1,21 +1,21 @@
 -- Logs that the index accepts are accepted when they are cut.
-use Rattle.std.specs.Option.{option_map_or, option_or}
-use Rattle.std.proofs.Common.{◌≡◌, ℕ, zero, suc, ◌+◌, Bool, true, false, List, [], ◌∷◌, ◌++◌, Option, Some, None, refl, ap, sym, subst, ◌∙◌, append_assoc, arith, ◌||◌, true≢false}
-use Rattle.std.proofs.lemmas.Option.{none-some}
-use Rattle.std.specs.Prelude.{slice_get, take, if◌then◌else◌}
-use Rattle.ppd_ast.specs.declared.plan.Plan.{Plan}
-use Rattle.ppd_ast.specs.declared.program.Program.{Program}
-use Rattle.ppd_entry.specs.declared.entry.Entry.{Entry}
-use Rattle.ppd_entry.specs.declared.entry.Entry.TheVariants as entry
-use Rattle.ppd_entry.specs.Entries.{is_end}
-use Rattle.ppd_entry.specs.IntervalLogs.{Indexing, begun_indexing, index_step}
-use Rattle.ppd_index.specs.Refusals.{first_bad, first_from, first_in_lists, refusal, standing}
-use Rattle.ppd_flow_model.specs.Ends.{ending}
-use Rattle.law_clean.specs.Cuts.{cut, cut_at, is_unit, stop}
 use Rattle.law_clean.proofs.Accepted.{CanStop, both_none, stops, sync_stops, unit_stops, unrefused}
 use Rattle.law_clean.proofs.PastWords.{cut_from}
-use Rattle.ppd_index.proofs.Vocabulary.{is_paired}
+use Rattle.law_clean.specs.Cuts.{cut, cut_at, is_unit, stop}
+use Rattle.ppd_ast.specs.declared.plan.Plan.{Plan}
+use Rattle.ppd_ast.specs.declared.program.Program.{Program}
+use Rattle.ppd_ast.specs.declared.status.Status.TheVariants as status
+use Rattle.ppd_entry.specs.Entries.{is_end}
+use Rattle.ppd_entry.specs.IntervalLogs.{Indexed, Indexing, begun_indexing, index_step}
+use Rattle.ppd_entry.specs.declared.entry.Entry.{Entry}
+use Rattle.ppd_entry.specs.declared.entry.Entry.TheVariants as entry
 use Rattle.ppd_flow_model.proofs.Vocabulary.{is_sync}
+use Rattle.ppd_flow_model.specs.Ends.{ending}
+use Rattle.ppd_index.specs.Refusals.{first_bad, first_from, first_in_lists, is_paired, refusal, standing}
+use Rattle.std.proofs.Common.{Bool, List, None, Option, Some, [], ap, append_assoc, arith, false, refl, subst, suc, sym, true, true≢false, zero, ℕ, ◌++◌, ◌+◌, ◌||◌, ◌∙◌, ◌∷◌, ◌≡◌}
+use Rattle.std.proofs.lemmas.Option.{none-some}
+use Rattle.std.specs.Option.{option_map_or, option_or}
+use Rattle.std.specs.Prelude.{if◌then◌else◌, slice_get, take}
 
 -- ---- an element of a list
 
@@ -72,26 +72,26 @@ cut_at_is entries n e a =
     by (entry.End s m rs ws ∷ es) f = no (entry.End s m rs ws ∷ es) f refl
 
 module _ (plan : Plan) (body p : ℕ) where
-  abbrev OK : Indexing → Bool → List Entry → Type 0
+  abbrev OK : Indexing Indexed → Bool → List Entry → Type 0
   OK x ended es = first_from plan body p x ended es ≡ None
 
-  taken : (x : Indexing) (ended : Bool) (e : Entry) (rest : List Entry) → OK x ended (e ∷ rest) → refusal plan body p (standing x ended) e ≡ None
+  taken : (x : Indexing Indexed) (ended : Bool) (e : Entry) (rest : List Entry) → OK x ended (e ∷ rest) → refusal plan body p (standing x ended) e ≡ None
   taken x ended e rest ok = (both_none (refusal plan body p (standing x ended) e) (first_from plan body p (index_step plan x e) (ended || is_end e) rest) ok).0
 
-  rest_ok : (x : Indexing) (ended : Bool) (e : Entry) (rest : List Entry) → OK x ended (e ∷ rest) → OK (index_step plan x e) (ended || is_end e) rest
+  rest_ok : (x : Indexing Indexed) (ended : Bool) (e : Entry) (rest : List Entry) → OK x ended (e ∷ rest) → OK (index_step plan x e) (ended || is_end e) rest
   rest_ok x ended e rest ok = (both_none (refusal plan body p (standing x ended) e) (first_from plan body p (index_step plan x e) (ended || is_end e) rest) ok).1
 
   -- one entry
-  over : (x : Indexing) (ended : Bool) (e : Entry) (rest more : List Entry) → OK x ended (e ∷ rest) → OK (index_step plan x e) (ended || is_end e) more → OK x ended (e ∷ more)
+  over : (x : Indexing Indexed) (ended : Bool) (e : Entry) (rest more : List Entry) → OK x ended (e ∷ rest) → OK (index_step plan x e) (ended || is_end e) more → OK x ended (e ∷ more)
   over x ended e rest more ok g = ap (λ o. option_or o (first_from plan body p (index_step plan x e) (ended || is_end e) more)) (taken x ended e rest ok) ∙ g
 
   -- after a first part
-  after : (front rest more : List Entry) (x : Indexing) (ended : Bool) → OK x ended (front ++ rest) → ((y : Indexing) (b : Bool) → OK y b rest → OK y b more) → OK x ended (front ++ more)
+  after : (front rest more : List Entry) (x : Indexing Indexed) (ended : Bool) → OK x ended (front ++ rest) → ((y : Indexing Indexed) (b : Bool) → OK y b rest → OK y b more) → OK x ended (front ++ more)
   after [] rest more x ended ok f = f x ended ok
   after (e ∷ es) rest more x ended ok f = over x ended e (es ++ rest) (es ++ more) ok (after es rest more (index_step plan x e) (ended || is_end e) (rest_ok x ended e (es ++ rest) ok) f)
 
   -- where the index can stop, it can with a unit that follows
-  tail_ok : (x : Indexing) (ended : Bool) (rest : List Entry) → CanStop plan body p x ended → OK x ended rest → OK x ended (cut_tail rest)
+  tail_ok : (x : Indexing Indexed) (ended : Bool) (rest : List Entry) → CanStop plan body p x ended → OK x ended rest → OK x ended (cut_tail rest)
   tail_ok x ended [] c ok = stops plan body p x ended c
   tail_ok x ended (entry.Unit u values ∷ es) c ok =
       over x ended (entry.Unit u values) es (stop ∷ []) ok (stops plan body p (index_step plan x (entry.Unit u values)) (ended || false) (unit_stops plan body p x ended u values c))
@@ -121,11 +121,14 @@ module _ (plan : Plan) (body p : ℕ) where
       (tail_ok (index_step plan begun_indexing e) (false || is_end e) es (prelog e (unrefused plan body p begun_indexing false e (taken begun_indexing false e es ok)).1) (rest_ok begun_indexing false e es ok)))
     where
       prelog : (e : Entry) → is_paired plan body (standing begun_indexing false) e ≡ true → CanStop plan body p (index_step plan begun_indexing e) (false || is_end e)
-      prelog (entry.Prelog b values) f = record { goes_on = refl; first = 0; rest = []; running = refl; before = 0; entry_is = refl }
+      prelog (entry.Prelog b values) f = record { goes_on = refl; first = 0; rest = []; running = refl }
       prelog (entry.Unit u values) f = absurd (true≢false (sym f))
       prelog (entry.Sync k o m z rs ws) f = absurd (true≢false (sym f))
       prelog (entry.Postlog b values) f = absurd (true≢false (sym f))
-      prelog (entry.End s m rs ws) f = absurd (true≢false (sym f))
+      prelog (entry.End status.Ended m rs ws) f = absurd (true≢false (sym f))
+      prelog (entry.End status.Blocked m rs ws) f = absurd (true≢false (sym f))
+      prelog (entry.End status.Budget m rs ws) f = absurd (true≢false (sym f))
+      prelog (entry.End (status.Trap t) m rs ws) f = absurd (true≢false (sym f))
 
   pub cut_ok : (o : Option ℕ) (entries : List Entry) → OK begun_indexing false entries → OK begun_indexing false (cut o entries)
   cut_ok None entries ok = start_ok entries ok

@@ -1,53 +1,19 @@
 -- What is found of an item by logs, their races and replays of cut logs is what is to be answered.
-use Rattle.std.specs.Option.{option_map_or}
-use Rattle.std.proofs.Common.{◌≡◌, ℕ, zero, suc, ◌+◌, ◌<◌, ◌≤◌, Bool, true, false, List, [], ◌∷◌, ◌++◌, length, Option, Some, None, Ok, refl, ap, ap₂, sym, subst, ◌∙◌, arith, inl, inr, ◌⊎◌, eqb-true, true≢false, if◌then◌else◌, ◌&&◌, ◌||◌}
-use Rattle.std.proofs.lemmas.Bool.{cases_eq, cases_lt, false_from_ne_true, le-leb, leb-false, leb-true, or_left, or_right}
-use Rattle.std.proofs.lemmas.Option.{none-some}
-use Rattle.std.specs.Prelude.{filter_map, find, is_some, nat_le, option_map, option_to_list, slice_get, option_and_then, unwrap_or}
-use Rattle.ppd_ast.specs.declared.plan.Plan.{Plan}
-use Rattle.ppd_ast.specs.declared.plan.Policy.{Policy}
-use Rattle.ppd_ast.specs.declared.program.Program.{Program}
-use Rattle.ppd_ast.specs.Valid.{IsValid}
-use Rattle.ppd_ast.proofs.ValidLaws.{slice_get_below, slice_get_there as get_there}
-use Rattle.ppd_blocks.specs.Blocks.{plan_of}
-use Rattle.ppd_entry.specs.declared.entry.Entry.{Entry}
-use Rattle.ppd_entry.specs.declared.entry.Logs.{Logs}
-use Rattle.ppd_entry.specs.Entries.{entries_at}
-use Rattle.ppd_model.specs.declared.flow.FlowEdge.{FlowEdge}
-use Rattle.ppd_model.specs.declared.flow.Item.{Item}
-use Rattle.ppd_model.specs.declared.flow.Item.TheVariants as item
-use Rattle.ppd_model.specs.declared.graph.Race.{Race}
-use Rattle.ppd_model.specs.declared.trace.TracedEvent.{TracedEvent}
-use Rattle.ppd_model.specs.declared.tracing.Story.{Story}
-use Rattle.ppd_model.specs.FlowbackEdges.{edges, edges_of_event, edges_of_nested as model_edges_of_nested, part_at}
-use Rattle.ppd_model.proofs.EdgeWords.{edges_if, edges_in, part_in}
-use Rattle.ppd_model.specs.Forward.{edge_in}
-use Rattle.ppd_model.specs.HappenedBefore.{Before, EdgeBefore, across, earlier, edge, is_before, is_edge_before, node, own_syncs}
-use Rattle.ppd_model.specs.Intervals.{Part, own, nested, Span, Split, is_closed, item_of, splits}
-use Rattle.ppd_model.proofs.IntervalWords.{item_of_event, item_of_span}
-use Rattle.ppd_model.specs.Items.{HasWholeItems}
-use Rattle.ppd_model.specs.Logs.{closed_logs}
-use Rattle.ppd_model.specs.NearIntervals.{edge_of_event}
-use Rattle.ppd_model.specs.Races.{races}
-use Rattle.ppd_model.specs.Record.{sync_record}
-use Rattle.ppd_model.specs.RecordedSets.{record_in, sync_in}
-use Rattle.ppd_model.specs.Schedule.{IsWhole, run}
-use Rattle.ppd_model.specs.Story.{moment_of, own_steps, story, told}
-use Rattle.ppd_model.specs.Synchronizations.{Sync, sync_of, syncs_of}
-use Rattle.ppd_model.proofs.Accesses.{record_at}
-use Rattle.ppd_model.proofs.Changes.{some}
-use Rattle.ppd_model.proofs.Forward.{records_closed}
-use Rattle.ppd_model.proofs.Items.{items_whole}
-use Rattle.ppd_model.proofs.RecordedSyncs.{record_syncs}
-use Rattle.ppd_model.proofs.Tested.{tests_before, tests_edges}
+use Rattle.law_clean.proofs.CleanItems.{IsIn, IsOwn, at', event_found, event_placed, inside_found, inside_placed, left_own, own_state}
+use Rattle.law_clean.proofs.EdgeEnds.{EndsEdge, edge_ends, edge_own}
+use Rattle.law_clean.proofs.FullEdges.{clean_edges_found}
+use Rattle.law_clean.proofs.Items.{closed_stays, event_kept, part_kept, span_kept}
+use Rattle.law_clean.proofs.PastRaces.{both, edge_of_race, either, grows_to, has_unclean, leads_unclean, race_of_edge, unclean_has}
+use Rattle.law_clean.proofs.PastWords.{first_item}
+use Rattle.law_clean.proofs.Places.{begun_later, begun_left, count_all, item_there, left_all, no_item_there}
+use Rattle.law_clean.proofs.Prefixes.{edge_same}
+use Rattle.law_clean.proofs.Ranges.{IsFirst, NonePasses, first_between, is_first, is_none}
+use Rattle.law_clean.proofs.Reached.{total_syncs}
+use Rattle.law_clean.proofs.SeenCut.{has_split, one_of}
+use Rattle.law_clean.specs.Answers.{CleanOr, answer_of, by_part, clean, is_reached, no_item, unclean, unclean_or}
+use Rattle.law_clean.specs.Pasts.{Lies, any_raced, first_raced, is_clean, is_past, is_same_edge, left_edge, lies}
+use Rattle.law_clean.specs.Search.{by_first, by_item, clean_by, edge_of_item, from_first, is_unclean, leads_from_race, seens, with_edges}
 use Rattle.law_flow_own.proofs.Places.LeafTells.{split_is}
-use Rattle.ppd_sem.specs.declared.event.Event.{Event}
-use Rattle.ppd_flow_model.specs.Ends.{edge_at, first_edge, is_sync_item}
-use Rattle.ppd_flow_model.specs.Found.{found_edges}
-use Rattle.ppd_flow_model.specs.Seen.{Seen, items_at, seen_of}
-use Rattle.ppd_flow_model.specs.Shared.{seen_at}
-use Rattle.law_flow_shared.specs.Edges.SharedEdges.{all_seen}
-use Rattle.law_flow_shared.proofs.Vocabulary.Events.{synchronizes}
 use Rattle.law_flow_shared.proofs.Edges.LogPlaces.EdgeEnds.{IsAt, at_place}
 use Rattle.law_flow_shared.proofs.Edges.LogPlaces.EdgePlaces.{count_below}
 use Rattle.law_flow_shared.proofs.Edges.Near.Nearby.{counted}
@@ -58,26 +24,53 @@ use Rattle.law_flow_shared.proofs.Edges.Spans.Told.{IsPlaced}
 use Rattle.law_flow_shared.proofs.Edges.StepEvents.Processes.{Facts, facts}
 use Rattle.law_flow_shared.proofs.Edges.StepEvents.Timeline.{none_did}
 use Rattle.law_flow_shared.proofs.Edges.StepEvents.Writers.{edge_is_count}
-use Rattle.law_clean.specs.Answers.{CleanOr, answer_of, by_part, clean, no_item, unclean, unclean_or}
-use Rattle.law_clean.specs.Pasts.{Lies, are_raced, edges_between, is_clean, left_edge, lies, past_of, is_past, is_same_edge}
-use Rattle.law_clean.specs.Search.{by_first, by_item, clean_by, edge_of_item, first_raced, from_first, has_race, is_unclean, leads_from_race, reached, seens, with_edges}
-use Rattle.law_clean.proofs.CleanItems.{IsIn, IsOwn, at', event_found, event_placed, inside_found, inside_placed, left_own, own_state}
-use Rattle.law_clean.proofs.EdgeEnds.{EndsEdge, edge_ends, edge_own}
-use Rattle.law_clean.proofs.FullEdges.{clean_edges_found}
-use Rattle.law_clean.proofs.Items.{closed_stays, event_kept, part_kept, span_kept}
-use Rattle.law_clean.proofs.PastRaces.{edge_of_race, either, both, grows_to, has_raced, has_unclean, leads_unclean, race_of_edge, raced_has, unclean_has}
-use Rattle.law_clean.proofs.Places.{begun_later, begun_left, count_all, item_there, left_all, no_item_there}
-use Rattle.law_clean.proofs.Prefixes.{edge_same}
-use Rattle.law_clean.proofs.Ranges.{IsFirst, NonePasses, first_between, is_first, is_none}
-use Rattle.law_clean.proofs.Reached.{total_syncs}
-use Rattle.law_clean.proofs.SeenCut.{has_split, one_of}
-use Rattle.law_clean.proofs.PastWords.{first_unclean, first_item}
-
-alike : (a b : Bool) → (a ≡ true → b ≡ true) → (b ≡ true → a ≡ true) → a ≡ b
-alike true true f g = refl
-alike true false f g = sym (f refl)
-alike false true f g = g refl
-alike false false f g = refl
+use Rattle.law_flow_shared.proofs.Vocabulary.Events.{synchronizes}
+use Rattle.law_flow_shared.specs.Edges.SharedEdges.{all_seen}
+use Rattle.ppd_ast.proofs.ValidLaws.{slice_get_below, slice_get_there as get_there}
+use Rattle.ppd_ast.specs.Valid.{IsValid}
+use Rattle.ppd_ast.specs.declared.plan.Plan.{Plan}
+use Rattle.ppd_ast.specs.declared.plan.Policy.{Policy}
+use Rattle.ppd_ast.specs.declared.program.Program.{Program}
+use Rattle.ppd_blocks.specs.Blocks.{plan_of}
+use Rattle.ppd_entry.specs.declared.entry.Entry.{Entry}
+use Rattle.ppd_entry.specs.declared.entry.Logs.{Logs}
+use Rattle.ppd_flow_model.specs.Ends.{edge_at, first_edge, is_sync_item}
+use Rattle.ppd_flow_model.specs.Found.{found_edges}
+use Rattle.ppd_flow_model.specs.Seen.{Seen, seen_of}
+use Rattle.ppd_flow_model.specs.Shared.{seen_at}
+use Rattle.ppd_model.proofs.Accesses.{record_at}
+use Rattle.ppd_model.proofs.Changes.{some}
+use Rattle.ppd_model.proofs.EdgeWords.{edges_if, edges_in, part_in}
+use Rattle.ppd_model.proofs.Forward.{records_closed}
+use Rattle.ppd_model.proofs.IntervalWords.{item_of_event, item_of_span}
+use Rattle.ppd_model.proofs.Items.{items_whole}
+use Rattle.ppd_model.proofs.RecordedSyncs.{record_syncs}
+use Rattle.ppd_model.proofs.Tested.{tests_before, tests_edges}
+use Rattle.ppd_model.specs.FlowbackEdges.{edges, edges_of_event, edges_of_nested as model_edges_of_nested, part_at}
+use Rattle.ppd_model.specs.Forward.{edge_in}
+use Rattle.ppd_model.specs.HappenedBefore.{Before, EdgeBefore, across, earlier, edge, is_before, is_edge_before, node}
+use Rattle.ppd_model.specs.Intervals.{Part, Span, Split, item_of, nested, own, splits}
+use Rattle.ppd_model.specs.Items.{HasWholeItems}
+use Rattle.ppd_model.specs.Logs.{closed_logs}
+use Rattle.ppd_model.specs.NearIntervals.{edge_of_event}
+use Rattle.ppd_model.specs.Races.{races}
+use Rattle.ppd_model.specs.Record.{sync_record}
+use Rattle.ppd_model.specs.RecordedSets.{record_in, sync_in}
+use Rattle.ppd_model.specs.Schedule.{IsWhole, run}
+use Rattle.ppd_model.specs.Story.{moment_of, story, told}
+use Rattle.ppd_model.specs.Synchronizations.{Sync, sync_of}
+use Rattle.ppd_model.specs.declared.flow.FlowEdge.{FlowEdge}
+use Rattle.ppd_model.specs.declared.flow.Item.{Item}
+use Rattle.ppd_model.specs.declared.flow.Item.TheVariants as item
+use Rattle.ppd_model.specs.declared.graph.Race.{Race}
+use Rattle.ppd_model.specs.declared.trace.TracedEvent.{TracedEvent}
+use Rattle.ppd_model.specs.declared.tracing.Story.{Story}
+use Rattle.ppd_sem.specs.declared.event.Event.{Event}
+use Rattle.std.proofs.Common.{Bool, List, None, Ok, Option, Some, [], ap, ap₂, arith, eqb-true, false, if◌then◌else◌, inl, inr, length, refl, subst, suc, sym, true, true≢false, zero, ℕ, ◌&&◌, ◌++◌, ◌+◌, ◌<◌, ◌||◌, ◌∙◌, ◌∷◌, ◌≡◌, ◌≤◌, ◌⊎◌}
+use Rattle.std.proofs.lemmas.Bool.{cases_eq, cases_lt, false_from_ne_true, le-leb, leb-false, leb-true, or_left, or_right}
+use Rattle.std.proofs.lemmas.Option.{none-some}
+use Rattle.std.specs.Option.{option_map_or}
+use Rattle.std.specs.Prelude.{filter_map, find, get_or, is_some, nat_le, option_and_then, option_map, option_to_list, slice_get, unwrap_or}
 
 not_both : (a b : Bool) → a ≡ true → (a && b) ≡ false → b ≡ false
 not_both true b e f = f
@@ -107,15 +100,15 @@ module _ (program : Program) (policy : Policy) (budget : ℕ) (h : List ℕ) (p 
   logs = closed_logs program plan budget h
 
   abbrev entries : List Entry
-  entries = entries_at logs p
+  entries = get_or logs.lists p []
 
   abbrev far : ℕ
   far = edge_in program plan budget h p
 
   abbrev begun : ℕ
-  begun = first_edge (entries_at logs p) k
+  begun = first_edge (get_or logs.lists p []) k
 
-  far_is : edge_in program plan budget h p ≡ length (syncs_of (own_steps s p))
+  far_is : edge_in program plan budget h p ≡ length (filter_map sync_of (get_or s.steps p []))
   far_is = ap length (record_at s.steps p)
 
   fy : Facts program plan budget h v p y
@@ -124,26 +117,26 @@ module _ (program : Program) (policy : Policy) (budget : ℕ) (h : List ℕ) (p 
   y_whole : HasWholeItems (splits program plan budget s) y p
   y_whole = items_whole program plan budget h p y v at
 
-  all_syncs : length (filter_map sync_in (entries_at logs p)) ≡ edge_in program plan budget h p
+  all_syncs : length (filter_map sync_in (get_or logs.lists p [])) ≡ edge_in program plan budget h p
   all_syncs = total_syncs program plan budget h p y at
 
   tree : IsTree y.spans y.running
-  tree = subst (λ (w : Split). IsTree w.spans w.running) (split_is program plan budget h p y at) (has_tree program plan s p budget (own_steps s p))
+  tree = subst (λ (w : Split). IsTree w.spans w.running) (split_is program plan budget h p y at) (has_tree program plan s p budget (get_or s.steps p []))
 
   -- ---- edges of items
 
-  begun_le : begun ≤ left_edge (entries_at logs p) k
-  begun_le = begun_left (entries_at logs p) k
+  begun_le : begun ≤ left_edge (get_or logs.lists p []) k
+  begun_le = begun_left (get_or logs.lists p []) k
 
-  left_le : (m : ℕ) → left_edge (entries_at logs p) m ≤ far
-  left_le m = let a = left_all (entries_at logs p) m in let b = all_syncs in omega (arith, a, b)
+  left_le : (m : ℕ) → left_edge (get_or logs.lists p []) m ≤ far
+  left_le m = let a = left_all (get_or logs.lists p []) m in let b = all_syncs in omega (arith, a, b)
 
   span_of : (o : Option Span) (n : ℕ) (q : Part) → part_in o n ≡ Some q → (i : Span) × (o ≡ Some i) × (slice_get i.parts n ≡ Some q)
   span_of None n q e = absurd (none-some q e)
   span_of (Some i) n q e = (i, refl, e)
 
-  event_at : (n : ℕ) → n < length y.trace.events → part_at y k j ≡ Some (own n) → edge_at (entries_at logs p) (seen_of y) k j ≡ edge_of_event y n
-  event_at n lt place = (at_place y (entries_at logs p) fy.told_by k j n place lt).edge ∙ sym (counted y.trace.events n)
+  event_at : (n : ℕ) → n < length y.trace.events → part_at y k j ≡ Some (own n) → edge_at (get_or logs.lists p []) (seen_of y) k j ≡ edge_of_event y n
+  event_at n lt place = (at_place y (get_or logs.lists p []) fy.told_by k j n place lt).edge ∙ sym (counted y.trace.events n)
 
   event_le : (n : ℕ) → edge_of_event y n ≤ far
   event_le n =
@@ -154,7 +147,7 @@ module _ (program : Program) (policy : Policy) (budget : ℕ) (h : List ℕ) (p 
       omega (arith, a, b, c, d)
 
   event_begun : (n : ℕ) → n < length y.trace.events → part_at y k j ≡ Some (own n) → begun ≤ edge_of_event y n
-  event_begun n lt place = let e : first_edge (entries_at logs p) k + _ ≡ edge_of_event y n = event_at n lt place in omega (arith, e)
+  event_begun n lt place = let e : first_edge (get_or logs.lists p []) k + _ ≡ edge_of_event y n = event_at n lt place in omega (arith, e)
 
   -- a synchronization is not in the last edge
   sync_le : (n : ℕ) (f : TracedEvent) → slice_get y.trace.events n ≡ Some f → is_some f.event.number ≡ true → edge_of_event y n < far
@@ -165,74 +158,63 @@ module _ (program : Program) (policy : Policy) (budget : ℕ) (h : List ℕ) (p 
       let d = all_syncs in
       omega (arith, a, b, c, d)
 
-  inside_begun : (m : ℕ) (i : Span) → part_at y k j ≡ Some (nested m) → slice_get y.spans m ≡ Some i → begun ≤ left_edge (entries_at logs p) m
+  inside_begun : (m : ℕ) (i : Span) → part_at y k j ≡ Some (nested m) → slice_get y.spans m ≡ Some i → begun ≤ left_edge (get_or logs.lists p []) m
   inside_begun m i place is =
       let span = span_of (slice_get y.spans k) j (nested m) place in
       let parent : IsParent y.spans k m span.0.round = tree.parent k j m span.0 span.1 span.2 in
-      let one : IsPlaced (entries_at logs p) y.trace.events y.spans k span.0 = fy.told_by.placed k span.0 span.1 in
-      let two : IsPlaced (entries_at logs p) y.trace.events y.spans m i = fy.told_by.placed m i is in
-      let a = begun_later (entries_at logs p) y.trace.events k m one.first two.first one.opened two.opened parent.below in
-      let b = begun_left (entries_at logs p) m in
+      let one : IsPlaced (get_or logs.lists p []) y.trace.events y.spans k span.0 = fy.told_by.placed k span.0 span.1 in
+      let two : IsPlaced (get_or logs.lists p []) y.trace.events y.spans m i = fy.told_by.placed m i is in
+      let a = begun_later (get_or logs.lists p []) y.trace.events k m one.first two.first one.opened two.opened parent.below in
+      let b = begun_left (get_or logs.lists p []) m in
       omega (arith, a, b)
 
   -- ---- edges whose past has a race
 
   abbrev Has : ℕ → Bool
-  Has i = has_race program Rec Rs (edge p i)
-
-  abbrev Raced : ℕ → Bool
-  Raced i = are_raced program s (past_of program s (edge p i))
-
-  same_race : (i : ℕ) → i ≤ far → Has i ≡ Raced i
-  same_race i le =
-      let f : edge_in program plan budget h p ≡ length (syncs_of (own_steps s p)) = far_is in
-      alike (Has i) (Raced i) (has_raced program s p i there (omega (arith, le, f))) (raced_has program s p i)
+  Has i = any_raced (is_past program Rec (edge p i)) Rs
 
   grown : (e i : ℕ) → e ≤ i → i ≤ far → Has e ≡ true → Has i ≡ true
-  grown e i le up h' = let f : edge_in program plan budget h p ≡ length (syncs_of (own_steps s p)) = far_is in grows_to program s p there e i le (omega (arith, up, f)) h'
+  grown e i le up h' = let f : edge_in program plan budget h p ≡ length (filter_map sync_of (get_or s.steps p [])) = far_is in grows_to program s p there e i le (omega (arith, up, f)) h'
 
-  abbrev first_to : ℕ → Option ℕ
-  first_to to = first_unclean program s p (edges_between (first_edge (entries_at logs p) k) to)
+  -- the first of them from the one in which the interval begins
+  abbrev first : Option ℕ
+  first = first_raced program Rec Rs (get_or logs.lists p []) p k
 
-  none_to : (to : ℕ) → to ≤ far → NonePasses Has begun (to + 1) → first_to to ≡ None
-  none_to to le none = is_none Raced begun to (λ i from below. sym (same_race i (omega (arith, below, le))) ∙ none i from below)
+  first_none : NonePasses Has begun (far + 1) → first ≡ None
+  first_none none = is_none Has begun far none
 
-  first_is : (to u : ℕ) → to ≤ far → IsFirst Has begun (to + 1) u → first_to to ≡ Some u
-  first_is to u le f =
-      let a : begun ≤ u = f.from_is in
-      let b : u < to + 1 = f.to_is in
-      is_first Raced begun to u (record {
-        from_is = a;
-        to_is = b;
-        passes = sym (same_race u (omega (arith, b, le))) ∙ f.passes;
-        none = λ i from below. sym (same_race i (omega (arith, below, b, le))) ∙ f.none i from below;
-      })
+  first_is : (u : ℕ) → IsFirst Has begun (far + 1) u → first ≡ Some u
+  first_is u f = is_first Has begun far u f
+
+  -- no such item, or this edge, where the interval reaches it
+  abbrev reached : Option ℕ → CleanOr
+  reached z = if is_reached (left_edge (get_or logs.lists p []) k) z then unclean_or p z no_item else no_item
 
   -- ---- what is to be answered
 
   abbrev wanted : CleanOr
-  wanted = by_part program plan budget h p k j y (slice_get i0.parts j)
+  wanted = by_part program plan budget h p k j first y (slice_get i0.parts j)
 
   abbrev by_spans : Split → Option Span → CleanOr
-  by_spans x o = option_map_or (λ i. by_part program plan budget h p k j x (slice_get i.parts j)) o no_item
+  by_spans x o = option_map_or (λ i. by_part program plan budget h p k j first x (slice_get i.parts j)) o no_item
 
-  answer_is : answer_of program plan budget h p k j ≡ by_part program plan budget h p k j y (slice_get i0.parts j)
+  answer_is : answer_of program plan budget h p k j ≡ by_part program plan budget h p k j first y (slice_get i0.parts j)
   answer_is = ap (λ (o : Option Split). option_map_or (λ x. by_spans x (slice_get x.spans k)) o no_item) at ∙ ap (by_spans y) at_k
 
   abbrev here : Part → Lies
-  here q = lies (entries_at logs p) y q
+  here q = lies (get_or logs.lists p []) y q
 
-  not_clean : (q : Part) → is_clean program s p (here q) ≡ false → by_part program plan budget h p k j y (Some q) ≡ unclean_or p (first_to far) no_item
+  not_clean : (q : Part) → is_clean program s p (here q) ≡ false → by_part program plan budget h p k j first y (Some q) ≡ unclean_or p first no_item
   not_clean q e =
-      ap (λ b. if b then first_item (item_of y q) (unwrap_or (edges program plan budget s p k j) []) else unclean_or p (first_to far) no_item) e
+      ap (λ b. if b then first_item (item_of y q) (unwrap_or (edges program plan budget s p k j) []) else unclean_or p first no_item) e
 
-  is_so : (q : Part) → is_clean program s p (here q) ≡ true → by_part program plan budget h p k j y (Some q) ≡ first_item (item_of y q) (unwrap_or (edges program plan budget s p k j) [])
+  is_so : (q : Part) → is_clean program s p (here q) ≡ true → by_part program plan budget h p k j first y (Some q) ≡ first_item (item_of y q) (unwrap_or (edges program plan budget s p k j) [])
   is_so q e =
-      ap (λ b. if b then first_item (item_of y q) (unwrap_or (edges program plan budget s p k j) []) else unclean_or p (first_to far) no_item) e
+      ap (λ b. if b then first_item (item_of y q) (unwrap_or (edges program plan budget s p k j) []) else unclean_or p first no_item) e
 
   raced_part : (q : Part) (e : ℕ) → (here q).edge ≡ e → e ≤ far → Has e ≡ true → is_clean program s p (here q) ≡ false
   raced_part q e is le h' =
-      let f : edge_in program plan budget h p ≡ length (syncs_of (own_steps s p)) = far_is in
+      let f : edge_in program plan budget h p ≡ length (filter_map sync_of (get_or s.steps p [])) = far_is in
       has_unclean program s p there (here q) (omega (arith, is, le, f)) (subst (λ z. Has z ≡ true) (sym is) h')
 
   -- a race that leads to the synchronization which ends an edge is in the past of the next edge
@@ -247,7 +229,7 @@ module _ (program : Program) (policy : Policy) (budget : ℕ) (h : List ℕ) (p 
       next q i b = elim (cases_eq q p) [
         | inr apart ↦ across apart e refl b
         | inl same ↦
-            let none : edge_in program plan budget [] p ≡ 0 = edge_is_count program plan budget [] p ∙ ap (λ ts. length (syncs_of ts)) (none_did program plan budget p) in
+            let none : edge_in program plan budget [] p ≡ 0 = edge_is_count program plan budget [] p ∙ ap (λ ts. length (filter_map sync_of ts)) (none_did program plan budget p) in
             let ends : EndsEdge program plan budget h p e = edge_ends program plan budget h p e lt none in
             let one : length (option_to_list (sync_of (moment_of program plan (told program plan budget ends.before) p).taken)) ≡ 1 = one_of (sync_of (moment_of program plan (told program plan budget ends.before) p).taken) ends.is_sync in
             let grew : edge_in program plan budget (ends.before ++ p ∷ []) p ≡ edge_in program plan budget ends.before p + length (option_to_list (sync_of (moment_of program plan (told program plan budget ends.before) p).taken)) =
@@ -287,22 +269,22 @@ module _ (program : Program) (policy : Policy) (budget : ℕ) (h : List ℕ) (p 
         (subst (λ z. begun ≤ (here z).edge) (sym span.2) (inside_begun span.0 span.1 place' span.3), subst (λ z. (here z).edge ≤ far) (sym span.2) (left_le span.0))
   ]
 
-  begins_raced : (u : ℕ) → IsFirst Has begun (far + 1) u → u ≤ begun → (o : Option Part) → slice_get i0.parts j ≡ o → by_part program plan budget h p k j y o ≡ unclean (edge p u)
+  begins_raced : (u : ℕ) → IsFirst Has begun (far + 1) u → u ≤ begun → (o : Option Part) → slice_get i0.parts j ≡ o → by_part program plan budget h p k j first y o ≡ unclean (edge p u)
   begins_raced u f le None e =
-      let a : u ≤ left_edge (entries_at logs p) k = (let b = begun_le in omega (arith, le, b)) in
-      ap (λ z. unclean_or p z no_item) (first_is (left_edge (entries_at logs p) k) u (left_le k) (record { from_is = f.from_is; to_is = omega (arith, a); passes = f.passes; none = f.none }))
+      let a : u ≤ left_edge (get_or logs.lists p []) k = (let b = begun_le in omega (arith, le, b)) in
+      ap reached (first_is u f) ∙ ap (λ b. if b then unclean (edge p u) else no_item) (le-leb u (left_edge (get_or logs.lists p []) k) a)
   begins_raced u f le (Some q) e =
       let place : part_at y k j ≡ Some q = ap (λ w. part_in w j) at_k ∙ e in
       let between = edge_between q place in
       let low = between.0 in
       let raced : Has (here q).edge ≡ true = grown u (here q).edge (omega (arith, le, low)) between.1 f.passes in
-      not_clean q (raced_part q (here q).edge refl between.1 raced) ∙ ap (λ z. unclean_or p z no_item) (first_is far u (omega arith) f)
+      not_clean q (raced_part q (here q).edge refl between.1 raced) ∙ ap (λ z. unclean_or p z no_item) (first_is u f)
 
   -- ---- where it is later, or there is none
 
   module _ (o : Option ℕ) (inside : (u : ℕ) → o ≡ Some u → u ≤ edge_in program (plan_of program policy) budget h p)
       (clear : (e : ℕ) → e ≤ edge_in program (plan_of program policy) budget h p → IsIn (edge_in program (plan_of program policy) budget h p) o e
-      → has_race program (sync_record program (plan_of program policy) budget h) (races program (plan_of program policy) budget h) (edge p e) ≡ false)
+      → any_raced (is_past program (sync_record program (plan_of program policy) budget h) (edge p e)) (races program (plan_of program policy) budget h) ≡ false)
       (pos : (u : ℕ) → o ≡ Some u → 0 < u)
       (raced : (u : ℕ) → o ≡ Some u → IsFirst Has begun (far + 1) u) (none : o ≡ None → NonePasses Has begun (far + 1)) where
     abbrev xs : List Seen
@@ -323,8 +305,8 @@ module _ (program : Program) (policy : Policy) (budget : ℕ) (h : List ℕ) (p 
     at_y : slice_get (splits program plan budget (story program plan budget (own_is.begun.before ++ own_is.begun.rest))) p ≡ Some y
     at_y = subst (λ l. slice_get (splits program plan budget (story program plan budget l)) p ≡ Some y) own_is.begun.schedule_is at
 
-    entries_same : entries_at (closed_logs program plan budget (own_is.begun.before ++ own_is.begun.rest)) p ≡ entries_at logs p
-    entries_same = ap (λ l. entries_at (closed_logs program plan budget l) p) (sym own_is.begun.schedule_is)
+    entries_same : get_or (closed_logs program plan budget (own_is.begun.before ++ own_is.begun.rest)).lists p [] ≡ get_or logs.lists p []
+    entries_same = ap (λ l. get_or (closed_logs program plan budget l).lists p []) (sym own_is.begun.schedule_is)
 
     kept : (q : Part) → part_at x k j ≡ Some q → part_at y k j ≡ Some q
     kept q e = part_kept program policy budget g rest p v x y own_is.begun.there at_y k j q e
@@ -347,34 +329,26 @@ module _ (program : Program) (policy : Policy) (budget : ℕ) (h : List ℕ) (p 
     ]
 
     -- an interval that was left before it has all its parts
-    all_parts : (u : ℕ) → o ≡ Some u → left_edge (entries_at logs p) k < u → (q : Part) → part_at y k j ≡ Some q → part_at x k j ≡ Some q
+    all_parts : (u : ℕ) → o ≡ Some u → left_edge (get_or logs.lists p []) k < u → (q : Part) → part_at y k j ≡ Some q → part_at x k j ≡ Some q
     all_parts u e lt q place =
-        let l = left_own program policy budget h p k j y v whole at there o inside clear own_is k i0 at_k u e (seen_to u e) (subst (λ z. IsIn far z (left_edge (entries_at logs p) k)) (sym e) lt) in
+        let l = left_own program policy budget h p k j y v whole at there o inside clear own_is k i0 at_k u e (seen_to u e) (subst (λ z. IsIn far z (left_edge (get_or logs.lists p []) k)) (sym e) lt) in
         let stays : slice_get y.spans k ≡ Some l.0 = closed_stays program policy budget g rest p v x y own_is.begun.there at_y k l.0 l.1 l.2 in
         ap (λ w. part_in w j) (l.1 ∙ sym stays) ∙ place
 
-    late : (q : Part) → part_at y k j ≡ Some q → (u : ℕ) → o ≡ Some u → u ≤ (here q).edge → by_part program plan budget h p k j y (Some q) ≡ unclean (edge p u)
+    late : (q : Part) → part_at y k j ≡ Some q → (u : ℕ) → o ≡ Some u → u ≤ (here q).edge → by_part program plan budget h p k j first y (Some q) ≡ unclean (edge p u)
     late q place u e le =
         let between = edge_between q place in
         let f = raced u e in
-        not_clean q (raced_part q (here q).edge refl between.1 (grown u (here q).edge le between.1 f.passes)) ∙ ap (λ z. unclean_or p z no_item) (first_is far u (omega arith) f)
+        not_clean q (raced_part q (here q).edge refl between.1 (grown u (here q).edge le between.1 f.passes)) ∙ ap (λ z. unclean_or p z no_item) (first_is u f)
 
     -- ---- no such item by then
 
-    reach_none : part_at x k j ≡ None → (z : Option ℕ) → o ≡ z → (r : Option Part) → slice_get i0.parts j ≡ r → reached program plan budget logs Rec Rs p k j z ≡ by_part program plan budget h p k j y r
-    reach_none gone None e None f =
-        sym (ap (λ z. unclean_or p z no_item) (none_to (left_edge (entries_at logs p) k) (left_le k) (λ i a b. none e i a (let c = left_le k in omega (arith, b, c)))))
-    reach_none gone (Some u) e None f = by (nat_le u (left_edge (entries_at logs p) k)) refl
-      where
-        by : (b : Bool) → nat_le u (left_edge (entries_at logs p) k) ≡ b → (if b then unclean (edge p u) else no_item) ≡ unclean_or p (first_to (left_edge (entries_at logs p) k)) no_item
-        by true is =
-            let fu = raced u e in
-            let le : u ≤ left_edge (entries_at logs p) k = leb-true u (left_edge (entries_at logs p) k) is in
-            sym (ap (λ z. unclean_or p z no_item) (first_is (left_edge (entries_at logs p) k) u (left_le k) (record { from_is = fu.from_is; to_is = omega (arith, le); passes = fu.passes; none = fu.none })))
-        by false is =
-            let fu = raced u e in
-            let lt : left_edge (entries_at logs p) k < u = leb-false u (left_edge (entries_at logs p) k) is in
-            sym (ap (λ z. unclean_or p z no_item) (none_to (left_edge (entries_at logs p) k) (left_le k) (λ i a b. fu.none i a (omega (arith, b, lt)))))
+    first_o : (z : Option ℕ) → o ≡ z → first ≡ z
+    first_o None e = first_none (none e)
+    first_o (Some u) e = first_is u (raced u e)
+
+    reach_none : part_at x k j ≡ None → (z : Option ℕ) → o ≡ z → (r : Option Part) → slice_get i0.parts j ≡ r → reached z ≡ by_part program plan budget h p k j first y r
+    reach_none gone z e None f = ap reached (sym (first_o z e))
     reach_none gone None e (Some q) f =
         let place : part_at y k j ≡ Some q = ap (λ w. part_in w j) at_k ∙ f in
         absurd (none-some q (sym gone ∙ placed q place (subst (λ z. IsIn far z (here q).edge) (sym e) (edge_between q place).1)))
@@ -382,10 +356,10 @@ module _ (program : Program) (policy : Policy) (budget : ℕ) (h : List ℕ) (p 
         let place : part_at y k j ≡ Some q = ap (λ w. part_in w j) at_k ∙ f in
         elim (cases_lt (here q).edge u) [
           | inl lt ↦ absurd (none-some q (sym gone ∙ placed q place (subst (λ z. IsIn far z (here q).edge) (sym e) lt)))
-          | inr ge ↦ elim (cases_lt (left_edge (entries_at logs p) k) u) [
+          | inr ge ↦ elim (cases_lt (left_edge (get_or logs.lists p []) k) u) [
             | inl less ↦ absurd (none-some q (sym gone ∙ all_parts u e less q place))
             | inr reach ↦
-                ap (λ b. if b then unclean (edge p u) else no_item) (le-leb u (left_edge (entries_at logs p) k) reach) ∙ sym (late q place u e ge)
+                ap (λ b. if b then unclean (edge p u) else no_item) (le-leb u (left_edge (get_or logs.lists p []) k) reach) ∙ sym (late q place u e ge)
           ]
         ]
 
@@ -417,9 +391,9 @@ module _ (program : Program) (policy : Policy) (budget : ℕ) (h : List ℕ) (p 
             let l = event_kept program policy budget g rest p v x y own_is.begun.there at_y n e is in
             let same : item.Own e.event ≡ t = some f in
             let event : (l.0).event ≡ e.event = ap (λ (w : TracedEvent). w.event) l.2 in
-            let edge : edge_at (entries_at logs p) (seen_at xs p) k j ≡ edge_of_event y n =
-            ap (λ z. edge_at (entries_at logs p) z k j) own_is.begun.seen_is
-            ∙ edge_same program policy budget g rest p v x y own_is.begun.there at_y (entries_at logs p) k j (own n) place
+            let edge : edge_at (get_or logs.lists p []) (seen_at xs p) k j ≡ edge_of_event y n =
+            ap (λ z. edge_at (get_or logs.lists p []) z k j) own_is.begun.seen_is
+            ∙ edge_same program policy budget g rest p v x y own_is.begun.there at_y (get_or logs.lists p []) k j (own n) place
             ∙ event_at n (slice_get_below y.trace.events n l.0 l.1) (kept (own n) place) in
             record {
               edge_is = ap (edge_of_item program plan budget logs Rec Rs p k j xs) (sym same) ∙ edge;
@@ -431,21 +405,21 @@ module _ (program : Program) (policy : Policy) (budget : ℕ) (h : List ℕ) (p 
         by : (w : Option Span) → slice_get x.spans m ≡ w → first_of (item_of_span m w) ≡ Some t → IsHere (nested m) t
         by None is f = absurd (none-some t f)
         by (Some i) is f =
-            let same : item.Nested m i.block i.values (is_closed i) ≡ t = some f in
+            let same : item.Nested m i.block i.values (is_some i.closed) ≡ t = some f in
             record {
               edge_is = ap (edge_of_item program plan budget logs Rec Rs p k j xs) (sym same);
               sync_is = ap is_sync_item (sym same);
               item_is = λ inn. ap (item_of_span m) (stays i is inn) ∙ ap (λ z. z ∷ []) same;
             }
           where
-            stays : (i : Span) → slice_get x.spans m ≡ Some i → IsIn far o (left_edge (entries_at logs p) m) → slice_get y.spans m ≡ Some i
+            stays : (i : Span) → slice_get x.spans m ≡ Some i → IsIn far o (left_edge (get_or logs.lists p []) m) → slice_get y.spans m ≡ Some i
             stays i is inn = elim own_is.kind [
               | inl whole_log ↦ subst (λ (z : Split). slice_get z.spans m ≡ Some i) whole_log.1 is
               | inr found ↦
                   let at_m = span_kept program policy budget g rest p v x y own_is.begun.there at_y m i is in
                   let l = left_own program policy budget h p k j y v whole at there o inside clear own_is m at_m.0 at_m.1 found.0 found.1 found.2 inn in
                   let one : l.0 ≡ i = some (sym l.1 ∙ is) in
-                  ap (λ z. slice_get y.spans z) refl ∙ closed_stays program policy budget g rest p v x y own_is.begun.there at_y m i is (subst (λ (z : Span). is_closed z ≡ true) one l.2)
+                  ap (λ z. slice_get y.spans z) refl ∙ closed_stays program policy budget g rest p v x y own_is.begun.there at_y m i is (subst (λ (z : Span). is_some z.closed ≡ true) one l.2)
             ]
 
     -- the edges of a clean item
@@ -453,8 +427,8 @@ module _ (program : Program) (policy : Policy) (budget : ℕ) (h : List ℕ) (p 
       le : (here q).edge ≤ far
       le = (edge_between q place).1
 
-      within : (here q).edge ≤ length (syncs_of (own_steps s p))
-      within = let f : edge_in program plan budget h p ≡ length (syncs_of (own_steps s p)) = far_is in let a = le in omega (arith, a, f)
+      within : (here q).edge ≤ length (filter_map sync_of (get_or s.steps p []))
+      within = let f : edge_in program plan budget h p ≡ length (filter_map sync_of (get_or s.steps p [])) = far_is in let a = le in omega (arith, a, f)
 
       is_clean_so : is_clean program s p (here q) ≡ true
       is_clean_so = by (is_clean program s p (here q)) refl
@@ -487,7 +461,7 @@ module _ (program : Program) (policy : Policy) (budget : ℕ) (h : List ℕ) (p 
             (_, ap (edges_in program plan (splits program plan budget s) k j) at ∙ ap (edges_if program plan (splits program plan budget s) y) (place ∙ ap (λ z. Some z) span.2) ∙ ap (option_map (model_edges_of_nested plan (splits program plan budget s))) span.3)
       ]
 
-      clean_answer : (t : Item) → item_of y q ≡ t ∷ [] → with_edges program plan budget logs Rec Rs p k j t (found_edges program plan logs xs p k j) ≡ by_part program plan budget h p k j y (Some q)
+      clean_answer : (t : Item) → item_of y q ≡ t ∷ [] → with_edges program plan budget logs Rec Rs p k j t (found_edges program plan logs xs p k j) ≡ by_part program plan budget h p k j first y (Some q)
       clean_answer t it =
           let es = some_edges in
           ap (with_edges program plan budget logs Rec Rs p k j t) (edges_are ∙ ap (option_map (λ fs. Ok fs)) es.1)
@@ -495,7 +469,7 @@ module _ (program : Program) (policy : Policy) (budget : ℕ) (h : List ℕ) (p 
 
     decide : (q : Part) (t : Item) → part_at y k j ≡ Some q → IsHere q t → (z : Option ℕ) → o ≡ z
         → (if is_unclean program plan budget logs Rec Rs p k j xs z t then unclean_or p z no_item else with_edges program plan budget logs Rec Rs p k j t (found_edges program plan logs xs p k j))
-        ≡ by_part program plan budget h p k j y (Some q)
+        ≡ by_part program plan budget h p k j first y (Some q)
     decide q t place here_is None e =
         let le : (here q).edge ≤ far = (edge_between q place).1 in
         let inn : IsIn far o (here q).edge = subst (λ z. IsIn far z (here q).edge) (sym e) le in
@@ -515,14 +489,14 @@ module _ (program : Program) (policy : Policy) (budget : ℕ) (h : List ℕ) (p 
         f = raced u e
 
         by : (b : Bool) → is_unclean program plan budget logs Rec Rs p k j xs (Some u) t ≡ b
-            → (if b then unclean (edge p u) else with_edges program plan budget logs Rec Rs p k j t (found_edges program plan logs xs p k j)) ≡ by_part program plan budget h p k j y (Some q)
+            → (if b then unclean (edge p u) else with_edges program plan budget logs Rec Rs p k j t (found_edges program plan logs xs p k j)) ≡ by_part program plan budget h p k j first y (Some q)
         by true is = elim (either (nat_le u (edge_of_item program plan budget logs Rec Rs p k j xs t)) (is_sync_item t && leads_from_race program Rec Rs (edge p (edge_of_item program plan budget logs Rec Rs p k j xs t))) is) [
           | inl le ↦ sym (late q place u e (let l : u ≤ edge_of_item program plan budget logs Rec Rs p k j xs t = leb-true u (edge_of_item program plan budget logs Rec Rs p k j xs t) le in let a = at_edge in omega (arith, l, a)))
           | inr lead ↦
               let b = both (is_sync_item t) (leads_from_race program Rec Rs (edge p (edge_of_item program plan budget logs Rec Rs p k j xs t))) lead in
-              let within : (here q).edge ≤ length (syncs_of (own_steps s p)) = (let w : edge_in program plan budget h p ≡ length (syncs_of (own_steps s p)) = far_is in let a = (edge_between q place).1 in omega (arith, a, w)) in
+              let within : (here q).edge ≤ length (filter_map sync_of (get_or s.steps p [])) = (let w : edge_in program plan budget h p ≡ length (filter_map sync_of (get_or s.steps p [])) = far_is in let a = (edge_between q place).1 in omega (arith, a, w)) in
               sym (not_clean q (leads_unclean program s p there (here q) within (sym here_is.sync_is ∙ b.0) (subst (λ z. leads_from_race program Rec Rs (edge p z) ≡ true) at_edge b.1))
-              ∙ ap (λ z. unclean_or p z no_item) (first_is far u (omega arith) f))
+              ∙ ap (λ z. unclean_or p z no_item) (first_is u f))
         ]
         by false is =
             let n = neither (nat_le u (edge_of_item program plan budget logs Rec Rs p k j xs t)) (is_sync_item t && leads_from_race program Rec Rs (edge p (edge_of_item program plan budget logs Rec Rs p k j xs t))) is in
@@ -531,21 +505,21 @@ module _ (program : Program) (policy : Policy) (budget : ℕ) (h : List ℕ) (p 
             clean_answer q place inn (λ ends. subst (λ z. leads_from_race program Rec Rs (edge p z) ≡ false) at_edge
             (not_both (is_sync_item t) (leads_from_race program Rec Rs (edge p (edge_of_item program plan budget logs Rec Rs p k j xs t))) (here_is.sync_is ∙ ends) n.1)) t (here_is.item_is inn)
 
-    by_place : (w : Option Part) → part_at x k j ≡ w → by_first program plan budget logs Rec Rs p k j o ≡ by_part program plan budget h p k j y (slice_get i0.parts j)
+    by_place : (w : Option Part) → part_at x k j ≡ w → by_first program plan budget logs Rec Rs p k j o ≡ by_part program plan budget h p k j first y (slice_get i0.parts j)
     by_place None e =
-        ap (λ q. by_item program plan budget logs Rec Rs p k j o xs (slice_get (items_at q k) j)) own_is.begun.seen_is
+        ap (λ (q : Seen). by_item program plan budget logs Rec Rs p k j o xs (slice_get (get_or q.items k []) j)) own_is.begun.seen_is
         ∙ ap (by_item program plan budget logs Rec Rs p k j o xs) (no_item_there x (splits program plan budget (story program plan budget own_is.begun.before)) p k j x_whole e)
         ∙ reach_none e o refl (slice_get i0.parts j) refl
     by_place (Some q) e =
         let t = item_there x (splits program plan budget (story program plan budget own_is.begun.before)) p k j q x_whole e in
         let place : part_at y k j ≡ Some q = kept q e in
         let is : slice_get i0.parts j ≡ Some q = ap (λ w. part_in w j) (sym at_k) ∙ place in
-        ap (λ z. by_item program plan budget logs Rec Rs p k j o xs (slice_get (items_at z k) j)) own_is.begun.seen_is
+        ap (λ (z : Seen). by_item program plan budget logs Rec Rs p k j o xs (slice_get (get_or z.items k []) j)) own_is.begun.seen_is
         ∙ ap (by_item program plan budget logs Rec Rs p k j o xs) t.1
         ∙ decide q t.0 place (is_here q t.0 e t.2) o refl
-        ∙ ap (by_part program plan budget h p k j y) (sym is)
+        ∙ ap (by_part program plan budget h p k j first y) (sym is)
 
-    pub by_first_is : by_first program plan budget logs Rec Rs p k j o ≡ by_part program plan budget h p k j y (slice_get i0.parts j)
+    pub by_first_is : by_first program plan budget logs Rec Rs p k j o ≡ by_part program plan budget h p k j first y (slice_get i0.parts j)
     by_first_is = by_place (part_at x k j) refl
 
   -- ---- all of it
@@ -559,7 +533,7 @@ module _ (program : Program) (policy : Policy) (budget : ℕ) (h : List ℕ) (p 
   begun_far : begun ≤ far
   begun_far = let a = begun_le in let b = left_le k in omega (arith, a, b)
 
-  by_find : from_first program plan budget logs Rec Rs p k j (first_raced program plan budget logs Rec Rs p k j) ≡ by_part program plan budget h p k j y (slice_get i0.parts j)
+  by_find : from_first program plan budget logs Rec Rs p k j first ≡ by_part program plan budget h p k j first y (slice_get i0.parts j)
   by_find = elim (first_between Has begun far) [
     | inl none ↦
         ap (from_first program plan budget logs Rec Rs p k j) none.0
@@ -569,7 +543,7 @@ module _ (program : Program) (policy : Policy) (budget : ℕ) (h : List ℕ) (p 
   ]
     where
       by : (u : ℕ) → IsFirst Has begun (far + 1) u → (b : Bool) → nat_le u begun ≡ b
-          → (if b then unclean (edge p u) else by_first program plan budget logs Rec Rs p k j (Some u)) ≡ by_part program plan budget h p k j y (slice_get i0.parts j)
+          → (if b then unclean (edge p u) else by_first program plan budget logs Rec Rs p k j (Some u)) ≡ by_part program plan budget h p k j first y (slice_get i0.parts j)
       by u f true is = sym (begins_raced u f (leb-true u begun is) (slice_get i0.parts j) refl)
       by u f false is =
           let lt : begun < u = leb-false u begun is in
@@ -579,5 +553,5 @@ module _ (program : Program) (policy : Policy) (budget : ℕ) (h : List ℕ) (p 
 
   pub answered_here : clean_by program plan budget logs Rs p k j ≡ answer_of program plan budget h p k j
   answered_here =
-      ap (λ rec. from_first program plan budget logs rec Rs p k j (first_raced program plan budget logs rec Rs p k j)) (record_syncs program plan budget h).closed
+      ap (λ rec. from_first program plan budget logs rec Rs p k j (first_raced program rec Rs (get_or logs.lists p []) p k)) (record_syncs program plan budget h).closed
       ∙ by_find ∙ sym answer_is

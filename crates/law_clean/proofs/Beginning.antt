@@ -22,7 +22,6 @@ use Rattle.ppd_model.specs.declared.state.Logging.{Logging}
 use Rattle.ppd_model.specs.declared.tracing.Story.{Story}
 use Rattle.ppd_model.specs.Intervals.{Span, Split, begun_split, split_step}
 use Rattle.ppd_model.specs.Logs.{begun_log}
-use Rattle.ppd_model.specs.Marks.{mark}
 use Rattle.ppd_model.specs.Story.{Moment, steps_of, values_of_unit}
 use Rattle.law_steps.proofs.OpenBlocks.Planned.{process_found}
 use Rattle.law_steps.proofs.OpenBlocks.Stacks.{steps_move}
@@ -96,7 +95,7 @@ module _ (program : Program) (policy : Policy) (v : IsValid program) (budget p d
     -- the process's own
     abbrev own_opening : Opening
     own_opening = record {
-      mark = mark (or_zero (block_of plan (block.Process body))) [];
+      mark = record { block = or_zero (block_of plan (block.Process body)); values = [] };
       units = unit_pieces (Some entry_unit) (values_of_unit plan program.starts entry_unit);
       proc = first;
       rest = ms;
@@ -147,10 +146,10 @@ module _ (program : Program) (policy : Policy) (v : IsValid program) (budget p d
     abbrev pub begun : Logging
     begun = raised_log d (begun_log program plan budget p)
 
-    abbrev begun_index : Indexing
+    abbrev begun_index : Indexing Indexed
     begun_index = fold (index_step plan) begun_indexing begun.entries
 
-    abbrev pub index : Indexing
+    abbrev pub index : Indexing Indexed
     index = finals program plan begun ms begun_index
 
     comes_log : in_logs.Comes program plan first ms (finals program plan begun ms) 0 1

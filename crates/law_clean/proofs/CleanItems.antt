@@ -1,59 +1,4 @@
 -- The edges of a clean item by replays of logs that are cut where no race was.
-use Rattle.std.proofs.Common.{◌≡◌, ℕ, zero, suc, ◌+◌, ◌-◌, ◌<◌, ◌≤◌, Bool, true, false, List, [], ◌∷◌, ◌++◌, length, map, Option, Some, None, Ok, refl, ap, ap₂, sym, subst, ◌∙◌, arith, inl, inr, ◌⊎◌, eq-eqb, eqb-true, true≢false, if◌then◌else◌, ◌&&◌, not, append-nil}
-use Rattle.std.proofs.lemmas.Bool.{and_from, cases_eq, false_from_ne_true, or_left, or_right}
-use Rattle.std.proofs.lemmas.Option.{none-some}
-use Rattle.std.specs.List.{range_with_len}
-use Rattle.std.specs.Prelude.{filter_map, is_some, nat_eq, option_map, option_to_list, slice_get, unwrap_or}
-use Rattle.ppd_ast.specs.declared.plan.Plan.{Plan}
-use Rattle.ppd_ast.specs.declared.plan.Policy.{Policy}
-use Rattle.ppd_ast.specs.declared.program.Program.{Program}
-use Rattle.ppd_ast.specs.Valid.{IsValid}
-use Rattle.ppd_blocks.specs.Blocks.{plan_of}
-use Rattle.ppd_entry.specs.declared.entry.Entry.{Entry}
-use Rattle.ppd_entry.specs.declared.entry.Logs.{Logs}
-use Rattle.ppd_entry.specs.Entries.{entries_at}
-use Rattle.ppd_model.specs.declared.graph.Race.{Race}
-use Rattle.ppd_model.specs.declared.trace.TracedEvent.{TracedEvent}
-use Rattle.ppd_model.specs.declared.tracing.Story.{Story}
-use Rattle.ppd_model.specs.FlowbackEdges.{edges, part_at}
-use Rattle.ppd_model.specs.Forward.{edge_in}
-use Rattle.ppd_model.specs.HappenedBefore.{Before, EdgeBefore, across, earlier, edge, is_before, is_edge_before, node, own_syncs}
-use Rattle.ppd_model.specs.Intervals.{Part, own, nested, Span, Split, is_closed, item_of, splits}
-use Rattle.ppd_model.specs.Logs.{closed_log, closed_logs, log_of}
-use Rattle.ppd_model.specs.Races.{races}
-use Rattle.ppd_model.specs.Record.{sync_record}
-use Rattle.ppd_model.specs.Schedule.{IsWhole, run}
-use Rattle.ppd_model.specs.Story.{moment_of, own_moments, own_steps, story, told}
-use Rattle.ppd_model.specs.Synchronizations.{Sync, sync_of, syncs_of}
-use Rattle.ppd_model.proofs.Accesses.{record_at}
-use Rattle.ppd_model.proofs.Forward.{fewer, records_closed}
-use Rattle.ppd_model.proofs.LastEdges.{before_from}
-use Rattle.ppd_model.proofs.Tested.{tests_before, tests_edges}
-use Rattle.ppd_flow_past.specs.SeenBy.{seen_by}
-use Rattle.ppd_flow_model.specs.Found.{edges_if, found_edges}
-use Rattle.ppd_flow_model.specs.Seen.{Seen, items_at, seen_of}
-use Rattle.ppd_flow_model.specs.Shared.{seen_at}
-use Rattle.law_flow_shared.proofs.Edges.LogPlaces.EdgeEnds.{IsAt, at_place}
-use Rattle.law_flow_shared.proofs.Edges.Near.Nearby.{counted}
-use Rattle.law_flow_shared.proofs.Edges.StepEvents.Processes.{Facts, facts}
-use Rattle.law_flow_shared.proofs.Edges.StepEvents.Writers.{edge_is_count}
-use Rattle.law_flow_shared.proofs.Edges.StepEvents.Timeline.{none_did}
-use Rattle.ppd_model.specs.declared.flow.Item.TheVariants as item
-use Rattle.ppd_model.specs.Items.{HasWholeItems}
-use Rattle.ppd_model.specs.NearIntervals.{edge_of_event}
-use Rattle.ppd_model.specs.RecordedSets.{sync_in}
-use Rattle.ppd_model.proofs.Changes.{some}
-use Rattle.ppd_model.proofs.Items.{items_whole}
-use Rattle.ppd_flow_model.specs.Ends.{edge_at}
-use Rattle.ppd_flow_model.specs.Own.{edges_of_nested}
-use Rattle.ppd_sem.specs.Blocks.{block_kind}
-use Rattle.law_flow_shared.specs.Edges.SharedEdges.{all_seen}
-use Rattle.law_flow_shared.proofs.Edges.Spans.Facts.{count_to}
-use Rattle.law_clean.specs.Cuts.{cut}
-use Rattle.law_clean.specs.Ordered.{IsUnracedIn}
-use Rattle.law_clean.specs.Pasts.{is_clean, is_raced, left_edge, lies, is_past, is_same_edge}
-use Rattle.law_clean.specs.Search.{has_race, is_wanted, last_wanted, leads_from_race, own_last, seens}
-use Rattle.law_clean.proofs.CleanCuts.{before_back}
 use Rattle.law_clean.proofs.CutEvents.{event_edges_same}
 use Rattle.law_clean.proofs.CutShared.{HasEnded, HasPlace, IsBegun, event_there, here_in}
 use Rattle.law_clean.proofs.EdgeEnds.{EndsEdge, edge_ends, edge_own}
@@ -62,12 +7,65 @@ use Rattle.law_clean.proofs.InsideSame.{inside_edges_same, nested_at}
 use Rattle.law_clean.proofs.Items.{event_kept, part_kept}
 use Rattle.law_clean.proofs.PastClear.{some_there}
 use Rattle.law_clean.proofs.PastRaces.{both, grows_to, has_unclean, leads_unclean, not_raced, race_of_edge, raced_from}
-use Rattle.law_clean.proofs.PastsGrow.{before_next}
+use Rattle.law_clean.proofs.PastWords.{is_raced_to, other_last}
+use Rattle.law_clean.proofs.PastsGrow.{before_back, before_next}
 use Rattle.law_clean.proofs.Prefixes.{place_back}
 use Rattle.law_clean.proofs.Ranges.{last_is}
 use Rattle.law_clean.proofs.Reached.{closed_syncs, left_then, nested_back, syncs_in_log, total_syncs}
 use Rattle.law_clean.proofs.SeenCut.{cut_begun, has_split, seen_there, stays_whole, whole_begun}
-use Rattle.law_clean.proofs.PastWords.{is_raced_to, other_last}
+use Rattle.law_clean.specs.Cuts.{cut}
+use Rattle.law_clean.specs.Ordered.{IsUnracedIn}
+use Rattle.law_clean.specs.Pasts.{any_raced, is_clean, is_past, is_raced, is_same_edge, left_edge, lies}
+use Rattle.law_clean.specs.Search.{is_wanted, last_wanted, leads_from_race, own_last, seens}
+use Rattle.law_flow_shared.proofs.Edges.LogPlaces.EdgeEnds.{IsAt, at_place}
+use Rattle.law_flow_shared.proofs.Edges.Near.Nearby.{counted}
+use Rattle.law_flow_shared.proofs.Edges.Spans.Facts.{count_to}
+use Rattle.law_flow_shared.proofs.Edges.StepEvents.Processes.{Facts, facts}
+use Rattle.law_flow_shared.proofs.Edges.StepEvents.Timeline.{none_did}
+use Rattle.law_flow_shared.proofs.Edges.StepEvents.Writers.{edge_is_count}
+use Rattle.law_flow_shared.specs.Edges.SharedEdges.{all_seen}
+use Rattle.ppd_ast.specs.Valid.{IsValid}
+use Rattle.ppd_ast.specs.declared.plan.Plan.{Plan}
+use Rattle.ppd_ast.specs.declared.plan.Policy.{Policy}
+use Rattle.ppd_ast.specs.declared.program.Program.{Program}
+use Rattle.ppd_blocks.specs.Blocks.{plan_of}
+use Rattle.ppd_entry.specs.declared.entry.Entry.{Entry}
+use Rattle.ppd_entry.specs.declared.entry.Logs.{Logs}
+use Rattle.ppd_flow_model.specs.Ends.{edge_at}
+use Rattle.ppd_flow_model.specs.Found.{edges_if, found_edges}
+use Rattle.ppd_flow_model.specs.Own.{edges_of_nested}
+use Rattle.ppd_flow_model.specs.Seen.{Seen, seen_of}
+use Rattle.ppd_flow_model.specs.Shared.{seen_at}
+use Rattle.ppd_flow_past.specs.SeenBy.{seen_by}
+use Rattle.ppd_model.proofs.Accesses.{record_at}
+use Rattle.ppd_model.proofs.Changes.{some}
+use Rattle.ppd_model.proofs.Forward.{fewer, records_closed}
+use Rattle.ppd_model.proofs.Items.{items_whole}
+use Rattle.ppd_model.proofs.LastEdges.{before_from}
+use Rattle.ppd_model.proofs.Tested.{tests_before, tests_edges}
+use Rattle.ppd_model.specs.FlowbackEdges.{edges, part_at}
+use Rattle.ppd_model.specs.Forward.{edge_in}
+use Rattle.ppd_model.specs.HappenedBefore.{Before, EdgeBefore, across, earlier, edge, is_before, is_edge_before, node}
+use Rattle.ppd_model.specs.Intervals.{Part, Span, Split, item_of, nested, own, splits}
+use Rattle.ppd_model.specs.Items.{HasWholeItems}
+use Rattle.ppd_model.specs.Logs.{closed_log, closed_logs, log_of}
+use Rattle.ppd_model.specs.NearIntervals.{edge_of_event}
+use Rattle.ppd_model.specs.Races.{races}
+use Rattle.ppd_model.specs.Record.{sync_record}
+use Rattle.ppd_model.specs.RecordedSets.{sync_in}
+use Rattle.ppd_model.specs.Schedule.{IsWhole, run}
+use Rattle.ppd_model.specs.Story.{moment_of, story, told}
+use Rattle.ppd_model.specs.Synchronizations.{Sync, sync_of}
+use Rattle.ppd_model.specs.declared.flow.Item.TheVariants as item
+use Rattle.ppd_model.specs.declared.graph.Race.{Race}
+use Rattle.ppd_model.specs.declared.trace.TracedEvent.{TracedEvent}
+use Rattle.ppd_model.specs.declared.tracing.Story.{Story}
+use Rattle.ppd_sem.specs.Blocks.{block_kind}
+use Rattle.std.proofs.Common.{Bool, List, None, Ok, Option, Some, [], ap, append-nil, ap₂, arith, eq-eqb, eqb-true, false, if◌then◌else◌, inl, inr, length, map, not, refl, subst, suc, sym, true, true≢false, zero, ℕ, ◌&&◌, ◌++◌, ◌+◌, ◌-◌, ◌<◌, ◌∙◌, ◌∷◌, ◌≡◌, ◌≤◌, ◌⊎◌}
+use Rattle.std.proofs.lemmas.Bool.{and_from, cases_eq, false_from_ne_true, or_left, or_right}
+use Rattle.std.proofs.lemmas.Option.{none-some}
+use Rattle.std.specs.List.{range_with_len}
+use Rattle.std.specs.Prelude.{filter_map, get_or, is_some, nat_eq, option_map, option_to_list, slice_get, unwrap_or}
 
 -- edge e is before the first edge whose past has a race, and there
 abbrev pub IsIn : ℕ → Option ℕ → ℕ → Type 0
@@ -79,7 +77,7 @@ module _ (program : Program) (policy : Policy) (budget : ℕ) (h : List ℕ) (p 
     (there : p < length (story program (plan_of program policy) budget h).steps)
     (o : Option ℕ) (inside : (u : ℕ) → o ≡ Some u → u ≤ edge_in program (plan_of program policy) budget h p)
     (clear : (e : ℕ) → e ≤ edge_in program (plan_of program policy) budget h p → IsIn (edge_in program (plan_of program policy) budget h p) o e
-    → has_race program (sync_record program (plan_of program policy) budget h) (races program (plan_of program policy) budget h) (edge p e) ≡ false) where
+    → any_raced (is_past program (sync_record program (plan_of program policy) budget h) (edge p e)) (races program (plan_of program policy) budget h) ≡ false) where
   abbrev plan : Plan
   plan = plan_of program policy
 
@@ -104,7 +102,7 @@ module _ (program : Program) (policy : Policy) (budget : ℕ) (h : List ℕ) (p 
   abbrev last : ℕ → Option ℕ
   last q = last_wanted program Rec Rs p o q
 
-  far_is : edge_in program plan budget h p ≡ length (syncs_of (own_steps s p))
+  far_is : edge_in program plan budget h p ≡ length (filter_map sync_of (get_or s.steps p []))
   far_is = ap length (record_at s.steps p)
 
   abbrev Begun : ℕ → Type 0
@@ -123,22 +121,22 @@ module _ (program : Program) (policy : Policy) (budget : ℕ) (h : List ℕ) (p 
   -- ---- the process itself
 
   own_last_is : last p ≡ own_last program Rec Rs p o
-  own_last_is = ap (λ b. if b then own_last program Rec Rs p o else other_last program Rec Rs p (unwrap_or o (length (own_syncs Rec p))) p) (eq-eqb p p refl)
+  own_last_is = ap (λ b. if b then own_last program Rec Rs p o else other_last program Rec Rs p (unwrap_or o (length (get_or Rec p []))) p) (eq-eqb p p refl)
 
-  own_seen : (z : Option ℕ) → own_last program Rec Rs p o ≡ z → seen_at xs p ≡ seen_by program plan budget (cut z (closed_log (log_of program plan budget p (own_moments (told program plan budget h) p))))
+  own_seen : (z : Option ℕ) → own_last program Rec Rs p o ≡ z → seen_at xs p ≡ seen_by program plan budget (cut z (closed_log (log_of program plan budget p (get_or (told program plan budget h).moments p []))))
   own_seen z e =
       seen_there program policy budget h v whole last p y at
-      ∙ ap (λ n. seen_by program plan budget (cut n (closed_log (log_of program plan budget p (own_moments (told program plan budget h) p))))) (own_last_is ∙ e)
+      ∙ ap (λ n. seen_by program plan budget (cut n (closed_log (log_of program plan budget p (get_or (told program plan budget h).moments p []))))) (own_last_is ∙ e)
 
   pub record IsOwn : Type 0 where
     pub begun : Begun p
     pub kind : ((o ≡ None) × (begun.split ≡ y) × (begun.before ≡ h)) ⊎ ((u : ℕ) × (o ≡ Some u) × (u ≤ edge_in program plan budget begun.before p))
 
-  whole_is : o ≡ None → seen_at xs p ≡ seen_by program plan budget (closed_log (log_of program plan budget p (own_moments (told program plan budget h) p)))
+  whole_is : o ≡ None → seen_at xs p ≡ seen_by program plan budget (closed_log (log_of program plan budget p (get_or (told program plan budget h).moments p [])))
   whole_is e =
-      own_seen (Some (length (own_syncs Rec p))) (ap (own_last program Rec Rs p) e)
-      ∙ ap (seen_by program plan budget) (stays_whole (length (own_syncs Rec p)) (closed_log (log_of program plan budget p (own_moments (told program plan budget h) p)))
-      (let a = closed_syncs (log_of program plan budget p (own_moments (told program plan budget h) p)) in let b = syncs_in_log program plan budget h p in omega (arith, a, b)))
+      own_seen (Some (length (get_or Rec p []))) (ap (own_last program Rec Rs p) e)
+      ∙ ap (seen_by program plan budget) (stays_whole (length (get_or Rec p [])) (closed_log (log_of program plan budget p (get_or (told program plan budget h).moments p [])))
+      (let a = closed_syncs (log_of program plan budget p (get_or (told program plan budget h).moments p [])) in let b = syncs_in_log program plan budget h p in omega (arith, a, b)))
 
   pub own_state : (z : Option ℕ) → o ≡ z → ((u : ℕ) → z ≡ Some u → 0 < u) → IsOwn
   own_state None e pos =
@@ -155,25 +153,25 @@ module _ (program : Program) (policy : Policy) (budget : ℕ) (h : List ℕ) (p 
   -- ---- the other processes
 
   abbrev top : ℕ
-  top = unwrap_or o (length (own_syncs Rec p))
+  top = unwrap_or o (length (get_or Rec p []))
 
-  top_far : (z : Option ℕ) → o ≡ z → unwrap_or z (length (own_syncs Rec p)) ≤ far
+  top_far : (z : Option ℕ) → o ≡ z → unwrap_or z (length (get_or Rec p [])) ≤ far
   top_far None e = omega arith
   top_far (Some u) e = inside u e
 
-  others : (q i : ℕ) → (q ≡ p → ⊥) → is_wanted program Rec Rs p (unwrap_or o (length (own_syncs Rec p))) q i ≡ true → Ended q i
+  others : (q i : ℕ) → (q ≡ p → ⊥) → is_wanted program Rec Rs p (unwrap_or o (length (get_or Rec p []))) q i ≡ true → Ended q i
   others q i apart want =
       let test : ℕ → Bool = is_wanted program Rec Rs p top q in
       let b = both (is_edge_before program Rec (edge q i) (edge p top)) (not (is_raced_to program Rec Rs q i)) want in
-      let lt : i < length (own_syncs Rec q) = there_is q i top apart ((tests_edges program Rec (edge q i) (edge p top)).0 b.0) in
-      let r = last_is test (length (own_syncs Rec q)) 0 None i (omega arith) (omega (arith, lt)) want in
+      let lt : i < length (get_or Rec q []) = there_is q i top apart ((tests_edges program Rec (edge q i) (edge p top)).0 b.0) in
+      let r = last_is test (length (get_or Rec q [])) 0 None i (omega arith) (omega (arith, lt)) want in
       let c = both (is_edge_before program Rec (edge q r.0) (edge p top)) (not (is_raced_to program Rec Rs q r.0)) r.4 in
       let unlike : nat_eq q p ≡ false = false_from_ne_true (nat_eq q p) (λ e. apart (eqb-true q p e)) in
       let is : last q ≡ Some r.0 = ap (λ b. if b then own_last program Rec Rs p o else other_last program Rec Rs p top q) unlike ∙ r.1 in
       let under : r.0 < edge_in program plan budget h q = there_is q r.0 top apart ((tests_edges program Rec (edge q r.0) (edge p top)).0 c.0) in
       let z = has_split program plan budget h q r.0 under in
       let e = cut_begun program policy budget h v whole xs q r.0 under (not_raced program Rec Rs q r.0 (unnot (is_raced_to program Rec Rs q r.0) c.1))
-      (seen_there program policy budget h v whole last q z.0 z.1 ∙ ap (λ n. seen_by program plan budget (cut n (closed_log (log_of program plan budget q (own_moments (told program plan budget h) q))))) is) in
+      (seen_there program policy budget h v whole last q z.0 z.1 ∙ ap (λ n. seen_by program plan budget (cut n (closed_log (log_of program plan budget q (get_or (told program plan budget h).moments q []))))) is) in
       let ended = e.ended in
       let most = r.2 in
       record { begun = e.begun; ended = omega (arith, ended, most) }
@@ -182,9 +180,9 @@ module _ (program : Program) (policy : Policy) (budget : ℕ) (h : List ℕ) (p 
       unnot true e = absurd (true≢false (sym e))
       unnot false e = refl
 
-      there_is : (q i e : ℕ) → (q ≡ p → ⊥) → EdgeBefore program Rec (edge q i) (edge p e) → i < length (own_syncs Rec q)
+      there_is : (q i e : ℕ) → (q ≡ p → ⊥) → EdgeBefore program Rec (edge q i) (edge p e) → i < length (get_or Rec q [])
       there_is q i e apart (earlier same lt) = absurd (apart same)
-      there_is q i e apart (across other l is b) = some_there (own_syncs Rec q) i (before_from program Rec (node q i) (node p l) b)
+      there_is q i e apart (across other l is b) = some_there (get_or Rec q []) i (before_from program Rec (node q i) (node p l) b)
 
   -- ---- order
 
@@ -205,7 +203,7 @@ module _ (program : Program) (policy : Policy) (budget : ℕ) (h : List ℕ) (p 
   edge_back q i e (across apart l is b) d le = across apart l is (node_back q i l b d le)
 
   -- before an edge whose past has no race, none has an edge of the process up to there
-  clear_edge : (q i e : ℕ) → EdgeBefore program Rec (edge q i) (edge p e) → has_race program Rec Rs (edge p e) ≡ false → is_raced_to program Rec Rs q i ≡ false
+  clear_edge : (q i e : ℕ) → EdgeBefore program Rec (edge q i) (edge p e) → any_raced (is_past program Rec (edge p e)) Rs ≡ false → is_raced_to program Rec Rs q i ≡ false
   clear_edge q i e b none = false_from_ne_true (is_raced_to program Rec Rs q i) (λ raced.
       let r = raced_from program Rec Rs q i raced in
       true≢false (sym (race_of_edge (is_past program Rec (edge p e)) Rs (edge q r.0) r.2
@@ -217,15 +215,15 @@ module _ (program : Program) (policy : Policy) (budget : ℕ) (h : List ℕ) (p 
       true≢false (sym (race_of_edge (λ a. is_before program Rec (node a.process a.edge) (node p e)) Rs (edge q r.0) r.2
       ((tests_before program Rec (node q r.0) (node p e)).1 (node_back q i e b r.0 r.1))) ∙ none))
 
-  in_top : (z : Option ℕ) (e : ℕ) → IsIn far z e → e ≤ unwrap_or z (length (own_syncs Rec p))
+  in_top : (z : Option ℕ) (e : ℕ) → IsIn far z e → e ≤ unwrap_or z (length (get_or Rec p []))
   in_top None e is = is
   in_top (Some u) e is = omega (arith, is)
 
-  in_next : (z : Option ℕ) (e : ℕ) → IsIn far z e → e < far → e + 1 ≤ unwrap_or z (length (own_syncs Rec p))
+  in_next : (z : Option ℕ) (e : ℕ) → IsIn far z e → e < far → e + 1 ≤ unwrap_or z (length (get_or Rec p []))
   in_next None e is lt = omega (arith, lt)
   in_next (Some u) e is lt = omega (arith, is)
 
-  total : length (filter_map sync_in (entries_at logs p)) ≡ edge_in program plan budget h p
+  total : length (filter_map sync_in (get_or logs.lists p [])) ≡ edge_in program plan budget h p
   total = total_syncs program plan budget h p y at
 
   module _ (own_is : IsOwn) where
@@ -277,8 +275,8 @@ module _ (program : Program) (policy : Policy) (budget : ℕ) (h : List ℕ) (p 
     pub at' : slice_get (splits program plan budget (story program plan budget (own_is.begun.before ++ own_is.begun.rest))) p ≡ Some y
     at' = subst (λ l. slice_get (splits program plan budget (story program plan budget l)) p ≡ Some y) own_is.begun.schedule_is at
 
-    entries_same : entries_at (closed_logs program plan budget (own_is.begun.before ++ own_is.begun.rest)) p ≡ entries_at logs p
-    entries_same = ap (λ l. entries_at (closed_logs program plan budget l) p) (sym own_is.begun.schedule_is)
+    entries_same : get_or (closed_logs program plan budget (own_is.begun.before ++ own_is.begun.rest)).lists p [] ≡ get_or logs.lists p []
+    entries_same = ap (λ l. get_or (closed_logs program plan budget l).lists p []) (sym own_is.begun.schedule_is)
 
     pub event_in : (n : ℕ) → part_at y k j ≡ Some (own n) → n < length y.trace.events → IsIn far o (edge_of_event y n) → HasPlace program policy budget h whole.last v whole.runs xs p k j
     event_in n place lt is = elim own_is.kind [
@@ -298,7 +296,7 @@ module _ (program : Program) (policy : Policy) (budget : ℕ) (h : List ℕ) (p 
             begun = own_is.begun;
             number = n;
             within = inside';
-            placed = place_back program policy budget own_is.begun.before own_is.begun.rest p v own_is.begun.split y own_is.begun.there at' (entries_at logs p) k j n place inside';
+            placed = place_back program policy budget own_is.begun.before own_is.begun.rest p v own_is.begun.split y own_is.begun.there at' (get_or logs.lists p []) k j n place inside';
           }
     ]
 
@@ -310,7 +308,7 @@ module _ (program : Program) (policy : Policy) (budget : ℕ) (h : List ℕ) (p 
           let under : edge_of_event y n < found.0 = subst (λ z. IsIn far z (edge_of_event y n)) found.1 is in
           let up = found.2 in
           let num : edge_of_event y n ≡ count_to y.trace.events n = counted y.trace.events n in
-          place_back program policy budget own_is.begun.before own_is.begun.rest p v own_is.begun.split y own_is.begun.there at' (entries_at logs p) k j n place
+          place_back program policy budget own_is.begun.before own_is.begun.rest p v own_is.begun.split y own_is.begun.there at' (get_or logs.lists p []) k j n place
           (event_there program policy budget own_is.begun.before own_is.begun.rest p v own_is.begun.split y own_is.begun.there at' (edge_of_event y n) n (omega (arith, under, up)) lt (omega (arith, num)))
     ]
 
@@ -323,7 +321,7 @@ module _ (program : Program) (policy : Policy) (budget : ℕ) (h : List ℕ) (p 
 
       here_is : here_in program policy budget h whole.last v whole.runs xs p k j y at (event_in n place lt is) ≡ edge_of_event y n
       here_is =
-          ap (λ z. edge_at (entries_at logs p) z k j) fy.seen_is ∙ (at_place y (entries_at logs p) fy.told_by k j n place lt).edge ∙ sym (counted y.trace.events n)
+          ap (λ z. edge_at (get_or logs.lists p []) z k j) fy.seen_is ∙ (at_place y (get_or logs.lists p []) fy.told_by k j n place lt).edge ∙ sym (counted y.trace.events n)
 
       -- the number of an event at a place is the same in both
       same_number : (e : TracedEvent) → slice_get (event_in n place lt is).begun.split.trace.events (event_in n place lt is).number ≡ Some e → (f : TracedEvent) × (slice_get y.trace.events n ≡ Some f) × (f.event.number ≡ e.event.number)
@@ -352,37 +350,37 @@ module _ (program : Program) (policy : Policy) (budget : ℕ) (h : List ℕ) (p 
 
     -- ---- an interval inside
 
-    pub left_own : (m : ℕ) (i : Span) → slice_get y.spans m ≡ Some i → (u : ℕ) → o ≡ Some u → u ≤ edge_in program plan budget own_is.begun.before p → IsIn far o (left_edge (entries_at logs p) m)
-        → (x : Span) × (slice_get own_is.begun.split.spans m ≡ Some x) × (is_closed x ≡ true)
+    pub left_own : (m : ℕ) (i : Span) → slice_get y.spans m ≡ Some i → (u : ℕ) → o ≡ Some u → u ≤ edge_in program plan budget own_is.begun.before p → IsIn far o (left_edge (get_or logs.lists p []) m)
+        → (x : Span) × (slice_get own_is.begun.split.spans m ≡ Some x) × (is_some x.closed ≡ true)
     left_own m i at_m u e up is =
-        let under : left_edge (entries_at logs p) m < u = subst (λ z. IsIn far z (left_edge (entries_at logs p) m)) e is in
-        let few : edge_in program plan budget own_is.begun.before p ≤ length (filter_map sync_in (entries_at (closed_logs program plan budget (own_is.begun.before ++ own_is.begun.rest)) p)) =
-        (let all : length (filter_map sync_in (entries_at logs p)) ≡ far = total in
+        let under : left_edge (get_or logs.lists p []) m < u = subst (λ z. IsIn far z (left_edge (get_or logs.lists p []) m)) e is in
+        let few : edge_in program plan budget own_is.begun.before p ≤ length (filter_map sync_in (get_or (closed_logs program plan budget (own_is.begun.before ++ own_is.begun.rest)).lists p [])) =
+        (let all : length (filter_map sync_in (get_or logs.lists p [])) ≡ far = total in
         let grown : edge_in program plan budget own_is.begun.before p ≤ edge_in program plan budget (own_is.begun.before ++ own_is.begun.rest) p =
         fewer program plan budget own_is.begun.before own_is.begun.rest whole.last (subst (λ l. run program plan budget l ≡ Some whole.last) own_is.begun.schedule_is whole.runs) p in
         let same : edge_in program plan budget (own_is.begun.before ++ own_is.begun.rest) p ≡ far = ap (λ l. edge_in program plan budget l p) (sym own_is.begun.schedule_is) in
-        let es : length (filter_map sync_in (entries_at (closed_logs program plan budget (own_is.begun.before ++ own_is.begun.rest)) p)) ≡ length (filter_map sync_in (entries_at logs p)) = ap (λ zs. length (filter_map sync_in zs)) entries_same in
+        let es : length (filter_map sync_in (get_or (closed_logs program plan budget (own_is.begun.before ++ own_is.begun.rest)).lists p [])) ≡ length (filter_map sync_in (get_or logs.lists p [])) = ap (λ zs. length (filter_map sync_in zs)) entries_same in
         omega (arith, all, grown, same, es)) in
         left_then program policy budget own_is.begun.before own_is.begun.rest p v own_is.begun.split y own_is.begun.there at' m i at_m few
         (subst (λ zs. left_edge zs m < edge_in program plan budget own_is.begun.before p) (sym entries_same) (omega (arith, under, up)))
 
-    pub inside_placed : (m : ℕ) (i : Span) → part_at y k j ≡ Some (nested m) → slice_get y.spans m ≡ Some i → IsIn far o (left_edge (entries_at logs p) m) → part_at own_is.begun.split k j ≡ Some (nested m)
+    pub inside_placed : (m : ℕ) (i : Span) → part_at y k j ≡ Some (nested m) → slice_get y.spans m ≡ Some i → IsIn far o (left_edge (get_or logs.lists p []) m) → part_at own_is.begun.split k j ≡ Some (nested m)
     inside_placed m i place at_m is = elim own_is.kind [
       | inl none ↦ subst (λ (z : Split). part_at z k j ≡ Some (nested m)) (sym none.1) place
       | inr found ↦ (let l = left_own m i at_m found.0 found.1 found.2 is in
           nested_back program policy budget own_is.begun.before own_is.begun.rest p v own_is.begun.split y own_is.begun.there at' k j m l.0 l.1 l.2 place)
     ]
 
-    pub inside_found : (m : ℕ) (i : Span) → part_at y k j ≡ Some (nested m) → slice_get y.spans m ≡ Some i → IsIn far o (left_edge (entries_at logs p) m)
+    pub inside_found : (m : ℕ) (i : Span) → part_at y k j ≡ Some (nested m) → slice_get y.spans m ≡ Some i → IsIn far o (left_edge (get_or logs.lists p []) m)
         → found_edges program plan logs xs p k j ≡ found_edges program plan logs (all_seen program plan budget h) p k j
     inside_found m i place at_m is = elim own_is.kind [
       | inl none ↦
           let whole' : HasWholeItems (splits program plan budget s) y p = items_whole program plan budget h p y v at in
-          let item_is : slice_get (items_at (seen_of y) k) j ≡ Some (item.Nested m i.block i.values (is_closed i)) = nested_at y (splits program plan budget s) p k j m i whole' place at_m in
+          let item_is : slice_get (get_or (seen_of y).items k []) j ≡ Some (item.Nested m i.block i.values (is_some i.closed)) = nested_at y (splits program plan budget s) p k j m i whole' place at_m in
           let mine : seen_at xs p ≡ seen_of y = own_is.begun.seen_is ∙ ap (λ (z : Split). seen_of z) none.1 in
-          ap (edges_if program plan logs xs p k j) (ap (λ q. slice_get (items_at q k) j) mine ∙ item_is)
+          ap (edges_if program plan logs xs p k j) (ap (λ (q : Seen). slice_get (get_or q.items k []) j) mine ∙ item_is)
           ∙ ap (λ q. Some (Ok (edges_of_nested program plan q p k j m i.block i.values (block_kind plan i.block)))) (mine ∙ sym fy.seen_is)
-          ∙ sym (ap (edges_if program plan logs (all_seen program plan budget h) p k j) (ap (λ q. slice_get (items_at q k) j) fy.seen_is ∙ item_is))
+          ∙ sym (ap (edges_if program plan logs (all_seen program plan budget h) p k j) (ap (λ (q : Seen). slice_get (get_or q.items k []) j) fy.seen_is ∙ item_is))
       | inr found ↦ (let l = left_own m i at_m found.0 found.1 found.2 is in
           inside_edges_same program policy budget h whole.last v whole.runs xs p k j y at own_is.begun m l.0
           (nested_back program policy budget own_is.begun.before own_is.begun.rest p v own_is.begun.split y own_is.begun.there at' k j m l.0 l.1 l.2 place) l.1 l.2)

@@ -2,7 +2,7 @@
 -- has this edge or one before it: then each interval is replayed to what it has by then.
 use Rattle.std.proofs.Common.{◌≡◌, ℕ, suc, ◌+◌, ◌-◌, ◌<◌, ◌≤◌, List, [], ◌∷◌, ◌++◌, Some, None, refl, ap, sym, subst, ◌∙◌, arith, length, inl, inr, length-append}
 use Rattle.std.proofs.lemmas.List.Sums.{fold-append}
-use Rattle.std.specs.Prelude.{fold, is_some, slice_get}
+use Rattle.std.specs.Prelude.{fold, is_some, slice_get, get_or}
 use Rattle.ppd_ast.specs.declared.plan.Plan.{Plan}
 use Rattle.ppd_ast.specs.declared.plan.Policy.{Policy}
 use Rattle.ppd_ast.specs.declared.program.Program.{Program}
@@ -20,7 +20,7 @@ use Rattle.ppd_model.specs.Intervals.{Split, splits}
 use Rattle.ppd_model.specs.Logs.{begun_log, log_of, log_step}
 use Rattle.ppd_model.specs.Schedule.{IsWhole, run, started_world}
 use Rattle.ppd_model.specs.States.{act_on}
-use Rattle.ppd_model.specs.Story.{Moment, moment_of, own_moments, steps_of, story, told}
+use Rattle.ppd_model.specs.Story.{Moment, moment_of, steps_of, story, told}
 use Rattle.ppd_model.specs.Synchronizations.{kind_of_sync}
 use Rattle.ppd_model.specs.World.{World}
 use Rattle.ppd_model.proofs.WorldWords.{need_at}
@@ -48,7 +48,7 @@ module _ (program : Program) (policy : Policy) (budget : ℕ) (h : List ℕ) (p 
   g = ends.before ++ p ∷ []
 
   abbrev pub ms : List Moment
-  ms = own_moments (told program plan budget ends.before) p
+  ms = get_or (told program plan budget ends.before).moments p []
 
   abbrev pub m : Moment
   m = moment_of program plan (told program plan budget ends.before) p
@@ -72,7 +72,7 @@ module _ (program : Program) (policy : Policy) (budget : ℕ) (h : List ℕ) (p 
 
   -- ---- the process after g
 
-  pub more : own_moments (told program plan budget g) p ≡ ms ++ m ∷ []
+  pub more : get_or (told program plan budget g).moments p [] ≡ ms ++ m ∷ []
   more = own_more program plan budget ends.before p ends.there
 
   same_state : (xs : List Moment) (s : Proc) → after_all program plan s xs ≡ fold (act_on program plan) s (steps_of xs)
@@ -83,7 +83,7 @@ module _ (program : Program) (policy : Policy) (budget : ℕ) (h : List ℕ) (p 
   need_is = ap (need_of program plan) (same_state ms s0) ∙ sym (ap (need_at program plan) (process_is program plan budget ends.before p there))
 
   abbrev pub kept : Logging
-  kept = log_of program plan budget p (own_moments (told program plan budget g) p)
+  kept = log_of program plan budget p (get_or (told program plan budget g).moments p [])
 
   pub kept_is : kept ≡ log_step program plan (log_of program plan budget p ms) m
   kept_is = ap (log_of program plan budget p) more ∙ fold-append (log_step program plan) (begun_log program plan budget p) ms (m ∷ [])

@@ -2,7 +2,7 @@
 -- the schedule, finds those that it finds over what they have at the end.
 use Rattle.std.proofs.Common.{◌≡◌, ℕ, true, zero, suc, ◌+◌, List, [], ◌∷◌, ◌++◌, length, Option, Some, None, Ok, refl, ap, ap₂, sym, subst, ◌∙◌, arith}
 use Rattle.std.proofs.lemmas.Option.{none-some}
-use Rattle.std.specs.Prelude.{is_some, slice_get, zip}
+use Rattle.std.specs.Prelude.{is_some, slice_get, zip, get_or}
 use Rattle.ppd_ast.specs.declared.plan.Plan.{Plan}
 use Rattle.ppd_ast.specs.declared.plan.Policy.{Policy}
 use Rattle.ppd_ast.specs.declared.program.Program.{Program}
@@ -31,7 +31,7 @@ use Rattle.ppd_flow_model.specs.Control.{control_origin}
 use Rattle.ppd_flow_model.specs.Found.{and_more, before_others, edges_if, event_edges, found_edges, pair_edges, read_edge, read_edges, read_if, sync_edges}
 use Rattle.ppd_flow_model.specs.Locals.{local_origin}
 use Rattle.ppd_flow_model.specs.Own.{read_from}
-use Rattle.ppd_flow_model.specs.Seen.{Seen, items_at, seen_of}
+use Rattle.ppd_flow_model.specs.Seen.{Seen, seen_of}
 use Rattle.law_flow_shared.specs.Edges.SharedEdges.{all_seen}
 use Rattle.law_flow_shared.proofs.Edges.StepEvents.Processes.{Facts, facts}
 use Rattle.law_flow_shared.proofs.Edges.StepEvents.Timeline.{did}
@@ -114,8 +114,8 @@ module _ (program : Program) (policy : Policy) (budget : ℕ) (h : List ℕ) (w 
   pub event_edges_same : found_edges program plan logs xs p k j ≡ found_edges program plan logs all p k j
   event_edges_same =
       let s = slice_get_there b.split.trace.events place.number place.within in
-      let mine : slice_get (items_at (seen_of b.split) k) j ≡ Some (item.Own s.0.event) = item_is program policy budget b.before b.rest p v b.split y b.there at' k j place.number place.placed s.0 s.1 in
-      let both : slice_get (items_at (seen_of b.split) k) j ≡ slice_get (items_at (seen_of y) k) j = item_same program policy budget b.before b.rest p v b.split y b.there at' k j place.number place.placed s.0 s.1 in
-      ap (edges_if program plan logs xs p k j) (ap (λ q. slice_get (items_at q k) j) b.seen_is ∙ mine)
+      let mine : slice_get (get_or (seen_of b.split).items k []) j ≡ Some (item.Own s.0.event) = item_is program policy budget b.before b.rest p v b.split y b.there at' k j place.number place.placed s.0 s.1 in
+      let both : slice_get (get_or (seen_of b.split).items k []) j ≡ slice_get (get_or (seen_of y).items k []) j = item_same program policy budget b.before b.rest p v b.split y b.there at' k j place.number place.placed s.0 s.1 in
+      ap (edges_if program plan logs xs p k j) (ap (λ (q : Seen). slice_get (get_or q.items k []) j) b.seen_is ∙ mine)
       ∙ ap (λ z. Some z) (event_same s.0 s.1)
-      ∙ sym (ap (edges_if program plan logs all p k j) (ap (λ q. slice_get (items_at q k) j) fy.seen_is ∙ sym both ∙ mine))
+      ∙ sym (ap (edges_if program plan logs all p k j) (ap (λ (q : Seen). slice_get (get_or q.items k []) j) fy.seen_is ∙ sym both ∙ mine))

@@ -13,12 +13,12 @@ use Rattle.ppd_ast.specs.declared.program.Program.{Program}
 use Rattle.ppd_entry.specs.declared.entry.Entry.{Entry}
 use Rattle.ppd_entry.specs.declared.entry.Entry.TheVariants as entry
 use Rattle.ppd_model.specs.declared.state.Logging.{Logging}
-use Rattle.ppd_model.specs.Logs.{begun_log, closed_log, ends, entries_of, log_step, passed_value, postlogs, prelogs, status_of, syncs as sync_entries, units}
+use Rattle.ppd_model.specs.Logs.{begun_log, closed_log, ends, entries_of, log_step, passed_value, status_of, syncs as sync_entries, units, block_entries}
 use Rattle.ppd_model.specs.Marks.{Mark, closed, opened}
 use Rattle.ppd_sem.specs.declared.proc.Need.{Need}
 use Rattle.ppd_sem.specs.declared.proc.Need.TheVariants as need
 use Rattle.ppd_model.specs.RecordedSets.{sync_in}
-use Rattle.ppd_model.specs.Synchronizations.{Sync, kind_of_sync, sync_of, syncs_of}
+use Rattle.ppd_model.specs.Synchronizations.{Sync, kind_of_sync, sync_of}
 use Rattle.ppd_model.proofs.RecordedSyncs.{of_step}
 use Rattle.ppd_model.specs.Story.{Moment, steps_of, unit_started}
 use Rattle.law_replay.proofs.Coming.Later.{closing}
@@ -101,13 +101,13 @@ module _ (program : Program) (plan : Plan) where
       one None = refl
       one (Some s) = refl
 
-  pub syncs_are : (ms : List Moment) (l : Logging) → filter_map sync_in (fold (log_step program plan) l ms).entries ≡ filter_map sync_in l.entries ++ syncs_of (steps_of ms)
+  pub syncs_are : (ms : List Moment) (l : Logging) → filter_map sync_in (fold (log_step program plan) l ms).entries ≡ filter_map sync_in l.entries ++ filter_map sync_of (steps_of ms)
   syncs_are [] l = sym (append-nil (filter_map sync_in l.entries))
   syncs_are (m ∷ ms) l =
       syncs_are ms (log_step program plan l m)
-      ∙ ap (λ zs. zs ++ syncs_of (steps_of ms)) (filter_map-append sync_in l.entries (entries_of program plan l m) ∙ ap (λ zs. filter_map sync_in l.entries ++ zs) (syncs_step l m))
-      ∙ append_assoc (filter_map sync_in l.entries) (option_to_list (sync_of m.taken)) (syncs_of (steps_of ms))
-      ∙ ap (λ zs. filter_map sync_in l.entries ++ zs) (grouped (sync_of m.taken) (syncs_of (steps_of ms)))
+      ∙ ap (λ zs. zs ++ filter_map sync_of (steps_of ms)) (filter_map-append sync_in l.entries (entries_of program plan l m) ∙ ap (λ zs. filter_map sync_in l.entries ++ zs) (syncs_step l m))
+      ∙ append_assoc (filter_map sync_in l.entries) (option_to_list (sync_of m.taken)) (filter_map sync_of (steps_of ms))
+      ∙ ap (λ zs. filter_map sync_in l.entries ++ zs) (grouped (sync_of m.taken) (filter_map sync_of (steps_of ms)))
     where
       grouped : (o : Option Sync) (ss : List Sync) → option_to_list o ++ ss ≡ cons_option o ss
       grouped None ss = refl
@@ -118,11 +118,11 @@ module _ (program : Program) (plan : Plan) where
 module _ (program : Program) (plan : Plan) where
   step_unended : (l : Logging) (m : Moment) → status_of m.taken.need ≡ None → list_any is_end (entries_of program plan l m) ≡ false
   step_unended l m runs =
-      ap (λ o. list_any is_end (prelogs a ++ sync_entries l m.taken b ++ postlogs c ++ units d m.unit_values ++ ends l o)) runs
-      ∙ list_any-append is_end (prelogs a ++ sync_entries l m.taken b ++ postlogs c ++ units d m.unit_values) []
-      ∙ ap (λ x. x || false) (list_any-append is_end (prelogs a ++ sync_entries l m.taken b ++ postlogs c) (units d m.unit_values)
-      ∙ ap₂ (λ x y. x || y) (list_any-append is_end (prelogs a ++ sync_entries l m.taken b) (postlogs c)
-      ∙ ap₂ (λ x y. x || y) (list_any-append is_end (prelogs a) (sync_entries l m.taken b) ∙ ap₂ (λ x y. x || y) (no_prelog a) (no_sync b)) (no_postlog c)) (no_unit d))
+      ap (λ o. list_any is_end (block_entries entry.Prelog a ++ sync_entries l m.taken b ++ block_entries entry.Postlog c ++ units d m.unit_values ++ ends l o)) runs
+      ∙ list_any-append is_end (block_entries entry.Prelog a ++ sync_entries l m.taken b ++ block_entries entry.Postlog c ++ units d m.unit_values) []
+      ∙ ap (λ x. x || false) (list_any-append is_end (block_entries entry.Prelog a ++ sync_entries l m.taken b ++ block_entries entry.Postlog c) (units d m.unit_values)
+      ∙ ap₂ (λ x y. x || y) (list_any-append is_end (block_entries entry.Prelog a ++ sync_entries l m.taken b) (block_entries entry.Postlog c)
+      ∙ ap₂ (λ x y. x || y) (list_any-append is_end (block_entries entry.Prelog a) (sync_entries l m.taken b) ∙ ap₂ (λ x y. x || y) (no_prelog a) (no_sync b)) (no_postlog c)) (no_unit d))
     where
       a : Option Mark
       a = opened program plan l.proc m.taken.need
@@ -136,11 +136,11 @@ module _ (program : Program) (plan : Plan) where
       d : Option ℕ
       d = unit_started m.taken.need
 
-      no_prelog : (o : Option Mark) → list_any is_end (prelogs o) ≡ false
+      no_prelog : (o : Option Mark) → list_any is_end (block_entries entry.Prelog o) ≡ false
       no_prelog None = refl
       no_prelog (Some x) = refl
 
-      no_postlog : (o : Option Mark) → list_any is_end (postlogs o) ≡ false
+      no_postlog : (o : Option Mark) → list_any is_end (block_entries entry.Postlog o) ≡ false
       no_postlog None = refl
       no_postlog (Some x) = refl
 
@@ -179,9 +179,9 @@ module _ (program : Program) (plan : Plan) where
       of n is op cl st (Some x) s f = record {
         entry = entry.Sync x.kind x.object x.number (passed_value m.taken.need m.taken.answer) l.reads l.writes;
         entries_are =
-            ap (λ o. prelogs o ++ sync_entries l m.taken (sync_of m.taken) ++ postlogs (closed program plan l.proc m.taken.need) ++ units (unit_started m.taken.need) m.unit_values ++ ends l (status_of m.taken.need)) (ap (opened program plan l.proc) is ∙ op)
-            ∙ ap (λ o. [] ++ sync_entries l m.taken o ++ postlogs (closed program plan l.proc m.taken.need) ++ units (unit_started m.taken.need) m.unit_values ++ ends l (status_of m.taken.need)) s
-            ∙ ap (λ o. (entry.Sync x.kind x.object x.number (passed_value m.taken.need m.taken.answer) l.reads l.writes ∷ []) ++ postlogs o ++ units (unit_started m.taken.need) m.unit_values ++ ends l (status_of m.taken.need)) (ap (closed program plan l.proc) is ∙ cl)
+            ap (λ o. block_entries entry.Prelog o ++ sync_entries l m.taken (sync_of m.taken) ++ block_entries entry.Postlog (closed program plan l.proc m.taken.need) ++ units (unit_started m.taken.need) m.unit_values ++ ends l (status_of m.taken.need)) (ap (opened program plan l.proc) is ∙ op)
+            ∙ ap (λ o. [] ++ sync_entries l m.taken o ++ block_entries entry.Postlog (closed program plan l.proc m.taken.need) ++ units (unit_started m.taken.need) m.unit_values ++ ends l (status_of m.taken.need)) s
+            ∙ ap (λ o. (entry.Sync x.kind x.object x.number (passed_value m.taken.need m.taken.answer) l.reads l.writes ∷ []) ++ block_entries entry.Postlog o ++ units (unit_started m.taken.need) m.unit_values ++ ends l (status_of m.taken.need)) (ap (closed program plan l.proc) is ∙ cl)
             ∙ ap (λ o. (entry.Sync x.kind x.object x.number (passed_value m.taken.need m.taken.answer) l.reads l.writes ∷ units (unit_started m.taken.need) m.unit_values) ++ ends l o) (ap status_of is ∙ st)
             ∙ append-nil (entry.Sync x.kind x.object x.number (passed_value m.taken.need m.taken.answer) l.reads l.writes ∷ units (unit_started m.taken.need) m.unit_values);
         is_sync = refl;
@@ -207,7 +207,7 @@ module _ (program : Program) (plan : Plan) (budget p : ℕ) (before : List Momen
   kept = log_step program plan front m
 
   -- m is synchronization i, none of the steps before it ends the process, and where it starts no unit none comes next
-  pub cut_is : (i : ℕ) → is_some (sync_of m.taken) ≡ true → length (syncs_of (steps_of before)) ≡ i → GoOn program plan before
+  pub cut_is : (i : ℕ) → is_some (sync_of m.taken) ≡ true → length (filter_map sync_of (steps_of before)) ≡ i → GoOn program plan before
       → (unit_started m.taken.need ≡ None → is_unit (slice_get (tail program plan kept more) 0) ≡ false)
       → cut (Some i) (closed_log (fold (log_step program plan) (begun_log program plan budget p) (before ++ m ∷ more))) ≡ kept.entries ++ stop ∷ []
   cut_is i sync count go next =

@@ -1,6 +1,6 @@
 -- The definition's cut of a process's whole log is its log after the synchronization, and the end of a cut log.
 use Rattle.std.proofs.Common.{◌≡◌, ℕ, ◌≤◌, true, false, List, [], ◌∷◌, ◌++◌, length, Option, Some, None, refl, ap, sym, subst, ◌∙◌, append_assoc, true≢false}
-use Rattle.std.specs.Prelude.{is_some, slice_get}
+use Rattle.std.specs.Prelude.{is_some, slice_get, get_or}
 use Rattle.ppd_ast.specs.declared.plan.Plan.{Plan}
 use Rattle.ppd_ast.specs.declared.plan.Policy.{Policy}
 use Rattle.ppd_ast.specs.declared.program.Program.{Program}
@@ -13,7 +13,7 @@ use Rattle.ppd_sem.proofs.NeedWords.{need_by_status}
 use Rattle.ppd_model.specs.declared.state.Logging.{Logging}
 use Rattle.ppd_model.specs.Logs.{begun_log, closed_log, log_of, log_step, status_of}
 use Rattle.ppd_model.specs.Schedule.{IsWhole}
-use Rattle.ppd_model.specs.Story.{Moment, own_moments, told, unit_started}
+use Rattle.ppd_model.specs.Story.{Moment, told, unit_started}
 use Rattle.ppd_model.specs.Synchronizations.{kind_of_sync}
 use Rattle.ppd_model.proofs.Statuses.{status_after}
 use Rattle.law_steps.specs.OpenBlocks.Run.{IsRun}
@@ -65,13 +65,13 @@ module _ (program : Program) (policy : Policy) (budget : ℕ) (h : List ℕ) (p 
   abbrev start : Proc
   start = s0 program policy budget h p i v whole ends clear
 
-  pub later : (xs : List Moment) × (own_moments (told program plan budget (g program policy budget h p i v whole ends clear ++ ends.rest)) p
-      ≡ own_moments (told program plan budget (g program policy budget h p i v whole ends clear)) p ++ xs)
+  pub later : (xs : List Moment) × (get_or (told program plan budget (g program policy budget h p i v whole ends clear ++ ends.rest)).moments p []
+      ≡ get_or (told program plan budget (g program policy budget h p i v whole ends clear)).moments p [] ++ xs)
   later = moments_grow program plan budget ends.rest (g program policy budget h p i v whole ends clear) p
 
-  all : own_moments (told program plan budget h) p ≡ before ++ it ∷ later.0
+  all : get_or (told program plan budget h).moments p [] ≡ before ++ it ∷ later.0
   all =
-      ap (λ l. own_moments (told program plan budget l) p) ends.schedule_is ∙ later.1
+      ap (λ l. get_or (told program plan budget l).moments p []) ends.schedule_is ∙ later.1
       ∙ ap (λ z. z ++ later.0) (more program policy budget h p i v whole ends clear) ∙ append_assoc before (it ∷ []) later.0
 
   still : (after_all program plan start before).status ≡ None
@@ -92,7 +92,7 @@ module _ (program : Program) (policy : Policy) (budget : ℕ) (h : List ℕ) (p 
       (subst (λ s. IsRun program plan s later.0) (sym after) rest.3) none
 
   -- the cut of the whole log
-  pub cut_of_log : cut (Some i) (closed_log (log_of program plan budget p (own_moments (told program plan budget h) p))) ≡ cut_log program policy budget h p i v whole ends clear
+  pub cut_of_log : cut (Some i) (closed_log (log_of program plan budget p (get_or (told program plan budget h).moments p []))) ≡ cut_log program policy budget h p i v whole ends clear
   cut_of_log =
       ap (λ xs. cut (Some i) (closed_log (log_of program plan budget p xs))) all
       ∙ cut_is program plan budget p before it later.0 i ends.is_sync (sym (ap length (own_syncs_are program plan budget ends.before p)) ∙ ends.edge_is)

@@ -3,7 +3,7 @@ use Rattle.std.proofs.Common.{◌≡◌, ℕ, ◌+◌, ◌-◌, ◌<◌, ◌≤�
 use Rattle.std.proofs.lemmas.Bool.{cases_eq, cases_lt}
 use Rattle.std.proofs.lemmas.List.Sums.{fold-append}
 use Rattle.std.specs.List.{flat_map}
-use Rattle.std.specs.Prelude.{fold, is_none, slice_get}
+use Rattle.std.specs.Prelude.{fold, is_none, slice_get, get_or}
 use Rattle.ppd_ast.specs.declared.plan.Plan.{Plan}
 use Rattle.ppd_ast.specs.declared.plan.Policy.{Policy}
 use Rattle.ppd_ast.specs.declared.program.Program.{Program}
@@ -25,7 +25,7 @@ use Rattle.ppd_model.specs.Intervals.{Part, own, nested, Span, Split, begun_spli
 use Rattle.ppd_model.proofs.IntervalWords.{item_of_event, item_of_span}
 use Rattle.ppd_model.specs.Logs.{begun_log, closed_log, log_of, log_step}
 use Rattle.ppd_model.specs.Schedule.{IsWhole}
-use Rattle.ppd_model.specs.Story.{Moment, moment_of, own_moments, own_steps, steps_of, story, told}
+use Rattle.ppd_model.specs.Story.{Moment, moment_of, steps_of, story, told}
 use Rattle.ppd_model.proofs.Items.{split_found}
 use Rattle.ppd_model.proofs.Stories.{steps_append}
 use Rattle.law_steps.specs.OpenBlocks.Run.{IsRun}
@@ -46,26 +46,26 @@ use Rattle.law_clean.proofs.Stopped.{AreSame, IsCut, after_all, cut_run, same_ne
 
 module _ (program : Program) (plan : Plan) (budget : ℕ) where
   -- a process has the moments of a beginning, and then more
-  pub moments_grow : (rest g : List ℕ) (p : ℕ) → (more : List Moment) × (own_moments (told program plan budget (g ++ rest)) p ≡ own_moments (told program plan budget g) p ++ more)
-  moments_grow [] g p = ([], ap (λ h. own_moments (told program plan budget h) p) (append-nil g) ∙ sym (append-nil (own_moments (told program plan budget g) p)))
+  pub moments_grow : (rest g : List ℕ) (p : ℕ) → (more : List Moment) × (get_or (told program plan budget (g ++ rest)).moments p [] ≡ get_or (told program plan budget g).moments p [] ++ more)
+  moments_grow [] g p = ([], ap (λ h. get_or (told program plan budget h).moments p []) (append-nil g) ∙ sym (append-nil (get_or (told program plan budget g).moments p [])))
   moments_grow (r ∷ rest) g p =
       let further = moments_grow rest (g ++ r ∷ []) p in
-      let one : (new : List Moment) × (own_moments (told program plan budget (g ++ r ∷ [])) p ≡ own_moments (told program plan budget g) p ++ new) = step r in (
+      let one : (new : List Moment) × (get_or (told program plan budget (g ++ r ∷ [])).moments p [] ≡ get_or (told program plan budget g).moments p [] ++ new) = step r in (
         one.0 ++ further.0,
-        ap (λ h. own_moments (told program plan budget h) p) (sym (append_assoc g (r ∷ []) rest)) ∙ further.1 ∙ ap (λ ms. ms ++ further.0) one.1
-            ∙ append_assoc (own_moments (told program plan budget g) p) one.0 further.0,
+        ap (λ h. get_or (told program plan budget h).moments p []) (sym (append_assoc g (r ∷ []) rest)) ∙ further.1 ∙ ap (λ ms. ms ++ further.0) one.1
+            ∙ append_assoc (get_or (told program plan budget g).moments p []) one.0 further.0,
       )
     where
-      none : {ms : List Moment} → own_moments (told program plan budget (g ++ r ∷ [])) p ≡ ms → ms ≡ own_moments (told program plan budget g) p
-          → (new : List Moment) × (own_moments (told program plan budget (g ++ r ∷ [])) p ≡ own_moments (told program plan budget g) p ++ new)
-      none e f = ([], e ∙ f ∙ sym (append-nil (own_moments (told program plan budget g) p)))
+      none : {ms : List Moment} → get_or (told program plan budget (g ++ r ∷ [])).moments p [] ≡ ms → ms ≡ get_or (told program plan budget g).moments p []
+          → (new : List Moment) × (get_or (told program plan budget (g ++ r ∷ [])).moments p [] ≡ get_or (told program plan budget g).moments p [] ++ new)
+      none e f = ([], e ∙ f ∙ sym (append-nil (get_or (told program plan budget g).moments p [])))
 
-      step : (r' : ℕ) → (new : List Moment) × (own_moments (told program plan budget (g ++ r ∷ [])) p ≡ own_moments (told program plan budget g) p ++ new)
+      step : (r' : ℕ) → (new : List Moment) × (get_or (told program plan budget (g ++ r ∷ [])).moments p [] ≡ get_or (told program plan budget g).moments p [] ++ new)
       step r' = elim (cases_eq r p) [
         | inr other ↦ none (own_same program plan budget g r p other) refl
         | inl same ↦ elim (cases_lt p (length (told program plan budget g).world.procs)) [
-          | inl lt ↦ (moment_of program plan (told program plan budget g) p ∷ [], ap (λ k. own_moments (told program plan budget (g ++ k ∷ [])) p) same ∙ own_more program plan budget g p lt)
-          | inr past ↦ none (ap (λ k. own_moments (told program plan budget (g ++ k ∷ [])) p) same ∙ own_past program plan budget g p past) refl
+          | inl lt ↦ (moment_of program plan (told program plan budget g) p ∷ [], ap (λ k. get_or (told program plan budget (g ++ k ∷ [])).moments p []) same ∙ own_more program plan budget g p lt)
+          | inr past ↦ none (ap (λ k. get_or (told program plan budget (g ++ k ∷ [])).moments p []) same ∙ own_past program plan budget g p past) refl
         ]
       ]
 
@@ -111,7 +111,7 @@ module _ (program : Program) (policy : Policy) (budget : ℕ) (g rest : List ℕ
   plan = plan_of program policy
 
   abbrev ms : List Moment
-  ms = own_moments (told program plan budget g) p
+  ms = get_or (told program plan budget g).moments p []
 
   abbrev s0 : Proc
   s0 = started program plan p budget
@@ -125,7 +125,7 @@ module _ (program : Program) (policy : Policy) (budget : ℕ) (g rest : List ℕ
   cut_entries = kept.entries ++ entry.End status.Budget kept.rest kept.reads kept.writes ∷ []
 
   module _ (runs : kept.proc.status ≡ None) (clear : AreUnracedReads program plan budget g (g ++ rest) p) where
-    more : (more : List Moment) × (own_moments (told program plan budget (g ++ rest)) p ≡ ms ++ more)
+    more : (more : List Moment) × (get_or (told program plan budget (g ++ rest)).moments p [] ≡ ms ++ more)
     more = moments_grow program plan budget rest g p
 
     run : IsRun program plan s0 (ms ++ more.0)
@@ -211,5 +211,5 @@ module _ (program : Program) (policy : Policy) (budget : ℕ) (g rest : List ℕ
         let s : Story = story program plan budget g in
         let z : 0 + p ≡ p = omega arith in
         let is : split_of program plan budget s p (steps_of ms) ≡ x =
-        ap (λ xs. split_of program plan budget s p xs) (sym (own_steps_are program plan budget g p)) ∙ ap (λ q. split_of program plan budget s q (own_steps s p)) (sym z) ∙ split_found program plan budget s 0 s.steps p x at in
+        ap (λ xs. split_of program plan budget s p xs) (sym (own_steps_are program plan budget g p)) ∙ ap (λ q. split_of program plan budget s q (get_or s.steps p [])) (sym z) ∙ split_found program plan budget s 0 s.steps p x at in
         cut_replays s k ∙ ap (λ y. modelled_of y (slice_get y.spans k)) is

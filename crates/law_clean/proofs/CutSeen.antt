@@ -1,4 +1,5 @@
 -- What replays of a cut log give of its process: what the process has in its intervals by then.
+use Rattle.std.specs.Result.{result_unwrap_or}
 use Rattle.std.proofs.Common.{◌≡◌, ℕ, zero, suc, ◌+◌, ◌≤◌, List, [], ◌∷◌, ◌++◌, map, get_or, Option, Some, None, refl, ap, ap₂, sym, subst, ◌∙◌, arith}
 use Rattle.std.proofs.lemmas.List.Sums.{fold-append}
 use Rattle.std.proofs.lemmas.Option.{none-some, slice_get-map}
@@ -18,17 +19,17 @@ use Rattle.ppd_model.specs.declared.flow.Item.{Item}
 use Rattle.ppd_model.specs.declared.state.Logging.{Logging}
 use Rattle.ppd_model.specs.declared.tracing.Story.{Story}
 use Rattle.ppd_model.specs.Bounds.{AreEach}
-use Rattle.ppd_model.specs.Extents.{Extending, Extent, IsSameInterval, extend, extents, first_of}
+use Rattle.ppd_model.specs.Extents.{Extent, IsSameInterval, extend, extents, Indexing}
 use Rattle.ppd_model.proofs.ExtentWords.{begun_extents}
 use Rattle.ppd_model.specs.Intervals.{Span, Split, items_of, split_of, splits}
 use Rattle.ppd_model.proofs.IntervalWords.{splits_from}
 use Rattle.ppd_model.specs.Logs.{closed_log, log_of, loggings}
 use Rattle.ppd_model.proofs.LogWords.{logs_from}
 use Rattle.ppd_model.specs.Schedule.{IsWhole}
-use Rattle.ppd_model.specs.Story.{Moment, own_moments, own_steps, steps_of as steps_of_moments, story, told}
+use Rattle.ppd_model.specs.Story.{Moment, steps_of as steps_of_moments, story, told}
 use Rattle.ppd_model.proofs.Items.{split_found}
 use Rattle.ppd_model.proofs.LoggedSpans.{intervals_of_logs}
-use Rattle.ppd_flow_past.specs.SeenBy.{items_by, rounds_by, seen_by}
+use Rattle.ppd_flow_past.specs.SeenBy.{rounds_by, seen_by, told_by}
 use Rattle.ppd_flow_past.proofs.Lists.{same_lists}
 use Rattle.ppd_flow_past.proofs.Rounds.{rounds_of_split}
 use Rattle.law_replay.specs.Theorem.Laws.{modelled_of, replay_of}
@@ -43,19 +44,19 @@ use Rattle.law_clean.proofs.EdgeEnds.{EndsEdge}
 module _ (program : Program) (plan : Plan) (budget : ℕ) (is : List Indexed) (x : Split)
     (same : (k : ℕ) → replay_of program plan budget (log_in (slice_get is k)) ≡ modelled_of x (slice_get x.spans k)) where
   abbrev by_log : Indexed → List Item
-  by_log i = items_by (replay program plan i.log budget).answer
+  by_log i = result_unwrap_or (told_by (replay program plan i.log budget).answer) []
 
-  logged : (o : Option Indexed) → option_map by_log o ≡ option_map (λ (r : Replayed). items_by r.answer) (replay_of program plan budget (log_in o))
+  logged : (o : Option Indexed) → option_map by_log o ≡ option_map (λ (r : Replayed). result_unwrap_or (told_by r.answer) []) (replay_of program plan budget (log_in o))
   logged None = refl
   logged (Some i) = refl
 
-  modelled : (o : Option Span) → option_map (λ (r : Replayed). items_by r.answer) (modelled_of x o) ≡ option_map (items_of x) o
+  modelled : (o : Option Span) → option_map (λ (r : Replayed). result_unwrap_or (told_by r.answer) []) (modelled_of x o) ≡ option_map (items_of x) o
   modelled None = refl
   modelled (Some i) = refl
 
   pub items_same : map by_log is ≡ map (items_of x) x.spans
   items_same = same_lists (map by_log is) (map (items_of x) x.spans) (λ k.
-      slice_get-map by_log is k ∙ logged (slice_get is k) ∙ ap (option_map (λ (r : Replayed). items_by r.answer)) (same k)
+      slice_get-map by_log is k ∙ logged (slice_get is k) ∙ ap (option_map (λ (r : Replayed). result_unwrap_or (told_by r.answer) [])) (same k)
       ∙ modelled (slice_get x.spans k) ∙ sym (slice_get-map (items_of x) x.spans k))
 
 -- ---- blocks and rounds
@@ -66,19 +67,19 @@ same_blocks [] (z ∷ xs) h = absurd h
 same_blocks (i ∷ ss) [] h = absurd h
 same_blocks (i ∷ ss) (z ∷ xs) h = ap₂ (λ b bs. b ∷ bs) (sym h.0.block) (same_blocks ss xs h.1)
 
-pub same_parents : (ss : List Span) (xs : List Extent) → AreEach IsSameInterval ss xs → map (λ (z : Extent). z.parent) xs ≡ map (λ (i : Span). first_of i.round) ss
+pub same_parents : (ss : List Span) (xs : List Extent) → AreEach IsSameInterval ss xs → map (λ (z : Extent). z.parent) xs ≡ map (λ (i : Span). slice_get i.round 0) ss
 same_parents [] [] h = refl
 same_parents [] (z ∷ xs) h = absurd h
 same_parents (i ∷ ss) [] h = absurd h
 same_parents (i ∷ ss) (z ∷ xs) h = ap₂ (λ b bs. b ∷ bs) (sym h.0.round) (same_parents ss xs h.1)
 
 pub rounds_same : (program : Program) (plan : Plan) (budget : ℕ) (h : List ℕ) (p : ℕ) (x : Split) → slice_get (splits program plan budget (story program plan budget h)) p ≡ Some x
-    → rounds_by (map (λ (i : Span). first_of i.round) x.spans) ≡ map (λ (i : Span). i.round) x.spans
+    → rounds_by (map (λ (i : Span). slice_get i.round 0) x.spans) ≡ map (λ (i : Span). i.round) x.spans
 rounds_same program plan budget h p x e =
     let s : Story = story program plan budget h in
     let z : 0 + p ≡ p = omega arith in
-    let is : split_of program plan budget s p (own_steps s p) ≡ x = ap (λ k. split_of program plan budget s k (own_steps s p)) (sym z) ∙ split_found program plan budget s 0 s.steps p x e in
-    subst (λ (y : Split). rounds_by (map (λ (i : Span). first_of i.round) y.spans) ≡ map (λ (i : Span). i.round) y.spans) is (rounds_of_split program plan s p budget (own_steps s p))
+    let is : split_of program plan budget s p (get_or s.steps p []) ≡ x = ap (λ k. split_of program plan budget s k (get_or s.steps p [])) (sym z) ∙ split_found program plan budget s 0 s.steps p x e in
+    subst (λ (y : Split). rounds_by (map (λ (i : Span). slice_get i.round 0) y.spans) ≡ map (λ (i : Span). i.round) y.spans) is (rounds_of_split program plan s p budget (get_or s.steps p []))
 
 -- the log of a process that has intervals
 module _ (program : Program) (plan : Plan) (budget : ℕ) where
@@ -92,8 +93,8 @@ module _ (program : Program) (plan : Plan) (budget : ℕ) where
 stopped_extents : (l : Logging) → l.proc.status ≡ None → extents (closed_log l) ≡ extents (l.entries ++ stop ∷ [])
 stopped_extents l runs =
     ap (λ o. extents (l.entries ++ (if is_none o then entry.End status.Blocked l.rest l.reads l.writes ∷ [] else []))) runs
-    ∙ ap (λ (e : Extending). e.extents) (fold-append extend begun_extents l.entries (entry.End status.Blocked l.rest l.reads l.writes ∷ []))
-    ∙ sym (ap (λ (e : Extending). e.extents) (fold-append extend begun_extents l.entries (stop ∷ [])))
+    ∙ ap (λ (e : Indexing Extent). e.intervals) (fold-append extend begun_extents l.entries (entry.End status.Blocked l.rest l.reads l.writes ∷ []))
+    ∙ sym (ap (λ (e : Indexing Extent). e.intervals) (fold-append extend begun_extents l.entries (stop ∷ [])))
 
 module _ (program : Program) (policy : Policy) (budget : ℕ) (h : List ℕ) (p i : ℕ) (v : IsValid program) (whole : IsWhole program (plan_of program policy) budget h)
     (ends : EndsEdge program (plan_of program policy) budget h p i) (clear : (e : ℕ) → e ≤ i → IsUnracedIn program (plan_of program policy) budget h p e) where
@@ -115,7 +116,7 @@ module _ (program : Program) (policy : Policy) (budget : ℕ) (h : List ℕ) (p 
       let z : 0 + p ≡ p = omega arith in
       let there : slice_get (loggings program plan budget begun) p ≡ Some l =
       logging_at program plan budget (story program plan budget begun) 0 (told program plan budget begun).moments p x at
-      ∙ ap (λ k. Some (log_of program plan budget k (own_moments (told program plan budget begun) p))) z in
+      ∙ ap (λ k. Some (log_of program plan budget k (get_or (told program plan budget begun).moments p []))) z in
       let each : AreEach IsSameInterval x.spans (extents entries) =
       subst (AreEach IsSameInterval x.spans) (stopped_extents l (runs_on program policy budget h p i v whole ends clear)) (intervals_of_logs program plan budget begun p x l at there).closed_are in
       ap₂ (λ a b. seen a b (rounds_by (map (λ (z : Extent). z.parent) (extents entries))))

@@ -5,7 +5,7 @@ use Rattle.std.proofs.Common.{◌≡◌, ℕ, ◌<◌, ◌≤◌, arith, Bool, t
 use Rattle.std.proofs.lemmas.Bool.{cases_lt, or_right}
 use Rattle.std.proofs.lemmas.List.Sums.{fold-append}
 use Rattle.std.proofs.lemmas.Option.{none-some}
-use Rattle.std.specs.Prelude.{filter, fold, is_some, slice_get}
+use Rattle.std.specs.Prelude.{filter, fold, is_some, slice_get, get_or, filter_map}
 use Rattle.ppd_ast.specs.declared.plan.Plan.{Plan}
 use Rattle.ppd_ast.specs.declared.plan.Policy.{Policy}
 use Rattle.ppd_ast.specs.declared.program.Program.{Program}
@@ -14,7 +14,6 @@ use Rattle.ppd_ast.proofs.ValidLaws.{slice_get_there}
 use Rattle.ppd_blocks.specs.Blocks.{plan_of}
 use Rattle.ppd_entry.specs.declared.entry.Entry.{Entry}
 use Rattle.ppd_entry.specs.declared.entry.Logs.{Logs}
-use Rattle.ppd_entry.specs.Entries.{entries_at}
 use Rattle.ppd_graph.specs.declared.paired.Paired.{Paired}
 use Rattle.ppd_graph.specs.declared.paired.Paired.TheVariants.{Nothing, Initial, Node}
 use Rattle.ppd_graph.specs.Partners.{pairs_of}
@@ -34,7 +33,7 @@ use Rattle.ppd_model.specs.Record.{sync_record}
 use Rattle.ppd_model.specs.RecordedSets.{RecordsAccesses, record_in}
 use Rattle.ppd_model.specs.Schedule.{run}
 use Rattle.ppd_model.specs.Story.{Telling, story, tell, told}
-use Rattle.ppd_model.specs.Synchronizations.{Sync, leads_at, syncs_of}
+use Rattle.ppd_model.specs.Synchronizations.{Sync, leads_at, sync_of}
 use Rattle.ppd_model.specs.World.{World}
 use Rattle.ppd_model.proofs.Numbers.{are_counted}
 use Rattle.ppd_model.proofs.RecordedSyncs.{record_syncs}
@@ -96,7 +95,7 @@ module _ (program : Program) (policy : Policy) (budget : ℕ) (g rest : List ℕ
   fy = facts program plan budget (g ++ rest) v q y at
 
   abbrev entries : List Entry
-  entries = entries_at (closed_logs program plan budget (g ++ rest)) q
+  entries = get_or (closed_logs program plan budget (g ++ rest)).lists q []
 
   grown : (more : List Taken) × (did (told program plan budget (g ++ rest)) q ≡ did (told program plan budget g) q ++ more)
   grown =
@@ -112,7 +111,7 @@ module _ (program : Program) (policy : Policy) (budget : ℕ) (g rest : List ℕ
 
   ended : (i : ℕ) → i < edge_in program plan budget g q → Ended i
   ended i lt =
-      let s = slice_get_there (syncs_of (did (told program plan budget g) q)) i (subst (λ z. i < z) (edge_is_count program plan budget g q) lt) in
+      let s = slice_get_there (filter_map sync_of (did (told program plan budget g) q)) i (subst (λ z. i < z) (edge_is_count program plan budget g q) lt) in
       let st : IsSyncStep (did (told program plan budget g) q) i s.0 = sync_step (did (told program plan budget g) q) i s.0 s.1 in
       let event = sync_event st.step (ap is_some st.is) in
       let a : HasEvent program plan budget g v q x fx st.before st.step = ev_at program plan budget g v q x fx st.before st.step st.after st.are event in
@@ -191,16 +190,16 @@ module _ (program : Program) (policy : Policy) (budget : ℕ) (h : List ℕ) (w 
     pub placed : part_at begun.split k j ≡ Some (own number)
 
   record EndsAlike (l : List ℕ) (q i : ℕ) (s : Seen) : Type 0 where
-    pub item : end_item (entries_at (closed_logs program (plan_of program policy) budget l) q) s i
-        ≡ end_item (entries_at (closed_logs program (plan_of program policy) budget l) q) (seen_at (all_seen program (plan_of program policy) budget l) q) i
-    pub walks : (c : ℕ) → walk s c (end_interval (entries_at (closed_logs program (plan_of program policy) budget l) q) i) (end_item (entries_at (closed_logs program (plan_of program policy) budget l) q) s i)
-        ≡ walk (seen_at (all_seen program (plan_of program policy) budget l) q) c (end_interval (entries_at (closed_logs program (plan_of program policy) budget l) q) i)
-        (end_item (entries_at (closed_logs program (plan_of program policy) budget l) q) (seen_at (all_seen program (plan_of program policy) budget l) q) i)
+    pub item : end_item (get_or (closed_logs program (plan_of program policy) budget l).lists q []) s i
+        ≡ end_item (get_or (closed_logs program (plan_of program policy) budget l).lists q []) (seen_at (all_seen program (plan_of program policy) budget l) q) i
+    pub walks : (c : ℕ) → walk s c (end_interval (get_or (closed_logs program (plan_of program policy) budget l).lists q []) i) (end_item (get_or (closed_logs program (plan_of program policy) budget l).lists q []) s i)
+        ≡ walk (seen_at (all_seen program (plan_of program policy) budget l) q) c (end_interval (get_or (closed_logs program (plan_of program policy) budget l).lists q []) i)
+        (end_item (get_or (closed_logs program (plan_of program policy) budget l).lists q []) (seen_at (all_seen program (plan_of program policy) budget l) q) i)
 
   ends_alike : (g rest : List ℕ) (q i : ℕ) (x : Split) → slice_get (splits program (plan_of program policy) budget (story program (plan_of program policy) budget g)) q ≡ Some x
       → i < edge_in program (plan_of program policy) budget g q → EndsAlike (g ++ rest) q i (seen_of x)
   ends_alike g rest q i x at_g lt =
-      let s = slice_get_there (syncs_of (did (told program (plan_of program policy) budget g) q)) i (subst (λ z. i < z) (edge_is_count program (plan_of program policy) budget g q) lt) in
+      let s = slice_get_there (filter_map sync_of (did (told program (plan_of program policy) budget g) q)) i (subst (λ z. i < z) (edge_is_count program (plan_of program policy) budget g q) lt) in
       let st : IsSyncStep (did (told program (plan_of program policy) budget g) q) i s.0 = sync_step (did (told program (plan_of program policy) budget g) q) i s.0 s.1 in
       let m = did_more program (plan_of program policy) 0 q (told program (plan_of program policy) budget g) rest in
       let whole : did (told program (plan_of program policy) budget (g ++ rest)) q ≡ st.before ++ st.step ∷ (st.after ++ m.0) =
@@ -210,7 +209,7 @@ module _ (program : Program) (policy : Policy) (budget : ℕ) (h : List ℕ) (w 
       let y = split_there program (plan_of program policy) budget (story program (plan_of program policy) budget (g ++ rest)) 0 (told program (plan_of program policy) budget (g ++ rest)).moments q below in
       let f : Facts program (plan_of program policy) budget (g ++ rest) v q y.0 = facts program (plan_of program policy) budget (g ++ rest) v q y.0 y.1 in
       let e = ends_same program policy budget g rest q v x y.0 at_g y.1 i lt in
-      let es : List Entry = entries_at (closed_logs program (plan_of program policy) budget (g ++ rest)) q in
+      let es : List Entry = get_or (closed_logs program (plan_of program policy) budget (g ++ rest)).lists q [] in
       record {
         item = e.0 ∙ ap (λ z. end_item es z i) (sym f.seen_is);
         walks = λ c. e.1 c ∙ ap (λ z. walk z c (end_interval es i) (end_item es z i)) (sym f.seen_is);
@@ -221,8 +220,8 @@ module _ (program : Program) (policy : Policy) (budget : ℕ) (h : List ℕ) (w 
       subst (EndsAlike h q i) (sym k.begun.seen_is) (subst (λ l. EndsAlike l q i (seen_of k.begun.split)) (sym k.begun.schedule_is) (ends_alike k.begun.before k.begun.rest q i k.begun.split k.begun.there k.ended))
 
   record PlaceAlike (l : List ℕ) (q k j : ℕ) (s : Seen) : Type 0 where
-    pub edge : edge_at (entries_at (closed_logs program (plan_of program policy) budget l) q) s k j
-        ≡ edge_at (entries_at (closed_logs program (plan_of program policy) budget l) q) (seen_at (all_seen program (plan_of program policy) budget l) q) k j
+    pub edge : edge_at (get_or (closed_logs program (plan_of program policy) budget l).lists q []) s k j
+        ≡ edge_at (get_or (closed_logs program (plan_of program policy) budget l).lists q []) (seen_at (all_seen program (plan_of program policy) budget l) q) k j
     pub walks : (c : ℕ) → walk s c k j ≡ walk (seen_at (all_seen program (plan_of program policy) budget l) q) c k j
 
   place_alike : (g rest : List ℕ) (q k j n : ℕ) (x y : Split) → slice_get (splits program (plan_of program policy) budget (story program (plan_of program policy) budget g)) q ≡ Some x
@@ -230,7 +229,7 @@ module _ (program : Program) (policy : Policy) (budget : ℕ) (h : List ℕ) (w 
       → part_at x k j ≡ Some (own n) → n < length x.trace.events → PlaceAlike (g ++ rest) q k j (seen_of x)
   place_alike g rest q k j n x y at_g at place lt =
       let f : Facts program (plan_of program policy) budget (g ++ rest) v q y = facts program (plan_of program policy) budget (g ++ rest) v q y at in
-      let es : List Entry = entries_at (closed_logs program (plan_of program policy) budget (g ++ rest)) q in
+      let es : List Entry = get_or (closed_logs program (plan_of program policy) budget (g ++ rest)).lists q [] in
       record {
         edge = edge_same program policy budget g rest q v x y at_g at es k j (own n) place ∙ ap (λ z. edge_at es z k j) (sym f.seen_is);
         walks = λ c. sym (walk_same program policy budget g rest q v x y at_g at c k j n place lt) ∙ ap (λ z. walk z c k j) (sym f.seen_is);
@@ -246,7 +245,7 @@ module _ (program : Program) (policy : Policy) (budget : ℕ) (h : List ℕ) (w 
   module _ (p k j : ℕ) (y : Split) (at : slice_get (splits program (plan_of program policy) budget (story program (plan_of program policy) budget h)) p ≡ Some y) (place : HasPlace p k j) where
     -- the edge of the place
     abbrev pub here_in : ℕ
-    here_in = edge_at (entries_at logs p) (seen_at all p) k j
+    here_in = edge_at (get_or logs.lists p []) (seen_at all p) k j
 
     alike : PlaceAlike h p k j (seen_at xs p)
     alike = place_kept p k j y at place
@@ -284,4 +283,4 @@ module _ (program : Program) (policy : Policy) (budget : ℕ) (h : List ℕ) (w 
             ap (λ rec. pair_at (pairs_of program rec) (node p here_in)) (sym (record_syncs program (plan_of program policy) budget h).closed) ∙ e in
             let was : Before program Rec b (node p here_in) =
             direct (or_right (is_next Rec b (node p here_in)) (leads_at program (sync_at Rec b) (sync_at Rec (node p here_in))) ((partners.leads b (node p here_in)).1 (ap node_of named))) in
-            ap (λ z. Some (origin.Item b.process (end_interval (entries_at logs b.process) b.sync) z)) (end_kept b.process b.sync (keeps b.process b.sync was)).item
+            ap (λ z. Some (origin.Item b.process (end_interval (get_or logs.lists b.process []) b.sync) z)) (end_kept b.process b.sync (keeps b.process b.sync was)).item

@@ -1,7 +1,7 @@
 -- The beginning of a schedule through the synchronization that ends an edge of a process.
 use Rattle.std.proofs.Common.{◌≡◌, ℕ, ◌+◌, ◌<◌, ◌≤◌, true, List, [], ◌∷◌, ◌++◌, Option, Some, None, refl, ap, sym, subst, ◌∙◌, arith, length, inl, inr, append_assoc, append-nil, length-append, true≢false}
 use Rattle.std.proofs.lemmas.Bool.{cases_eq, cases_lt}
-use Rattle.std.specs.Prelude.{is_some, option_to_list}
+use Rattle.std.specs.Prelude.{is_some, option_to_list, get_or, filter_map}
 use Rattle.ppd_ast.specs.declared.plan.Plan.{Plan}
 use Rattle.ppd_ast.specs.declared.program.Program.{Program}
 use Rattle.ppd_ast.specs.declared.status.Status.{Status}
@@ -15,8 +15,8 @@ use Rattle.ppd_model.specs.declared.state.Logging.{Logging}
 use Rattle.ppd_model.specs.declared.tracing.Taken.{Taken}
 use Rattle.ppd_model.specs.Forward.{edge_in}
 use Rattle.ppd_model.specs.Logs.{log_step, status_of}
-use Rattle.ppd_model.specs.Story.{Moment, moment_of, own_moments, steps_of, told}
-use Rattle.ppd_model.specs.Synchronizations.{Sync, kind_of_sync, numbered, sync_of, syncs_of}
+use Rattle.ppd_model.specs.Story.{Moment, moment_of, steps_of, told}
+use Rattle.ppd_model.specs.Synchronizations.{Sync, kind_of_sync, numbered, sync_of}
 use Rattle.ppd_model.proofs.Numbers.{syncs-append}
 use Rattle.ppd_model.proofs.Statuses.{status_after}
 use Rattle.ppd_model.proofs.Stories.{steps_append}
@@ -46,19 +46,19 @@ module _ (program : Program) (plan : Plan) (budget : ℕ) where
 
     pub edge_own : p < length (told program plan budget g).world.procs → edge_in program plan budget (g ++ p ∷ []) p ≡ edge_in program plan budget g p + length (option_to_list (sync_of step))
     edge_own lt =
-        let ms : List Moment = own_moments (told program plan budget g) p in
-        ap length (own_syncs_are program plan budget (g ++ p ∷ []) p ∙ ap (λ xs. syncs_of (steps_of xs)) (own_more program plan budget g p lt)
-        ∙ ap syncs_of (steps_append ms (moment_of program plan (told program plan budget g) p ∷ [])) ∙ syncs-append (steps_of ms) step)
-        ∙ length-append (syncs_of (steps_of ms)) (option_to_list (sync_of step))
+        let ms : List Moment = get_or (told program plan budget g).moments p [] in
+        ap length (own_syncs_are program plan budget (g ++ p ∷ []) p ∙ ap (λ xs. filter_map sync_of (steps_of xs)) (own_more program plan budget g p lt)
+        ∙ ap (filter_map sync_of) (steps_append ms (moment_of program plan (told program plan budget g) p ∷ [])) ∙ syncs-append (steps_of ms) step)
+        ∙ length-append (filter_map sync_of (steps_of ms)) (option_to_list (sync_of step))
         ∙ ap (λ k. k + length (option_to_list (sync_of step))) (sym (ap length (own_syncs_are program plan budget g p)))
 
     edge_past : length (told program plan budget g).world.procs ≤ p → edge_in program plan budget (g ++ p ∷ []) p ≡ edge_in program plan budget g p
     edge_past past =
-        ap length (own_syncs_are program plan budget (g ++ p ∷ []) p ∙ ap (λ xs. syncs_of (steps_of xs)) (own_past program plan budget g p past) ∙ sym (own_syncs_are program plan budget g p))
+        ap length (own_syncs_are program plan budget (g ++ p ∷ []) p ∙ ap (λ xs. filter_map sync_of (steps_of xs)) (own_past program plan budget g p past) ∙ sym (own_syncs_are program plan budget g p))
 
     edge_other : (r : ℕ) → (r ≡ p → ⊥) → edge_in program plan budget (g ++ r ∷ []) p ≡ edge_in program plan budget g p
     edge_other r other =
-        ap length (own_syncs_are program plan budget (g ++ r ∷ []) p ∙ ap (λ xs. syncs_of (steps_of xs)) (own_same program plan budget g r p other) ∙ sym (own_syncs_are program plan budget g p))
+        ap length (own_syncs_are program plan budget (g ++ r ∷ []) p ∙ ap (λ xs. filter_map sync_of (steps_of xs)) (own_same program plan budget g r p other) ∙ sym (own_syncs_are program plan budget g p))
 
     -- where the count rises, it is by a synchronization of the process
     rises : (r : ℕ) → edge_in program plan budget g p < edge_in program plan budget (g ++ r ∷ []) p

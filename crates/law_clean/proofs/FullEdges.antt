@@ -1,37 +1,10 @@
 -- In a whole schedule with races: the search over what the whole run is finds the edges of a clean item.
-use Rattle.std.proofs.Common.{◌≡◌, ℕ, ◌<◌, ◌≤◌, true, false, List, ◌∷◌, ◌++◌, length, Some, Ok, refl, ap, sym, subst, ◌∙◌}
-use Rattle.std.proofs.lemmas.List.Sums.{fold-append}
-use Rattle.std.specs.Prelude.{option_map, slice_get}
-use Rattle.ppd_ast.specs.declared.plan.Plan.{Plan}
-use Rattle.ppd_ast.specs.declared.plan.Policy.{Policy}
-use Rattle.ppd_ast.specs.declared.program.Program.{Program}
-use Rattle.ppd_ast.specs.Valid.{IsValid}
-use Rattle.ppd_ast.proofs.ValidLaws.{slice_get_below}
-use Rattle.ppd_blocks.specs.Blocks.{plan_of}
-use Rattle.ppd_entry.specs.Entries.{entries_at}
-use Rattle.ppd_model.specs.declared.tracing.Story.{Story}
-use Rattle.ppd_model.specs.declared.tracing.Taken.{Taken}
-use Rattle.ppd_model.specs.FlowbackEdges.{edges, from_writer, part_at}
-use Rattle.ppd_model.specs.Forward.{edge_in}
-use Rattle.ppd_model.specs.FullTrace.{Tag}
-use Rattle.ppd_model.specs.HappenedBefore.{EdgeBefore, edge}
-use Rattle.ppd_model.specs.Intervals.{Part, own, Split, splits}
-use Rattle.ppd_model.specs.Laws.{begins}
-use Rattle.ppd_model.specs.Logs.{closed_logs}
-use Rattle.ppd_model.specs.NearIntervals.{edge_of_event}
-use Rattle.ppd_model.specs.Record.{record_of}
-use Rattle.ppd_model.specs.Schedule.{run}
-use Rattle.ppd_model.specs.SharedReads.{IsFound}
-use Rattle.ppd_model.specs.Story.{Telling, own_steps, story, tell, told}
-use Rattle.ppd_model.specs.Synchronizations.{syncs_of}
-use Rattle.ppd_model.specs.World.{World}
-use Rattle.ppd_model.proofs.AccessSets.{accesses_there}
-use Rattle.ppd_model.proofs.Changes.{some}
-use Rattle.ppd_model.proofs.SharedReads.{steps_access}
-use Rattle.ppd_flow_model.specs.Found.{found_edges}
-use Rattle.ppd_flow_model.specs.Shared.{shared_origin}
+use Rattle.law_clean.proofs.Found.{clean_found}
+use Rattle.law_clean.proofs.PastClear.{clear_before, clear_own}
+use Rattle.law_clean.proofs.Vocabulary.{IsUnraced}
+use Rattle.law_clean.specs.Ordered.{IsCleanAt}
+use Rattle.law_clean.specs.Pasts.{is_clean, lies}
 use Rattle.law_flow_own.proofs.Loops.OwnParts.{own_parts}
-use Rattle.law_flow_shared.specs.Edges.SharedEdges.{IsSharedRead, all_seen}
 use Rattle.law_flow_shared.proofs.Edges.Assembled.{all_edges}
 use Rattle.law_flow_shared.proofs.Edges.Near.Nearby.{counted}
 use Rattle.law_flow_shared.proofs.Edges.Sources.ReadOrigins.{by_found}
@@ -40,11 +13,39 @@ use Rattle.law_flow_shared.proofs.Edges.StepEvents.Processes.{Facts, facts}
 use Rattle.law_flow_shared.proofs.Edges.StepEvents.ReadSteps.{ReadsAt, reads_at}
 use Rattle.law_flow_shared.proofs.Edges.StepEvents.Timeline.{did, did_more}
 use Rattle.law_flow_shared.proofs.Edges.StepEvents.Writers.{edge_is_count, ev_count}
-use Rattle.law_clean.specs.Ordered.{IsCleanAt}
-use Rattle.law_clean.proofs.Vocabulary.{IsUnraced}
-use Rattle.law_clean.specs.Pasts.{is_clean, lies}
-use Rattle.law_clean.proofs.Found.{clean_found}
-use Rattle.law_clean.proofs.PastClear.{clear_before, clear_own}
+use Rattle.law_flow_shared.specs.Edges.SharedEdges.{IsSharedRead, all_seen}
+use Rattle.ppd_ast.proofs.ValidLaws.{slice_get_below}
+use Rattle.ppd_ast.specs.Valid.{IsValid}
+use Rattle.ppd_ast.specs.declared.plan.Plan.{Plan}
+use Rattle.ppd_ast.specs.declared.plan.Policy.{Policy}
+use Rattle.ppd_ast.specs.declared.program.Program.{Program}
+use Rattle.ppd_blocks.specs.Blocks.{plan_of}
+use Rattle.ppd_flow_model.specs.Found.{found_edges}
+use Rattle.ppd_flow_model.specs.Shared.{shared_origin}
+use Rattle.ppd_model.proofs.AccessSets.{accesses_there}
+use Rattle.ppd_model.proofs.Changes.{some}
+use Rattle.ppd_model.proofs.SharedReads.{steps_access}
+use Rattle.ppd_model.specs.FlowbackEdges.{edges, part_at}
+use Rattle.ppd_model.specs.Forward.{edge_in}
+use Rattle.ppd_model.specs.FullTrace.{Tag}
+use Rattle.ppd_model.specs.HappenedBefore.{EdgeBefore, edge}
+use Rattle.ppd_model.specs.Intervals.{Part, Split, own, ref, splits}
+use Rattle.ppd_model.specs.Laws.{begins}
+use Rattle.ppd_model.specs.Logs.{closed_logs}
+use Rattle.ppd_model.specs.NearIntervals.{edge_of_event}
+use Rattle.ppd_model.specs.Record.{record_of}
+use Rattle.ppd_model.specs.Schedule.{run}
+use Rattle.ppd_model.specs.SharedReads.{IsFound}
+use Rattle.ppd_model.specs.Story.{Telling, story, tell, told}
+use Rattle.ppd_model.specs.Synchronizations.{sync_of}
+use Rattle.ppd_model.specs.World.{World}
+use Rattle.ppd_model.specs.declared.flow.Origin.TheVariants as origin
+use Rattle.ppd_model.specs.declared.tracing.Story.{Story}
+use Rattle.ppd_model.specs.declared.tracing.Taken.{Taken}
+use Rattle.std.proofs.Common.{List, Ok, Some, ap, false, length, refl, subst, sym, true, ℕ, ◌++◌, ◌<◌, ◌∙◌, ◌∷◌, ◌≡◌, ◌≤◌}
+use Rattle.std.proofs.lemmas.List.Sums.{fold-append}
+use Rattle.std.specs.Option.{option_map_or}
+use Rattle.std.specs.Prelude.{[], filter_map, get_or, option_map, slice_get}
 
 module _ (program : Program) (plan : Plan) (budget : ℕ) (h : List ℕ) (w : World) (v : IsValid program) (r : run program plan budget h ≡ Some w) (p k j : ℕ) where
   abbrev s : Story
@@ -79,7 +80,7 @@ module _ (program : Program) (plan : Plan) (budget : ℕ) (h : List ℕ) (w : Wo
         subst (λ l. IsCleanAt program plan budget at.sooner l p) at.schedule_is (subst (λ e. IsClear e) (sym edge_is) clear)
 
     pub clean_origin : IsClear (edge_of_event read.split read.number)
-        → shared_origin program (closed_logs program plan budget h) (all_seen program plan budget h) p k j c ≡ Ok (from_writer (splits program plan budget s) tag)
+        → shared_origin program (closed_logs program plan budget h) (all_seen program plan budget h) p k j c ≡ Ok (option_map_or (ref (splits program plan budget s)) tag origin.Initial)
     clean_origin clear =
         let m = steps_access program plan budget at.sooner p at.later c false at.needs in
         let lt : c < length program.starts = accesses_there program plan budget (at.sooner ++ p ∷ at.later) p m.0 (record { edge = edge_in program plan budget at.sooner p; cell = c; writes = false }) v m.1 in
@@ -94,8 +95,8 @@ pub clean_edges_found : (program : Program) (policy : Policy) (budget : ℕ) (h 
     → slice_get (splits program (plan_of program policy) budget (story program (plan_of program policy) budget h)) p ≡ Some x
     → part_at x k j ≡ Some part
     → p < length (story program (plan_of program policy) budget h).steps
-    → (lies (entries_at (closed_logs program (plan_of program policy) budget h) p) x part).edge ≤ length (syncs_of (own_steps (story program (plan_of program policy) budget h) p))
-    → is_clean program (story program (plan_of program policy) budget h) p (lies (entries_at (closed_logs program (plan_of program policy) budget h) p) x part) ≡ true
+    → (lies (get_or (closed_logs program (plan_of program policy) budget h).lists p []) x part).edge ≤ length (filter_map sync_of (get_or (story program (plan_of program policy) budget h).steps p []))
+    → is_clean program (story program (plan_of program policy) budget h) p (lies (get_or (closed_logs program (plan_of program policy) budget h).lists p []) x part) ≡ true
     → found_edges program (plan_of program policy) (closed_logs program (plan_of program policy) budget h) (all_seen program (plan_of program policy) budget h) p k j
     ≡ option_map (λ es. Ok es) (edges program (plan_of program policy) budget (story program (plan_of program policy) budget h) p k j)
 clean_edges_found program policy budget h w p k j x part v r there place lt le clean =
@@ -110,6 +111,6 @@ clean_edges_found program policy budget h w p k j x part v r there place lt le c
     by c tag read q at same =
         let is : read.split ≡ x = some (sym read.there ∙ there) in
         let mine : own read.number ≡ part = some (sym read.placed ∙ ap (λ (y : Split). part_at y k j) is ∙ place) in
-        let edge_is : (lies (entries_at (closed_logs program (plan_of program policy) budget h) p) x part).edge ≡ edge_of_event read.split read.number = ap (λ z. (lies (entries_at (closed_logs program (plan_of program policy) budget h) p) x z).edge) (sym mine) ∙ ap (λ (y : Split). edge_of_event y read.number) (sym is) in
+        let edge_is : (lies (get_or (closed_logs program (plan_of program policy) budget h).lists p []) x part).edge ≡ edge_of_event read.split read.number = ap (λ z. (lies (get_or (closed_logs program (plan_of program policy) budget h).lists p []) x z).edge) (sym mine) ∙ ap (λ (y : Split). edge_of_event y read.number) (sym is) in
         subst (λ e. IsClear program (plan_of program policy) budget h w v r p k j e) edge_is
-        (clear_own program t p (lies (entries_at (closed_logs program (plan_of program policy) budget h) p) x part) clean lt le, clear_before program t p (lies (entries_at (closed_logs program (plan_of program policy) budget h) p) x part) clean lt le)
+        (clear_own program t p (lies (get_or (closed_logs program (plan_of program policy) budget h).lists p []) x part) clean, clear_before program t p (lies (get_or (closed_logs program (plan_of program policy) budget h).lists p []) x part) clean)

@@ -1,32 +1,32 @@
 -- What a process has in its intervals after a beginning of a schedule, and at its end: items stay where they are, and
 -- events are referred to as before.
-use Rattle.std.proofs.Common.{◌≡◌, ℕ, zero, suc, ◌<◌, true, List, [], ◌∷◌, ◌++◌, length, map, Option, Some, None, refl, ap, sym, subst, ◌∙◌, arith}
-use Rattle.std.proofs.lemmas.Option.{none-some}
-use Rattle.std.specs.Prelude.{slice_get}
+use Rattle.law_clean.proofs.CutRuns.{moments_grow}
+use Rattle.law_clean.proofs.TwoStories.{IsAlike, bare, splits_alike}
+use Rattle.law_flow_own.proofs.Places.LeafTells.{later_at, split_is}
+use Rattle.law_flow_own.specs.Places.Levels.{IsLater}
+use Rattle.law_steps.proofs.OpenBlocks.Told.{own_steps_are}
+use Rattle.ppd_ast.proofs.ValidLaws.{slice_get_below, slice_get_there}
+use Rattle.ppd_ast.specs.Valid.{IsValid}
 use Rattle.ppd_ast.specs.declared.plan.Plan.{Plan}
 use Rattle.ppd_ast.specs.declared.plan.Policy.{Policy}
 use Rattle.ppd_ast.specs.declared.program.Program.{Program}
-use Rattle.ppd_ast.specs.Valid.{IsValid}
-use Rattle.ppd_ast.proofs.ValidLaws.{slice_get_there, slice_get_below}
 use Rattle.ppd_blocks.specs.Blocks.{plan_of}
+use Rattle.ppd_model.proofs.CountedOn.{kept_at}
+use Rattle.ppd_model.proofs.EdgeWords.{part_in}
+use Rattle.ppd_model.proofs.IntervalWords.{item_of_event, item_of_span}
+use Rattle.ppd_model.proofs.Items.{items_whole}
+use Rattle.ppd_model.proofs.Stories.{steps_append}
+use Rattle.ppd_model.specs.FlowbackEdges.{part_at}
+use Rattle.ppd_model.specs.Intervals.{Part, Span, Split, begun_split, item_of, nested, own, ref, split_of, splits}
+use Rattle.ppd_model.specs.Items.{IsReferred}
+use Rattle.ppd_model.specs.Story.{Moment, steps_of, story, told}
 use Rattle.ppd_model.specs.declared.flow.Origin.TheVariants as origin
 use Rattle.ppd_model.specs.declared.trace.TracedEvent.{TracedEvent}
 use Rattle.ppd_model.specs.declared.tracing.Story.{Story}
-use Rattle.ppd_model.specs.FlowbackEdges.{part_at}
-use Rattle.ppd_model.proofs.EdgeWords.{part_in}
-use Rattle.ppd_model.specs.Intervals.{Part, own, nested, Span, Split, begun_split, is_closed, item_of, ref, split_of, splits}
-use Rattle.ppd_model.proofs.IntervalWords.{item_of_event, item_of_span}
-use Rattle.ppd_model.specs.Items.{IsReferred}
-use Rattle.ppd_model.specs.Story.{Moment, own_moments, own_steps, steps_of, story, told}
-use Rattle.ppd_model.proofs.CountedOn.{kept_at}
-use Rattle.ppd_model.proofs.Items.{items_whole}
-use Rattle.ppd_model.proofs.Stories.{steps_append}
-use Rattle.law_steps.proofs.OpenBlocks.Told.{own_steps_are}
 use Rattle.ppd_sem.specs.Process.{started}
-use Rattle.law_flow_own.specs.Places.Levels.{IsLater}
-use Rattle.law_flow_own.proofs.Places.LeafTells.{later_at, split_is}
-use Rattle.law_clean.proofs.CutRuns.{moments_grow}
-use Rattle.law_clean.proofs.TwoStories.{IsAlike, bare, splits_alike}
+use Rattle.std.proofs.Common.{List, None, Option, Some, [], ap, arith, length, map, refl, subst, suc, sym, true, zero, ℕ, ◌++◌, ◌<◌, ◌∙◌, ◌∷◌, ◌≡◌}
+use Rattle.std.proofs.lemmas.Option.{none-some}
+use Rattle.std.specs.Prelude.{get_or, is_some, slice_get}
 
 module _ (program : Program) (policy : Policy) (budget : ℕ) (g rest : List ℕ) (p : ℕ) (v : IsValid program) (x y : Split)
     (at_g : slice_get (splits program (plan_of program policy) budget (story program (plan_of program policy) budget g)) p ≡ Some x)
@@ -41,13 +41,13 @@ module _ (program : Program) (policy : Policy) (budget : ℕ) (g rest : List ℕ
   whole = story program plan budget (g ++ rest)
 
   abbrev ms : List Moment
-  ms = own_moments (told program plan budget g) p
+  ms = get_or (told program plan budget g).moments p []
 
   -- the process after g, with the pairs that the whole story has
   abbrev cut : Split
   cut = split_of program plan budget whole p (steps_of ms)
 
-  pub steps_are : own_steps whole p ≡ steps_of ms ++ steps_of (moments_grow program plan budget rest g p).0
+  pub steps_are : get_or whole.steps p [] ≡ steps_of ms ++ steps_of (moments_grow program plan budget rest g p).0
   steps_are = own_steps_are program plan budget (g ++ rest) p ∙ ap steps_of (moments_grow program plan budget rest g p).1 ∙ steps_append ms (moments_grow program plan budget rest g p).0
 
   later : IsLater cut y
@@ -100,13 +100,13 @@ module _ (program : Program) (policy : Policy) (budget : ℕ) (g rest : List ℕ
       let f = event_kept n e is in
       ap item_of_event f.1 ∙ ap (λ (z : TracedEvent). item_of_event (Some z)) f.2 ∙ sym (ap item_of_event is)
 
-  pub closed_stays : (m : ℕ) (i : Span) → slice_get x.spans m ≡ Some i → is_closed i ≡ true → slice_get y.spans m ≡ Some i
+  pub closed_stays : (m : ℕ) (i : Span) → slice_get x.spans m ≡ Some i → is_some i.closed ≡ true → slice_get y.spans m ≡ Some i
   closed_stays m i is closed =
       let l = later.spans m i (ap (λ ss. slice_get ss m) (sym spans_are) ∙ is) in
       let grown = l.2 in
       l.1 ∙ ap (λ (j : Span). Some j) (grown.stays closed)
 
-  pub closed_item : (m : ℕ) (i : Span) → slice_get x.spans m ≡ Some i → is_closed i ≡ true → item_of y (nested m) ≡ item_of x (nested m)
+  pub closed_item : (m : ℕ) (i : Span) → slice_get x.spans m ≡ Some i → is_some i.closed ≡ true → item_of y (nested m) ≡ item_of x (nested m)
   closed_item m i is closed = ap (item_of_span m) (closed_stays m i is closed) ∙ sym (ap (item_of_span m) is)
 
   -- an event is referred to as before

@@ -12,7 +12,7 @@ use Rattle.ppd_sem.specs.declared.proc.Need.TheVariants.{Read, Write, P, V, Send
 use Rattle.ppd_sem.specs.declared.proc.Proc.{Proc}
 use Rattle.ppd_sem.specs.Process.{act, need_of}
 use Rattle.ppd_model.specs.declared.state.Logging.{Logging}
-use Rattle.ppd_model.specs.Logs.{closed_log, ends, entries_of, log_step, postlogs, prelogs, rest_after, status_of, syncs, units, with_access}
+use Rattle.ppd_model.specs.Logs.{closed_log, ends, entries_of, log_step, rest_after, status_of, syncs, units, with_access, block_entries}
 use Rattle.ppd_model.specs.Marks.{Mark}
 use Rattle.ppd_model.specs.Story.{Moment, unit_started}
 use Rattle.ppd_model.specs.Synchronizations.{sync_of}
@@ -36,7 +36,7 @@ module _ (program : Program) (plan : Plan) (d : ℕ) where
 
   pub entries_raised : (l : Logging) (m : Moment) → entries_of program plan (raised_log d l) m ≡ entries_of program plan l m
   entries_raised l m =
-      ap₂ (λ (o : Option Mark) (c : Option Mark). prelogs o ++ syncs l m.taken (sync_of m.taken) ++ postlogs c ++ units (unit_started m.taken.need) m.unit_values ++ ends l (status_of m.taken.need))
+      ap₂ (λ (o : Option Mark) (c : Option Mark). block_entries entry.Prelog o ++ syncs l m.taken (sync_of m.taken) ++ block_entries entry.Postlog c ++ units (unit_started m.taken.need) m.unit_values ++ ends l (status_of m.taken.need))
       (opened_raised program plan d l.proc m.taken.need) (closed_raised program plan d l.proc m.taken.need)
 
   -- the state and the log after a step, from its parts

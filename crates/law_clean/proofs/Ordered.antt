@@ -1,4 +1,5 @@
 -- Conflicting accesses are ordered where no race has the edge of one of them.
+use Rattle.std.specs.Bool.{beq}
 use Rattle.std.proofs.Common.{◌≡◌, ℕ, zero, suc, ◌<◌, ◌≤◌, List, [], ◌∷◌, Bool, true, false, not, refl, ap, sym, subst, ◌∙◌, arith, length, inl, inr, ◌⊎◌, ◌&&◌, ◌||◌, true≢false, eq-eqb, get_or}
 use Rattle.std.proofs.lemmas.Bool.{and_from, cases_lt, or_cases, or_left, or_right}
 use Rattle.std.proofs.lemmas.Option.{none-some}
@@ -11,10 +12,9 @@ use Rattle.ppd_model.specs.declared.graph.RaceKind.{RaceKind}
 use Rattle.ppd_model.specs.declared.graph.RaceKind.TheVariants.{ReadWrite, WriteRead, WriteWrite}
 use Rattle.ppd_model.specs.declared.tracing.Story.{Story}
 use Rattle.ppd_model.specs.declared.tracing.Taken.{Taken}
-use Rattle.ppd_model.specs.Story.{own_steps}
 use Rattle.ppd_model.specs.Record.{SharedAccess, accesses, accesses_from, record_of}
 use Rattle.ppd_model.specs.HappenedBefore.{EdgeBefore, edge, is_edge_before}
-use Rattle.ppd_model.specs.Races.{Edges, candidates, edges_of_story, first_writes, has_access, is_race, kinds, race, races_of, second_writes, writes_or_not}
+use Rattle.ppd_model.specs.Races.{Edges, candidates, edges_of_story, first_writes, has_access, is_race, kinds, race, second_writes, races_among}
 use Rattle.ppd_model.specs.Laws.{DoConflict}
 use Rattle.ppd_model.proofs.RaceFree.{any_at, candidate_in, edge_below}
 use Rattle.ppd_model.proofs.Tested.{In, here, there, in_left, in_right, tests_edges}
@@ -69,14 +69,17 @@ second_is false w h = sym h
 second_is true false h = refl
 second_is true true h = refl
 
-does_so : (a : SharedAccess) (w : Bool) → a.writes ≡ w → writes_or_not a w ≡ true
-does_so a true e = e
-does_so a false e = ap not e
+does_so : (a : SharedAccess) (w : Bool) → a.writes ≡ w → beq a.writes w ≡ true
+does_so a w e = ap (λ b. beq b w) e ∙ self w
+  where
+    self : (b : Bool) → beq b b ≡ true
+    self true = refl
+    self false = refl
 
 has_it : (s : Story) (p m c : ℕ) (a : SharedAccess) (w : Bool) → slice_get (accesses s p) m ≡ Some a → a.cell ≡ c → a.writes ≡ w → has_access s p a.edge c w ≡ true
 has_it s p m c a w h same e =
-    any_at (λ b. nat_eq b.edge a.edge && nat_eq b.cell c && writes_or_not b w) (accesses s p) m a h
-    (and_from (nat_eq a.edge a.edge && nat_eq a.cell c) (writes_or_not a w) (and_from (nat_eq a.edge a.edge) (nat_eq a.cell c) (eq-eqb a.edge a.edge refl) (eq-eqb a.cell c same)) (does_so a w e))
+    any_at (λ b. nat_eq b.edge a.edge && nat_eq b.cell c && beq b.writes w) (accesses s p) m a h
+    (and_from (nat_eq a.edge a.edge && nat_eq a.cell c) (beq a.writes w) (and_from (nat_eq a.edge a.edge) (nat_eq a.cell c) (eq-eqb a.edge a.edge refl) (eq-eqb a.cell c same)) (does_so a w e))
 
 ordered_or : (a b o : Bool) → a ≡ true → b ≡ true → ((a && b && not o) ≡ true → ⊥) → o ≡ true
 ordered_or a b true h k no' = refl
@@ -106,7 +109,7 @@ module _ (program : Program) (s : Story) where
 
   -- a candidate that is a race is listed, so that its edges are raced
   listed : (r : Race) (e : EdgeId) → In r (candidates edges) → is_of_race e r ≡ true → IsUnraced program s e → is_race edges r ≡ true → ⊥
-  listed r e i of clear is = true≢false (sym (any_in (is_of_race e) r (races_of program s) (filter_in (is_race edges) r (candidates edges) i is) of) ∙ clear)
+  listed r e i of clear is = true≢false (sym (any_in (is_of_race e) r (races_among (edges_of_story program s)) (filter_in (is_race edges) r (candidates edges) i is) of) ∙ clear)
 
   not_listed : (p i q j c : ℕ) (k : RaceKind) → In (race p i q j c k) (candidates edges) → IsUnraced program s (edge p i) ⊎ IsUnraced program s (edge q j) → is_race edges (race p i q j c k) ≡ true → ⊥
   not_listed p i q j c k i' (inl clear) is = listed (race p i q j c k) (edge p i) i' (first_of_race p i q j c k) clear is
@@ -119,7 +122,7 @@ module _ (program : Program) (s : Story) where
       let k : RaceKind = kind_by a.writes b.writes in
       let there' : In (race p a.edge q b.edge a.cell k) (candidates edges) =
       candidate_in edges p a.edge q b.edge a.cell k lt (process_below s q d.second.0 b d.second.1)
-      (omega (arith, edge_below (own_steps s p) 0 d.first.0 a d.first.1)) (omega (arith, edge_below (own_steps s q) 0 d.second.0 b d.second.1)) d.there (kind_in a.writes b.writes) in
+      (omega (arith, edge_below (get_or s.steps p []) 0 d.first.0 a d.first.1)) (omega (arith, edge_below (get_or s.steps q []) 0 d.second.0 b d.second.1)) d.there (kind_in a.writes b.writes) in
       let o : (is_edge_before program (record_of s) (edge p a.edge) (edge q b.edge) || is_edge_before program (record_of s) (edge q b.edge) (edge p a.edge)) ≡ true = ordered_or
       (has_access s p a.edge a.cell (first_writes k)) (has_access s q b.edge a.cell (second_writes k))
       (is_edge_before program (record_of s) (edge p a.edge) (edge q b.edge) || is_edge_before program (record_of s) (edge q b.edge) (edge p a.edge))

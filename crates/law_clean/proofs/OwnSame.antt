@@ -1,8 +1,10 @@
 -- The search within a process: over what it has after a beginning of a schedule it finds of an event what it finds over
 -- what it has at the end.
 use Rattle.std.proofs.Common.{◌≡◌, ℕ, zero, suc, ◌+◌, ◌<◌, List, [], ◌∷◌, ◌++◌, length, Option, Some, None, refl, ap, sym, subst, ◌∙◌, arith}
+use Rattle.ppd_model.specs.declared.flow.Origin.TheVariants as origin
+use Rattle.std.specs.Option.{option_map_or}
 use Rattle.std.proofs.lemmas.Option.{none-some}
-use Rattle.std.specs.Prelude.{slice_get, zip}
+use Rattle.std.specs.Prelude.{slice_get, zip, get_or}
 use Rattle.ppd_ast.specs.declared.plan.Plan.{Plan}
 use Rattle.ppd_ast.specs.declared.plan.Policy.{Policy}
 use Rattle.ppd_ast.specs.declared.program.Program.{Program}
@@ -14,10 +16,10 @@ use Rattle.ppd_sem.specs.declared.event.Spot.TheVariants.{Local}
 use Rattle.ppd_model.specs.declared.flow.Item.TheVariants as item
 use Rattle.ppd_model.specs.declared.trace.TracedEvent.{TracedEvent}
 use Rattle.ppd_model.specs.Earlier.{AreEarlier, EachNamesEarlier, IsEarlier, IsEarlierAt, NamesEarlier}
-use Rattle.ppd_model.specs.FlowbackEdges.{from_parent, from_writer, part_at}
+use Rattle.ppd_model.specs.FlowbackEdges.{part_at}
 use Rattle.ppd_model.proofs.EdgeWords.{part_in}
 use Rattle.ppd_model.specs.FullTrace.{Tag}
-use Rattle.ppd_model.specs.Intervals.{own, Span, Split, items_of, splits}
+use Rattle.ppd_model.specs.Intervals.{own, Span, Split, items_of, splits, ref}
 use Rattle.ppd_model.proofs.IntervalWords.{item_of_event}
 use Rattle.ppd_model.specs.Items.{HasWholeItems}
 use Rattle.ppd_model.specs.Story.{story, told}
@@ -26,7 +28,7 @@ use Rattle.ppd_model.proofs.Earlier.{name_earlier}
 use Rattle.ppd_model.proofs.Items.{items_whole}
 use Rattle.ppd_flow_model.specs.Control.{control_origin}
 use Rattle.ppd_flow_model.specs.Locals.{local_origin}
-use Rattle.ppd_flow_model.specs.Seen.{items_at, seen_of}
+use Rattle.ppd_flow_model.specs.Seen.{seen_of}
 use Rattle.law_flow_own.proofs.Loops.OwnParts.{own_parts}
 use Rattle.law_flow_shared.specs.Edges.Assembled.{HasOwnParts}
 use Rattle.law_flow_shared.proofs.Edges.Back.Walks.{map_at}
@@ -57,10 +59,10 @@ tag_at p k (x ∷ xs) (y ∷ ys) (suc i) a w h e = tag_at p k xs ys i a w h.1 e
 
 -- the item of an event
 pub event_at : (z : Split) (xs : List Split) (p k j n : ℕ) (e : TracedEvent) → HasWholeItems xs z p → part_at z k j ≡ Some (own n) → slice_get z.trace.events n ≡ Some e
-    → slice_get (items_at (seen_of z) k) j ≡ Some (item.Own e.event)
+    → slice_get (get_or (seen_of z).items k []) j ≡ Some (item.Own e.event)
 event_at z xs p k j n e w place is = by (slice_get z.spans k) refl place
   where
-    by : (o : Option Span) → slice_get z.spans k ≡ o → part_in o j ≡ Some (own n) → slice_get (items_at (seen_of z) k) j ≡ Some (item.Own e.event)
+    by : (o : Option Span) → slice_get z.spans k ≡ o → part_in o j ≡ Some (own n) → slice_get (get_or (seen_of z).items k []) j ≡ Some (item.Own e.event)
     by None there f = absurd (none-some (own n) f)
     by (Some i) there f =
         ap (λ l. slice_get l j) (map_at (items_of z) z.spans k i [] there) ∙ item_at z i.parts j (w.whole k i there)
@@ -93,14 +95,14 @@ module _ (program : Program) (policy : Policy) (budget : ℕ) (g rest : List ℕ
   place' = part_kept program policy budget g rest p v x y at_g at k j (own n) place
 
   -- what names an earlier event names it at one place
-  kept : (w : Tag) → IsEarlier p n w → from_writer now w ≡ from_writer whole w
+  kept : (w : Tag) → IsEarlier p n w → option_map_or (ref now) w origin.Initial ≡ option_map_or (ref whole) w origin.Initial
   kept None h = refl
   kept (Some id) h =
       let below = h.1 in
       let num : id.number < length x.trace.events = (let a : id.number < n = below in let b = lt in omega (arith, a, b)) in
-      ap (λ q. from_writer now (Some (record { process = q; number = id.number }))) h.0
+      ap (λ q. option_map_or (ref now) (Some (record { process = q; number = id.number })) origin.Initial) h.0
       ∙ ref_kept program policy budget g rest p v x y at_g at id.number num
-      ∙ sym (ap (λ q. from_writer whole (Some (record { process = q; number = id.number }))) h.0)
+      ∙ sym (ap (λ q. option_map_or (ref whole) (Some (record { process = q; number = id.number })) origin.Initial) h.0)
 
   names : NamesEarlier p n e
   names =
@@ -128,20 +130,20 @@ module _ (program : Program) (policy : Policy) (budget : ℕ) (g rest : List ℕ
   pub control_same : control_origin program plan (seen_of x) p k j e.event.stmt ≡ control_origin program plan (seen_of y) p k j e.event.stmt
   control_same =
       parts_g.control n e place is ∙ parents e.parent names.parent
-      ∙ ap (from_parent whole) (sym (ap (λ (t : TracedEvent). t.parent) later.2))
+      ∙ ap (λ o. option_map_or (ref whole) o origin.Entry) (sym (ap (λ (t : TracedEvent). t.parent) later.2))
       ∙ sym (parts.control n f place' later.1)
       ∙ ap (λ (t : TracedEvent). control_origin program plan (seen_of y) p k j t.event.stmt) later.2
     where
-      parents : (w : Tag) → IsEarlier p n w → from_parent now w ≡ from_parent whole w
+      parents : (w : Tag) → IsEarlier p n w → option_map_or (ref now) w origin.Entry ≡ option_map_or (ref whole) w origin.Entry
       parents None h = refl
       parents (Some id) h = kept (Some id) h
 
   -- the item
-  pub item_same : slice_get (items_at (seen_of x) k) j ≡ slice_get (items_at (seen_of y) k) j
+  pub item_same : slice_get (get_or (seen_of x).items k []) j ≡ slice_get (get_or (seen_of y).items k []) j
   item_same =
       event_at x now p k j n e (items_whole program plan budget g p x v at_g) place is
       ∙ ap (λ (t : TracedEvent). Some (item.Own t.event)) (sym later.2)
       ∙ sym (event_at y whole p k j n f (items_whole program plan budget (g ++ rest) p y v at) place' later.1)
 
-  pub item_is : slice_get (items_at (seen_of x) k) j ≡ Some (item.Own e.event)
+  pub item_is : slice_get (get_or (seen_of x).items k []) j ≡ Some (item.Own e.event)
   item_is = event_at x now p k j n e (items_whole program plan budget g p x v at_g) place is

@@ -1,28 +1,23 @@
 -- The past of an edge has a race: by the edges of the past, and by the races.
-use Rattle.std.proofs.Common.{◌≡◌, ℕ, zero, suc, ◌+◌, ◌-◌, ◌<◌, ◌≤◌, Bool, true, false, List, [], ◌∷◌, length, refl, ap, sym, subst, ◌∙◌, arith, inl, inr, ◌⊎◌, eq-eqb, eqb-true, true≢false, ◌&&◌, ◌||◌}
-use Rattle.std.proofs.lemmas.Bool.{and_from, false_from_ne_true, le-leb, leb-true, or_left, or_right}
-use Rattle.std.specs.List.{list_any}
-use Rattle.std.specs.Prelude.{nat_eq, nat_le, not, filter}
+use Rattle.law_clean.proofs.Ordered.{any_in}
+use Rattle.law_clean.proofs.PastWords.{is_item_past, is_of_race, is_raced_to, tests}
+use Rattle.law_clean.proofs.PastsGrow.{any_found, past_next}
+use Rattle.law_clean.specs.Pasts.{Lies, any_raced, is_clean, is_past, is_raced, is_same_edge}
+use Rattle.law_clean.specs.Search.{leads_from_race}
 use Rattle.ppd_ast.specs.declared.program.Program.{Program}
+use Rattle.ppd_model.proofs.Accesses.{record_at}
+use Rattle.ppd_model.proofs.Tested.{In, tests_edges}
+use Rattle.ppd_model.specs.HappenedBefore.{edge, is_before, is_edge_before, node}
+use Rattle.ppd_model.specs.Races.{edges_of_story, races_among}
+use Rattle.ppd_model.specs.Record.{record_of}
+use Rattle.ppd_model.specs.Synchronizations.{Sync, sync_of}
 use Rattle.ppd_model.specs.declared.graph.EdgeId.{EdgeId}
 use Rattle.ppd_model.specs.declared.graph.NodeId.{NodeId}
 use Rattle.ppd_model.specs.declared.graph.Race.{Race}
 use Rattle.ppd_model.specs.declared.tracing.Story.{Story}
-use Rattle.ppd_model.specs.HappenedBefore.{Before, EdgeBefore, across, earlier, edge, is_before, is_edge_before, node, own_syncs}
-use Rattle.ppd_model.specs.Races.{races_of}
-use Rattle.ppd_model.specs.Record.{record_of}
-use Rattle.ppd_model.specs.Story.{own_steps}
-use Rattle.ppd_model.specs.Synchronizations.{Sync, syncs_of}
-use Rattle.ppd_model.proofs.Accesses.{record_at}
-use Rattle.ppd_model.proofs.LastEdges.{before_from}
-use Rattle.ppd_model.proofs.Tested.{In, tests_before, tests_edges}
-use Rattle.law_flow_shared.proofs.Edges.Sources.Members.{filter_in, in_filter}
-use Rattle.law_clean.specs.Pasts.{Lies, all_edges, are_raced, is_clean, is_past, is_raced, past_of, is_same_edge}
-use Rattle.law_clean.specs.Search.{has_race, leads_from_race}
-use Rattle.law_clean.proofs.Ordered.{any_in}
-use Rattle.law_clean.proofs.PastClear.{edge_there, ended_there, some_there}
-use Rattle.law_clean.proofs.PastsGrow.{any_found, pasts_grow}
-use Rattle.law_clean.proofs.PastWords.{is_of_race, is_item_past, is_raced_to}
+use Rattle.std.proofs.Common.{Bool, List, [], ap, arith, eq-eqb, eqb-true, false, inl, inr, length, refl, subst, suc, sym, true, true≢false, zero, ℕ, ◌&&◌, ◌+◌, ◌-◌, ◌<◌, ◌||◌, ◌∙◌, ◌∷◌, ◌≡◌, ◌≤◌, ◌⊎◌}
+use Rattle.std.proofs.lemmas.Bool.{and_from, false_from_ne_true, le-leb, leb-true, or_left, or_right}
+use Rattle.std.specs.Prelude.{filter_map, get_or, nat_eq, nat_le, not}
 
 pub either : (a b : Bool) → (a || b) ≡ true → (a ≡ true) ⊎ (b ≡ true)
 either true b e = inl refl
@@ -48,11 +43,7 @@ race_second r rs m =
     any_in (is_of_race (edge r.q r.j)) r rs m
     (or_right (nat_eq r.p r.q && nat_eq r.i r.j) (nat_eq r.q r.q && nat_eq r.j r.j) (and_from (nat_eq r.q r.q) (nat_eq r.j r.j) (eq-eqb r.q r.q refl) (eq-eqb r.j r.j refl)))
 
--- a test of the edges of races
-abbrev tests : (EdgeId → Bool) → Race → Bool
-tests t r = t (edge r.p r.i) || t (edge r.q r.j)
-
-pub edge_of_race : (t : EdgeId → Bool) (rs : List Race) → list_any (tests t) rs ≡ true → (a : EdgeId) × (is_raced rs a ≡ true) × (t a ≡ true)
+pub edge_of_race : (t : EdgeId → Bool) (rs : List Race) → any_raced t rs ≡ true → (a : EdgeId) × (is_raced rs a ≡ true) × (t a ≡ true)
 edge_of_race t rs e =
     let f = any_found (tests t) rs e in
     elim (either (t (edge f.0.p f.0.i)) (t (edge f.0.q f.0.j)) f.2) [
@@ -60,7 +51,7 @@ edge_of_race t rs e =
       | inr second ↦ (edge f.0.q f.0.j, race_second f.0 rs f.1, second)
     ]
 
-pub race_of_edge : (t : EdgeId → Bool) (rs : List Race) (a : EdgeId) → is_raced rs a ≡ true → t a ≡ true → list_any (tests t) rs ≡ true
+pub race_of_edge : (t : EdgeId → Bool) (rs : List Race) (a : EdgeId) → is_raced rs a ≡ true → t a ≡ true → any_raced t rs ≡ true
 race_of_edge t rs a e h =
     let f = any_found (is_of_race a) rs e in
     any_in (tests t) f.0 rs f.1
@@ -102,50 +93,31 @@ module _ (program : Program) (s : Story) where
   Rec = record_of s
 
   abbrev Has : EdgeId → Bool
-  Has e = has_race program (record_of s) (races_of program s) e
+  Has e = any_raced (is_past program (record_of s) e) (races_among (edges_of_story program s))
 
-  -- an edge of the past is there
-  module _ (p e : ℕ) (there : p < length s.steps) (within : e ≤ length (syncs_of (own_steps s p))) where
-    past_there : (a : EdgeId) → is_past program (record_of s) (edge p e) a ≡ true → In a (all_edges s)
-    past_there a h = elim (either (is_same_edge a (edge p e)) (is_edge_before program Rec a (edge p e)) h) [
-      | inl same ↦ subst (λ z. In z (all_edges s)) (sym (same_is a (edge p e) same)) (edge_there program s p e there within)
-      | inr before ↦ by_edge a ((tests_edges program Rec a (edge p e)).0 before)
-    ]
-      where
-        by_edge : (a : EdgeId) → EdgeBefore program Rec a (edge p e) → In a (all_edges s)
-        by_edge a (earlier same less) =
-            let is : a.process ≡ p = same in
-            let below : a.edge < e = less in
-            edge_there program s a.process a.edge (subst (λ z. z < length s.steps) (sym is) there) (subst (λ z. a.edge ≤ length (syncs_of (own_steps s z))) (sym is) (omega (arith, below, within)))
-        by_edge a (across apart j is b) = ended_there program s a.process a.edge (before_from program Rec (node a.process a.edge) (node p j) b)
-
-    -- by the races, and by the edges
-    pub has_raced : Has (edge p e) ≡ true → are_raced program s (past_of program s (edge p e)) ≡ true
-    has_raced h =
-        let f = edge_of_race (is_past program Rec (edge p e)) (races_of program s) h in
-        any_in (is_raced (races_of program s)) f.0 (past_of program s (edge p e)) (filter_in (is_past program (record_of s) (edge p e)) f.0 (all_edges s) (past_there f.0 f.2) f.2) f.1
-
-  pub raced_has : (p e : ℕ) → are_raced program s (past_of program s (edge p e)) ≡ true → Has (edge p e) ≡ true
-  raced_has p e h =
-      let f = any_found (is_raced (races_of program s)) (past_of program s (edge p e)) h in
-      race_of_edge (is_past program Rec (edge p e)) (races_of program s) f.0 f.2 (in_filter (is_past program (record_of s) (edge p e)) f.0 (all_edges s) f.1).1
+  -- a race in the past of an edge is in that of the next one
+  pasts_grow : (p i : ℕ) → i < length (get_or Rec p []) → Has (edge p i) ≡ true → Has (edge p (i + 1)) ≡ true
+  pasts_grow p i lt raced =
+      let f = edge_of_race (is_past program Rec (edge p i)) (races_among (edges_of_story program s)) raced in
+      race_of_edge (is_past program Rec (edge p (i + 1))) (races_among (edges_of_story program s)) f.0 f.1
+      (or_right (is_same_edge f.0 (edge p (i + 1))) (is_edge_before program Rec f.0 (edge p (i + 1))) ((tests_edges program Rec f.0 (edge p (i + 1))).1 (past_next program s p i f.0 f.2 lt)))
 
   -- ---- growing pasts
 
   module _ (p : ℕ) (there : p < length s.steps) where
     abbrev Far : ℕ
-    Far = length (syncs_of (own_steps s p))
+    Far = length (filter_map sync_of (get_or s.steps p []))
 
-    far_is : length (own_syncs Rec p) ≡ length (syncs_of (own_steps s p))
+    far_is : length (get_or Rec p []) ≡ length (filter_map sync_of (get_or s.steps p []))
     far_is = ap length (record_at s.steps p)
 
     pub grows : (k e : ℕ) → e + k ≤ Far → Has (edge p e) ≡ true → Has (edge p (e + k)) ≡ true
     grows zero e le h = let z : e ≡ e + zero = omega arith in subst (λ i. Has (edge p i) ≡ true) z h
     grows (suc k) e le h =
         let z : (e + 1) + k ≡ e + suc k = omega arith in
-        let far : length (own_syncs Rec p) ≡ length (syncs_of (own_steps s p)) = far_is in
+        let far : length (get_or Rec p []) ≡ length (filter_map sync_of (get_or s.steps p [])) = far_is in
         subst (λ i. Has (edge p i) ≡ true) z
-        (grows k (e + 1) (omega (arith, le)) (raced_has p (e + 1) (pasts_grow program s p e (omega (arith, le, far)) (has_raced p e there (omega (arith, le)) h))))
+        (grows k (e + 1) (omega (arith, le)) (pasts_grow p e (omega (arith, le, far)) h))
 
     pub grows_to : (e i : ℕ) → e ≤ i → i ≤ Far → Has (edge p e) ≡ true → Has (edge p i) ≡ true
     grows_to e i le far h = let z : e + (i - e) ≡ i = omega (arith, le) in subst (λ k. Has (edge p k) ≡ true) z (grows (i - e) e (omega (arith, le, far)) h)
@@ -154,16 +126,14 @@ module _ (program : Program) (s : Story) where
 
     module _ (l : Lies) (within : l.edge ≤ Far) where
       -- its last edge has a race in its past, or one leads to the synchronization that it is
-      pub unclean_has : is_clean program s p l ≡ false → (Has (edge p l.edge) ≡ true) ⊎ ((l.ends ≡ true) × (leads_from_race program Rec (races_of program s) (edge p l.edge) ≡ true))
+      pub unclean_has : is_clean program s p l ≡ false → (Has (edge p l.edge) ≡ true) ⊎ ((l.ends ≡ true) × (leads_from_race program Rec (races_among (edges_of_story program s)) (edge p l.edge) ≡ true))
       unclean_has h =
-          let raced : are_raced program s (filter (is_item_past program s p l) (all_edges s)) ≡ true = not_false (are_raced program s (filter (is_item_past program s p l) (all_edges s))) h in
-          let f = any_found (is_raced (races_of program s)) (filter (is_item_past program s p l) (all_edges s)) raced in
-          let m = in_filter (is_item_past program s p l) f.0 (all_edges s) f.1 in
-          elim (either (is_past program (record_of s) (edge p l.edge) f.0) (l.ends && is_before program (record_of s) (node f.0.process f.0.edge) (node p l.edge)) m.1) [
-            | inl past ↦ inl (race_of_edge (is_past program Rec (edge p l.edge)) (races_of program s) f.0 f.2 past)
+          let f = edge_of_race (is_item_past program s p l) (races_among (edges_of_story program s)) (not_false (any_raced (is_item_past program s p l) (races_among (edges_of_story program s))) h) in
+          elim (either (is_past program (record_of s) (edge p l.edge) f.0) (l.ends && is_before program (record_of s) (node f.0.process f.0.edge) (node p l.edge)) f.2) [
+            | inl past ↦ inl (race_of_edge (is_past program Rec (edge p l.edge)) (races_among (edges_of_story program s)) f.0 f.1 past)
             | inr leads ↦
                 let b = both l.ends (is_before program (record_of s) (node f.0.process f.0.edge) (node p l.edge)) leads in
-                inr (b.0, race_of_edge (λ a. is_before program Rec (node a.process a.edge) (node p l.edge)) (races_of program s) f.0 f.2 b.1)
+                inr (b.0, race_of_edge (λ a. is_before program Rec (node a.process a.edge) (node p l.edge)) (races_among (edges_of_story program s)) f.0 f.1 b.1)
           ]
         where
           not_false : (b : Bool) → not b ≡ false → b ≡ true
@@ -172,14 +142,13 @@ module _ (program : Program) (s : Story) where
 
       pub has_unclean : Has (edge p l.edge) ≡ true → is_clean program s p l ≡ false
       has_unclean h =
-          let f = edge_of_race (is_past program Rec (edge p l.edge)) (races_of program s) h in
-          ap not (any_in (is_raced (races_of program s)) f.0 (filter (is_item_past program s p l) (all_edges s))
-          (filter_in (is_item_past program s p l) f.0 (all_edges s) (past_there p l.edge there within f.0 f.2) (or_left (is_past program (record_of s) (edge p l.edge) f.0) (l.ends && is_before program (record_of s) (node f.0.process f.0.edge) (node p l.edge)) f.2)) f.1)
+          let f = edge_of_race (is_past program Rec (edge p l.edge)) (races_among (edges_of_story program s)) h in
+          ap not (race_of_edge (is_item_past program s p l) (races_among (edges_of_story program s)) f.0 f.1
+          (or_left (is_past program (record_of s) (edge p l.edge) f.0) (l.ends && is_before program (record_of s) (node f.0.process f.0.edge) (node p l.edge)) f.2))
 
-      pub leads_unclean : l.ends ≡ true → leads_from_race program Rec (races_of program s) (edge p l.edge) ≡ true → is_clean program s p l ≡ false
+      pub leads_unclean : l.ends ≡ true → leads_from_race program Rec (races_among (edges_of_story program s)) (edge p l.edge) ≡ true → is_clean program s p l ≡ false
       leads_unclean ends h =
-          let f = edge_of_race (λ a. is_before program Rec (node a.process a.edge) (node p l.edge)) (races_of program s) h in
-          let b : Before program Rec (node f.0.process f.0.edge) (node p l.edge) = (tests_before program Rec (node f.0.process f.0.edge) (node p l.edge)).0 f.2 in
-          ap not (any_in (is_raced (races_of program s)) f.0 (filter (is_item_past program s p l) (all_edges s))
-          (filter_in (is_item_past program s p l) f.0 (all_edges s) (ended_there program s f.0.process f.0.edge (before_from program Rec (node f.0.process f.0.edge) (node p l.edge) b))
-          (or_right (is_past program (record_of s) (edge p l.edge) f.0) (l.ends && is_before program (record_of s) (node f.0.process f.0.edge) (node p l.edge)) (and_from l.ends (is_before program (record_of s) (node f.0.process f.0.edge) (node p l.edge)) ends f.2))) f.1)
+          let f = edge_of_race (λ a. is_before program Rec (node a.process a.edge) (node p l.edge)) (races_among (edges_of_story program s)) h in
+          ap not (race_of_edge (is_item_past program s p l) (races_among (edges_of_story program s)) f.0 f.1
+          (or_right (is_past program (record_of s) (edge p l.edge) f.0) (l.ends && is_before program (record_of s) (node f.0.process f.0.edge) (node p l.edge))
+          (and_from l.ends (is_before program (record_of s) (node f.0.process f.0.edge) (node p l.edge)) ends f.2)))

@@ -1,34 +1,34 @@
 -- The edges in which intervals begin and are left, and those of the items in them.
-use Rattle.std.proofs.Common.{◌≡◌, ℕ, zero, suc, ◌+◌, ◌<◌, ◌≤◌, Bool, true, false, cond, List, [], ◌∷◌, ◌++◌, length, map, get_or, Option, Some, None, refl, ap, sym, subst, ◌∙◌, arith, inl, inr, length-append, if◌then◌else◌, true≢false}
+use Rattle.law_clean.proofs.PastWords.{left_in}
+use Rattle.law_clean.specs.Pasts.{left_edge}
+use Rattle.law_flow_shared.proofs.Edges.Back.Walks.{map_at}
+use Rattle.law_flow_shared.proofs.Edges.LogPlaces.EdgePlaces.{first_edge_is}
+use Rattle.law_flow_shared.proofs.Edges.PartItems.{item_at, item_if}
+use Rattle.law_flow_shared.proofs.Edges.Spans.Facts.{OpensAt, at, count_to}
+use Rattle.ppd_entry.specs.declared.entry.Entry.{Entry}
+use Rattle.ppd_entry.specs.declared.entry.Entry.TheVariants as entry
+use Rattle.ppd_flow_model.proofs.Vocabulary.{begins_in}
+use Rattle.ppd_flow_model.specs.Ends.{first_edge, syncs_before}
+use Rattle.ppd_flow_model.specs.Seen.{seen_of}
+use Rattle.ppd_model.proofs.Changes.{length-change, some}
+use Rattle.ppd_model.proofs.EdgeWords.{part_in}
+use Rattle.ppd_model.proofs.ExtentWords.{begun_extents, ended_by, left_by}
+use Rattle.ppd_model.proofs.Extents.{extents_match}
+use Rattle.ppd_model.specs.Extents.{Extent, Indexing, extend, extents}
+use Rattle.ppd_model.specs.FlowbackEdges.{part_at}
+use Rattle.ppd_model.specs.Intervals.{Part, Span, Split, item_of, items_of, nested, own}
+use Rattle.ppd_model.specs.Items.{HasWholeItems}
+use Rattle.ppd_model.specs.RecordedSets.{sync_in}
+use Rattle.ppd_model.specs.Synchronizations.{Sync}
+use Rattle.ppd_model.specs.World.{change}
+use Rattle.ppd_model.specs.declared.flow.Item.{Item}
+use Rattle.ppd_model.specs.declared.trace.TracedEvent.{TracedEvent}
+use Rattle.std.proofs.Common.{Bool, List, None, Option, Some, [], ap, arith, cond, false, get_or, if◌then◌else◌, inl, inr, length, length-append, map, refl, subst, suc, sym, true, true≢false, zero, ℕ, ◌++◌, ◌+◌, ◌<◌, ◌∙◌, ◌∷◌, ◌≡◌, ◌≤◌}
 use Rattle.std.proofs.lemmas.Bool.{cases_lt}
 use Rattle.std.proofs.lemmas.List.Sums.{fold-append}
 use Rattle.std.proofs.lemmas.Option.{none-some}
 use Rattle.std.specs.List.{cons_option}
 use Rattle.std.specs.Prelude.{filter_map, fold, is_some, slice_get, take, unwrap_or}
-use Rattle.ppd_entry.specs.declared.entry.Entry.{Entry}
-use Rattle.ppd_entry.specs.declared.entry.Entry.TheVariants as entry
-use Rattle.ppd_model.specs.declared.flow.Item.{Item}
-use Rattle.ppd_model.specs.declared.trace.TracedEvent.{TracedEvent}
-use Rattle.ppd_model.specs.Extents.{Extending, Extent, extend, extents, first_of}
-use Rattle.ppd_model.proofs.ExtentWords.{begun_extents, ended_by, left_by}
-use Rattle.ppd_model.specs.FlowbackEdges.{part_at}
-use Rattle.ppd_model.proofs.EdgeWords.{part_in}
-use Rattle.ppd_model.specs.Intervals.{Part, nested, own, Span, Split, item_of, items_of}
-use Rattle.ppd_model.specs.Items.{HasWholeItems}
-use Rattle.ppd_model.specs.RecordedSets.{sync_in}
-use Rattle.ppd_model.specs.Synchronizations.{Sync}
-use Rattle.ppd_model.specs.World.{change}
-use Rattle.ppd_model.proofs.Changes.{length-change, some}
-use Rattle.ppd_model.proofs.Extents.{extents_match}
-use Rattle.ppd_flow_model.specs.Ends.{first_edge, syncs_before}
-use Rattle.ppd_flow_model.proofs.Vocabulary.{begins_in}
-use Rattle.ppd_flow_model.specs.Seen.{items_at, seen_of}
-use Rattle.law_flow_shared.proofs.Edges.Back.Walks.{map_at}
-use Rattle.law_flow_shared.proofs.Edges.LogPlaces.EdgePlaces.{first_edge_is}
-use Rattle.law_flow_shared.proofs.Edges.PartItems.{item_at, item_if}
-use Rattle.law_flow_shared.proofs.Edges.Spans.Facts.{OpensAt, at, count_to}
-use Rattle.law_clean.specs.Pasts.{left_edge}
-use Rattle.law_clean.proofs.PastWords.{left_in}
 
 -- ---- synchronizations before entries
 
@@ -92,16 +92,16 @@ many_left : (n : ℕ) (ks : List ℕ) (xs : List Extent) → length (left_by n k
 many_left n [] xs = refl
 many_left n (k ∷ ks) xs = length-change (λ x. record x { last = Some n; closed = true }) k xs
 
-many_step : (x : Extending) (e : Entry) → length x.extents ≤ length (extend x e).extents
+many_step : (x : Indexing Extent) (e : Entry) → length x.intervals ≤ length (extend x e).intervals
 many_step x (entry.Prelog b vs) =
-    let sum = length-append x.extents ((record { block = b; parent = first_of x.running; prelog = x.entry; last = None; closed = false }) ∷ []) in
+    let sum = length-append x.intervals ((record { block = b; parent = slice_get x.running 0; prelog = x.entry; last = None; closed = false }) ∷ []) in
     omega (arith, sum)
-many_step x (entry.Postlog b vs) = let e = many_left x.entry x.running x.extents in omega (arith, e)
-many_step x (entry.End s n rs ws) = let e = many_ended x.entry x.running x.extents in omega (arith, e)
+many_step x (entry.Postlog b vs) = let e = many_left x.entry x.running x.intervals in omega (arith, e)
+many_step x (entry.End s n rs ws) = let e = many_ended x.entry x.running x.intervals in omega (arith, e)
 many_step x (entry.Unit u vs) = omega arith
 many_step x (entry.Sync k o n v rs ws) = omega arith
 
-many_more : (es : List Entry) (x : Extending) → length x.extents ≤ length (fold extend x es).extents
+many_more : (es : List Entry) (x : Indexing Extent) → length x.intervals ≤ length (fold extend x es).intervals
 many_more [] x = omega arith
 many_more (e ∷ es) x = let a = many_step x e in let b = many_more es (extend x e) in omega (arith, a, b)
 
@@ -126,8 +126,8 @@ begun_later es events k m f g a b lt =
           omega (arith, one, two, up, same)
       | inr more ↦
           let r = front_of a.before (entry.Prelog a.block a.values ∷ a.after) b.before (entry.Prelog b.block b.values ∷ b.after) (sym a.entries_are ∙ b.entries_are) (omega (arith, more)) in
-          let up : length (at b.before).extents ≤ length (fold extend (at b.before) r.0).extents = many_more r.0 (at b.before) in
-          let same : length (at a.before).extents ≡ length (fold extend (at b.before) r.0).extents = ap (λ l. length (at l).extents) r.1 ∙ ap (λ (x : Extending). length x.extents) (fold-append extend begun_extents b.before r.0) in
+          let up : length (at b.before).intervals ≤ length (fold extend (at b.before) r.0).intervals = many_more r.0 (at b.before) in
+          let same : length (at a.before).intervals ≡ length (fold extend (at b.before) r.0).intervals = ap (λ l. length (at l).intervals) r.1 ∙ ap (λ (x : Indexing Extent). length x.intervals) (fold-append extend begun_extents b.before r.0) in
           let k_is = a.number in
           let m_is = b.number in
           absurd (omega (arith, up, same, k_is, m_is, lt))
@@ -152,13 +152,13 @@ count_all (e ∷ es) (suc n) = let r = count_all es n in omega (arith, r)
 
 -- the item of a part that is there
 pub item_there : (z : Split) (xs : List Split) (p k j : ℕ) (q : Part) → HasWholeItems xs z p → part_at z k j ≡ Some q
-    → (t : Item) × (slice_get (items_at (seen_of z) k) j ≡ Some t) × (item_if z (Some q) ≡ Some t)
+    → (t : Item) × (slice_get (get_or (seen_of z).items k []) j ≡ Some t) × (item_if z (Some q) ≡ Some t)
 item_there z xs p k j q w place = by (slice_get z.spans k) refl place
   where
-    by : (o : Option Span) → slice_get z.spans k ≡ o → part_in o j ≡ Some q → (t : Item) × (slice_get (items_at (seen_of z) k) j ≡ Some t) × (item_if z (Some q) ≡ Some t)
+    by : (o : Option Span) → slice_get z.spans k ≡ o → part_in o j ≡ Some q → (t : Item) × (slice_get (get_or (seen_of z).items k []) j ≡ Some t) × (item_if z (Some q) ≡ Some t)
     by None is f = absurd (none-some q f)
     by (Some i) is f =
-        let all : items_at (seen_of z) k ≡ items_of z i = map_at (items_of z) z.spans k i [] is in
+        let all : get_or (seen_of z).items k [] ≡ items_of z i = map_at (items_of z) z.spans k i [] is in
         let at_j : slice_get (items_of z i) j ≡ item_if z (slice_get i.parts j) = item_at z i.parts j (w.whole k i is) in
         let many : length (items_of z i) ≡ length i.parts = w.whole k i is in
         let lt : j < length i.parts = below i.parts j q f in
@@ -175,10 +175,10 @@ item_there z xs p k j q w place = by (slice_get z.spans k) refl place
         there (y ∷ ys) zero lt = (y, refl)
         there (y ∷ ys) (suc n) lt = there ys n (omega (arith, lt))
 
-pub no_item_there : (z : Split) (xs : List Split) (p k j : ℕ) → HasWholeItems xs z p → part_at z k j ≡ None → slice_get (items_at (seen_of z) k) j ≡ None
+pub no_item_there : (z : Split) (xs : List Split) (p k j : ℕ) → HasWholeItems xs z p → part_at z k j ≡ None → slice_get (get_or (seen_of z).items k []) j ≡ None
 no_item_there z xs p k j w place = by (slice_get z.spans k) refl place
   where
-    by : (o : Option Span) → slice_get z.spans k ≡ o → part_in o j ≡ None → slice_get (items_at (seen_of z) k) j ≡ None
+    by : (o : Option Span) → slice_get z.spans k ≡ o → part_in o j ≡ None → slice_get (get_or (seen_of z).items k []) j ≡ None
     by None is f = ap (λ l. slice_get l j) (past z.spans k is)
       where
         past : (ss : List Span) (m : ℕ) → slice_get ss m ≡ None → get_or (map (items_of z) ss) m [] ≡ []

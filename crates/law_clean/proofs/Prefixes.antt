@@ -1,37 +1,36 @@
 -- What a process has in its intervals after a beginning of a schedule is a beginning of what it has at the end: by the
 -- whole log, the edges of its places, the places where its edges end, and the walks from its places are the same.
-use Rattle.std.proofs.Common.{◌≡◌, ℕ, zero, suc, ◌+◌, ◌<◌, ◌≤◌, Bool, true, false, List, [], ◌∷◌, ◌++◌, length, Option, Some, None, refl, ap, ap₂, sym, subst, ◌∙◌, arith, ◌&&◌, if◌then◌else◌}
-use Rattle.std.proofs.lemmas.Option.{none-some}
-use Rattle.std.specs.Prelude.{fold, nat_eq, slice_get, sum_by, take, ⊤}
-use Rattle.ppd_ast.specs.declared.plan.Plan.{Plan}
-use Rattle.ppd_ast.specs.declared.plan.Policy.{Policy}
-use Rattle.ppd_ast.specs.declared.program.Program.{Program}
-use Rattle.ppd_ast.specs.Valid.{IsValid}
-use Rattle.ppd_ast.proofs.ValidLaws.{slice_get_there, slice_get_below}
-use Rattle.ppd_blocks.specs.Blocks.{plan_of}
-use Rattle.ppd_entry.specs.declared.entry.Entry.{Entry}
-use Rattle.ppd_entry.specs.Entries.{entries_at}
-use Rattle.ppd_model.specs.declared.flow.Item.{Item}
-use Rattle.ppd_model.specs.declared.flow.Item.TheVariants as item
-use Rattle.ppd_model.specs.declared.trace.TracedEvent.{TracedEvent}
-use Rattle.ppd_model.specs.FlowbackEdges.{part_at}
-use Rattle.ppd_model.proofs.EdgeWords.{part_in}
-use Rattle.ppd_model.specs.Intervals.{Part, own, nested, Span, Split, is_closed, items_of, splits}
-use Rattle.ppd_model.proofs.IntervalWords.{item_of_event, item_of_span}
-use Rattle.ppd_model.specs.Items.{HasWholeItems, IsReferred}
-use Rattle.ppd_model.specs.Logs.{closed_logs}
-use Rattle.ppd_model.specs.Story.{story}
-use Rattle.ppd_model.proofs.Changes.{some}
-use Rattle.ppd_model.proofs.Items.{items_whole}
-use Rattle.ppd_flow_model.specs.Ends.{edge_at, end_interval, end_item, first_edge, is_sync_item, sync_item, syncs_of_item}
-use Rattle.ppd_flow_model.specs.Seen.{items_at, seen_of}
-use Rattle.ppd_flow_model.specs.Walk.{walk}
+use Rattle.law_clean.proofs.Items.{event_kept, part_kept, span_kept}
+use Rattle.law_clean.proofs.Walks.{walk_equal}
 use Rattle.law_flow_shared.proofs.Edges.Back.Walks.{map_at}
 use Rattle.law_flow_shared.proofs.Edges.LogPlaces.EdgeEnds.{IsAt, at_place}
 use Rattle.law_flow_shared.proofs.Edges.PartItems.{first_of, item_at, item_if}
 use Rattle.law_flow_shared.proofs.Edges.StepEvents.Processes.{Facts, facts}
-use Rattle.law_clean.proofs.Items.{event_kept, part_kept, span_kept}
-use Rattle.law_clean.proofs.Walks.{walk_equal}
+use Rattle.ppd_ast.proofs.ValidLaws.{slice_get_below, slice_get_there}
+use Rattle.ppd_ast.specs.Valid.{IsValid}
+use Rattle.ppd_ast.specs.declared.plan.Plan.{Plan}
+use Rattle.ppd_ast.specs.declared.plan.Policy.{Policy}
+use Rattle.ppd_ast.specs.declared.program.Program.{Program}
+use Rattle.ppd_blocks.specs.Blocks.{plan_of}
+use Rattle.ppd_entry.specs.declared.entry.Entry.{Entry}
+use Rattle.ppd_flow_model.specs.Ends.{edge_at, end_interval, end_item, first_edge, is_sync_item, sync_item, syncs_of_item}
+use Rattle.ppd_flow_model.specs.Seen.{seen_of}
+use Rattle.ppd_flow_model.specs.Walk.{walk}
+use Rattle.ppd_model.proofs.Changes.{some}
+use Rattle.ppd_model.proofs.EdgeWords.{part_in}
+use Rattle.ppd_model.proofs.IntervalWords.{item_of_event, item_of_span}
+use Rattle.ppd_model.proofs.Items.{items_whole}
+use Rattle.ppd_model.specs.FlowbackEdges.{part_at}
+use Rattle.ppd_model.specs.Intervals.{Part, Span, Split, items_of, nested, own, splits}
+use Rattle.ppd_model.specs.Items.{HasWholeItems, IsReferred}
+use Rattle.ppd_model.specs.Logs.{closed_logs}
+use Rattle.ppd_model.specs.Story.{story}
+use Rattle.ppd_model.specs.declared.flow.Item.{Item}
+use Rattle.ppd_model.specs.declared.flow.Item.TheVariants as item
+use Rattle.ppd_model.specs.declared.trace.TracedEvent.{TracedEvent}
+use Rattle.std.proofs.Common.{Bool, List, None, Option, Some, [], ap, ap₂, arith, false, if◌then◌else◌, length, refl, subst, suc, sym, true, zero, ℕ, ◌&&◌, ◌++◌, ◌+◌, ◌<◌, ◌∙◌, ◌∷◌, ◌≡◌, ◌≤◌}
+use Rattle.std.proofs.lemmas.Option.{none-some}
+use Rattle.std.specs.Prelude.{fold, get_or, is_some, nat_eq, slice_get, sum_by, take, ⊤}
 
 -- ---- items that look alike to the search for edges
 
@@ -115,9 +114,9 @@ module _ (program : Program) (policy : Policy) (budget : ℕ) (g rest : List ℕ
     nested_like m t None is h = absurd (none-some t h)
     nested_like m t (Some s) is h =
         let f = span_kept program policy budget g rest p v x y at_g at m s is in (
-          item.Nested m f.0.block f.0.values (is_closed f.0),
+          item.Nested m f.0.block f.0.values (is_some f.0.closed),
           ap (λ o. first_of (item_of_span m o)) f.1,
-          subst (λ z. IsLike entries z (item.Nested m f.0.block f.0.values (is_closed f.0))) (some h) (record { syncs = refl; is_sync = refl }),
+          subst (λ z. IsLike entries z (item.Nested m f.0.block f.0.values (is_some f.0.closed))) (some h) (record { syncs = refl; is_sync = refl }),
         )
 
     part_like : (q : Part) (t : Item) → item_if x (Some q) ≡ Some t → (u : Item) × (item_if y (Some q) ≡ Some u) × IsLike entries t u
@@ -131,19 +130,19 @@ module _ (program : Program) (policy : Policy) (budget : ℕ) (g rest : List ℕ
       there' : slice_get y.spans k ≡ Some i'
       there' = (span_kept program policy budget g rest p v x y at_g at k i there).1
 
-      x_items : (j : ℕ) → slice_get (items_at (seen_of x) k) j ≡ item_if x (slice_get i.parts j)
+      x_items : (j : ℕ) → slice_get (get_or (seen_of x).items k []) j ≡ item_if x (slice_get i.parts j)
       x_items j = ap (λ l. slice_get l j) (map_at (items_of x) x.spans k i [] there) ∙ item_at x i.parts j (x_whole.whole k i there)
 
-      y_items : (j : ℕ) → slice_get (items_at (seen_of y) k) j ≡ item_if y (slice_get i'.parts j)
+      y_items : (j : ℕ) → slice_get (get_or (seen_of y).items k []) j ≡ item_if y (slice_get i'.parts j)
       y_items j = ap (λ l. slice_get l j) (map_at (items_of y) y.spans k i' [] there') ∙ item_at y i'.parts j (y_whole.whole k i' there')
 
-      many : length (items_at (seen_of x) k) ≡ length i.parts
+      many : length (get_or (seen_of x).items k []) ≡ length i.parts
       many = ap length (map_at (items_of x) x.spans k i [] there) ∙ x_whole.whole k i there
 
-      begins : Begins entries (items_at (seen_of x) k) (items_at (seen_of y) k)
-      begins = begins_by entries (items_at (seen_of x) k) (items_at (seen_of y) k) (λ j t f. by j t (slice_get i.parts j) refl (sym (x_items j) ∙ f))
+      begins : Begins entries (get_or (seen_of x).items k []) (get_or (seen_of y).items k [])
+      begins = begins_by entries (get_or (seen_of x).items k []) (get_or (seen_of y).items k []) (λ j t f. by j t (slice_get i.parts j) refl (sym (x_items j) ∙ f))
         where
-          by : (j : ℕ) (t : Item) (o : Option Part) → slice_get i.parts j ≡ o → item_if x o ≡ Some t → (u : Item) × (slice_get (items_at (seen_of y) k) j ≡ Some u) × IsLike entries t u
+          by : (j : ℕ) (t : Item) (o : Option Part) → slice_get i.parts j ≡ o → item_if x o ≡ Some t → (u : Item) × (slice_get (get_or (seen_of y).items k []) j ≡ Some u) × IsLike entries t u
           by j t None e h = absurd (none-some t h)
           by j t (Some q) e h =
               let r = part_like q t h in
@@ -158,8 +157,8 @@ module _ (program : Program) (policy : Policy) (budget : ℕ) (g rest : List ℕ
         by None there f = absurd (none-some q f)
         by (Some i) there f =
             let lt : j < length i.parts = slice_get_below i.parts j q f in
-            let all : length (items_at (seen_of x) k) ≡ length i.parts = many k i there in
-            ap (λ m. first_edge entries k + m) (begins_sum entries j (items_at (seen_of x) k) (items_at (seen_of y) k) (begins k i there) (omega (arith, lt, all)))
+            let all : length (get_or (seen_of x).items k []) ≡ length i.parts = many k i there in
+            ap (λ m. first_edge entries k + m) (begins_sum entries j (get_or (seen_of x).items k []) (get_or (seen_of y).items k []) (begins k i there) (omega (arith, lt, all)))
 
     -- an event that is there by then is at the same place
     pub place_back : (k j n : ℕ) → part_at y k j ≡ Some (own n) → n < length x.trace.events → part_at x k j ≡ Some (own n)
@@ -183,8 +182,8 @@ module _ (program : Program) (policy : Policy) (budget : ℕ) (g rest : List ℕ
         by None there f = absurd (none-some (own n) f)
         by (Some s) there f =
             let less : end_item entries (seen_of y) i < length s.parts = slice_get_below s.parts (end_item entries (seen_of y) i) (own n) f in
-            let all : length (items_at (seen_of x) (end_interval entries i)) ≡ length s.parts = many (end_interval entries i) s there in
-            begins_sync entries i (first_edge entries (end_interval entries i)) (items_at (seen_of x) (end_interval entries i)) (items_at (seen_of y) (end_interval entries i)) (begins (end_interval entries i) s there) (omega (arith, less, all))
+            let all : length (get_or (seen_of x).items (end_interval entries i) []) ≡ length s.parts = many (end_interval entries i) s there in
+            begins_sync entries i (first_edge entries (end_interval entries i)) (get_or (seen_of x).items (end_interval entries i) []) (get_or (seen_of y).items (end_interval entries i) []) (begins (end_interval entries i) s there) (omega (arith, less, all))
 
   -- the walk from a place
   pub walk_same : (c k j n : ℕ) → part_at x k j ≡ Some (own n) → n < length x.trace.events → walk (seen_of y) c k j ≡ walk (seen_of x) c k j
@@ -193,7 +192,7 @@ module _ (program : Program) (policy : Policy) (budget : ℕ) (g rest : List ℕ
       let fy : Facts program plan budget (g ++ rest) v p y = facts program plan budget (g ++ rest) v p y at in
       let f = slice_get_there x.trace.events n lt in
       let kept = event_kept program policy budget g rest p v x y at_g at n f.0 f.1 in
-      let ax : IsAt x (entries_at (closed_logs program plan budget g) p) n k j = at_place x (entries_at (closed_logs program plan budget g) p) fx.told_by k j n e lt in
-      let ay : IsAt y (entries_at (closed_logs program plan budget (g ++ rest)) p) n k j =
-      at_place y (entries_at (closed_logs program plan budget (g ++ rest)) p) fy.told_by k j n (part_kept program policy budget g rest p v x y at_g at k j (own n) e) (slice_get_below y.trace.events n kept.0 kept.1) in
+      let ax : IsAt x (get_or (closed_logs program plan budget g).lists p []) n k j = at_place x (get_or (closed_logs program plan budget g).lists p []) fx.told_by k j n e lt in
+      let ay : IsAt y (get_or (closed_logs program plan budget (g ++ rest)).lists p []) n k j =
+      at_place y (get_or (closed_logs program plan budget (g ++ rest)).lists p []) fy.told_by k j n (part_kept program policy budget g rest p v x y at_g at k j (own n) e) (slice_get_below y.trace.events n kept.0 kept.1) in
       walk_equal program policy budget g rest p v x y at_g at c n (omega (arith, lt)) (walk (seen_of x) c k j) (walk (seen_of y) c k j) (ax.walks c) (ay.walks c)

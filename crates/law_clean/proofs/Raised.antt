@@ -19,7 +19,7 @@ use Rattle.ppd_sem.proofs.NeedWords.{act_at, need_by_entry, need_by_offer}
 use Rattle.ppd_sem.proofs.Progress.{need_at_status, need_at_todo}
 use Rattle.ppd_model.specs.declared.tracing.Taken.{Taken}
 use Rattle.ppd_model.specs.FullTrace.{event_of}
-use Rattle.ppd_model.specs.Marks.{closed, mark, opened}
+use Rattle.ppd_model.specs.Marks.{closed, opened}
 use Rattle.ppd_emul_model.specs.Replay.{is_budget}
 
 -- so much more is spent
@@ -140,11 +140,11 @@ module _ (program : Program) (plan : Plan) (d : ℕ) where
   result_raised s (Some t) = refl
 
   pub opened_raised : (s : Proc) (n : Need) → opened program plan (raised d s) n ≡ opened program plan s n
-  opened_raised s (Invoke (Some b) u) = ap (λ vs. Some (mark b vs)) (arguments_raised s (slice_get s.todo 0))
+  opened_raised s (Invoke (Some b) u) = ap (λ vs. Some (record { block = b; values = vs })) (arguments_raised s (slice_get s.todo 0))
   opened_raised s n = refl
 
   pub closed_raised : (s : Proc) (n : Need) → closed program plan (raised d s) n ≡ closed program plan s n
-  closed_raised s (Back (Some b) u) = ap (λ o. Some (mark b (option_to_list o))) (result_raised s (slice_get s.todo 0))
+  closed_raised s (Back (Some b) u) = ap (λ o. Some (record { block = b; values = option_to_list o })) (result_raised s (slice_get s.todo 0))
   closed_raised s n = refl
 
   pub event_raised : (s : Proc) (x : Taken) (todo : List Todo) → need_of program plan (raised d s) ≡ need_of program plan s → event_of program plan (raised d s) x todo ≡ event_of program plan s x todo

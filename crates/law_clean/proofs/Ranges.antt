@@ -5,7 +5,6 @@ use Rattle.std.proofs.lemmas.Option.{none-some}
 use Rattle.std.specs.List.{range_with_len}
 use Rattle.std.specs.Prelude.{find, fold}
 use Rattle.ppd_model.proofs.Changes.{some}
-use Rattle.law_clean.specs.Pasts.{edges_between}
 
 module _ (t : ℕ → Bool) where
   -- none of them passes
@@ -52,7 +51,7 @@ module _ (t : ℕ → Bool) where
           )
 
   -- of edges from one through another
-  pub first_between : (from to : ℕ) → ((find t (edges_between from to) ≡ None) × NonePasses from (to + 1)) ⊎ ((u : ℕ) × (find t (edges_between from to) ≡ Some u) × IsFirst from (to + 1) u)
+  pub first_between : (from to : ℕ) → ((find t (range_with_len from (to + 1 - from)) ≡ None) × NonePasses from (to + 1)) ⊎ ((u : ℕ) × (find t (range_with_len from (to + 1 - from)) ≡ Some u) × IsFirst from (to + 1) u)
   first_between from to = elim (first_of (to + 1 - from) from) [
     | inl none ↦ inl (none.0, λ i le lt. none.1 i le (omega (arith, le, lt)))
     | inr found ↦
@@ -62,13 +61,13 @@ module _ (t : ℕ → Bool) where
         inr (found.0, found.1, record { from_is = a; to_is = omega (arith, a, b); passes = f.passes; none = f.none })
   ]
 
-  pub is_none : (from to : ℕ) → NonePasses from (to + 1) → find t (edges_between from to) ≡ None
+  pub is_none : (from to : ℕ) → NonePasses from (to + 1) → find t (range_with_len from (to + 1 - from)) ≡ None
   is_none from to none = elim (first_between from to) [
     | inl found ↦ found.0
     | inr found ↦ (let f = found.2 in absurd (true≢false (sym f.passes ∙ none found.0 f.from_is f.to_is)))
   ]
 
-  pub is_first : (from to u : ℕ) → IsFirst from (to + 1) u → find t (edges_between from to) ≡ Some u
+  pub is_first : (from to u : ℕ) → IsFirst from (to + 1) u → find t (range_with_len from (to + 1 - from)) ≡ Some u
   is_first from to u f = elim (first_between from to) [
     | inl none ↦ absurd (true≢false (sym f.passes ∙ none.1 u f.from_is f.to_is))
     | inr found ↦ found.1 ∙ ap (λ i. Some i) (same found.0 found.2)

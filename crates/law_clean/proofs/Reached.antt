@@ -1,52 +1,50 @@
 -- What a process had by then: an interval that was left in an edge that had ended, at its place.
-use Rattle.std.proofs.Common.{◌≡◌, ℕ, zero, suc, ◌+◌, ◌<◌, ◌≤◌, Bool, true, false, List, [], ◌∷◌, ◌++◌, length, Option, Some, None, refl, ap, sym, subst, ◌∙◌, arith, length-append, if◌then◌else◌}
-use Rattle.std.proofs.lemmas.List.{append-nil}
-use Rattle.std.proofs.lemmas.List.Elements.{filter_map-append}
-use Rattle.std.proofs.lemmas.List.Sums.{fold-append}
-use Rattle.std.proofs.lemmas.Option.{none-some}
-use Rattle.std.specs.Prelude.{filter_map, fold, is_none, slice_get, unwrap_or}
-use Rattle.ppd_ast.specs.declared.plan.Plan.{Plan}
-use Rattle.ppd_ast.specs.declared.plan.Policy.{Policy}
-use Rattle.ppd_ast.specs.declared.program.Program.{Program}
-use Rattle.ppd_ast.specs.Valid.{IsValid}
-use Rattle.ppd_blocks.specs.Blocks.{plan_of}
-use Rattle.ppd_entry.specs.declared.entry.Entry.{Entry}
-use Rattle.ppd_ast.specs.declared.status.Status.TheVariants as status
-use Rattle.ppd_entry.specs.declared.entry.Entry.TheVariants as entry
-use Rattle.ppd_entry.specs.Entries.{entries_at}
-use Rattle.ppd_model.specs.declared.state.Logging.{Logging}
-use Rattle.ppd_model.specs.declared.tracing.Story.{Story}
-use Rattle.ppd_model.specs.declared.tracing.Taken.{Taken}
-use Rattle.ppd_model.specs.Bounds.{AreEach}
-use Rattle.ppd_model.specs.Extents.{Extent, IsSameInterval, extents}
-use Rattle.ppd_model.specs.FlowbackEdges.{part_at}
-use Rattle.ppd_model.proofs.EdgeWords.{part_in}
-use Rattle.ppd_model.specs.Forward.{edge_in}
-use Rattle.ppd_model.specs.Intervals.{Part, nested, Span, Split, is_closed, split_of, splits}
-use Rattle.ppd_model.specs.Laws.{begins}
-use Rattle.ppd_model.specs.Logs.{begun_log, closed_log, closed_logs, log_of, log_step, loggings}
-use Rattle.ppd_model.specs.RecordedSets.{sync_in}
-use Rattle.ppd_model.specs.Story.{Moment, Telling, own_moments, own_steps, steps_of, story, tell, told}
-use Rattle.ppd_model.specs.Synchronizations.{syncs_of}
-use Rattle.ppd_model.proofs.Changes.{some}
-use Rattle.ppd_model.proofs.Extents.{extents_match}
-use Rattle.ppd_model.proofs.LoggedSpans.{intervals_of_logs}
-use Rattle.law_flow_shared.proofs.Costs.Steps.Entries.{entries_are}
-use Rattle.law_steps.proofs.OpenBlocks.Told.{own_syncs_are}
-use Rattle.law_flow_own.proofs.Places.LeafTells.{split_is}
-use Rattle.ppd_flow_model.specs.Ends.{syncs_before}
-use Rattle.law_flow_shared.proofs.Edges.Near.Tree.{IsParent, IsTree, has_tree}
-use Rattle.law_flow_shared.proofs.Edges.Spans.Tiles.{Stands, outermost, within}
-use Rattle.law_flow_shared.proofs.Edges.Spans.Facts.{Logged}
-use Rattle.law_flow_shared.proofs.Edges.Spans.Told.{IsPlaced}
-use Rattle.law_flow_shared.proofs.Edges.StepEvents.Processes.{Facts, facts}
-use Rattle.law_clean.specs.Pasts.{left_edge}
 use Rattle.law_clean.proofs.CutIs.{log_tail, syncs_are, tail}
 use Rattle.law_clean.proofs.CutRuns.{moments_grow}
 use Rattle.law_clean.proofs.CutSeen.{logging_at}
 use Rattle.law_clean.proofs.Items.{closed_stays, part_kept, span_kept}
 use Rattle.law_clean.proofs.LeftBy.{left_before}
 use Rattle.law_clean.proofs.PastWords.{left_in}
+use Rattle.law_clean.specs.Pasts.{left_edge}
+use Rattle.law_flow_own.proofs.Places.LeafTells.{split_is}
+use Rattle.law_flow_shared.proofs.Costs.Steps.Entries.{entries_are}
+use Rattle.law_flow_shared.proofs.Edges.Near.Tree.{IsParent, IsTree, has_tree}
+use Rattle.law_flow_shared.proofs.Edges.Spans.Facts.{Logged}
+use Rattle.law_flow_shared.proofs.Edges.Spans.Tiles.{Stands, outermost, within}
+use Rattle.law_flow_shared.proofs.Edges.Spans.Told.{IsPlaced}
+use Rattle.law_flow_shared.proofs.Edges.StepEvents.Processes.{Facts, facts}
+use Rattle.law_steps.proofs.OpenBlocks.Told.{own_syncs_are}
+use Rattle.ppd_ast.specs.Valid.{IsValid}
+use Rattle.ppd_ast.specs.declared.plan.Plan.{Plan}
+use Rattle.ppd_ast.specs.declared.plan.Policy.{Policy}
+use Rattle.ppd_ast.specs.declared.program.Program.{Program}
+use Rattle.ppd_ast.specs.declared.status.Status.TheVariants as status
+use Rattle.ppd_blocks.specs.Blocks.{plan_of}
+use Rattle.ppd_entry.specs.declared.entry.Entry.{Entry}
+use Rattle.ppd_entry.specs.declared.entry.Entry.TheVariants as entry
+use Rattle.ppd_flow_model.specs.Ends.{syncs_before}
+use Rattle.ppd_model.proofs.Changes.{some}
+use Rattle.ppd_model.proofs.EdgeWords.{part_in}
+use Rattle.ppd_model.proofs.Extents.{extents_match}
+use Rattle.ppd_model.proofs.LoggedSpans.{intervals_of_logs}
+use Rattle.ppd_model.specs.Bounds.{AreEach}
+use Rattle.ppd_model.specs.Extents.{Extent, IsSameInterval, extents}
+use Rattle.ppd_model.specs.FlowbackEdges.{part_at}
+use Rattle.ppd_model.specs.Forward.{edge_in}
+use Rattle.ppd_model.specs.Intervals.{Part, Span, Split, nested, split_of, splits}
+use Rattle.ppd_model.specs.Laws.{begins}
+use Rattle.ppd_model.specs.Logs.{begun_log, closed_log, closed_logs, log_of, log_step, loggings}
+use Rattle.ppd_model.specs.RecordedSets.{sync_in}
+use Rattle.ppd_model.specs.Story.{Moment, Telling, steps_of, story, tell, told}
+use Rattle.ppd_model.specs.declared.state.Logging.{Logging}
+use Rattle.ppd_model.specs.declared.tracing.Story.{Story}
+use Rattle.ppd_model.specs.declared.tracing.Taken.{Taken}
+use Rattle.std.proofs.Common.{Bool, List, None, Option, Some, [], ap, arith, false, if◌then◌else◌, length, length-append, refl, subst, suc, sym, true, zero, ℕ, ◌++◌, ◌+◌, ◌<◌, ◌∙◌, ◌∷◌, ◌≡◌, ◌≤◌}
+use Rattle.std.proofs.lemmas.List.{append-nil}
+use Rattle.std.proofs.lemmas.List.Elements.{filter_map-append}
+use Rattle.std.proofs.lemmas.List.Sums.{fold-append}
+use Rattle.std.proofs.lemmas.Option.{none-some}
+use Rattle.std.specs.Prelude.{filter_map, fold, get_or, is_none, is_some, slice_get, unwrap_or}
 
 first_at : {A B : Type 0} (R : A → B → Type 0) (xs : List A) (ys : List B) (m : ℕ) (x : A) → AreEach R xs ys → slice_get xs m ≡ Some x → (y : B) × (slice_get ys m ≡ Some y) × R x y
 first_at R [] ys m x h e = absurd (none-some x e)
@@ -62,17 +60,17 @@ second_at R (a ∷ xs) (b ∷ ys) (suc m) y h e = second_at R xs ys m y h.1 e
 
 -- the log of a process in a schedule
 pub log_there : (program : Program) (plan : Plan) (budget : ℕ) (h : List ℕ) (p : ℕ) (y : Split) → slice_get (splits program plan budget (story program plan budget h)) p ≡ Some y
-    → slice_get (loggings program plan budget h) p ≡ Some (log_of program plan budget p (own_moments (told program plan budget h) p))
+    → slice_get (loggings program plan budget h) p ≡ Some (log_of program plan budget p (get_or (told program plan budget h).moments p []))
 log_there program plan budget h p y at =
     let z : 0 + p ≡ p = omega arith in
     logging_at program plan budget (story program plan budget h) 0 (told program plan budget h).moments p y at
-    ∙ ap (λ k. Some (log_of program plan budget k (own_moments (told program plan budget h) p))) z
+    ∙ ap (λ k. Some (log_of program plan budget k (get_or (told program plan budget h).moments p []))) z
 
 -- a process did so many synchronizations as its log has
-pub syncs_in_log : (program : Program) (plan : Plan) (budget : ℕ) (h : List ℕ) (p : ℕ) → edge_in program plan budget h p ≡ length (filter_map sync_in (log_of program plan budget p (own_moments (told program plan budget h) p)).entries)
+pub syncs_in_log : (program : Program) (plan : Plan) (budget : ℕ) (h : List ℕ) (p : ℕ) → edge_in program plan budget h p ≡ length (filter_map sync_in (log_of program plan budget p (get_or (told program plan budget h).moments p [])).entries)
 syncs_in_log program plan budget h p =
     ap length (own_syncs_are program plan budget h p)
-    ∙ sym (ap length (syncs_are program plan (own_moments (told program plan budget h) p) (begun_log program plan budget p)))
+    ∙ sym (ap length (syncs_are program plan (get_or (told program plan budget h).moments p []) (begun_log program plan budget p)))
 
 -- the end of a process is no synchronization
 pub closed_syncs : (l : Logging) → length (filter_map sync_in (closed_log l)) ≡ length (filter_map sync_in l.entries)
@@ -83,10 +81,10 @@ closed_syncs l = by (is_none l.proc.status)
     by false = ap (λ es. length (filter_map sync_in es)) (append-nil l.entries)
 
 pub total_syncs : (program : Program) (plan : Plan) (budget : ℕ) (h : List ℕ) (p : ℕ) (y : Split) → slice_get (splits program plan budget (story program plan budget h)) p ≡ Some y
-    → length (filter_map sync_in (entries_at (closed_logs program plan budget h) p)) ≡ edge_in program plan budget h p
+    → length (filter_map sync_in (get_or (closed_logs program plan budget h).lists p [])) ≡ edge_in program plan budget h p
 total_syncs program plan budget h p y at =
     ap (λ es. length (filter_map sync_in es)) (entries_are program plan budget h p y at)
-    ∙ closed_syncs (log_of program plan budget p (own_moments (told program plan budget h) p)) ∙ sym (syncs_in_log program plan budget h p)
+    ∙ closed_syncs (log_of program plan budget p (get_or (told program plan budget h).moments p [])) ∙ sym (syncs_in_log program plan budget h p)
 
 module _ (program : Program) (policy : Policy) (budget : ℕ) (g rest : List ℕ) (p : ℕ) (v : IsValid program) (x y : Split)
     (at_g : slice_get (splits program (plan_of program policy) budget (story program (plan_of program policy) budget g)) p ≡ Some x)
@@ -95,12 +93,12 @@ module _ (program : Program) (policy : Policy) (budget : ℕ) (g rest : List ℕ
   plan = plan_of program policy
 
   abbrev entries : List Entry
-  entries = entries_at (closed_logs program plan budget (g ++ rest)) p
+  entries = get_or (closed_logs program plan budget (g ++ rest)).lists p []
 
   abbrev kept : Logging
-  kept = log_of program plan budget p (own_moments (told program plan budget g) p)
+  kept = log_of program plan budget p (get_or (told program plan budget g).moments p [])
 
-  pub more : (more : List Moment) × (own_moments (told program plan budget (g ++ rest)) p ≡ own_moments (told program plan budget g) p ++ more)
+  pub more : (more : List Moment) × (get_or (told program plan budget (g ++ rest)).moments p [] ≡ get_or (told program plan budget g).moments p [] ++ more)
   more = moments_grow program plan budget rest g p
 
   -- the log begins with what it was by then
@@ -108,7 +106,7 @@ module _ (program : Program) (policy : Policy) (budget : ℕ) (g rest : List ℕ
   entries_begin =
       entries_are program plan budget (g ++ rest) p y at
       ∙ ap (λ ms. closed_log (log_of program plan budget p ms)) more.1
-      ∙ ap closed_log (fold-append (log_step program plan) (begun_log program plan budget p) (own_moments (told program plan budget g) p) more.0)
+      ∙ ap closed_log (fold-append (log_step program plan) (begun_log program plan budget p) (get_or (told program plan budget g).moments p []) more.0)
       ∙ log_tail program plan more.0 kept
 
   abbrev Each : List Span → List Entry → Type 0
@@ -117,21 +115,21 @@ module _ (program : Program) (policy : Policy) (budget : ℕ) (g rest : List ℕ
   y_each : AreEach IsSameInterval y.spans (extents entries)
   y_each =
       subst (Each y.spans) (sym (entries_are program plan budget (g ++ rest) p y at))
-      (intervals_of_logs program plan budget (g ++ rest) p y (log_of program plan budget p (own_moments (told program plan budget (g ++ rest)) p)) at (log_there program plan budget (g ++ rest) p y at)).closed_are
+      (intervals_of_logs program plan budget (g ++ rest) p y (log_of program plan budget p (get_or (told program plan budget (g ++ rest)).moments p [])) at (log_there program plan budget (g ++ rest) p y at)).closed_are
 
   x_each : AreEach IsSameInterval x.spans (extents kept.entries)
   x_each = (intervals_of_logs program plan budget g p x kept at_g (log_there program plan budget g p x at_g)).kept_are
 
   -- an interval that was left in an edge that had ended
-  module _ (m : ℕ) (j : Span) (is : slice_get y.spans m ≡ Some j) (few : edge_in program plan budget g p ≤ length (filter_map sync_in (entries_at (closed_logs program plan budget (g ++ rest)) p)))
-      (lt : left_edge (entries_at (closed_logs program plan budget (g ++ rest)) p) m < edge_in program plan budget g p) where
+  module _ (m : ℕ) (j : Span) (is : slice_get y.spans m ≡ Some j) (few : edge_in program plan budget g p ≤ length (filter_map sync_in (get_or (closed_logs program plan budget (g ++ rest)).lists p [])))
+      (lt : left_edge (get_or (closed_logs program plan budget (g ++ rest)).lists p []) m < edge_in program plan budget g p) where
     z : (z : Extent) × (slice_get (extents entries) m ≡ Some z) × IsSameInterval j z
     z = first_at IsSameInterval y.spans (extents entries) m j y_each is
 
     under : left_in entries (Some z.0) < edge_in program plan budget g p
     under = subst (λ o. left_in entries o < edge_in program plan budget g p) z.1 lt
 
-    by_closed : (b : Bool) → z.0.closed ≡ b → (i : Span) × (slice_get x.spans m ≡ Some i) × (is_closed i ≡ true)
+    by_closed : (b : Bool) → z.0.closed ≡ b → (i : Span) × (slice_get x.spans m ≡ Some i) × (is_some i.closed ≡ true)
     by_closed false c =
         let all : length (filter_map sync_in entries) < edge_in program plan budget g p =
         subst (λ b. (if b then syncs_before entries (unwrap_or z.0.last 0) else length (filter_map sync_in entries)) < edge_in program plan budget g p) c under in
@@ -148,7 +146,7 @@ module _ (program : Program) (policy : Policy) (budget : ℕ) (g rest : List ℕ
         let same : IsSameInterval i.0 old.0 = i.2 in
         (i.0, i.1, same.closed ∙ old.2)
 
-    pub left_then : (i : Span) × (slice_get x.spans m ≡ Some i) × (is_closed i ≡ true)
+    pub left_then : (i : Span) × (slice_get x.spans m ≡ Some i) × (is_some i.closed ≡ true)
     left_then = by_closed z.0.closed refl
 
   -- ---- its place
@@ -159,7 +157,7 @@ module _ (program : Program) (policy : Policy) (budget : ℕ) (g rest : List ℕ
   tree : IsTree y.spans y.running
   tree =
       subst (λ (w : Split). IsTree w.spans w.running) (split_is program plan budget (g ++ rest) p y at)
-      (has_tree program plan (story program plan budget (g ++ rest)) p budget (own_steps (story program plan budget (g ++ rest)) p))
+      (has_tree program plan (story program plan budget (g ++ rest)) p budget (get_or (story program plan budget (g ++ rest)).steps p []))
 
   span_of : (o : Option Span) (j : ℕ) (q : Part) → part_in o j ≡ Some q → (i : Span) × (o ≡ Some i) × (slice_get i.parts j ≡ Some q)
   span_of None j q e = absurd (none-some q e)
@@ -173,17 +171,17 @@ module _ (program : Program) (policy : Policy) (budget : ℕ) (g rest : List ℕ
   head_of [] = None
   head_of (k ∷ ks) = Some k
 
-  pub nested_back : (k j m : ℕ) (i : Span) → slice_get x.spans m ≡ Some i → is_closed i ≡ true → part_at y k j ≡ Some (nested m) → part_at x k j ≡ Some (nested m)
+  pub nested_back : (k j m : ℕ) (i : Span) → slice_get x.spans m ≡ Some i → is_some i.closed ≡ true → part_at y k j ≡ Some (nested m) → part_at x k j ≡ Some (nested m)
   nested_back k j m i is closed place =
       let span = span_of (slice_get y.spans k) j (nested m) place in
       let parent : IsParent y.spans k m span.0.round = tree.parent k j m span.0 span.1 span.2 in
       let stays : slice_get y.spans m ≡ Some i = closed_stays program policy budget g rest p v x y at_g at m i is closed in
       let round : i.round ≡ k ∷ span.0.round = ap (λ (w : Span). w.round) (some (sym stays ∙ parent.is_there)) ∙ parent.round_is in
-      let placed : IsPlaced (entries_at (closed_logs program plan budget g) p) x.trace.events x.spans m i = fx.told_by.placed m i is in
+      let placed : IsPlaced (get_or (closed_logs program plan budget g).lists p []) x.trace.events x.spans m i = fx.told_by.placed m i is in
       by (i.round) round placed.first placed.stands
     where
       by : (round : List ℕ) → round ≡ k ∷ (span_of (slice_get y.spans k) j (nested m) place).0.round → (first : ℕ)
-          → Stands (Logged (entries_at (closed_logs program plan budget g) p) x.trace.events) x.spans m round first → part_at x k j ≡ Some (nested m)
+          → Stands (Logged (get_or (closed_logs program plan budget g).lists p []) x.trace.events) x.spans m round first → part_at x k j ≡ Some (nested m)
       by [] e first s = absurd (none-some k (ap head_of e))
       by (l ∷ ls) e first (within o ps qs low there same_round less parts_are nowhere outer tiles) =
           let l_is : l ≡ k = some (ap head_of e) in

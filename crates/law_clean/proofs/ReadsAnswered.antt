@@ -16,7 +16,7 @@ use Rattle.ppd_sem.specs.Laws.{NamesThere}
 use Rattle.ppd_sem.proofs.Lawful.{named}
 use Rattle.ppd_model.specs.Forward.{edge_in}
 use Rattle.ppd_model.specs.Schedule.{run, started_world}
-use Rattle.ppd_model.specs.Story.{Moment, Telling, moment_of, own_moments, own_steps, steps_of, story, told}
+use Rattle.ppd_model.specs.Story.{Moment, Telling, moment_of, steps_of, story, told}
 use Rattle.ppd_model.specs.World.{World, answer, need}
 use Rattle.ppd_model.proofs.WorldWords.{need_at}
 use Rattle.ppd_model.proofs.Stories.{steps_append}
@@ -48,14 +48,14 @@ module _ (program : Program) (policy : Policy) (budget : ℕ) (v : IsValid progr
     at = told program used budget h
 
     read_right : (c : ℕ) → IsUnracedIn program used budget (h ++ p ∷ rest) p (edge_in program used budget h p) → need program used at.world p ≡ Read c → p < length at.world.procs → AreFresh program used budget h p
-        → get_or at.world.shared c (pos 0) ≡ value_in_force (in_force program used p (own_moments at p)) c
+        → get_or at.world.shared c (pos 0) ≡ value_in_force (in_force program used p (get_or at.moments p [])) c
     read_right c clear e lt f =
         let x : Moment = moment_of program used at p in
         let inside : c < length program.starts = subst (NamesThere program) e (names_there (slice_get at.world.procs p)) in
-        let steps : own_steps (story program used budget (h ++ p ∷ [])) p ≡ steps_of (own_moments at p) ++ x.taken ∷ [] =
-        own_steps_are program used budget (h ++ p ∷ []) p ∙ ap steps_of (own_more program used budget h p lt) ∙ steps_append (own_moments at p) (x ∷ []) in
-        let k : IsCellOf used (unit_in_force program used p (steps_of (own_moments at p))) c =
-        reads_lie program policy budget (h ++ p ∷ []) p (steps_of (own_moments at p)) x.taken [] c v steps e in
+        let steps : get_or (story program used budget (h ++ p ∷ [])).steps p [] ≡ steps_of (get_or at.moments p []) ++ x.taken ∷ [] =
+        own_steps_are program used budget (h ++ p ∷ []) p ∙ ap steps_of (own_more program used budget h p lt) ∙ steps_append (get_or at.moments p []) (x ∷ []) in
+        let k : IsCellOf used (unit_in_force program used p (steps_of (get_or at.moments p []))) c =
+        reads_lie program policy budget (h ++ p ∷ []) p (steps_of (get_or at.moments p [])) x.taken [] c v steps e in
         elim (f c inside k) [
           | inl is ↦ sym is
           | inr w ↦ absurd (raced_at program used budget w.before w.between rest w.writer p c last
@@ -67,14 +67,14 @@ module _ (program : Program) (policy : Policy) (budget : ℕ) (v : IsValid progr
         ]
 
     pub is_read : (x : Need) → need program used at.world p ≡ x → ((c : ℕ) → need program used at.world p ≡ Read c → IsUnracedIn program used budget (h ++ p ∷ rest) p (edge_in program used budget h p))
-        → p < length at.world.procs → Stands program used budget h p → IsRead (in_force program used p (own_moments at p)) (moment_of program used at p) x
+        → p < length at.world.procs → Stands program used budget h p → IsRead (in_force program used p (get_or at.moments p [])) (moment_of program used at p) x
     is_read (Read c) e clear lt stands =
         let s = slice_get_there at.world.procs p lt in
         ap (answer at.world) e ∙ ap Value (read_right c (clear c e) e lt (reads_fresh program used budget h p p c s.0 s.1 e (stands s.0 s.1)))
     is_read x e clear lt stands = tt
 
   abbrev Reads : List ℕ → ℕ → Type 0
-  Reads h p = AreRead used (begun_in_force program used p) (own_moments (told program used budget h) p)
+  Reads h p = AreRead used (begun_in_force program used p) (get_or (told program used budget h).moments p [])
 
   -- ---- all steps of a beginning g; the whole schedule goes on after it
 
@@ -90,7 +90,7 @@ module _ (program : Program) (policy : Policy) (budget : ℕ) (v : IsValid progr
       own_reads : Clear h r → Stands program used budget h r → Reads h r → Reads (h ++ r ∷ []) r
       own_reads clear stands a = elim (cases_lt r (length (told program used budget h).world.procs)) [
         | inl lt ↦ subst (AreRead used (begun_in_force program used r)) (sym (own_more program used budget h r lt))
-            (read_more used (begun_in_force program used r) (own_moments (told program used budget h) r) (moment_of program used (told program used budget h) r) a
+            (read_more used (begun_in_force program used r) (get_or (told program used budget h).moments r []) (moment_of program used (told program used budget h) r) a
             (is_read h rest r last runs_here (need program used (told program used budget h).world r) refl
             (λ c e. subst (λ y. IsUnracedIn program used budget y r (edge_in program used budget h r)) are (clear c e)) lt stands))
         | inr past ↦ subst (AreRead used (begun_in_force program used r)) (sym (own_past program used budget h r past)) a
@@ -114,6 +114,6 @@ module _ (program : Program) (policy : Policy) (budget : ℕ) (v : IsValid progr
 pub unraced_reads : UnracedReadsAreInForce
 unraced_reads program policy budget g rest w p v runs clear =
     let plan : Plan = plan_of program policy in
-    let nil : own_moments (told program plan budget []) p ≡ [] = none_own (started_world program plan budget).procs p in
+    let nil : get_or (told program plan budget []).moments p [] ≡ [] = none_own (started_world program plan budget).procs p in
     all_reads program policy budget v (g ++ rest) w runs [] g rest p refl (λ b more e c is. clear b more c e is)
     (begun_stands program plan budget p) (subst (AreRead plan (begun_in_force program plan p)) (sym nil) tt)

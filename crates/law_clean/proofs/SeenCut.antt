@@ -3,7 +3,7 @@
 use Rattle.std.specs.Option.{option_map_or}
 use Rattle.std.proofs.Common.{◌≡◌, ℕ, zero, suc, ◌+◌, ◌<◌, ◌≤◌, Bool, true, false, List, [], ◌∷◌, ◌++◌, length, map, Option, Some, None, refl, ap, ap₂, sym, subst, ◌∙◌, arith, append-nil, true≢false, if◌then◌else◌}
 use Rattle.std.proofs.lemmas.Option.{get_or_from_slice_get, none-some, slice_get-map}
-use Rattle.std.specs.Prelude.{filter_map, is_some, option_map, option_to_list, slice_get}
+use Rattle.std.specs.Prelude.{filter_map, is_some, option_map, option_to_list, slice_get, get_or}
 use Rattle.ppd_ast.specs.declared.plan.Plan.{Plan}
 use Rattle.ppd_ast.specs.declared.plan.Policy.{Policy}
 use Rattle.ppd_ast.specs.declared.program.Program.{Program}
@@ -27,8 +27,8 @@ use Rattle.ppd_model.proofs.LogWords.{logs_from}
 use Rattle.ppd_model.specs.RecordedSets.{sync_in}
 use Rattle.ppd_model.specs.Schedule.{IsWhole, run}
 use Rattle.ppd_model.specs.SharedReads.{need_after}
-use Rattle.ppd_model.specs.Story.{Moment, moment_of, own_moments, steps_of, story, told}
-use Rattle.ppd_model.specs.Synchronizations.{Sync, sync_of, syncs_of}
+use Rattle.ppd_model.specs.Story.{Moment, moment_of, steps_of, story, told}
+use Rattle.ppd_model.specs.Synchronizations.{Sync, sync_of}
 use Rattle.ppd_model.proofs.Forward.{fewer}
 use Rattle.ppd_model.proofs.LoggedSpans.{intervals_of_logs}
 use Rattle.law_steps.proofs.OpenBlocks.Runs.{schedules_run}
@@ -93,7 +93,7 @@ one_of (Some z) e = refl
 -- a process that synchronized has intervals
 pub has_split : (program : Program) (plan : Plan) (budget : ℕ) (g : List ℕ) (q i : ℕ) → i < edge_in program plan budget g q → (x : Split) × (slice_get (splits program plan budget (story program plan budget g)) q ≡ Some x)
 has_split program plan budget g q i lt =
-    let t = slice_get_there (syncs_of (did (told program plan budget g) q)) i (subst (λ z. i < z) (edge_is_count program plan budget g q) lt) in
+    let t = slice_get_there (filter_map sync_of (did (told program plan budget g) q)) i (subst (λ z. i < z) (edge_is_count program plan budget g q) lt) in
     let st : IsSyncStep (did (told program plan budget g) q) i t.0 = sync_step (did (told program plan budget g) q) i t.0 t.1 in
     split_there program plan budget (story program plan budget g) 0 (told program plan budget g).moments q
     (below_moments (told program plan budget g).moments q st.before st.step st.after st.are)
@@ -103,31 +103,31 @@ module _ (program : Program) (policy : Policy) (budget : ℕ) (h : List ℕ) (v 
   plan = plan_of program policy
 
   abbrev own_log : ℕ → List Entry
-  own_log q = closed_log (log_of program plan budget q (own_moments (told program plan budget h) q))
+  own_log q = closed_log (log_of program plan budget q (get_or (told program plan budget h).moments q []))
 
   -- the replays of cut logs
   pub seen_there : (last : ℕ → Option ℕ) (q : ℕ) (y : Split) → slice_get (splits program plan budget (story program plan budget h)) q ≡ Some y
       → seen_at (map (λ es. seen_by program plan budget es) (cut_logs last (closed_logs program plan budget h)).lists) q
-      ≡ seen_by program plan budget (cut (last q) (closed_log (log_of program plan budget q (own_moments (told program plan budget h) q))))
+      ≡ seen_by program plan budget (cut (last q) (closed_log (log_of program plan budget q (get_or (told program plan budget h).moments q []))))
   seen_there last q y at =
       let lists : List (List Entry) = (closed_logs program plan budget h).lists in
-      let listed : slice_get lists q ≡ Some (closed_log (log_of program plan budget (0 + q) (own_moments (told program plan budget h) q))) =
+      let listed : slice_get lists q ≡ Some (closed_log (log_of program plan budget (0 + q) (get_or (told program plan budget h).moments q []))) =
       slice_get-map closed_log (logs_from program plan budget 0 (told program plan budget h).moments) q
       ∙ ap (option_map closed_log) (logging_at program plan budget (story program plan budget h) 0 (told program plan budget h).moments q y at) in
       let z : 0 + q ≡ q = omega arith in
       get_or_from_slice_get (map (λ es. seen_by program plan budget es) (cut_from last 0 lists)) q
-      (seen_by program plan budget (cut (last (0 + q)) (closed_log (log_of program plan budget (0 + q) (own_moments (told program plan budget h) q)))))
+      (seen_by program plan budget (cut (last (0 + q)) (closed_log (log_of program plan budget (0 + q) (get_or (told program plan budget h).moments q [])))))
       (record { items = []; blocks = []; rounds = [] })
       (slice_get-map (λ es. seen_by program plan budget es) (cut_from last 0 lists) q
-      ∙ ap (option_map (λ es. seen_by program plan budget es)) (cut_from_at last lists 0 q (closed_log (log_of program plan budget (0 + q) (own_moments (told program plan budget h) q))) listed))
-      ∙ ap (λ k. seen_by program plan budget (cut (last k) (closed_log (log_of program plan budget k (own_moments (told program plan budget h) q))))) z
+      ∙ ap (option_map (λ es. seen_by program plan budget es)) (cut_from_at last lists 0 q (closed_log (log_of program plan budget (0 + q) (get_or (told program plan budget h).moments q []))) listed))
+      ∙ ap (λ k. seen_by program plan budget (cut (last k) (closed_log (log_of program plan budget k (get_or (told program plan budget h).moments q []))))) z
 
   -- ---- where a synchronization ends the last edge
 
   pub cut_begun : (xs : List Seen) (q i : ℕ) → i < edge_in program plan budget h q → ((e : ℕ) → e ≤ i → IsUnracedIn program plan budget h q e)
       → seen_at xs q ≡ seen_by program plan budget (cut (Some i) (own_log q)) → HasEnded program policy budget h whole.last v whole.runs xs q i
   cut_begun xs q i ended clear seen =
-      let none : edge_in program plan budget [] q ≡ 0 = edge_is_count program plan budget [] q ∙ ap (λ ts. length (syncs_of ts)) (none_did program plan budget q) in
+      let none : edge_in program plan budget [] q ≡ 0 = edge_is_count program plan budget [] q ∙ ap (λ ts. length (filter_map sync_of ts)) (none_did program plan budget q) in
       let ends : EndsEdge program plan budget h q i = edge_ends program plan budget h q i ended none in
       let g : List ℕ = ends.before ++ q ∷ [] in
       let more : length (option_to_list (sync_of (moment_of program plan (told program plan budget ends.before) q).taken)) ≡ 1 = one_of (sync_of (moment_of program plan (told program plan budget ends.before) q).taken) ends.is_sync in
@@ -169,27 +169,27 @@ module _ (program : Program) (policy : Policy) (budget : ℕ) (h : List ℕ) (v 
         (let up : edge_in program plan budget b p ≤ edge_in program plan budget (b ++ p ∷ more) p = fewer program plan budget b (p ∷ more) whole.last (subst (λ l. run program plan budget l ≡ Some whole.last) is whole.runs) p in
         subst (λ l. edge_in program plan budget b p ≤ edge_in program plan budget l p) (sym is) up))
 
-    reads : AreRead plan (begun_in_force program plan p) (own_moments (told program plan budget h) p)
+    reads : AreRead plan (begun_in_force program plan p) (get_or (told program plan budget h).moments p [])
     reads = unraced_reads program policy budget h [] whole.last p v runs reads_clear
 
     replays : (k : ℕ) → replay_of program plan budget (interval_log plan (own_log p) k) ≡ modelled_of y (slice_get y.spans k)
     replays k =
-        replays_alike program policy v budget p 0 (omega arith) there (own_moments (told program plan budget h) p) (schedules_run program plan budget h p v whole there) (story program plan budget h) reads k
+        replays_alike program policy v budget p 0 (omega arith) there (get_or (told program plan budget h).moments p []) (schedules_run program plan budget h p v whole there) (story program plan budget h) reads k
         ∙ ap (λ (z : Split). modelled_of z (slice_get z.spans k)) (ap (split_of program plan budget (story program plan budget h) p) (sym (own_steps_are program plan budget h p)) ∙ split_is program plan budget h p y at)
 
     abbrev seen : List (List Item) → List ℕ → List (List ℕ) → Seen
     seen items blocks rounds = record { items = items; blocks = blocks; rounds = rounds }
 
-    logged : slice_get (loggings program plan budget h) p ≡ Some (log_of program plan budget p (own_moments (told program plan budget h) p))
+    logged : slice_get (loggings program plan budget h) p ≡ Some (log_of program plan budget p (get_or (told program plan budget h).moments p []))
     logged =
         let z : 0 + p ≡ p = omega arith in
         logging_at program plan budget (story program plan budget h) 0 (told program plan budget h).moments p y at
-        ∙ ap (λ k. Some (log_of program plan budget k (own_moments (told program plan budget h) p))) z
+        ∙ ap (λ k. Some (log_of program plan budget k (get_or (told program plan budget h).moments p []))) z
 
     whole_seen : seen_by program plan budget (own_log p) ≡ seen_of y
     whole_seen =
         let entries : List Entry = own_log p in
-        let each : AreEach IsSameInterval y.spans (extents entries) = (intervals_of_logs program plan budget h p y (log_of program plan budget p (own_moments (told program plan budget h) p)) at logged).closed_are in
+        let each : AreEach IsSameInterval y.spans (extents entries) = (intervals_of_logs program plan budget h p y (log_of program plan budget p (get_or (told program plan budget h).moments p [])) at logged).closed_are in
         ap₂ (λ a b. seen a b (rounds_by (map (λ (z : Extent). z.parent) (extents entries))))
         (items_same program plan budget (indexed plan entries) y replays) (same_blocks y.spans (extents entries) each)
         ∙ ap (seen (map (items_of y) y.spans) (map (λ (i : Span). i.block) y.spans))

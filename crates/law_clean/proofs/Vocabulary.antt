@@ -1,10 +1,10 @@
 -- What the proofs speak of: definitions that no contract cites.
+use Rattle.ppd_model.specs.Races.{races_among, edges_of_story}
 use Rattle.std.specs.Prelude.{◌≡◌, false, ℕ, ◌⊎◌, ◌<◌, Bool, ◌||◌, List, ◌∷◌, ◌++◌, length, Some, IsTrue}
 use Rattle.ppd_ast.specs.declared.program.Program.{Program}
 use Rattle.ppd_ast.specs.declared.plan.Plan.{Plan}
 use Rattle.ppd_model.specs.declared.graph.EdgeId.{EdgeId}
 use Rattle.ppd_model.specs.declared.tracing.Story.{Story}
-use Rattle.ppd_model.specs.Races.{races_of}
 use Rattle.ppd_model.specs.HappenedBefore.{EdgeBefore, edge}
 use Rattle.ppd_model.specs.Laws.{DoConflict}
 use Rattle.ppd_model.specs.Record.{SharedAccess, record_of, sync_record}
@@ -17,7 +17,7 @@ use Rattle.law_clean.specs.Ordered.{IsUnracedIn}
 
 -- no race of the story has this edge
 abbrev pub IsUnraced : Program → Story → EdgeId → Type 0
-IsUnraced program s e = is_raced (races_of program s) e ≡ false
+IsUnraced program s e = is_raced (races_among (edges_of_story program s)) e ≡ false
 
 -- conflicting accesses are ordered where no race has the edge of one of them
 abbrev pub UnracedMeansOrder : Type 0

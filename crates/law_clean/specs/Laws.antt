@@ -1,5 +1,5 @@
 -- Laws of runs with races: replays of logs that are cut where no race was, and the edges of clean items by them.
-use Rattle.std.specs.Prelude.{◌≡◌, ℕ, ◌<◌, ◌≤◌, true, List, [], ◌∷◌, ◌++◌, length, is_some, option_map, slice_get, Option, Some, None, Ok}
+use Rattle.std.specs.Prelude.{◌≡◌, ℕ, ◌<◌, ◌≤◌, true, List, [], ◌∷◌, ◌++◌, length, is_some, option_map, slice_get, Option, Some, None, Ok, get_or, filter_map}
 use Rattle.ppd_ast.specs.Valid.{IsValid}
 use Rattle.ppd_ast.specs.declared.plan.Plan.{Plan}
 use Rattle.ppd_ast.specs.declared.plan.Policy.{Policy}
@@ -7,7 +7,6 @@ use Rattle.ppd_ast.specs.declared.program.Program.{Program}
 use Rattle.ppd_blocks.specs.Blocks.{plan_of}
 use Rattle.ppd_entry.specs.declared.entry.Entry.{Entry}
 use Rattle.ppd_entry.specs.declared.entry.Logs.{Logs}
-use Rattle.ppd_entry.specs.Entries.{entries_at}
 use Rattle.ppd_entry.specs.IntervalLogs.{interval_log}
 use Rattle.ppd_index.specs.Refusals.{first_in_lists}
 use Rattle.ppd_model.specs.declared.graph.EdgeId.{EdgeId}
@@ -17,8 +16,8 @@ use Rattle.ppd_model.specs.Intervals.{Part, Span, Split, splits}
 use Rattle.ppd_model.specs.Logs.{closed_logs, log_of}
 use Rattle.ppd_model.specs.Races.{races}
 use Rattle.ppd_model.specs.Schedule.{IsWhole, run}
-use Rattle.ppd_model.specs.Story.{moment_of, own_moments, own_steps, story, told}
-use Rattle.ppd_model.specs.Synchronizations.{sync_of, syncs_of}
+use Rattle.ppd_model.specs.Story.{moment_of, story, told}
+use Rattle.ppd_model.specs.Synchronizations.{sync_of}
 use Rattle.ppd_model.specs.World.{World}
 use Rattle.law_replay.specs.Theorem.Laws.{modelled_of, replay_of}
 use Rattle.ppd_flow_model.specs.Found.{found_edges}
@@ -32,7 +31,7 @@ use Rattle.law_clean.specs.Search.{clean_by}
 -- the log of process p after a beginning of a schedule, cut off there
 abbrev pub cut_after : Program → Plan → ℕ → List ℕ → ℕ → List Entry
 cut_after program plan budget g p =
-    (log_of program plan budget p (own_moments (told program plan budget g) p)).entries ++ stop ∷ []
+    (log_of program plan budget p (get_or (told program plan budget g).moments p [])).entries ++ stop ∷ []
 
 -- in a whole schedule of a valid program with the plan of a policy, racy or not, process p does its synchronization i
 -- after `before`, and no race has an edge of p up to the one that it ends. Then each interval of p's log, cut off after
@@ -62,8 +61,10 @@ CleanEdgesAreFound =
     (story program (plan_of program policy) budget h)) p ≡ Some x
     → part_at x k j ≡ Some part
     → p < length (story program (plan_of program policy) budget h).steps
-    → (lies (entries_at (closed_logs program (plan_of program policy) budget h) p) x part).edge ≤ length (syncs_of (own_steps (story program (plan_of program policy) budget h) p))
-    → is_clean program (story program (plan_of program policy) budget h) p (lies (entries_at (closed_logs program (plan_of program policy) budget h) p) x part) ≡ true
+    → (lies (get_or (closed_logs program (plan_of program policy) budget h).lists p []) x part).edge
+    ≤ length (filter_map sync_of (get_or (story program (plan_of program policy) budget h).steps p []))
+    → is_clean program (story program (plan_of program policy) budget h) p
+    (lies (get_or (closed_logs program (plan_of program policy) budget h).lists p []) x part) ≡ true
     → found_edges program (plan_of program policy) (closed_logs program (plan_of program policy) budget h)
     (all_seen program (plan_of program policy) budget h) p k j
     ≡ option_map (λ es. Ok es)

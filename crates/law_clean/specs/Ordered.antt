@@ -1,5 +1,5 @@
 -- What holds in a run with races of the edges that no race has.
-use Rattle.std.specs.Prelude.{◌≡◌, ℕ, ◌<◌, false, List, ◌∷◌, ◌++◌, length, Some}
+use Rattle.std.specs.Prelude.{◌≡◌, ℕ, ◌<◌, false, List, ◌∷◌, ◌++◌, length, Some, get_or, []}
 use Rattle.ppd_ast.specs.Valid.{IsValid}
 use Rattle.ppd_ast.specs.declared.plan.Plan.{Plan}
 use Rattle.ppd_ast.specs.declared.plan.Policy.{Policy}
@@ -12,7 +12,7 @@ use Rattle.ppd_model.specs.Races.{races}
 use Rattle.ppd_model.specs.Record.{sync_record}
 use Rattle.ppd_model.specs.Schedule.{run}
 use Rattle.ppd_model.specs.SharedReads.{IsFound, need_after}
-use Rattle.ppd_model.specs.Story.{own_moments, told}
+use Rattle.ppd_model.specs.Story.{told}
 use Rattle.ppd_model.specs.World.{World}
 use Rattle.law_replay.specs.InForce.Values.{AreRead, begun_in_force}
 use Rattle.law_clean.specs.Pasts.{is_raced}
@@ -34,7 +34,7 @@ UnracedReadsAreInForce =
     → IsValid program → run program (plan_of program policy) budget (g ++ rest) ≡ Some w
     → AreUnracedReads program (plan_of program policy) budget g (g ++ rest) p
     → AreRead (plan_of program policy) (begun_in_force program (plan_of program policy) p)
-    (own_moments (told program (plan_of program policy) budget g) p)
+    (get_or (told program (plan_of program policy) budget g).moments p [])
 
 -- no race of h has the edge of process p after g, or an edge before it
 abbrev pub IsCleanAt : Program → Plan → ℕ → (g h : List ℕ) → ℕ → Type 0

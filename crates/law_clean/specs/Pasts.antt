@@ -1,34 +1,29 @@
 -- The past of an item, and whether a race touches it.
-use Rattle.std.specs.Prelude.{ℕ, ◌+◌, ◌-◌, nat_eq, Bool, false, ◌&&◌, ◌||◌, not, List, map, filter, filter_map, length, slice_get, is_some, option_and_then, unwrap_or, if◌then◌else◌}
-use Rattle.std.specs.Option.{option_map_or}
-use Rattle.std.specs.List.{flat_map, list_any, range_with_len}
 use Rattle.ppd_ast.specs.declared.program.Program.{Program}
 use Rattle.ppd_entry.specs.declared.entry.Entry.{Entry}
+use Rattle.ppd_flow_model.specs.Ends.{first_edge, syncs_before}
+use Rattle.ppd_model.specs.Extents.{extents}
+use Rattle.ppd_model.specs.HappenedBefore.{edge, is_before, is_edge_before, node}
+use Rattle.ppd_model.specs.Intervals.{Part, Split, nested, own}
+use Rattle.ppd_model.specs.NearIntervals.{edge_of_event}
+use Rattle.ppd_model.specs.Races.{edges_of_story, races_among}
+use Rattle.ppd_model.specs.Record.{record_of}
+use Rattle.ppd_model.specs.RecordedSets.{sync_in}
+use Rattle.ppd_model.specs.Synchronizations.{Sync}
 use Rattle.ppd_model.specs.declared.graph.EdgeId.{EdgeId}
 use Rattle.ppd_model.specs.declared.graph.Race.{Race}
 use Rattle.ppd_model.specs.declared.tracing.Story.{Story}
-use Rattle.ppd_model.specs.HappenedBefore.{edge, is_before, is_edge_before, node}
-use Rattle.ppd_model.specs.Extents.{extents}
-use Rattle.ppd_model.specs.Intervals.{Part, own, nested, Split}
-use Rattle.ppd_model.specs.NearIntervals.{edge_of_event}
-use Rattle.ppd_model.specs.Races.{races_of}
-use Rattle.ppd_model.specs.Record.{record_of}
-use Rattle.ppd_model.specs.RecordedSets.{last_edge, sync_in}
-use Rattle.ppd_model.specs.Synchronizations.{Sync}
-use Rattle.ppd_flow_model.specs.Ends.{syncs_before}
+use Rattle.std.specs.List.{list_any, range_with_len}
+use Rattle.std.specs.Option.{option_map_or}
+use Rattle.std.specs.Prelude.{Bool, List, Option, [], false, filter_map, find, get_or, if◌then◌else◌, is_some, length, nat_eq, not, option_and_then, slice_get, unwrap_or, ℕ, ◌&&◌, ◌+◌, ◌-◌, ◌||◌}
 
 -- ---- races that have an edge
 
--- some race has the edge: it is one of its two
-abbrev pub is_raced : List Race → EdgeId → Bool
-is_raced rs e =
-    list_any (λ r. (nat_eq r.p e.process && nat_eq r.i e.edge) || (nat_eq r.q e.process && nat_eq r.j e.edge)) rs
+-- an edge that passes the test is one of the two of a race
+abbrev pub any_raced : (EdgeId → Bool) → List Race → Bool
+any_raced test races = list_any (λ r. test (edge r.p r.i) || test (edge r.q r.j)) races
 
 -- ---- the past of an edge
-
--- all internal edges of a story, by process and number
-abbrev pub all_edges : Story → List EdgeId
-all_edges s = flat_map (λ p. map (edge p) (range_with_len 0 (last_edge s p + 1))) (range_with_len 0 (length s.steps))
 
 abbrev pub is_same_edge : EdgeId → EdgeId → Bool
 is_same_edge a b = nat_eq a.process b.process && nat_eq a.edge b.edge
@@ -37,12 +32,9 @@ is_same_edge a b = nat_eq a.process b.process && nat_eq a.edge b.edge
 abbrev pub is_past : Program → List (List Sync) → EdgeId → EdgeId → Bool
 is_past program rec e a = is_same_edge a e || is_edge_before program rec a e
 
-abbrev pub past_of : Program → Story → EdgeId → List EdgeId
-past_of program s e = filter (is_past program (record_of s) e) (all_edges s)
-
--- some race has an edge of these
-abbrev pub are_raced : Program → Story → List EdgeId → Bool
-are_raced program s es = list_any (is_raced (races_of program s)) es
+-- some race has the edge
+abbrev pub is_raced : List Race → EdgeId → Bool
+is_raced races e = any_raced (λ a. is_same_edge a e) races
 
 -- ---- the past of an item
 
@@ -71,12 +63,14 @@ lies entries x (nested m) = record { edge = left_edge entries m; ends = false }
 -- synchronization also every edge that ends in a synchronization before it
 abbrev pub is_clean : Program → Story → ℕ → Lies → Bool
 is_clean program s p l =
-    not (are_raced program s (filter
-    (λ a. is_past program (record_of s) (edge p l.edge) a
-    || (l.ends && is_before program (record_of s) (node a.process a.edge) (node p l.edge))) (all_edges s)))
+    not (any_raced (λ a. is_past program (record_of s) (edge p l.edge) a
+    || (l.ends && is_before program (record_of s) (node a.process a.edge) (node p l.edge))) (races_among (edges_of_story program s)))
 
 -- ---- where there is no clean item
 
--- the edges from one through another
-abbrev pub edges_between : ℕ → ℕ → List ℕ
-edges_between from to = range_with_len from (to + 1 - from)
+-- the least edge of process p whose past has a race, from the one in which interval k of these entries begins through
+-- the last
+abbrev pub first_raced : Program → List (List Sync) → List Race → List Entry → (p k : ℕ) → Option ℕ
+first_raced program rec races entries p k =
+    find (λ i. any_raced (is_past program rec (edge p i)) races)
+    (range_with_len (first_edge entries k) (length (get_or rec p []) + 1 - first_edge entries k))

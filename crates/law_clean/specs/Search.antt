@@ -1,46 +1,39 @@
 -- What `clean_edges` finds of an item, by the logs, their races and the replays of cut logs.
-use Rattle.std.specs.Prelude.{ℕ, zero, suc, ◌+◌, nat_eq, nat_le, Bool, true, false, ◌&&◌, ◌||◌, not, List, [], ◌∷◌, find, fold, length, map, slice_get, Option, Some, None, Result, Ok, Err, unwrap_or, if◌then◌else◌}
-use Rattle.std.specs.List.{list_any, range_with_len}
+use Rattle.law_clean.specs.Answers.{CleanOr, clean, is_reached, no_item, unclean, unclean_or, unwritten}
+use Rattle.law_clean.specs.Cuts.{cut_logs}
+use Rattle.law_clean.specs.Pasts.{any_raced, first_raced, left_edge}
 use Rattle.ppd_ast.specs.declared.plan.Plan.{Plan}
 use Rattle.ppd_ast.specs.declared.program.Program.{Program}
 use Rattle.ppd_entry.specs.declared.entry.Entry.{Entry}
 use Rattle.ppd_entry.specs.declared.entry.Logs.{Logs}
-use Rattle.ppd_entry.specs.Entries.{entries_at}
+use Rattle.ppd_flow_model.specs.Ends.{edge_at, first_edge, is_sync_item}
+use Rattle.ppd_flow_model.specs.Found.{found_edges}
+use Rattle.ppd_flow_model.specs.Seen.{Seen}
+use Rattle.ppd_flow_model.specs.Shared.{Missing, seen_at}
+use Rattle.ppd_flow_past.specs.SeenBy.{seen_by}
+use Rattle.ppd_model.specs.HappenedBefore.{edge, is_before, is_edge_before, node}
+use Rattle.ppd_model.specs.RecordedSets.{record_in}
+use Rattle.ppd_model.specs.Synchronizations.{Sync}
 use Rattle.ppd_model.specs.declared.flow.FlowEdge.{FlowEdge}
 use Rattle.ppd_model.specs.declared.flow.Item.{Item}
 use Rattle.ppd_model.specs.declared.flow.Item.TheVariants as item
 use Rattle.ppd_model.specs.declared.graph.EdgeId.{EdgeId}
 use Rattle.ppd_model.specs.declared.graph.Race.{Race}
-use Rattle.ppd_model.specs.HappenedBefore.{edge, is_before, is_edge_before, node, own_syncs}
-use Rattle.ppd_model.specs.RecordedSets.{record_in}
-use Rattle.ppd_model.specs.Synchronizations.{Sync}
-use Rattle.ppd_flow_past.specs.SeenBy.{seen_by}
-use Rattle.ppd_flow_model.specs.Ends.{edge_at, first_edge, is_sync_item}
-use Rattle.ppd_flow_model.specs.Found.{found_edges}
-use Rattle.ppd_flow_model.specs.Seen.{Seen, items_at}
-use Rattle.ppd_flow_model.specs.Shared.{Missing, seen_at}
-use Rattle.law_clean.specs.Answers.{CleanOr, clean, no_item, unclean, unclean_or, unwritten}
-use Rattle.law_clean.specs.Cuts.{cut_logs}
-use Rattle.law_clean.specs.Pasts.{edges_between, is_past, left_edge}
+use Rattle.std.specs.List.{range_with_len}
+use Rattle.std.specs.Prelude.{Bool, Err, List, None, Ok, Option, Result, Some, [], false, fold, get_or, if◌then◌else◌, length, map, nat_eq, nat_le, not, slice_get, suc, true, unwrap_or, zero, ℕ, ◌&&◌, ◌+◌, ◌||◌, ◌∷◌}
 
 -- ---- by a record of synchronizations and races
 
 module _ (program : Program) (rec : List (List Sync)) (races : List Race) where
-  -- the past of edge e has an edge of a race
-  abbrev pub has_race : EdgeId → Bool
-  has_race e = list_any (λ r. is_past program rec e (edge r.p r.i) || is_past program rec e (edge r.q r.j)) races
-
   -- an edge of a race ends before the synchronization that ends edge e
   abbrev pub leads_from_race : EdgeId → Bool
-  leads_from_race e =
-      list_any (λ r. is_before program rec (node r.p r.i) (node e.process e.edge)
-      || is_before program rec (node r.q r.j) (node e.process e.edge)) races
+  leads_from_race e = any_raced (λ a. is_before program rec (node a.process a.edge) (node e.process e.edge)) races
 
   -- ---- the edges that are wanted, where o is the first edge of process p whose past has a race, if there is one
 
   -- of p the edges before it, all where there is none
   abbrev pub own_last : ℕ → Option ℕ → Option ℕ
-  own_last p None = Some (length (own_syncs rec p))
+  own_last p None = Some (length (get_or rec p []))
   own_last p (Some zero) = None
   own_last p (Some (suc i)) = Some i
 
@@ -49,32 +42,26 @@ module _ (program : Program) (rec : List (List Sync)) (races : List Race) where
   abbrev pub is_wanted : ℕ → ℕ → ℕ → ℕ → Bool
   is_wanted p top q i =
       is_edge_before program rec (edge q i) (edge p top)
-      && not (list_any (λ r. (nat_eq r.p q && nat_le r.i i) || (nat_eq r.q q && nat_le r.j i)) races)
+      && not (any_raced (λ a. nat_eq a.process q && nat_le a.edge i) races)
 
   -- the last edge that is wanted of process q
   abbrev pub last_wanted : ℕ → Option ℕ → ℕ → Option ℕ
   last_wanted p o q =
       if nat_eq q p then own_last p o
-      else fold (λ found i. if is_wanted p (unwrap_or o (length (own_syncs rec p))) q i then Some i else found) None
-      (range_with_len 0 (length (own_syncs rec q)))
+      else fold (λ found i. if is_wanted p (unwrap_or o (length (get_or rec p []))) q i then Some i else found) None
+      (range_with_len 0 (length (get_or rec q [])))
 
 -- ---- by logs, of which this is the record
 
 module _ (program : Program) (plan : Plan) (budget : ℕ) (logs : Logs) (rec : List (List Sync)) (races : List Race) (p k j : ℕ) where
-  -- the least edge of p whose past has a race, from the one in which interval k begins
-  abbrev pub first_raced : Option ℕ
-  first_raced =
-      find (λ i. has_race program rec races (edge p i))
-      (edges_between (first_edge (entries_at logs p) k) (length (own_syncs rec p)))
-
   -- what the replays of the cut logs give
   abbrev pub seens : Option ℕ → List Seen
   seens o = map (λ es. seen_by program plan budget es) (cut_logs (last_wanted program rec races p o) logs).lists
 
   -- the edge of an item at place j
   abbrev pub edge_of_item : List Seen → Item → ℕ
-  edge_of_item xs (item.Own e) = edge_at (entries_at logs p) (seen_at xs p) k j
-  edge_of_item xs (item.Nested m b values closed) = left_edge (entries_at logs p) m
+  edge_of_item xs (item.Own e) = edge_at (get_or logs.lists p []) (seen_at xs p) k j
+  edge_of_item xs (item.Nested m b values closed) = left_edge (get_or logs.lists p []) m
 
   -- whether the past of an item has a race
   abbrev pub is_unclean : List Seen → Option ℕ → Item → Bool
@@ -89,26 +76,23 @@ module _ (program : Program) (plan : Plan) (budget : ℕ) (logs : Logs) (rec : L
   with_edges t (Some (Err m)) = unwritten m
 
   -- where there is no such item: the first raced edge if the interval reaches it
-  abbrev pub reached : Option ℕ → CleanOr
-  reached None = no_item
-  reached (Some u) = if nat_le u (left_edge (entries_at logs p) k) then unclean (edge p u) else no_item
-
   abbrev pub by_item : Option ℕ → List Seen → Option Item → CleanOr
-  by_item o xs None = reached o
+  by_item o xs None =
+      if is_reached (left_edge (get_or logs.lists p []) k) o then unclean_or p o no_item else no_item
   by_item o xs (Some t) =
       if is_unclean xs o t then unclean_or p o no_item else with_edges t (found_edges program plan logs xs p k j)
 
   abbrev pub by_first : Option ℕ → CleanOr
-  by_first o = by_item o (seens o) (slice_get (items_at (seen_at (seens o) p) k) j)
+  by_first o = by_item o (seens o) (slice_get (get_or (seen_at (seens o) p).items k []) j)
 
   -- an interval that begins in such an edge is not replayed
   abbrev pub from_first : Option ℕ → CleanOr
   from_first None = by_first None
   from_first (Some u) =
-      if nat_le u (first_edge (entries_at logs p) k) then unclean (edge p u) else by_first (Some u)
+      if nat_le u (first_edge (get_or logs.lists p []) k) then unclean (edge p u) else by_first (Some u)
 
 -- what is found of item j of interval k of process p
 abbrev pub clean_by : Program → Plan → ℕ → Logs → List Race → ℕ → ℕ → ℕ → CleanOr
 clean_by program plan budget logs races p k j =
     from_first program plan budget logs (record_in logs) races p k j
-    (first_raced program plan budget logs (record_in logs) races p k j)
+    (first_raced program (record_in logs) races (get_or logs.lists p []) p k)

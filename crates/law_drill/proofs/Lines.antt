@@ -1,11 +1,12 @@
 -- The lines of a drill's source, by the kinds of their tokens.
 use Rattle.std.specs.Prelude.{codes, decimal, take, drop, ◌-◌, ◌*◌}
 use Rattle.std.proofs.Common.{◌≡◌, ◌<◌, ◌≤◌, ℕ, zero, suc, pos, ◌+◌, ◌^◌, false, List, [], ◌∷◌, ◌++◌, refl, sym, subst, arith, append_assoc, append-nil}
+use Rattle.std.specs.List.{flat_map, range_with_len}
 use Rattle.std.proofs.lemmas.Fmt.{decimal_digit}
 use Rattle.ppd_lex.specs.declared.token.TokenKind.{TokenKind}
 use Rattle.ppd_lex.specs.declared.token.TokenKind.TheVariants.{Number}
 use Rattle.ppd_lex.specs.Front.{is_name_byte}
-use Rattle.ppd_top_drill.specs.Drills.{turns, channel_line, first_process, middle_process, last_process, lines_from, pipeline}
+use Rattle.ppd_top_drill.specs.Drills.{turns, channel_line, first_process, middle_process, last_process, pipeline}
 use Rattle.law_drill.proofs.Derivations.{kinds, none}
 use Rattle.law_drill.proofs.Spelled.{Spells, nothing, Over, over, both_over, number_over}
 use Rattle.law_drill.proofs.Pipelines.{digit, shared, channel_of, first_of, middle_of, last_of, Items, with_channels, with_middles, with_process, items_of}
@@ -183,17 +184,17 @@ last_over n k few some lt =
 
 -- ---- the whole source
 
-channels_spelled : (k count : ℕ) → k + count ≤ 7 → (rest : List ℕ) (t : Items) → Spells rest (kinds t) → Spells (lines_from channel_line k count ++ rest) (kinds (with_channels k count t))
+channels_spelled : (k count : ℕ) → k + count ≤ 7 → (rest : List ℕ) (t : Items) → Spells rest (kinds t) → Spells (flat_map channel_line (range_with_len k count) ++ rest) (kinds (with_channels k count t))
 channels_spelled k zero most rest t s = s
 channels_spelled k (suc count) most rest t s =
-    subst (λ text. Spells text (kinds (with_channels k (suc count) t))) (sym (append_assoc (channel_line k) (lines_from channel_line (k + 1) count) rest))
+    subst (λ text. Spells text (kinds (with_channels k (suc count) t))) (sym (append_assoc (channel_line k) (flat_map channel_line (range_with_len (k + 1) count)) rest))
     (channel_over k (omega (arith, most)) _ _ (channels_spelled (k + 1) count (omega (arith, most)) rest t s))
 
 middles_spelled : (n k count : ℕ) → turns n < 2 ^ 63 → 1 ≤ k → k + count ≤ 7 → (rest : List ℕ) (t : Items) → Spells rest (kinds t)
-    → Spells (lines_from (middle_process n) k count ++ rest) (kinds (with_middles (turns n) k count t))
+    → Spells (flat_map (middle_process n) (range_with_len k count) ++ rest) (kinds (with_middles (turns n) k count t))
 middles_spelled n k zero few some most rest t s = s
 middles_spelled n k (suc count) few some most rest t s =
-    subst (λ text. Spells text (kinds (with_middles (turns n) k (suc count) t))) (sym (append_assoc (middle_process n k) (lines_from (middle_process n) (k + 1) count) rest))
+    subst (λ text. Spells text (kinds (with_middles (turns n) k (suc count) t))) (sym (append_assoc (middle_process n k) (flat_map (middle_process n) (range_with_len (k + 1) count)) rest))
     (middle_over n k few some (omega (arith, most)) _ _ (middles_spelled n (k + 1) count few (omega arith) (omega (arith, most)) rest t s))
 
 total_over : Over (codes "shared int total;\n") (kinds (shared (codes "total")))
@@ -209,8 +210,8 @@ pipeline_spelled n k small some most =
     let begin : Items = with_process (first_of m n) amid in
     let last : Spells (last_process n k) (kinds end) =
     subst (λ text. Spells text (kinds end)) (append-nil (last_process n k)) (last_over n k few some (omega (arith, most)) [] [] nothing) in
-    let middles : Spells (lines_from (middle_process n) 1 (k - 1) ++ last_process n k) (kinds amid) =
+    let middles : Spells (flat_map (middle_process n) (range_with_len 1 (k - 1)) ++ last_process n k) (kinds amid) =
     middles_spelled n 1 (k - 1) few (omega arith) (omega (arith, some, most)) (last_process n k) end last in
     subst (λ text. Spells text (kinds (items_of m n k)))
-    (sym (lines_apart (codes "shared int total;\n") (lines_from channel_line 0 k) (first_process n) (lines_from (middle_process n) 1 (k - 1)) (last_process n k)))
+    (sym (lines_apart (codes "shared int total;\n") (flat_map channel_line (range_with_len 0 k)) (first_process n) (flat_map (middle_process n) (range_with_len 1 (k - 1))) (last_process n k)))
     (total_over _ _ (channels_spelled 0 k (omega (arith, most)) _ begin (first_over n few small _ _ middles)))

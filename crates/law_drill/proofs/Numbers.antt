@@ -5,7 +5,8 @@ use Rattle.std.proofs.Common.{◌≡◌, ◌<◌, ◌≤◌, ℕ, pos, ◌+◌, 
 use Rattle.std.proofs.lemmas.Bool.Decides.{nat_tests}
 use Rattle.std.proofs.lemmas.List.Sums.{take_while-cons}
 use Rattle.std.proofs.lemmas.Fmt.{decimal_by_steps, decimal_digit, decimal_nonempty, first_decimal}
-use Rattle.ppd_ast.specs.Digits.{is_digit, value_from}
+use Rattle.std.specs.Char.{is_ascii_digit}
+use Rattle.ppd_ast.specs.Digits.{value_from}
 use Rattle.ppd_ast.proofs.Digits.{value_append}
 use Rattle.ppd_lex.specs.declared.token.TokenKind.TheVariants.{Number}
 use Rattle.ppd_lex.specs.declared.scan.Piece.TheVariants.{Read}
@@ -18,16 +19,16 @@ use Rattle.ppd_lex.proofs.Numbers.{value_is}
 
 -- digits, and the number that they write
 abbrev IsWritten : ℕ → List ℕ → Type 0
-IsWritten n ds = (list_all is_digit ds ≡ true) × (value_from 0 ds ≡ n)
+IsWritten n ds = (list_all is_ascii_digit ds ≡ true) × (value_from 0 ds ≡ n)
 
-digit_passes : (d : ℕ) → d < 10 → is_digit (48 + d) ≡ true
+digit_passes : (d : ℕ) → d < 10 → is_ascii_digit (48 + d) ≡ true
 digit_passes d lt = grind (arith, nat_tests)
 
-all_more : (ds : List ℕ) (b : ℕ) → list_all is_digit ds ≡ true → is_digit b ≡ true → list_all is_digit (ds ++ b ∷ []) ≡ true
+all_more : (ds : List ℕ) (b : ℕ) → list_all is_ascii_digit ds ≡ true → is_ascii_digit b ≡ true → list_all is_ascii_digit (ds ++ b ∷ []) ≡ true
 all_more [] b h k = rw k refl
-all_more (d ∷ ds) b h k = by (is_digit d) refl h (λ g. all_more ds b g k)
+all_more (d ∷ ds) b h k = by (is_ascii_digit d) refl h (λ g. all_more ds b g k)
   where
-    by : (t : Bool) → is_digit d ≡ t → (t && list_all is_digit ds) ≡ true → (list_all is_digit ds ≡ true → list_all is_digit (ds ++ b ∷ []) ≡ true) → (is_digit d && list_all is_digit (ds ++ b ∷ [])) ≡ true
+    by : (t : Bool) → is_ascii_digit d ≡ t → (t && list_all is_ascii_digit ds) ≡ true → (list_all is_ascii_digit ds ≡ true → list_all is_ascii_digit (ds ++ b ∷ []) ≡ true) → (is_ascii_digit d && list_all is_ascii_digit (ds ++ b ∷ [])) ≡ true
     by true e g rest = rw e (rest g)
     by false e g rest = cc
 
@@ -58,25 +59,25 @@ number_written n lt =
 
 -- ---- before a byte that goes on with no name and no number
 
-digit_named : (b : ℕ) → is_digit b ≡ true → (is_space b ≡ false) × (is_letter b ≡ false) × (is_name_byte b ≡ true)
+digit_named : (b : ℕ) → is_ascii_digit b ≡ true → (is_space b ≡ false) × (is_letter b ≡ false) × (is_name_byte b ≡ true)
 digit_named b h = (grind (arith, nat_tests), grind (arith, nat_tests), grind (arith, nat_tests))
 
-digits_taken : (ds : List ℕ) (b : ℕ) (rest : List ℕ) → list_all is_digit ds ≡ true → is_name_byte b ≡ false → take_while is_name_byte (ds ++ b ∷ rest) ≡ ds
+digits_taken : (ds : List ℕ) (b : ℕ) (rest : List ℕ) → list_all is_ascii_digit ds ≡ true → is_name_byte b ≡ false → take_while is_name_byte (ds ++ b ∷ rest) ≡ ds
 digits_taken [] b rest h stop = rw stop refl
-digits_taken (d ∷ ds) b rest h stop = by (is_digit d) refl h (λ g. digits_taken ds b rest g stop)
+digits_taken (d ∷ ds) b rest h stop = by (is_ascii_digit d) refl h (λ g. digits_taken ds b rest g stop)
   where
-    by : (t : Bool) → is_digit d ≡ t → (t && list_all is_digit ds) ≡ true → (list_all is_digit ds ≡ true → take_while is_name_byte (ds ++ b ∷ rest) ≡ ds) → take_while is_name_byte (d ∷ (ds ++ b ∷ rest)) ≡ d ∷ ds
+    by : (t : Bool) → is_ascii_digit d ≡ t → (t && list_all is_ascii_digit ds) ≡ true → (list_all is_ascii_digit ds ≡ true → take_while is_name_byte (ds ++ b ∷ rest) ≡ ds) → take_while is_name_byte (d ∷ (ds ++ b ∷ rest)) ≡ d ∷ ds
     by true e g more = take_while-cons is_name_byte d (ds ++ b ∷ rest) ∙ rw (digit_named d e).2 (ap (λ x. d ∷ x) (more g))
     by false e g more = cc
 
 pub front_decimal : (n b : ℕ) (rest : List ℕ) → n < 2 ^ 63 → is_name_byte b ≡ false → front (decimal n ++ b ∷ rest) ≡ Read (length (decimal n)) (Number (pos n))
 front_decimal n b rest lt stop = by (decimal n) (decimal_written n (omega arith)).0 (decimal_nonempty n (omega arith)) (number_written n lt)
   where
-    by : (ds : List ℕ) → list_all is_digit ds ≡ true → 0 < length ds → number_of ds ≡ Some n → front (ds ++ b ∷ rest) ≡ Read (length ds) (Number (pos n))
+    by : (ds : List ℕ) → list_all is_ascii_digit ds ≡ true → 0 < length ds → number_of ds ≡ Some n → front (ds ++ b ∷ rest) ≡ Read (length ds) (Number (pos n))
     by [] h some is = absurd (omega (arith, some))
-    by (d ∷ ds) h some is = of (is_digit d) refl h
+    by (d ∷ ds) h some is = of (is_ascii_digit d) refl h
       where
-        of : (t : Bool) → is_digit d ≡ t → (t && list_all is_digit ds) ≡ true → front (d ∷ (ds ++ b ∷ rest)) ≡ Read (length (d ∷ ds)) (Number (pos n))
+        of : (t : Bool) → is_ascii_digit d ≡ t → (t && list_all is_ascii_digit ds) ≡ true → front (d ∷ (ds ++ b ∷ rest)) ≡ Read (length (d ∷ ds)) (Number (pos n))
         of true e g =
             let k = digit_named d e in
             let taken = digits_taken (d ∷ ds) b rest h stop in

@@ -1,6 +1,6 @@
 -- A walk back over an internal edge that finds no write goes past no event that writes the cell.
 use Rattle.std.proofs.Common.{◌≡◌, ℕ, zero, suc, ◌+◌, ℤ, Bool, true, false, ◌||◌, List, [], ◌∷◌, ◌++◌, Option, Some, None, refl, ap, ap₂, sym, subst, ◌∙◌, if◌then◌else◌, length, take, true≢false}
-use Rattle.std.specs.Prelude.{fold, is_some, ⊤}
+use Rattle.std.specs.Prelude.{fold, is_some, ⊤, get_or}
 use Rattle.std.specs.List.{list_any}
 use Rattle.std.proofs.lemmas.List.{append-nil, append_assoc}
 use Rattle.std.proofs.lemmas.List.Folds.{list_any-append}
@@ -11,9 +11,9 @@ use Rattle.ppd_model.specs.declared.flow.Item.{Item}
 use Rattle.ppd_model.specs.declared.flow.Item.TheVariants as item
 use Rattle.ppd_flow_model.specs.declared.walked.Walked.{Walked}
 use Rattle.ppd_flow_model.specs.declared.walked.Walked.TheVariants.{Stopped, Passed, Found}
-use Rattle.ppd_flow_model.specs.Seen.{Seen, items_at, place_of, round_at}
+use Rattle.ppd_flow_model.specs.Seen.{Seen, place_of}
 use Rattle.ppd_flow_model.specs.Walk.{back, back_from, back_over, backwards, found_or, inside, is_shared, onward, over_event, value_to, walk, walk_out}
-use Rattle.law_flow_missing.specs.Missing.{events_among, events_in, events_to, writes_cell}
+use Rattle.law_flow_missing.specs.Missing.{events_among, events_in, events_to}
 
 or_none : (a b : Bool) → (a || b) ≡ false → (a ≡ false) × (b ≡ false)
 or_none true b e = absurd (true≢false e)
@@ -25,7 +25,7 @@ or_one false b e = e
 
 -- all events of the process before place j of interval k
 abbrev pub events_before : Seen → ℕ → ℕ → List Event
-events_before x k j = events_to x k j (round_at x k)
+events_before x k j = events_to x k j (get_or x.rounds k [])
 
 -- an event more after the last synchronization, or a synchronization itself
 abbrev pub after_event : List Event → Event → List Event
@@ -67,8 +67,8 @@ a_sync acc (e ∷ es) h = by (is_sync e) (λ g. a_sync (acc ++ e ∷ []) es g �
 -- ---- a walk over events
 
 module _ (c : ℕ) where
-  abbrev any_write : List Event → Bool
-  any_write es = list_any (writes_cell c) es
+  abbrev pub any_write : List Event → Bool
+  any_write es = list_any (λ (e : Event). list_any (λ (a : Access). is_shared c a.spot) e.writes) es
 
   -- what a walk back over these events comes to, if it finds no write
   abbrev pub Tells : List Event → Walked → Type 0
@@ -108,9 +108,9 @@ module _ (c : ℕ) where
   tells_both es fs Stopped Passed t s = (
     earlier is_sync es fs t.0,
     ap any_write (fold-append after_event [] es fs ∙ no_sync (since_sync es) fs s.0)
-        ∙ neither (writes_cell c) (since_sync es) fs t.1 s.1,
+        ∙ neither _ (since_sync es) fs t.1 s.1,
   )
-  tells_both es fs Passed Passed t s = (neither is_sync es fs t.0 s.0, neither (writes_cell c) es fs t.1 s.1)
+  tells_both es fs Passed Passed t s = (neither is_sync es fs t.0 s.0, neither _ es fs t.1 s.1)
 
   -- of one event more
   one_event : (k i : ℕ) (e : Event) → Tells (e ∷ []) (over_event c k i e Passed)
@@ -161,22 +161,22 @@ module _ (c : ℕ) where
   module _ (x : Seen) where
     over_inside : (n m : ℕ) → Tells (events_in n x m) (back n x c m)
     over_inside zero m = (refl, refl)
-    over_inside (suc n) m = over_all (back n x c) (events_in n x) (over_inside n) m (items_at x m)
+    over_inside (suc n) m = over_all (back n x c) (events_in n x) (over_inside n) m (get_or x.items m [])
 
     over_out : (k j : ℕ) (ms : List ℕ) → Tells (events_to x k j ms) (walk_out (inside x c) x c k j ms)
     over_out k j [] =
-        over_all (inside x c) (events_in (length x.items) x) (over_inside (length x.items)) k (take j (items_at x k))
+        over_all (inside x c) (events_in (length x.items) x) (over_inside (length x.items)) k (take j (get_or x.items k []))
     over_out k j (m ∷ ms) =
-        tells_both (events_to x m (place_of k (items_at x m)) ms)
-        (events_among (events_in (length x.items) x) (take j (items_at x k)))
-        (walk_out (inside x c) x c m (place_of k (items_at x m)) ms)
-        (back_over (inside x c) c k (back_from j (items_at x k)))
-        (over_out m (place_of k (items_at x m)) ms)
+        tells_both (events_to x m (place_of k (get_or x.items m [])) ms)
+        (events_among (events_in (length x.items) x) (take j (get_or x.items k [])))
+        (walk_out (inside x c) x c m (place_of k (get_or x.items m [])) ms)
+        (back_over (inside x c) c k (back_from j (get_or x.items k [])))
+        (over_out m (place_of k (get_or x.items m [])) ms)
         (over_all (inside x c) (events_in (length x.items) x) (over_inside (length x.items)) k
-        (take j (items_at x k)))
+        (take j (get_or x.items k [])))
 
     pub walk_tells : (k j : ℕ) → Tells (events_before x k j) (walk x c k j)
-    walk_tells k j = over_out k j (round_at x k)
+    walk_tells k j = over_out k j (get_or x.rounds k [])
 
   -- a walk that finds no write
   abbrev pub is_found : Walked → Bool

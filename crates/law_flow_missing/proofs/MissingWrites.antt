@@ -1,35 +1,33 @@
 -- Each write that a search misses is missing.
-use Rattle.std.proofs.Common.{◌≡◌, ℕ, suc, ◌+◌, ℤ, Bool, true, false, List, [], ◌∷◌, ◌++◌, Option, Some, None, Result, Ok, Err, refl, ap, sym, subst, ◌∙◌, arith, get_or, cond, if◌then◌else◌}
-use Rattle.std.specs.Prelude.{filter, fold, slice_get, ⊤}
-use Rattle.std.specs.List.{list_any}
+use Rattle.law_flow_missing.proofs.Events.{any_write, events_before, is_found, none_written, walk_tells}
+use Rattle.law_flow_missing.proofs.RecordedWrites.{all_end_last, entry_records, sets_of_process}
+use Rattle.law_flow_missing.specs.Missing.{IsMissingWrite, MissingWritesAreTold, events_of}
+use Rattle.ppd_ast.specs.Members.{has}
 use Rattle.ppd_ast.specs.declared.plan.Plan.{Plan}
 use Rattle.ppd_ast.specs.declared.program.Program.{Program}
-use Rattle.ppd_ast.specs.Members.{has}
 use Rattle.ppd_entry.specs.declared.entry.Logs.{Logs}
-use Rattle.ppd_entry.specs.Entries.{entries_at}
-use Rattle.ppd_graph.specs.declared.sets.EdgeSets.{EdgeSets}
+use Rattle.ppd_flow_model.specs.Ends.{end_interval, end_item}
+use Rattle.ppd_flow_model.specs.Found.{and_more, before_others, edges_if, item_edges, read_edge, read_edges, read_if}
+use Rattle.ppd_flow_model.specs.Seen.{Seen}
+use Rattle.ppd_flow_model.specs.Shared.{Missing, edge_of_place, greater, greatest_before, greatest_writing, is_before_in, missing, origin_in, own_or, seen_at, shared_origin, walk_in, writing, writing_from, writing_in, written_at, written_or_start}
+use Rattle.ppd_flow_model.specs.Walk.{walk}
+use Rattle.ppd_flow_model.specs.declared.walked.Walked.{Walked}
+use Rattle.ppd_flow_model.specs.declared.walked.Walked.TheVariants.{Found, Passed, Stopped}
 use Rattle.ppd_graph.specs.Graphs.{sets_at}
 use Rattle.ppd_graph.specs.LogRecord.{edge_sets_in, no_sets}
+use Rattle.ppd_graph.specs.declared.sets.EdgeSets.{EdgeSets}
 use Rattle.ppd_index.specs.Refusals.{first_in_lists}
+use Rattle.ppd_model.specs.HappenedBefore.{edge}
 use Rattle.ppd_model.specs.declared.flow.FlowEdge.{FlowEdge}
 use Rattle.ppd_model.specs.declared.flow.Item.{Item}
 use Rattle.ppd_model.specs.declared.flow.Item.TheVariants as item
 use Rattle.ppd_model.specs.declared.flow.Origin.{Origin}
 use Rattle.ppd_model.specs.declared.graph.EdgeId.{EdgeId}
-use Rattle.ppd_model.specs.HappenedBefore.{edge}
 use Rattle.ppd_sem.specs.declared.event.Access.{Access}
 use Rattle.ppd_sem.specs.declared.event.Spot.{Spot}
 use Rattle.ppd_sem.specs.declared.event.Spot.TheVariants.{Local, Shared}
-use Rattle.ppd_flow_model.specs.declared.walked.Walked.{Walked}
-use Rattle.ppd_flow_model.specs.declared.walked.Walked.TheVariants.{Stopped, Passed, Found}
-use Rattle.ppd_flow_model.specs.Found.{and_more, before_others, edges_if, item_edges, read_edge, read_edges, read_if}
-use Rattle.ppd_flow_model.specs.Seen.{Seen, items_at}
-use Rattle.ppd_flow_model.specs.Shared.{Missing, edge_of_place, greater, greatest_before, greatest_writing, is_before_in, missing, origin_in, own_or, seen_at, shared_origin, walk_in, writing, writing_from, writing_in, written_at, written_or_start}
-use Rattle.ppd_flow_model.specs.Ends.{end_interval, end_item}
-use Rattle.ppd_flow_model.specs.Walk.{walk}
-use Rattle.law_flow_missing.specs.Missing.{IsMissingWrite, MissingWritesAreTold, events_of, writes_cell}
-use Rattle.law_flow_missing.proofs.Events.{is_found, none_written, walk_tells, events_before}
-use Rattle.law_flow_missing.proofs.RecordedWrites.{all_end_last, entry_records, sets_of_process}
+use Rattle.std.proofs.Common.{Bool, Err, List, None, Ok, Option, Result, Some, [], ap, arith, cond, false, get_or, if◌then◌else◌, refl, subst, suc, sym, true, ℕ, ℤ, ◌++◌, ◌+◌, ◌∙◌, ◌∷◌, ◌≡◌}
+use Rattle.std.specs.Prelude.{filter, fold, slice_get, ⊤}
 
 -- each of these edges has the property
 abbrev Each : (EdgeId → Type 0) → List EdgeId → Type 0
@@ -114,7 +112,7 @@ module _ (program : Program) (plan : Plan) (logs : Logs) (xs : List Seen)
       → IsMissingWrite logs xs (missing logs c a)
   of_edge c a h f =
       let x = seen_at xs a.process in
-      let es = entries_at logs a.process in
+      let es = get_or logs.lists a.process [] in
       let e = entry_records c es a.edge (all_end_last program plan 0 logs.lists a.process accepted)
       (ap (λ (u : EdgeSets). has u.writes c) (sym (sets_of_process logs.lists a.process a.edge)) ∙ h) in
       record {
@@ -122,7 +120,7 @@ module _ (program : Program) (plan : Plan) (logs : Logs) (xs : List Seen)
         there = e.there;
         ends = e.ends;
         recorded = e.writes;
-        unwritten = subst (λ i. list_any (writes_cell c) (events_of xs es (edge a.process i)) ≡ false) (sym e.before)
+        unwritten = subst (λ i. any_write c (events_of xs es (edge a.process i)) ≡ false) (sym e.before)
             (none_written c (events_before x (end_interval es a.edge) (end_item es x a.edge)) (walk_in logs xs c a) f
             (walk_tells c x (end_interval es a.edge) (end_item es x a.edge)));
       }
@@ -209,5 +207,5 @@ pub missing_writes_are_told : MissingWritesAreTold
 missing_writes_are_told program plan logs xs accepted = record {
   origins = λ p k j c m e. origin_missing program plan logs xs accepted p k j c m e;
   last = λ c m e. last_missing program plan logs xs accepted c m e;
-  edges = λ p k j m e. of_there program plan logs xs accepted p k j (slice_get (items_at (seen_at xs p) k) j) m e;
+  edges = λ p k j m e. of_there program plan logs xs accepted p k j (slice_get (get_or (seen_at xs p).items k []) j) m e;
 }

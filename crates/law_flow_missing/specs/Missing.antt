@@ -1,25 +1,24 @@
 -- A write that is missing: an entry that ends an internal edge has the cell in its write set, and no event of that edge,
 -- as replays give them, writes the cell.
-use Rattle.std.specs.Prelude.{◌≡◌, ℕ, zero, suc, Bool, true, false, List, [], ◌∷◌, ◌++◌, fold, length, take, slice_get, Some, None, Err, is_some, if◌then◌else◌}
-use Rattle.std.specs.List.{list_any}
+use Rattle.ppd_ast.specs.Members.{has}
 use Rattle.ppd_ast.specs.declared.plan.Plan.{Plan}
 use Rattle.ppd_ast.specs.declared.program.Program.{Program}
-use Rattle.ppd_ast.specs.Members.{has}
 use Rattle.ppd_entry.specs.declared.entry.Entry.{Entry}
 use Rattle.ppd_entry.specs.declared.entry.Entry.TheVariants as entry
 use Rattle.ppd_entry.specs.declared.entry.Logs.{Logs}
-use Rattle.ppd_entry.specs.Entries.{entries_at}
+use Rattle.ppd_flow_model.specs.Ends.{end_interval, end_item, ends_edge, syncs_before}
+use Rattle.ppd_flow_model.specs.Found.{found_edges}
+use Rattle.ppd_flow_model.specs.Seen.{Seen, place_of}
+use Rattle.ppd_flow_model.specs.Shared.{Missing, found_last, seen_at, shared_origin}
+use Rattle.ppd_flow_model.specs.Walk.{is_shared}
 use Rattle.ppd_index.specs.Refusals.{first_in_lists}
-use Rattle.ppd_sem.specs.declared.event.Event.{Event}
+use Rattle.ppd_model.specs.HappenedBefore.{edge}
 use Rattle.ppd_model.specs.declared.flow.Item.{Item}
 use Rattle.ppd_model.specs.declared.flow.Item.TheVariants as item
 use Rattle.ppd_model.specs.declared.graph.EdgeId.{EdgeId}
-use Rattle.ppd_model.specs.HappenedBefore.{edge}
-use Rattle.ppd_flow_model.specs.Ends.{end_interval, end_item, ends_edge, syncs_before}
-use Rattle.ppd_flow_model.specs.Found.{found_edges}
-use Rattle.ppd_flow_model.specs.Seen.{Seen, items_at, place_of, round_at}
-use Rattle.ppd_flow_model.specs.Shared.{Missing, found_last, seen_at, shared_origin}
-use Rattle.ppd_flow_model.specs.Walk.{is_shared}
+use Rattle.ppd_sem.specs.declared.event.Event.{Event}
+use Rattle.std.specs.List.{list_any}
+use Rattle.std.specs.Prelude.{Err, List, None, Some, [], false, fold, get_or, if◌then◌else◌, is_some, length, slice_get, suc, take, true, zero, ℕ, ◌++◌, ◌∷◌, ◌≡◌}
 
 -- ---- the entry
 
@@ -41,13 +40,14 @@ events_among inner (item.Nested m b values closed ∷ ts) = inner m ++ events_am
 -- another
 abbrev pub events_in : ℕ → Seen → ℕ → List Event
 events_in zero x m = []
-events_in (suc n) x m = events_among (events_in n x) (items_at x m)
+events_in (suc n) x m = events_among (events_in n x) (get_or x.items m [])
 
 -- those of the first j items of interval k, after those before it in the intervals round it, the innermost first
 abbrev pub events_to : Seen → ℕ → ℕ → List ℕ → List Event
-events_to x k j [] = events_among (events_in (length x.items) x) (take j (items_at x k))
+events_to x k j [] = events_among (events_in (length x.items) x) (take j (get_or x.items k []))
 events_to x k j (m ∷ ms) =
-    events_to x m (place_of k (items_at x m)) ms ++ events_among (events_in (length x.items) x) (take j (items_at x k))
+    events_to x m (place_of k (get_or x.items m [])) ms
+    ++ events_among (events_in (length x.items) x) (take j (get_or x.items k []))
 
 -- the events of the edge: of all those of its process before the place where it ends, those after the last
 -- synchronization
@@ -55,11 +55,7 @@ abbrev pub events_of : List Seen → List Entry → EdgeId → List Event
 events_of xs entries a =
     fold (λ (es : List Event) (e : Event). if is_some e.number then [] else es ++ e ∷ []) []
     (events_to (seen_at xs a.process) (end_interval entries a.edge) (end_item entries (seen_at xs a.process) a.edge)
-    (round_at (seen_at xs a.process) (end_interval entries a.edge)))
-
--- whether an event writes shared cell c
-abbrev pub writes_cell : ℕ → Event → Bool
-writes_cell c e = list_any (λ a. is_shared c a.spot) e.writes
+    (get_or (seen_at xs a.process).rounds (end_interval entries a.edge) []))
 
 -- ---- a write that is missing
 
@@ -71,11 +67,12 @@ write_at q n c = record { process = q; entry = n; cell = c }
 -- synchronizations before it; its write set has the cell; and none of the events of that edge writes the cell
 pub record IsMissingWrite (logs : Logs) (xs : List Seen) (m : Missing) : Type 0 where
   pub entry : Entry
-  pub there : slice_get (entries_at logs m.process) m.entry ≡ Some entry
+  pub there : slice_get (get_or logs.lists m.process []) m.entry ≡ Some entry
   pub ends : ends_edge entry ≡ true
   pub recorded : has (writes_of entry) m.cell ≡ true
-  pub unwritten : list_any (writes_cell m.cell) (events_of xs (entries_at logs m.process)
-      (edge m.process (syncs_before (entries_at logs m.process) m.entry))) ≡ false
+  pub unwritten : list_any (λ e. list_any (λ a. is_shared m.cell a.spot) e.writes)
+      (events_of xs (get_or logs.lists m.process [])
+      (edge m.process (syncs_before (get_or logs.lists m.process []) m.entry))) ≡ false
 
 -- so it is with each write that a search misses
 pub record AreMissingWrites (program : Program) (plan : Plan) (logs : Logs) (xs : List Seen) : Type 0 where

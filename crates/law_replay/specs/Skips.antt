@@ -1,5 +1,5 @@
 -- A loop or a call that is gone past by the postlog of its interval.
-use Rattle.std.specs.Prelude.{◌≡◌, ℕ, suc, ◌+◌, ℤ, List, take, slice_get, Some}
+use Rattle.std.specs.Prelude.{◌≡◌, ℕ, suc, ◌+◌, ℤ, List, take, slice_get, Some, get_or, []}
 use Rattle.ppd_ast.specs.declared.plan.Plan.{Plan}
 use Rattle.ppd_ast.specs.declared.plan.Policy.{Policy}
 use Rattle.ppd_ast.specs.declared.program.Program.{Program}
@@ -13,11 +13,11 @@ use Rattle.ppd_sem.specs.Process.{need_of}
 use Rattle.ppd_model.specs.declared.tracing.Story.{Story}
 use Rattle.ppd_model.specs.Intervals.{Span, intervals}
 use Rattle.ppd_model.specs.States.{state_of}
-use Rattle.ppd_model.specs.Story.{own_steps, story}
+use Rattle.ppd_model.specs.Story.{story}
 
 -- process p of a story after the first n of its steps
 abbrev pub state_after : Program → Plan → ℕ → Story → ℕ → ℕ → Proc
-state_after program plan budget story p n = state_of program plan budget p (take n (own_steps story p))
+state_after program plan budget story p n = state_of program plan budget p (take n (get_or story.steps p []))
 
 -- what comes next is to enter the loop that is block b, or to call the function that is block b
 abbrev pub BeginsBlock : ℕ → Need → Type 0

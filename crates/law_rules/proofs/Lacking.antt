@@ -1,6 +1,6 @@
 -- What the synchronizations of logs lack, by its rules.
 use Rattle.std.proofs.Common.{◌≡◌, ℕ, zero, suc, ◌+◌, ◌-◌, ◌<◌, ◌≤◌, Bool, true, false, cond, Option, Some, None, unwrap_or, refl, ap, sym, ◌∙◌, subst, arith, inl, inr, length}
-use Rattle.std.specs.Prelude.{find, max, nat_lt, not}
+use Rattle.std.specs.Prelude.{find, max, nat_lt, not, if◌then◌else◌}
 use Rattle.std.specs.List.{range_with_len}
 use Rattle.std.proofs.lemmas.Bool.{cases_lt, lt-ltb, ltb-true}
 use Rattle.ppd_ast.specs.declared.program.Program.{Program}
@@ -8,7 +8,7 @@ use Rattle.ppd_ast.specs.declared.status.SyncKind.{SyncKind}
 use Rattle.ppd_ast.specs.declared.status.SyncKind.TheVariants.{P, V, Send, Recv, Done}
 use Rattle.std.specs.Option.{option_or}
 use Rattle.ppd_sem.specs.Tables.{capacity_of}
-use Rattle.ppd_graph.specs.Refusals.{Missing, Numbered, absent, first_missing, missing_of_chan, missing_of_handover, missing_of_places, missing_of_sem, number_if, of_kind, start_of}
+use Rattle.ppd_graph.specs.Refusals.{Missing, Numbered, absent, first_missing, missing_of_places, of_kind, start_of}
 use Rattle.ppd_graph.proofs.Vocabulary.{chan_misses, sem_misses}
 use Rattle.law_rules.specs.Missing.{AreThere, AreWhole, ChanLacks, Channel, IsGap, IsMissing, LacksNothing, MissingFollowsTheRules, SemLacks, Semaphore, completed_receive, completion, give, next_completion, next_give, next_receive, next_send, of_channel, of_semaphore, receive, send, take}
 
@@ -134,20 +134,29 @@ module _ (o : ℕ) (Lacks : SyncKind → ℕ → Type 0) where
   says kind n x e lacks = subst Says (some (kind, o, n) x e) (refl, lacks)
 
   -- where there is a next number of this kind, it is lacking
-  says_next : (kind : SyncKind) (n a b : ℕ) (x : Missing) → of_kind kind o (number_if (nat_lt a b) n) ≡ Some x → (a < b → Lacks kind n) → Says x
+  says_next : (kind : SyncKind) (n a b : ℕ) (x : Missing) → of_kind kind o (if nat_lt a b then Some n else None) ≡ Some x → (a < b → Lacks kind n) → Says x
   says_next kind n a b x e lacks = by (nat_lt a b) refl e
     where
-      by : (t : Bool) → nat_lt a b ≡ t → of_kind kind o (number_if t n) ≡ Some x → Says x
+      by : (t : Bool) → nat_lt a b ≡ t → of_kind kind o (if t then Some n else None) ≡ Some x → Says x
       by true t e = says kind n x e (lacks (ltb-true a b t))
       by false t e = absurd (no_some x e)
 
-is_next : (kind : SyncKind) (o n a b : ℕ) → a < b → of_kind kind o (number_if (nat_lt a b) n) ≡ Some (kind, o, n)
-is_next kind o n a b lt = ap (λ t. of_kind kind o (number_if t n)) (lt-ltb a b lt)
+is_next : (kind : SyncKind) (o n a b : ℕ) → a < b → of_kind kind o (if nat_lt a b then Some n else None) ≡ Some (kind, o, n)
+is_next kind o n a b lt = ap (λ t. of_kind kind o (if t then Some n else None)) (lt-ltb a b lt)
 
-no_next : (kind : SyncKind) (o n a b : ℕ) → b ≤ a → of_kind kind o (number_if (nat_lt a b) n) ≡ None
-no_next kind o n a b le = ap (λ t. of_kind kind o (number_if t n)) (is_at_least a b le)
+no_next : (kind : SyncKind) (o n a b : ℕ) → b ≤ a → of_kind kind o (if nat_lt a b then Some n else None) ≡ None
+no_next kind o n a b le = ap (λ t. of_kind kind o (if t then Some n else None)) (is_at_least a b le)
 
-module _ (o start : ℕ) (taken given : Numbered) where
+module _ (program : Program) (numbered : SyncKind → ℕ → Numbered) (o : ℕ) where
+  abbrev start : ℕ
+  start = start_of program o
+
+  abbrev taken : Numbered
+  taken = numbered P o
+
+  abbrev given : Numbered
+  given = numbered V o
+
   abbrev b : ℕ
   b = max start given.greatest
 
@@ -161,9 +170,9 @@ module _ (o start : ℕ) (taken given : Numbered) where
   gives = absent start b given.is_there
 
   abbrev last_give : Option Missing
-  last_give = of_kind V o (number_if (nat_lt b taken.greatest) (b + 1))
+  last_give = of_kind V o (if nat_lt b taken.greatest then Some (b + 1) else None)
 
-  sem_lacks : (x : Missing) → missing_of_sem o start taken given ≡ Some x → Says o Sem x
+  sem_lacks : (x : Missing) → sem_misses program numbered o ≡ Some x → Says o Sem x
   sem_lacks x e = by takes refl e
     where
       by_gives : (g : Option ℕ) → gives ≡ g → takes ≡ None → option_or (of_kind V o g) last_give ≡ Some x → Says o Sem x
@@ -177,11 +186,11 @@ module _ (o start : ℕ) (taken given : Numbered) where
       by (Some n) is e = says o Sem P n x e (take n (gap_of taken.is_there 0 taken.greatest n is))
       by None is e = by_gives gives refl is e
 
-  after_takes : AreThere taken.is_there 0 taken.greatest → missing_of_sem o start taken given ≡ option_or (of_kind V o gives) last_give
+  after_takes : AreThere taken.is_there 0 taken.greatest → sem_misses program numbered o ≡ option_or (of_kind V o gives) last_give
   after_takes all =
       ap (λ t. option_or (of_kind P o t) (option_or (of_kind V o gives) last_give)) (is_all taken.is_there 0 taken.greatest all)
 
-  sem_is : (kind : SyncKind) (n : ℕ) → Sem kind n → missing_of_sem o start taken given ≡ Some (kind, o, n)
+  sem_is : (kind : SyncKind) (n : ℕ) → Sem kind n → sem_misses program numbered o ≡ Some (kind, o, n)
   sem_is kind n (take m gap) =
       ap (λ t. option_or (of_kind P o t) (option_or (of_kind V o gives) last_give)) (is_gap taken.is_there 0 taken.greatest m gap)
   sem_is kind n (give m all gap) =
@@ -191,10 +200,19 @@ module _ (o start : ℕ) (taken given : Numbered) where
       ∙ ap (λ g. option_or (of_kind V o g) last_give) (is_all given.is_there start b others)
       ∙ is_next V o (b + 1) b taken.greatest lt
 
-  pub sem_agrees : Agrees o (missing_of_sem o start taken given) Sem
+  pub sem_agrees : Agrees o (sem_misses program numbered o) Sem
   sem_agrees = record { lacks = sem_lacks; is = sem_is }
 
-module _ (o : ℕ) (sent received completed : Numbered) where
+module _ (program : Program) (numbered : SyncKind → ℕ → Numbered) (o : ℕ) where
+  abbrev sent : Numbered
+  sent = numbered Send o
+
+  abbrev received : Numbered
+  received = numbered Recv o
+
+  abbrev completed : Numbered
+  completed = numbered Done o
+
   abbrev s : ℕ
   s = sent.greatest
 
@@ -217,11 +235,11 @@ module _ (o : ℕ) (sent received completed : Numbered) where
   completions = absent 0 d completed.is_there
 
   abbrev last_completion : Option Missing
-  last_completion = of_kind Done o (number_if (nat_lt (d + 1) s) (d + 1))
+  last_completion = of_kind Done o (if nat_lt (d + 1) s then Some (d + 1) else None)
 
   -- ---- without places, and with some
 
-  handover_lacks : AreWhole sent received → (x : Missing) → missing_of_handover o s r completed ≡ Some x → Says o (Chan 0) x
+  handover_lacks : AreWhole sent received → (x : Missing) → missing_of_places 0 o s r completed ≡ Some x → Says o (Chan 0) x
   handover_lacks whole x e = by (nat_lt r d) refl e
     where
       by_completions : (c : Option ℕ) → completions ≡ c → d ≤ r → option_or (of_kind Done o c) last_completion ≡ Some x → Says o (Chan 0) x
@@ -230,7 +248,7 @@ module _ (o : ℕ) (sent received completed : Numbered) where
           says_next o (Chan 0) Done (d + 1) (d + 1) s x e
           (λ lt. next_completion whole refl le (all_of completed.is_there 0 d is) lt)
 
-      by : (t : Bool) → nat_lt r d ≡ t → option_or (of_kind Recv o (number_if t (r + 1))) (option_or (of_kind Done o completions) last_completion) ≡ Some x
+      by : (t : Bool) → nat_lt r d ≡ t → option_or (of_kind Recv o (if t then Some (r + 1) else None)) (option_or (of_kind Done o completions) last_completion) ≡ Some x
           → Says o (Chan 0) x
       by true t e = says o (Chan 0) Recv (r + 1) x e (completed_receive whole refl (ltb-true r d t))
       by false t e = by_completions completions refl (at_least r d t) e
@@ -240,20 +258,23 @@ module _ (o : ℕ) (sent received completed : Numbered) where
   places_lack (suc c) whole x e =
       says_next o (Chan (suc c)) Recv (r + 1) (r + suc c) s x e (λ lt. next_receive c whole refl lt)
 
-  after_completed : d ≤ r → missing_of_handover o s r completed ≡ option_or (of_kind Done o completions) last_completion
+  after_completed : d ≤ r → missing_of_places 0 o s r completed ≡ option_or (of_kind Done o completions) last_completion
   after_completed le =
       ap (λ f. option_or f (option_or (of_kind Done o completions) last_completion)) (no_next Recv o (r + 1) r d le)
 
   -- ---- all of a channel
 
-  module _ (capacity : ℕ) where
+  module _ where
+    abbrev capacity : ℕ
+    capacity = capacity_of program o
+
     abbrev places : Option Missing
     places = missing_of_places capacity o s r completed
 
     abbrev next : Option Missing
-    next = of_kind Send o (number_if (nat_lt s r) (s + 1))
+    next = of_kind Send o (if nat_lt s r then Some (s + 1) else None)
 
-    chan_lacks : (x : Missing) → missing_of_chan o capacity sent received completed ≡ Some x → Says o (Chan capacity) x
+    chan_lacks : (x : Missing) → chan_misses program numbered o ≡ Some x → Says o (Chan capacity) x
     chan_lacks x e = by sends refl e
       where
         by_receives : (t : Option ℕ) → receives ≡ t → sends ≡ None → r ≤ s → option_or (of_kind Recv o t) places ≡ Some x → Says o (Chan capacity) x
@@ -264,7 +285,7 @@ module _ (o : ℕ) (sent received completed : Numbered) where
             (record { sent_all = all_of sent.is_there 0 s none; sent_first = le; received_all = all_of received.is_there 0 r is }) x e
 
         by_next : (t : Bool) → nat_lt s r ≡ t → sends ≡ None
-            → option_or (of_kind Send o (number_if t (s + 1))) (option_or (of_kind Recv o receives) places) ≡ Some x → Says o (Chan capacity) x
+            → option_or (of_kind Send o (if t then Some (s + 1) else None)) (option_or (of_kind Recv o receives) places) ≡ Some x → Says o (Chan capacity) x
         by_next true t none e =
             says o (Chan capacity) Send (s + 1) x e (next_send (all_of sent.is_there 0 s none) (ltb-true s r t))
         by_next false t none e = by_receives receives refl none (at_least s r t) e
@@ -274,23 +295,23 @@ module _ (o : ℕ) (sent received completed : Numbered) where
         by (Some n) is e = says o (Chan capacity) Send n x e (send n (gap_of sent.is_there 0 s n is))
         by None is e = by_next (nat_lt s r) refl is e
 
-    after_sends : AreThere sent.is_there 0 s → missing_of_chan o capacity sent received completed ≡ option_or next (option_or (of_kind Recv o receives) places)
+    after_sends : AreThere sent.is_there 0 s → chan_misses program numbered o ≡ option_or next (option_or (of_kind Recv o receives) places)
     after_sends all =
         ap (λ t. option_or (of_kind Send o t) (option_or next (option_or (of_kind Recv o receives) places))) (is_all sent.is_there 0 s all)
 
-    after_next : AreThere sent.is_there 0 s → r ≤ s → missing_of_chan o capacity sent received completed ≡ option_or (of_kind Recv o receives) places
+    after_next : AreThere sent.is_there 0 s → r ≤ s → chan_misses program numbered o ≡ option_or (of_kind Recv o receives) places
     after_next all le =
         after_sends all ∙ ap (λ f. option_or f (option_or (of_kind Recv o receives) places)) (no_next Send o (s + 1) s r le)
 
-    after_receives : AreWhole sent received → missing_of_chan o capacity sent received completed ≡ places
+    after_receives : AreWhole sent received → chan_misses program numbered o ≡ places
     after_receives whole =
         after_next whole.sent_all whole.sent_first
         ∙ ap (λ t. option_or (of_kind Recv o t) places) (is_all received.is_there 0 r whole.received_all)
 
-    at_handover : capacity ≡ 0 → places ≡ missing_of_handover o s r completed
+    at_handover : capacity ≡ 0 → places ≡ missing_of_places 0 o s r completed
     at_handover none = ap (λ c. missing_of_places c o s r completed) none
 
-    chan_is : (kind : SyncKind) (n : ℕ) → Chan capacity kind n → missing_of_chan o capacity sent received completed ≡ Some (kind, o, n)
+    chan_is : (kind : SyncKind) (n : ℕ) → Chan capacity kind n → chan_misses program numbered o ≡ Some (kind, o, n)
     chan_is kind n (send m gap) =
         ap (λ t. option_or (of_kind Send o t) (option_or next (option_or (of_kind Recv o receives) places))) (is_gap sent.is_there 0 s m gap)
     chan_is kind n (next_send all lt) =
@@ -312,7 +333,7 @@ module _ (o : ℕ) (sent received completed : Numbered) where
         ∙ ap (λ t. option_or (of_kind Done o t) last_completion) (is_all completed.is_there 0 d all)
         ∙ is_next Done o (d + 1) (d + 1) s lt
 
-    pub chan_agrees : Agrees o (missing_of_chan o capacity sent received completed) (Chan capacity)
+    pub chan_agrees : Agrees o (chan_misses program numbered o) (Chan capacity)
     chan_agrees = record { lacks = chan_lacks; is = chan_is }
 
 -- ---- the first object
@@ -392,10 +413,10 @@ module _ (program : Program) (numbered : SyncKind → ℕ → Numbered) where
   chans = first_missing of_chan (range_with_len 0 (length program.chans))
 
   sem_at : (o : ℕ) → Agrees o (of_sem o) (Semaphore program numbered o)
-  sem_at o = sem_agrees o (start_of program o) (numbered P o) (numbered V o)
+  sem_at o = sem_agrees program numbered o
 
   chan_at : (o : ℕ) → Agrees o (of_chan o) (Channel program numbered o)
-  chan_at o = chan_agrees o (numbered Send o) (numbered Recv o) (numbered Done o) (capacity_of program o)
+  chan_at o = chan_agrees program numbered o
 
   abbrev Rule : Missing → Type 0
   Rule x = IsMissing program numbered x.0 x.1 x.2

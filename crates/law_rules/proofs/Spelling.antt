@@ -6,7 +6,7 @@ use Rattle.ppd_entry.specs.declared.entry.Entry.{Entry}
 use Rattle.ppd_entry.specs.declared.entry.Entry.TheVariants.{Prelog, Unit, Sync, Postlog, End}
 use Rattle.ppd_ast.specs.declared.program.Program.{Program}
 use Rattle.ppd_codec.specs.Format.{an_entry, log}
-use Rattle.ppd_codec.specs.Recordings.{facts_of, version_of}
+use Rattle.ppd_codec.specs.Recordings.{facts_of}
 use Rattle.law_rules.specs.Bytes.{RecordingsAreSpelledSo, entry_bytes, log_bytes}
 
 same_each : {A : Type 0} (f g : A → List ℕ) → ((x : A) → f x ≡ g x) → (xs : List A) → flat_map f xs ≡ flat_map g xs
@@ -25,6 +25,6 @@ log_is p es = ap (λ b. to_be_bytes w32 (length es) ++ b) (same_each (an_entry (
 
 pub spelled_so : RecordingsAreSpelledSo
 spelled_so p s h logs =
-    ap (λ b. 80 ∷ 80 ∷ 68 ∷ 82 ∷ version_of p.chans ∷ to_be_bytes w32 h.budget ++ to_be_bytes w16 h.policy.leaf
+    ap (λ b. 80 ∷ 80 ∷ 68 ∷ 82 ∷ (facts_of p).version ∷ to_be_bytes w32 h.budget ++ to_be_bytes w16 h.policy.leaf
     ++ to_be_bytes w16 h.policy.loops ++ to_be_bytes w32 (length s) ++ s ++ length logs.lists ∷ b)
     (same_each (log (facts_of p)).bytes log_bytes (log_is p) logs.lists)

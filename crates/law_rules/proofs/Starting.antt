@@ -8,7 +8,7 @@ use Rattle.ppd_ast.specs.declared.status.SyncKind.TheVariants as sync_kind
 use Rattle.ppd_entry.specs.Pieces.{Piece, unit, sync, nested, unfinished, postlog, finish}
 use Rattle.ppd_emul_model.specs.declared.wanted.Wanted.TheVariants as wanted
 use Rattle.ppd_emul_model.specs.Fits.{found_of, fits}
-use Rattle.ppd_emul_model.specs.Replay.{Replaying, Turn, more, end_here, fail, next_piece, take_unit, take_unit_if, unit_taken}
+use Rattle.ppd_emul_model.specs.Replay.{Replaying, Turn, more, end_here, fail, next_piece, take_unit, unit_taken}
 use Rattle.law_rules.specs.Replays.{EndsHere, EndsLater, Starts, no_unit, other_is_next, unit_is_next}
 
 -- ---- the start of a unit
@@ -61,11 +61,11 @@ module _ (plan : Plan) (u : ℕ) (r : Replaying) where
   by_piece (finish s rest) is = fails (finish s rest) is (λ values e. cc) refl
 
   -- a unit that starts does so by a rule
-  pub unit_by_rule : Starts plan r (Some u) (take_unit plan u r)
+  pub unit_by_rule : Starts plan r (Some u) (take_unit plan (Some u) r)
   unfolding taken
   unit_by_rule = by_piece (next_piece r).1 refl
 
-pub start_by_rule : (plan : Plan) (o : Option ℕ) (r : Replaying) → Starts plan r o (take_unit_if plan o r)
+pub start_by_rule : (plan : Plan) (o : Option ℕ) (r : Replaying) → Starts plan r o (take_unit plan o r)
 start_by_rule plan None r = no_unit
 start_by_rule plan (Some u) r = unit_by_rule plan u r
 
@@ -83,7 +83,7 @@ unfit u (postlog values) other = refl
 unfit u (finish s rest) other = refl
 
 -- and what a rule says is what is taken
-pub start_is : (plan : Plan) (r : Replaying) (o : Option ℕ) (t : Turn) → Starts plan r o t → take_unit_if plan o r ≡ t
+pub start_is : (plan : Plan) (r : Replaying) (o : Option ℕ) (t : Turn) → Starts plan r o t → take_unit plan o r ≡ t
 start_is plan r o t no_unit = refl
 start_is plan r o t (unit_is_next u values is) =
     ap (λ p. if fits (wanted.Unit u) (found_of p) then more (unit_taken plan u p r) else fail r (wanted.Unit u)) is

@@ -21,8 +21,7 @@ use Rattle.ppd_emul_model.specs.declared.wanted.Wanted.{Wanted}
 use Rattle.ppd_emul_model.specs.declared.wanted.Wanted.TheVariants as wanted
 use Rattle.ppd_emul_model.specs.Ending.{IsEndedBy, now, later, IsOverBy}
 use Rattle.ppd_emul_model.specs.Fits.{found_of, wanted_of, same_trap, fits}
-use Rattle.ppd_emul_model.specs.Replay.{Replaying, Replayed, Turn, more, done, begun_replay, counted, end_here, fail, finished, goes_on as another_step, is_budget, next_piece, replay, step_with, step_without, stepped, take_unit, take_unit_if, turn_at_end, turn_by_end, turn_by_wanted, with_event, with_write}
-use Rattle.ppd_emul_model.proofs.Vocabulary.{turn_at_trap, turn_within}
+use Rattle.ppd_emul_model.specs.Replay.{Replaying, Replayed, Turn, more, done, begun_replay, counted, end_here, fail, finished, goes_on as another_step, is_budget, next_piece, replay, step_with, step_without, stepped, take_unit, turn_by_end, turn_by_wanted, with_event, with_write}
 use Rattle.ppd_emul_model.proofs.Ending.{replays_end}
 use Rattle.law_rules.specs.Replays.{ComesTo, EndsHere, EndsLater, Fits, IsNotAt, Needs, Replays, ReplaysFollowTheRules, Turns, TurnsFollowTheRules, ends, ends_too_early, enters, goes_on, is_over, leaves, needs_none, other_piece, reads, skips, stopped, synchronizes, too_dear, traps, traps_otherwise, waits}
 use Rattle.law_rules.proofs.Starting.{ends_here, ends_later, end_of, none_here, start_by_rule, start_is, unit_by_rule}
@@ -218,51 +217,32 @@ module _ (program : Program) (plan : Plan) (r : Replaying) where
     by_traps t t' here is false e =
         traps_otherwise t t' here is (λ same. let clash : true ≡ false = sym (self_trap t) ∙ ap (same_trap t) same ∙ e in cc)
 
-    by_trap : (t : TrapOf) → EndsHere r (status.Trap t) → need ≢ Budget → (o : Option TrapOf) → trap_of need ≡ o
-        → Rule (turn_at_trap program plan t o need r)
-    by_trap t here paid None e = ends_too_early (status.Trap t) here paid e
-    by_trap t here paid (Some t') e = by_traps t t' here (the_trap need t' e) (same_trap t t') refl
-
     -- at a wait
     by_wait : EndsHere r status.Blocked → need ≢ Budget → (o : Option (SyncKind × ℕ)) → kind_of_sync need ≡ o
         → Rule (if is_some o then finished r else another_step program plan need r)
     by_wait here paid None e = ends_too_early status.Blocked here paid e
     by_wait here paid (Some k) e = waits here (λ none. let clash : None ≡ Some k = sym none ∙ e in cc)
 
-    -- within the budget
-    within : need ≢ Budget → (how : Option Status) → end_here r.since (next_piece r).1 ≡ how → how ≢ Some status.Budget
-        → Rule (turn_within program plan how need r)
-    within paid None e other = by_need (ends_later r e) paid (wanted_of program plan r.proc need) refl
-    within paid (Some status.Ended) e other = ends_too_early status.Ended (ends_here r status.Ended e) paid tt
-    within paid (Some status.Budget) e other = absurd (other refl)
-    within paid (Some status.Blocked) e other = by_wait (ends_here r status.Blocked e) paid (kind_of_sync need) refl
-    within paid (Some (status.Trap t)) e other = by_trap t (ends_here r (status.Trap t) e) paid (trap_of need) refl
-
-    paid_or_not : (how : Option Status) → end_here r.since (next_piece r).1 ≡ how → how ≢ Some status.Budget → (b : Bool) → is_budget need ≡ b
-        → Rule (if b then fail r wanted.Fewer else turn_within program plan how need r)
-    paid_or_not how e other true is =
-        too_dear (λ here. other (sym e ∙ end_of r status.Budget here)) (is_the_budget need is)
-    paid_or_not how e other false is =
-        within (λ same. let clash : true ≡ false = sym (ap is_budget same) ∙ is in cc) how e other
-
-    by_end : (how : Option Status) → end_here r.since (next_piece r).1 ≡ how → Rule (turn_by_end program plan how need r)
-    by_end None e = paid_or_not None e (λ same. cc) (is_budget need) refl
-    by_end (Some status.Budget) e = stopped (ends_here r status.Budget e)
-    by_end (Some status.Ended) e = paid_or_not (Some status.Ended) e (λ same. no_ended same) (is_budget need) refl
-      where
-        no_ended : Some status.Ended ≡ Some status.Budget → ⊥
-        no_ended same = cc
-    by_end (Some status.Blocked) e = paid_or_not (Some status.Blocked) e (λ same. no_blocked same) (is_budget need) refl
-      where
-        no_blocked : Some status.Blocked ≡ Some status.Budget → ⊥
-        no_blocked same = cc
-    by_end (Some (status.Trap t)) e = paid_or_not (Some (status.Trap t)) e (λ same. no_trap same) (is_budget need) refl
-      where
-        no_trap : Some (status.Trap t) ≡ Some status.Budget → ⊥
-        no_trap same = cc
+    -- by how the process ended, if it ended here
+    by_end : (how : Option Status) (n : Need) → need ≡ n → end_here r.since (next_piece r).1 ≡ how → Rule (turn_by_end program plan how n r)
+    by_end (Some status.Budget) n is e = stopped (ends_here r status.Budget e)
+    by_end how Budget is e = too_dear (λ here. let clash : how ≡ Some status.Budget = sym e ∙ end_of r status.Budget here in cc) is
+    by_end None n is e =
+        subst (λ m. Rule (turn_by_wanted program plan m (wanted_of program plan r.proc m) r)) is
+        (by_need (ends_later r e) (λ same. let clash : n ≡ Budget = sym is ∙ same in cc) (wanted_of program plan r.proc need) refl)
+    by_end (Some status.Blocked) n is e =
+        subst (λ m. Rule (if is_some (kind_of_sync m) then finished r else another_step program plan m r)) is
+        (by_wait (ends_here r status.Blocked e) (λ same. let clash : n ≡ Budget = sym is ∙ same in cc) (kind_of_sync need) refl)
+    by_end (Some (status.Trap t)) (Trap t') is e = by_traps t t' (ends_here r (status.Trap t) e) is (same_trap t t') refl
+    by_end (Some status.Ended) n is e =
+        subst (λ m. Rule (another_step program plan m r)) is
+        (ends_too_early status.Ended (ends_here r status.Ended e) (λ same. let clash : n ≡ Budget = sym is ∙ same in cc) tt)
+    by_end (Some (status.Trap t)) n is e =
+        subst (λ m. Rule (another_step program plan m r)) is
+        (ends_too_early (status.Trap t) (ends_here r (status.Trap t) e) (λ same. let clash : n ≡ Budget = sym is ∙ same in cc) (ap trap_of is))
 
     by_rule : Rule (turn_by_end program plan (end_here r.since (next_piece r).1) need r)
-    by_rule = by_end (end_here r.since (next_piece r).1) refl
+    by_rule = by_end (end_here r.since (next_piece r).1) need refl refl
 
     -- ---- and what a rule says is what a turn is
 
@@ -273,7 +253,11 @@ module _ (program : Program) (plan : Plan) (r : Replaying) where
     at_later : EndsLater r → need ≢ Budget → turned ≡ turn_by_wanted program plan need (wanted_of program plan r.proc need) r
     at_later after paid =
         ap (λ how. turn_by_end program plan how need r) (none_here r after)
-        ∙ ap (λ b. if b then fail r wanted.Fewer else turn_within program plan None need r) (no_budget need paid)
+        ∙ going need paid
+      where
+        going : (n : Need) → n ≢ Budget → turn_by_end program plan None n r ≡ turn_by_wanted program plan n (wanted_of program plan r.proc n) r
+        going Budget paid = absurd (paid refl)
+        going n paid = refl
 
     -- where its piece is there
     at_piece : (w : Wanted) (piece : Piece) → EndsLater r → Needs program plan r need (Some w) → Fits program plan r w → (next_piece r).1 ≡ piece
@@ -287,7 +271,7 @@ module _ (program : Program) (plan : Plan) (r : Replaying) where
     -- where it is other_one read and not over
     at_none : (n : Need) → ((c : ℕ) → n ≢ Read c) → n ≢ Stopped
         → step_without program plan n r
-        ≡ take_unit_if plan (unit_started n) (stepped program plan Go (with_write n (with_event program plan Go None r)))
+        ≡ take_unit plan (unit_started n) (stepped program plan Go (with_write n (with_event program plan Go None r)))
     at_none (Read c) read over = absurd (read c refl)
     at_none Stopped read over = absurd (over refl)
     at_none (Write c v) read over = refl
@@ -306,26 +290,27 @@ module _ (program : Program) (plan : Plan) (r : Replaying) where
     at_none (Trap t) read over = refl
     at_none Budget read over = refl
 
-    -- at an end that is other_one stop for the budget
-    at_end : (s : Status) → s ≢ status.Budget → EndsHere r s → need ≢ Budget → turned ≡ turn_at_end program plan s need r
-    at_end s other here paid =
-        ap (λ how. turn_by_end program plan how need r) (end_of r s here) ∙ by s other
-      where
-        by : (s : Status) → s ≢ status.Budget → turn_by_end program plan (Some s) need r ≡ turn_at_end program plan s need r
-        by status.Ended x = ap (λ b. if b then fail r wanted.Fewer else turn_at_end program plan status.Ended need r) (no_budget need paid)
-        by status.Budget x = absurd (x refl)
-        by status.Blocked x = ap (λ b. if b then fail r wanted.Fewer else turn_at_end program plan status.Blocked need r) (no_budget need paid)
-        by (status.Trap t) x = ap (λ b. if b then fail r wanted.Fewer else turn_at_end program plan (status.Trap t) need r) (no_budget need paid)
+    -- at its end
+    at_end : (s : Status) → EndsHere r s → turned ≡ turn_by_end program plan (Some s) need r
+    at_end s here = ap (λ how. turn_by_end program plan how need r) (end_of r s here)
 
-    too_dear_by : (how : Option Status) → how ≢ Some status.Budget → need ≡ Budget → turn_by_end program plan how need r ≡ fail r wanted.Fewer
-    too_dear_by None other is = ap (λ b. if b then fail r wanted.Fewer else turn_within program plan None need r) (ap is_budget is)
-    too_dear_by (Some status.Budget) other is = absurd (other refl)
-    too_dear_by (Some status.Ended) other is = ap (λ b. if b then fail r wanted.Fewer else turn_within program plan (Some status.Ended) need r) (ap is_budget is)
-    too_dear_by (Some status.Blocked) other is = ap (λ b. if b then fail r wanted.Fewer else turn_within program plan (Some status.Blocked) need r) (ap is_budget is)
-    too_dear_by (Some (status.Trap t)) other is = ap (λ b. if b then fail r wanted.Fewer else turn_within program plan (Some (status.Trap t)) need r) (ap is_budget is)
+    too_dear_by : (how : Option Status) → how ≢ Some status.Budget → turn_by_end program plan how Budget r ≡ fail r wanted.Fewer
+    too_dear_by (Some status.Budget) other = absurd (other refl)
+    too_dear_by how other = refl
 
-    trap_is_paid : (t : TrapOf) → need ≡ Trap t → need ≢ Budget
-    trap_is_paid t is same = let clash : Trap t ≡ Budget = sym is ∙ same in cc
+    blocked : (n : Need) → n ≢ Budget
+        → turn_by_end program plan (Some status.Blocked) n r ≡ (if is_some (kind_of_sync n) then finished r else another_step program plan n r)
+    blocked Budget paid = absurd (paid refl)
+    blocked n paid = refl
+
+    -- where the next step is not at that end
+    past_end : (s : Status) (n : Need) → IsNotAt s n → n ≢ Budget → turn_by_end program plan (Some s) n r ≡ another_step program plan n r
+    past_end status.Budget n other_one paid = absurd other_one
+    past_end s Budget other_one paid = absurd (paid refl)
+    past_end status.Blocked n other_one paid =
+        blocked n paid ∙ ap (λ o. if is_some o then finished r else another_step program plan n r) other_one
+    past_end (status.Trap t) (Trap t') other_one paid = cc
+    past_end s n other_one paid = refl
 
     some_if : (o : Option (SyncKind × ℕ)) → o ≢ None → is_some o ≡ true
     some_if None other = absurd (other refl)
@@ -335,13 +320,7 @@ module _ (program : Program) (plan : Plan) (r : Replaying) where
     wait_is_paid some same = some (ap kind_of_sync same)
 
     not_at : (s : Status) → IsNotAt s need → EndsHere r s → need ≢ Budget → turned ≡ another_step program plan need r
-    not_at status.Ended other_one here paid = at_end status.Ended (λ e. cc) here paid
-    not_at status.Budget other_one here paid = absurd other_one
-    not_at status.Blocked other_one here paid =
-        at_end status.Blocked (λ e. cc) here paid
-        ∙ ap (λ o. if is_some o then finished r else another_step program plan need r) other_one
-    not_at (status.Trap t) other_one here paid =
-        at_end (status.Trap t) (λ e. cc) here paid ∙ ap (λ o. turn_at_trap program plan t o need r) other_one
+    not_at s other_one here paid = at_end s here ∙ past_end s need other_one paid
 
     unfit_is : (w : Wanted) → (Fits program plan r w → ⊥) → fits w (found_of (next_piece r).1) ≡ false
     unfit_is w other_one = by (fits w (found_of (next_piece r).1)) refl
@@ -353,17 +332,18 @@ module _ (program : Program) (plan : Plan) (r : Replaying) where
     turn_is : (t : Turn) → Rule t → turned ≡ t
     turn_is t (stopped here) = ap (λ how. turn_by_end program plan how need r) (end_of r status.Budget here)
     turn_is t (too_dear other is) =
-        too_dear_by (end_here r.since (next_piece r).1) (λ same. other (ends_here r status.Budget same)) is
+        ap (λ n. turn_by_end program plan (end_here r.since (next_piece r).1) n r) is
+        ∙ too_dear_by (end_here r.since (next_piece r).1) (λ same. other (ends_here r status.Budget same))
     turn_is t (waits here some) =
-        at_end status.Blocked (λ e. cc) here (wait_is_paid some)
+        at_end status.Blocked here ∙ blocked need (wait_is_paid some)
         ∙ ap (λ b. if b then finished r else another_step program plan need r) (some_if (kind_of_sync need) some)
     turn_is t (traps x here is) =
-        at_end (status.Trap x) (λ e. cc) here (trap_is_paid x is)
-        ∙ ap (λ o. turn_at_trap program plan x o need r) (ap trap_of is)
+        at_end (status.Trap x) here
+        ∙ ap (λ n. turn_by_end program plan (Some (status.Trap x)) n r) is
         ∙ ap (λ b. if b then finished (counted (with_event program plan Go None r)) else fail r (wanted.End (status.Trap x))) (self_trap x)
     turn_is t (traps_otherwise x y here is other) =
-        at_end (status.Trap x) (λ e. cc) here (trap_is_paid y is)
-        ∙ ap (λ o. turn_at_trap program plan x o need r) (ap trap_of is)
+        at_end (status.Trap x) here
+        ∙ ap (λ n. turn_by_end program plan (Some (status.Trap x)) n r) is
         ∙ ap (λ b. if b then finished (counted (with_event program plan Go None r)) else fail r (wanted.End (status.Trap y))) (other_traps x y other)
     turn_is t (ends_too_early s here paid other_one) = not_at s other_one here paid
     turn_is t (reads c after is) =
@@ -435,9 +415,9 @@ replays_follow program plan l budget x = (
       (replays_end program plan l budget))
       is.comes,
   λ e. record {
-    begun = take_unit plan (block_unit plan (block_kind plan l.block)) (begun_replay program plan l budget);
+    begun = take_unit plan (Some (block_unit plan (block_kind plan l.block))) (begun_replay program plan l budget);
     first = unit_by_rule plan (block_unit plan (block_kind plan l.block)) (begun_replay program plan l budget);
-    comes = subst (ComesTo program plan (take_unit plan (block_unit plan (block_kind plan l.block)) (begun_replay program plan l budget))) e
+    comes = subst (ComesTo program plan (take_unit plan (Some (block_unit plan (block_kind plan l.block))) (begun_replay program plan l budget))) e
         (comes program plan _ _ (replays_end program plan l budget));
   },
 )

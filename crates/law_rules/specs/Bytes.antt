@@ -7,7 +7,7 @@ use Rattle.ppd_entry.specs.declared.entry.Entry.{Entry}
 use Rattle.ppd_entry.specs.declared.entry.Entry.TheVariants.{Prelog, Unit, Sync, Postlog, End}
 use Rattle.ppd_entry.specs.declared.entry.Logs.{Logs}
 use Rattle.ppd_codec.specs.declared.recording.Header.{Header}
-use Rattle.ppd_codec.specs.Recordings.{spelled, version_of}
+use Rattle.ppd_codec.specs.Recordings.{spelled, facts_of}
 use Rattle.ppd_codec_fields.specs.Fields.{kind_code, status_code}
 
 -- how many there are, and each
@@ -50,4 +50,4 @@ recording_bytes version h source lists =
 -- the form of a recording gives these bytes
 abbrev pub RecordingsAreSpelledSo : Type 0
 RecordingsAreSpelledSo = (program : Program) (source : List ℕ) (h : Header) (logs : Logs)
-    → spelled program source h logs ≡ recording_bytes (version_of program.chans) h source logs.lists
+    → spelled program source h logs ≡ recording_bytes (facts_of program).version h source logs.lists

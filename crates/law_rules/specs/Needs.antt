@@ -14,7 +14,7 @@ use Rattle.ppd_sem.specs.declared.proc.Need.TheVariants.{Read, Write, Plain, Ent
 use Rattle.ppd_sem.specs.declared.proc.Proc.{Proc}
 use Rattle.ppd_sem.specs.declared.proc.Todo.{Todo}
 use Rattle.ppd_sem.specs.Deed.{Deed, set_local, set_shared, clear, branch, turn, leave, invoke, back, take, give, send, receive, print, pass, finish}
-use Rattle.ppd_sem.specs.Process.{call_unit, cost, entry_of, head_deed, need_of, offer_of, top_body, top_call}
+use Rattle.ppd_sem.specs.Process.{call_unit, cost, entry_of, head_deed, need_of, offer_of, top_frame}
 use Rattle.ppd_sem.specs.Tables.{block_of, capacity_of, unit_of}
 
 -- what is done in the frame alone
@@ -72,7 +72,7 @@ pub data HeadNeeds (program : Program) (plan : Plan) (s : Proc) (t : Todo) : Nee
   -- the function of the top frame returns
   returns : (value : Option ℤ) → Does program plan s t (back value)
       → HeadNeeds program plan s t
-      (Back (block_of plan (block.Function (top_body s.frames))) (call_unit plan (top_call s.frames)))
+      (Back (block_of plan (block.Function (top_frame s.frames).body)) (call_unit plan (top_frame s.frames).call))
   -- a semaphore is taken, or given
   takes : (sem : ℕ) → Does program plan s t (take sem)
       → HeadNeeds program plan s t (P sem (unit_of plan (start.After t.stmt)))
@@ -88,7 +88,7 @@ pub data HeadNeeds (program : Program) (plan : Plan) (s : Proc) (t : Todo) : Nee
       → HeadNeeds program plan s t (Recv chan (unit_of plan (start.After t.stmt)))
   -- the process comes to its closing brace
   ends_process : Does program plan s t finish
-      → HeadNeeds program plan s t (End (unwrap_or (block_of plan (block.Process (top_body s.frames))) 0))
+      → HeadNeeds program plan s t (End (unwrap_or (block_of plan (block.Process (top_frame s.frames).body)) 0))
   -- any other statement needs nothing but the process itself
   goes_on : (deed : Deed) → Does program plan s t deed → IsOwn deed → HeadNeeds program plan s t Plain
 

@@ -1,4 +1,5 @@
 -- The replay of an interval, one constructor for each rule.
+use Rattle.std.specs.Option.{option_map_or}
 use Rattle.std.specs.Prelude.{◌≡◌, ◌≢◌, ◌↔◌, ℕ, ℤ, true, false, List, [], zip, slice_get, Option, Some, None, unwrap_or, ⊤}
 use Rattle.ppd_ast.specs.declared.plan.Plan.{Plan}
 use Rattle.ppd_ast.specs.declared.program.Program.{Program}
@@ -15,7 +16,7 @@ use Rattle.ppd_sem.specs.Blocks.{block_kind, block_unit, skipped, unit_past}
 use Rattle.ppd_sem.specs.Described.{trap_of}
 use Rattle.ppd_sem.specs.Process.{need_of}
 use Rattle.ppd_model.specs.declared.flow.Item.TheVariants as item
-use Rattle.ppd_model.specs.Story.{cells_of_unit, unit_started}
+use Rattle.ppd_model.specs.Story.{unit_started}
 use Rattle.ppd_model.specs.Synchronizations.{kind_of_sync}
 use Rattle.ppd_emul_model.specs.declared.wanted.Wanted.{Wanted}
 use Rattle.ppd_emul_model.specs.declared.wanted.Wanted.TheVariants as wanted
@@ -28,7 +29,9 @@ use Rattle.ppd_emul_model.specs.Replay.{Replaying, Replayed, Turn, more, done, b
 pub data Starts (plan : Plan) (r : Replaying) : Option ℕ → Turn → Type 0 where
   no_unit : Starts plan r None (more r)
   unit_is_next : (u : ℕ) (values : List ℤ) → (next_piece r).1 ≡ unit u values → Starts plan r (Some u)
-      (more (record (past_piece r) { in_force = zip (cells_of_unit (slice_get plan.units u)) values }))
+      (more (record (past_piece r) {
+        in_force = zip (option_map_or (λ u. u.cells) (slice_get plan.units u) []) values;
+      }))
   other_is_next : (u : ℕ) → ((values : List ℤ) → (next_piece r).1 ≢ unit u values)
       → Starts plan r (Some u) (fail r (wanted.Unit u))
 

@@ -1,25 +1,24 @@
 -- What a process has to do lies along the flow graph, and where each step leads it there.
-use Rattle.std.specs.Prelude.{◌≡◌, IsTrue, ℕ, Bool, true, false, List, [], ◌∷◌, map, Option, Some, None, IsSome, ⊤}
+use Rattle.ppd_ast.specs.Lookups.{body_numbered, kind_of}
+use Rattle.ppd_ast.specs.Members.{has}
+use Rattle.ppd_ast.specs.Numbered.{is_left, is_while}
 use Rattle.ppd_ast.specs.declared.plan.BlockKind.TheVariants.{Loop}
 use Rattle.ppd_ast.specs.declared.plan.Plan.{Plan}
-use Rattle.ppd_ast.specs.declared.plan.Start.TheVariants.{Entry, After, Enter as EntersAt, Exit}
 use Rattle.ppd_ast.specs.declared.plan.Start.{Start}
+use Rattle.ppd_ast.specs.declared.plan.Start.TheVariants.{After, Enter as EntersAt, Entry, Exit}
 use Rattle.ppd_ast.specs.declared.program.Kind.TheVariants as ends
 use Rattle.ppd_ast.specs.declared.program.Program.{Program}
-use Rattle.ppd_ast.specs.Numbered.{is_left, is_while}
-use Rattle.ppd_ast.specs.Members.{has}
-use Rattle.ppd_ast.specs.Lookups.{kind_of, top_of}
+use Rattle.ppd_blocks.specs.Walk.{stands_in}
 use Rattle.ppd_cfg.specs.Flow.{follow, next_of}
-use Rattle.ppd_cfg.specs.Lists.{first_or}
-use Rattle.ppd_sem.specs.declared.proc.Frame.{Frame}
-use Rattle.ppd_sem.specs.declared.proc.Need.{Need}
-use Rattle.ppd_sem.specs.declared.proc.Need.TheVariants.{Read, Write, Plain, Enter, Leave, Invoke, Back, P, V, Send, Offer, Done, Recv, End, Trap, Budget, Stopped}
-use Rattle.ppd_sem.specs.declared.proc.Proc.{Proc}
-use Rattle.ppd_sem.specs.declared.proc.Todo.{Todo}
+use Rattle.ppd_sem.specs.Passed.{next_stmt_of}
 use Rattle.ppd_sem.specs.Runs.{returns}
 use Rattle.ppd_sem.specs.Tables.{block_of, unit_of}
-use Rattle.ppd_sem.specs.Passed.{next_stmt_of}
-use Rattle.ppd_blocks.specs.Walk.{stands_in}
+use Rattle.ppd_sem.specs.declared.proc.Frame.{Frame}
+use Rattle.ppd_sem.specs.declared.proc.Need.{Need}
+use Rattle.ppd_sem.specs.declared.proc.Need.TheVariants.{Back, Budget, Done, End, Enter, Invoke, Leave, Offer, P, Plain, Read, Recv, Send, Stopped, Trap, V, Write}
+use Rattle.ppd_sem.specs.declared.proc.Proc.{Proc}
+use Rattle.ppd_sem.specs.declared.proc.Todo.{Todo}
+use Rattle.std.specs.Prelude.{Bool, IsSome, IsTrue, List, None, Option, Some, [], false, map, slice_get, true, ℕ, ⊤, ◌∷◌, ◌≡◌}
 
 -- ---- a way along the flow graph
 
@@ -76,7 +75,7 @@ IsOnCourse program plan s = IsWay program plan (calls_of s.frames) s.todo
 
 -- the process goes on at the first of this list, which is not entered yet
 pub record BeginsList (list : List ℕ) (todo : List Todo) : Type 0 where
-  pub first : next_stmt_of todo ≡ first_or list None
+  pub first : next_stmt_of todo ≡ slice_get list 0
   pub unmarked : (t : Todo) (ts : List Todo) → todo ≡ t ∷ ts → t.entered ≡ false
 
 -- the step goes from statement s to its successor t, with no start of a unit after s; t, where it is a block
@@ -120,7 +119,7 @@ pub record StartsBehind (program : Program) (plan : Plan) (s : ℕ) (start : Sta
 -- the process goes on at the first statement of the function that it calls, where unit u starts
 pub record StartsFunction (program : Program) (plan : Plan) (u : ℕ) (todo : List Todo) : Type 0 where
   pub function : ℕ
-  pub goes : BeginsList (top_of program function) todo
+  pub goes : BeginsList (body_numbered program function).top todo
   pub unit_is : u ≡ unit_of plan (Entry function)
 
 -- the process goes on behind the call of the frame that returned, where a unit starts, if there is a call

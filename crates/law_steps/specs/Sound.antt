@@ -1,24 +1,25 @@
 -- In every run, each value that is read and each control comes over a static edge.
-use Rattle.std.specs.Prelude.{◌≡◌, ◌<◌, ◌≤◌, IsTrue, ℕ, Bool, true, false, List, [], length, get_or, slice_get, Option, Some, None, if◌then◌else◌}
-use Rattle.std.specs.List.{All, Contains}
-use Rattle.ppd_ast.specs.declared.limits.TheConstants.{MOST_SHARED_CELLS, MOST_LOCAL_CELLS}
+use Rattle.ppd_ast.specs.Cells.{holds}
+use Rattle.ppd_ast.specs.Lookups.{body_numbered, body_of, kind_of}
+use Rattle.ppd_ast.specs.Valid.{IsValid}
+use Rattle.ppd_ast.specs.declared.limits.TheConstants.{MOST_LOCAL_CELLS, MOST_SHARED_CELLS}
 use Rattle.ppd_ast.specs.declared.plan.Plan.{Plan}
 use Rattle.ppd_ast.specs.declared.program.Program.{Program}
 use Rattle.ppd_ast.specs.declared.program.Var.{Var}
-use Rattle.ppd_ast.specs.Cells.{holds, size}
-use Rattle.ppd_ast.specs.Valid.{IsValid}
-use Rattle.ppd_ast.specs.Lookups.{kind_of, body_of, locals_of}
-use Rattle.ppd_deps.specs.declared.edges.StaticEdge.{StaticEdge}
-use Rattle.ppd_deps.specs.declared.edges.StaticEdge.TheVariants.{Data, ControlEntry, Control}
 use Rattle.ppd_deps.specs.Edges.{edges_of}
-use Rattle.ppd_sem.specs.declared.event.Access.{Access}
-use Rattle.ppd_sem.specs.declared.event.Spot.{Spot}
-use Rattle.ppd_sem.specs.declared.event.Spot.TheVariants.{Local, Shared}
+use Rattle.ppd_deps.specs.declared.edges.StaticEdge.{StaticEdge}
+use Rattle.ppd_deps.specs.declared.edges.StaticEdge.TheVariants.{Control, ControlEntry, Data}
+use Rattle.ppd_model.specs.FullTrace.{full_trace}
+use Rattle.ppd_model.specs.Parents.{is_choice}
+use Rattle.ppd_model.specs.Story.{story}
 use Rattle.ppd_model.specs.declared.trace.EventId.{EventId}
 use Rattle.ppd_model.specs.declared.trace.Trace.{Trace}
 use Rattle.ppd_model.specs.declared.trace.TracedEvent.{TracedEvent}
-use Rattle.ppd_model.specs.FullTrace.{full_trace}
-use Rattle.ppd_model.specs.Parents.{is_choice}
+use Rattle.ppd_sem.specs.declared.event.Access.{Access}
+use Rattle.ppd_sem.specs.declared.event.Spot.{Spot}
+use Rattle.ppd_sem.specs.declared.event.Spot.TheVariants.{Local, Shared}
+use Rattle.std.specs.List.{All, Contains}
+use Rattle.std.specs.Prelude.{Bool, IsTrue, List, None, Option, Some, [], false, get_or, if◌then◌else◌, length, slice_get, true, unwrap_or, ℕ, ◌<◌, ◌≡◌, ◌≤◌}
 
 -- ---- events
 
@@ -55,8 +56,8 @@ ComesOverControl program trace (Some id) t = ControlsOverEdge program trace id t
 abbrev pub ControlComesOverEdges : Type 0
 ControlComesOverEdges =
     (program : Program) (plan : Plan) (budget : ℕ) (h : List ℕ) (p n : ℕ) (e : TracedEvent) → IsValid program
-    → event_at (full_trace program plan budget h) p n ≡ Some e
-    → ComesOverControl program (full_trace program plan budget h) e.parent e.event.stmt
+    → event_at (full_trace program plan budget (story program plan budget h)) p n ≡ Some e
+    → ComesOverControl program (full_trace program plan budget (story program plan budget h)) e.parent e.event.stmt
 
 -- ---- data
 
@@ -79,7 +80,7 @@ pub record WritesOverEdge (program : Program) (trace : Trace) (id : EventId) (t 
 -- what statement t reads at a place: a local cell is of a variable of its body, a shared one of a shared variable
 abbrev pub ComesOverData : Program → Trace → EventId → (t : ℕ) → Spot → Type 0
 ComesOverData program trace id t (Local frame c) =
-    WritesOverEdge program trace id t false (locals_of program (body_of program t)) c
+    WritesOverEdge program trace id t false (body_numbered program (body_of program t)).locals c
 ComesOverData program trace id t (Shared c) = WritesOverEdge program trace id t true program.shared c
 
 -- read number i of the event has a writer
@@ -94,36 +95,42 @@ abbrev pub LocalReadsComeOverEdges : Type 0
 LocalReadsComeOverEdges =
     (program : Program) (plan : Plan) (budget : ℕ) (h : List ℕ) (p n : ℕ) (e : TracedEvent)
     (i : ℕ) (a : Access) (id : EventId) (frame c : ℕ)
-    → IsValid program → event_at (full_trace program plan budget h) p n ≡ Some e → HasWriter e i a id
+    → IsValid program → event_at (full_trace program plan budget (story program plan budget h)) p n ≡ Some e
+    → HasWriter e i a id
     → a.spot ≡ Local frame c
-    → ComesOverData program (full_trace program plan budget h) id e.event.stmt (Local frame c)
+    → ComesOverData program (full_trace program plan budget (story program plan budget h)) id e.event.stmt
+    (Local frame c)
 
 -- so does the value of a shared cell
 abbrev pub SharedReadsComeOverEdges : Type 0
 SharedReadsComeOverEdges =
     (program : Program) (plan : Plan) (budget : ℕ) (h : List ℕ) (p n : ℕ) (e : TracedEvent)
     (i : ℕ) (a : Access) (id : EventId) (c : ℕ)
-    → IsValid program → event_at (full_trace program plan budget h) p n ≡ Some e → HasWriter e i a id
-    → a.spot ≡ Shared c → ComesOverData program (full_trace program plan budget h) id e.event.stmt (Shared c)
+    → IsValid program → event_at (full_trace program plan budget (story program plan budget h)) p n ≡ Some e
+    → HasWriter e i a id
+    → a.spot ≡ Shared c
+    → ComesOverData program (full_trace program plan budget (story program plan budget h)) id e.event.stmt (Shared c)
 
 -- so does every value that is read
 abbrev pub ReadsComeOverEdges : Type 0
 ReadsComeOverEdges =
     (program : Program) (plan : Plan) (budget : ℕ) (h : List ℕ) (p n : ℕ) (e : TracedEvent)
     (i : ℕ) (a : Access) (id : EventId)
-    → IsValid program → event_at (full_trace program plan budget h) p n ≡ Some e → HasWriter e i a id
-    → ComesOverData program (full_trace program plan budget h) id e.event.stmt a.spot
+    → IsValid program → event_at (full_trace program plan budget (story program plan budget h)) p n ≡ Some e
+    → HasWriter e i a id
+    → ComesOverData program (full_trace program plan budget (story program plan budget h)) id e.event.stmt a.spot
 
 -- ---- numbers of variables
 
 -- each of these variables has a cell: none is an empty array
 abbrev pub HaveCells : List Var → Type 0
-HaveCells vars = All (λ x. 0 < size x.len) vars
+HaveCells vars = All (λ x. 0 < unwrap_or x.len 1) vars
 
 -- where they do, the variables are no more than the cells may be, so that each has a number of 16 bits
 pub record HasFewVariables (program : Program) : Type 0 where
   pub shared : HaveCells program.shared → length program.shared ≤ MOST_SHARED_CELLS
-  pub local : (b : ℕ) → HaveCells (locals_of program b) → length (locals_of program b) ≤ MOST_LOCAL_CELLS
+  pub local : (b : ℕ) → HaveCells (body_numbered program b).locals
+      → length (body_numbered program b).locals ≤ MOST_LOCAL_CELLS
 
 abbrev pub VariablesAreFew : Type 0
 VariablesAreFew = (program : Program) → IsValid program → HasFewVariables program

@@ -4,12 +4,12 @@ use Rattle.ppd_ast.specs.declared.plan.Plan.{Plan}
 use Rattle.ppd_ast.specs.declared.program.Program.{Program}
 use Rattle.ppd_ast.specs.Valid.{IsEnding, IsValid}
 use Rattle.ppd_ast.specs.Members.{has}
-use Rattle.ppd_ast.specs.Lookups.{kind_of, top_of}
+use Rattle.ppd_ast.specs.Lookups.{kind_of, body_numbered}
 use Rattle.ppd_cfg.specs.Flow.{follow}
 use Rattle.ppd_sem.specs.declared.proc.Answer.{Answer}
 use Rattle.ppd_sem.specs.declared.proc.Need.TheVariants.{Read, Stopped}
 use Rattle.ppd_sem.specs.declared.proc.Proc.{Proc}
-use Rattle.ppd_sem.specs.Process.{act, need_of, started, top_call}
+use Rattle.ppd_sem.specs.Process.{act, need_of, started, top_frame}
 use Rattle.ppd_sem.specs.Passed.{next_stmt_of}
 use Rattle.ppd_blocks.specs.Used.{reads_at}
 use Rattle.law_steps.specs.Course.{BeginsList, GoesUntilEnd, IsOnCourse, LeadsTo}
@@ -17,7 +17,7 @@ use Rattle.law_steps.specs.Course.{BeginsList, GoesUntilEnd, IsOnCourse, LeadsTo
 -- a process of a valid program begins on course, at the first statement of its body
 pub record BeginsOnCourse (program : Program) (plan : Plan) (p budget : ℕ) : Type 0 where
   pub course : IsOnCourse program plan (started program plan p budget)
-  pub first : BeginsList (top_of program (program.functions + p)) (started program plan p budget).todo
+  pub first : BeginsList (body_numbered program (program.functions + p)).top (started program plan p budget).todo
 
 abbrev pub StartsOnCourse : Type 0
 StartsOnCourse =
@@ -34,7 +34,7 @@ abbrev pub StepsLead : Type 0
 StepsLead =
     (program : Program) (plan : Plan) (s : Proc) (a : Answer) (h : ℕ) → IsValid program → IsOnCourse program plan s
     → next_stmt_of s.todo ≡ Some h
-    → LeadsTo program plan (need_of program plan s) h (top_call s.frames) s (act program plan s a)
+    → LeadsTo program plan (need_of program plan s) h (top_frame s.frames).call s (act program plan s a)
 
 -- a shared cell that a step reads is one that its statement may read
 abbrev pub ReadsItsCells : Type 0

@@ -1,5 +1,5 @@
 -- The unit in force, and that each shared read lies in its cells.
-use Rattle.std.specs.Prelude.{◌≡◌, ℕ, ◌+◌, IsTrue, List, ◌∷◌, ◌++◌, fold, Option, Some, None, unwrap_or, slice_get}
+use Rattle.std.specs.Prelude.{◌≡◌, ℕ, ◌+◌, IsTrue, List, ◌∷◌, ◌++◌, fold, Option, Some, None, unwrap_or, slice_get, get_or, []}
 use Rattle.ppd_ast.specs.declared.plan.Plan.{Plan}
 use Rattle.ppd_ast.specs.declared.plan.Policy.{Policy}
 use Rattle.ppd_ast.specs.declared.plan.Start.TheVariants as start
@@ -14,7 +14,7 @@ use Rattle.ppd_sem.specs.declared.proc.Need.TheVariants.{Read}
 use Rattle.ppd_sem.specs.Tables.{unit_of}
 use Rattle.ppd_model.specs.declared.tracing.Taken.{Taken}
 use Rattle.ppd_model.specs.Logs.{log_of}
-use Rattle.ppd_model.specs.Story.{Moment, own_steps, steps_of, story, unit_started}
+use Rattle.ppd_model.specs.Story.{Moment, steps_of, story, unit_started}
 
 -- the unit in force after a step: the one that the step starts, or else the one before
 abbrev pub unit_after : ℕ → Taken → ℕ
@@ -54,6 +54,6 @@ abbrev pub ReadsLieInCells : Type 0
 ReadsLieInCells =
     (program : Program) (policy : Policy) (budget : ℕ) (h : List ℕ) (p : ℕ) (before : List Taken) (taken : Taken)
     (after : List Taken) (c : ℕ)
-    → IsValid program → own_steps (story program (plan_of program policy) budget h) p ≡ before ++ taken ∷ after
+    → IsValid program → get_or (story program (plan_of program policy) budget h).steps p [] ≡ before ++ taken ∷ after
     → taken.need ≡ Read c
     → IsCellOf (plan_of program policy) (unit_in_force program (plan_of program policy) p before) c

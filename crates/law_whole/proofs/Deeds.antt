@@ -1,7 +1,8 @@
 -- What an event leaves of the tags of local cells and of the calls is what its statement's deed leaves.
 use Rattle.std.proofs.Common.{◌≡◌, ℕ, zero, suc, ◌+◌, ℤ, pos, Bool, true, false, List, [], ◌∷◌, ◌++◌, Option, Some, None, Ok, Err, refl, ap, ap₂, sym, ◌∙◌, length, map, true≢false}
-use Rattle.std.specs.Prelude.{⊤, drop, fold}
+use Rattle.std.specs.Prelude.{⊤, drop, fold, slice_set, replicate}
 use Rattle.std.proofs.lemmas.List.Sums.{fold-append}
+use Rattle.std.specs.List.{range_with_len}
 use Rattle.ppd_ast.specs.Term.{term}
 use Rattle.ppd_ast.specs.declared.program.Expr.{Expr}
 use Rattle.ppd_ast.specs.declared.program.Kind.{Kind}
@@ -16,13 +17,15 @@ use Rattle.ppd_sem.specs.declared.proc.Todo.{Todo}
 use Rattle.ppd_sem.specs.Ask.{ask}
 use Rattle.ppd_sem.specs.Asked.{Asked, and_then, gives}
 use Rattle.ppd_sem.specs.Deed.{Deed, set_local, set_shared, clear, branch, turn, leave, invoke, back, take, give, send, receive, print, pass, finish, ask_deed}
-use Rattle.ppd_sem.specs.Described.{cleared, local_write, parameters, value_at, valued, writes_of_deed}
+use Rattle.ppd_sem.specs.Described.{value_at, valued, writes_of_deed}
 use Rattle.ppd_sem.proofs.EventWords.{value_if, writes_of_asked}
-use Rattle.ppd_sem.specs.Process.{act_by_deed, clear_top, new_frame, receive_at, returned, returned_from, top_call, write_top}
+use Rattle.ppd_sem.specs.Process.{act_by_deed, new_frame, receive_at, returned, on_top, top_frame, into_at, with_values}
 use Rattle.ppd_sem.proofs.OfKind.{IsDeedOf, OfAsked, asked_holds, backs, backs_value, clears, deed_of, finishes, goes_first, goes_round, goes_second, invokes, leaves, passes, prints, receives, releases, sends, sets, sets_element, shares, shares_element, takes}
 use Rattle.ppd_model.specs.declared.tracing.Activation.{Activation}
-use Rattle.ppd_model.specs.FullTrace.{Tag, all_tagged, called, into_at, tagged, tagged_by, tagged_into}
+use Rattle.ppd_model.specs.FullTrace.{Tag, all_tagged, called, tagged, tagged_by, tagged_into}
 use Rattle.law_whole.specs.Following.{calls_by_kind, tag_write, tagged_by_kind, top_of}
+use Rattle.ppd_sem.specs.Reads.{local_accesses}
+use Rattle.ppd_sem.proofs.Zeros.{zeros_accessed}
 
 -- the calls that began the frames
 abbrev pub calls_of : List Frame → List (Option ℕ)
@@ -76,7 +79,7 @@ module _ (es : List Expr) (cells answers : List ℤ) where
 
 -- ---- tags
 
-length_parameters : (frame c : ℕ) (vs : List ℤ) → length (parameters frame c vs) ≡ length vs
+length_parameters : (frame c : ℕ) (vs : List ℤ) → length (local_accesses frame c vs) ≡ length vs
 length_parameters frame c [] = refl
 length_parameters frame c (v ∷ vs) = ap suc (length_parameters frame (c + 1) vs)
 
@@ -84,13 +87,14 @@ module _ (program : Program) (me : Tag) where
   abbrev tag_all : List Activation → List Access → List Activation
   tag_all xs ws = fold (tag_write me) xs ws
 
-  cleared_tags : (frame base n : ℕ) (xs : List Activation) → all_tagged base n me xs ≡ tag_all xs (cleared frame base n)
+  cleared_tags : (frame base n : ℕ) (xs : List Activation) → all_tagged base n me xs ≡ tag_all xs (local_accesses frame base (replicate n (pos 0)))
   cleared_tags frame base zero xs = refl
   cleared_tags frame base (suc n) xs =
       ap (λ ys. tagged (base + n) me ys) (cleared_tags frame base n xs)
-      ∙ sym (fold-append (tag_write me) xs (cleared frame base n) (local_write frame (base + n) (pos 0) ∷ []))
+      ∙ sym (fold-append (tag_write me) xs (local_accesses frame base (replicate n (pos 0))) (local_accesses frame (base + n) (pos 0 ∷ [])))
+      ∙ sym (ap (tag_all xs) (zeros_accessed frame base n))
 
-  module _ (s : Proc) (frame : ℕ) (a : Answer) (left : List ℤ) (calls : List (Option ℕ)) (tops : top_of calls ≡ top_call s.frames) (e : Event) (xs : List Activation) where
+  module _ (s : Proc) (frame : ℕ) (a : Answer) (left : List ℤ) (calls : List (Option ℕ)) (tops : top_of calls ≡ (top_frame s.frames).call) (e : Event) (xs : List Activation) where
     -- the deed's tags are those of the event's writes and value
     pub deed_tags : (k : Kind) (d : Deed) → IsDeedOf k d → e.writes ≡ writes_of_deed frame a d → HasValue e.value d → tagged_by program s me (Ok (d, left)) xs ≡ tagged_by_kind program calls me e k xs
     deed_tags k d (clears {base = base} {len = len}) w o = cleared_tags frame base len xs ∙ ap (tag_all xs) (sym w)
@@ -107,11 +111,11 @@ module _ (program : Program) (me : Tag) where
 
 -- ---- calls
 
-write_calls : (c : ℕ) (v : ℤ) (frames : List Frame) → calls_of (write_top c v frames) ≡ calls_of frames
+write_calls : (c : ℕ) (v : ℤ) (frames : List Frame) → calls_of (on_top (λ cells. slice_set cells c v) frames) ≡ calls_of frames
 write_calls c v [] = refl
 write_calls c v (f ∷ fs) = refl
 
-clear_calls : (base n : ℕ) (frames : List Frame) → calls_of (clear_top base n frames) ≡ calls_of frames
+clear_calls : (base n : ℕ) (frames : List Frame) → calls_of (on_top (with_values (range_with_len base n) (replicate n (pos 0))) frames) ≡ calls_of frames
 clear_calls base n [] = refl
 clear_calls base n (f ∷ fs) = refl
 
@@ -124,7 +128,7 @@ return_calls : (program : Program) (v : Option ℤ) (frames : List Frame) → ca
 return_calls program v [] = refl
 return_calls program v (f ∷ fs) = by f.call
   where
-    by : (o : Option ℕ) → calls_of (returned_from program o v fs) ≡ calls_of fs
+    by : (o : Option ℕ) → calls_of (receive_at (into_at program o) v fs) ≡ calls_of fs
     by None = refl
     by (Some c) = receive_calls _ v fs
 

@@ -1,13 +1,13 @@
 -- The activations that follow from a process's events are those of its trace.
 use Rattle.std.proofs.Common.{◌≡◌, ℕ, zero, suc, ◌+◌, ◌-◌, ℤ, pos, Bool, true, false, List, [], ◌∷◌, ◌++◌, Option, Some, None, Ok, Err, refl, ap, ap₂, sym, subst, ◌∙◌, arith, cond, length, length-append, map, replicate, true≢false}
-use Rattle.std.specs.Prelude.{⊤, fold, is_some, slice_get, if◌then◌else◌}
+use Rattle.std.specs.Prelude.{⊤, fold, is_some, slice_get, if◌then◌else◌, unwrap_or}
 use Rattle.std.proofs.lemmas.List.{append-nil, append_assoc}
 use Rattle.ppd_ast.specs.declared.plan.Plan.{Plan}
 use Rattle.ppd_ast.specs.declared.program.Body.{Body}
 use Rattle.ppd_ast.specs.declared.program.Kind.{Kind}
 use Rattle.ppd_ast.specs.declared.program.Kind.TheVariants as kind
 use Rattle.ppd_ast.specs.declared.program.Program.{Program}
-use Rattle.ppd_ast.specs.Lookups.{kind_of}
+use Rattle.ppd_ast.specs.Lookups.{kind_of, no_body}
 use Rattle.ppd_sem.specs.declared.asking.Pause.TheVariants.{Wants, Traps}
 use Rattle.ppd_sem.specs.declared.event.Event.{Event}
 use Rattle.ppd_sem.specs.declared.proc.Answer.{Answer}
@@ -20,9 +20,8 @@ use Rattle.ppd_sem.specs.Asked.{Asked}
 use Rattle.ppd_sem.specs.Deed.{Deed, send, ask_deed}
 use Rattle.ppd_sem.specs.Described.{evaluates, frame_of, is_event, trap_of, value_at, valued, writes_by}
 use Rattle.ppd_sem.proofs.EventWords.{writes_of_asked}
-use Rattle.ppd_sem.specs.Process.{act, act_by_asked, act_by_need, head_deed, need_of, started, top_call, top_cells}
+use Rattle.ppd_sem.specs.Process.{act, act_by_asked, act_by_need, head_deed, need_of, started, top_frame}
 use Rattle.ppd_sem.proofs.NeedWords.{act_at, cells_for}
-use Rattle.ppd_sem.specs.Runs.{size_if}
 use Rattle.ppd_sem.proofs.OfKind.{IsDeedOf, OfAsked, backs, backs_value, deed_of, invokes}
 use Rattle.ppd_model.specs.declared.trace.EventId.{EventId}
 use Rattle.ppd_model.specs.declared.trace.TracedEvent.{TracedEvent}
@@ -46,10 +45,10 @@ pub record IsFollowed (f : Followed) (u : Tracing) : Type 0 where
   pub number : f.number ≡ length u.events
   pub edge : f.edge ≡ count_to u.events (length u.events)
 
-tops_are : (s : Proc) → top_of (calls_of s.frames) ≡ top_call s.frames
+tops_are : (s : Proc) → top_of (calls_of s.frames) ≡ (top_frame s.frames).call
 tops_are s = by s.frames
   where
-    by : (fs : List Frame) → top_of (calls_of fs) ≡ top_call fs
+    by : (fs : List Frame) → top_of (calls_of fs) ≡ (top_frame fs).call
     by [] = refl
     by (f ∷ fs) = refl
 
@@ -63,13 +62,13 @@ module _ (program : Program) (plan : Plan) (x : Taken) (t : Todo) (ts : List Tod
   asked = head_deed program t s
 
   abbrev val : Option ℤ
-  val = value_at program.exprs (top_cells s.frames) s.answers (valued (kind_of program t.stmt))
+  val = value_at program.exprs (top_frame s.frames).cells s.answers (valued (kind_of program t.stmt))
 
   is_of : OfAsked (IsDeedOf k) asked
-  is_of = deed_of program.exprs (top_cells s.frames) s.answers (kind_of program t.stmt)
+  is_of = deed_of program.exprs (top_frame s.frames).cells s.answers (kind_of program t.stmt)
 
   gives : OfAsked (HasValue val) asked
-  gives = has_value program.exprs (top_cells s.frames) s.answers (kind_of program t.stmt)
+  gives = has_value program.exprs (top_frame s.frames).cells s.answers (kind_of program t.stmt)
 
   -- the event by its need
   abbrev event_by : Need → Event
@@ -318,7 +317,7 @@ map_const : (n : ℕ) → map (λ (v : ℤ). none_tag) (replicate n (pos 0)) ≡
 map_const zero = refl
 map_const (suc n) = ap (λ l. none_tag ∷ l) (map_const n)
 
-tags_start : (o : Option Body) → replicate (size_if o) none_tag ≡ map (λ (v : ℤ). none_tag) (cells_for o [])
+tags_start : (o : Option Body) → replicate (unwrap_or o no_body).cells none_tag ≡ map (λ (v : ℤ). none_tag) (cells_for o [])
 tags_start None = refl
 tags_start (Some b) =
     let z : b.cells ≡ b.cells - 0 = omega arith in

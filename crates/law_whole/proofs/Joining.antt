@@ -1,22 +1,4 @@
 -- The items of a process's intervals, joined, are the events of its trace.
-use Rattle.std.proofs.Common.{◌≡◌, ℕ, zero, suc, ◌+◌, ◌<◌, ◌≤◌, List, [], ◌∷◌, ◌++◌, Some, refl, ap, sym, subst, ◌∙◌, arith, drop, length, map}
-use Rattle.std.specs.Prelude.{slice_get}
-use Rattle.std.specs.List.{flat_map}
-use Rattle.std.proofs.lemmas.List.{append-nil, append_assoc, drop_all, length-map}
-use Rattle.std.proofs.lemmas.List.Concat.{flat_map-append}
-use Rattle.ppd_ast.proofs.ValidLaws.{slice_get_below, slice_get_there}
-use Rattle.ppd_entry.specs.declared.entry.Entry.{Entry}
-use Rattle.ppd_entry.specs.Entries.{entries_at}
-use Rattle.ppd_sem.specs.declared.event.Event.{Event}
-use Rattle.ppd_graph.proofs.Leads.{length_mapped}
-use Rattle.ppd_model.specs.declared.flow.Item.{Item}
-use Rattle.ppd_model.specs.declared.flow.Item.TheVariants as item
-use Rattle.ppd_model.specs.declared.trace.TracedEvent.{TracedEvent}
-use Rattle.ppd_model.specs.Intervals.{Part, own, nested, Span, Split, is_closed, item_of, items_of}
-use Rattle.ppd_model.proofs.IntervalWords.{item_of_event, item_of_span}
-use Rattle.ppd_model.specs.Logs.{closed_logs}
-use Rattle.ppd_model.proofs.Lists.{left_from, map_get}
-use Rattle.ppd_flow_model.specs.Seen.{Seen, items_at, seen_of}
 use Rattle.law_flow_shared.proofs.Edges.Back.Walks.{items_are}
 use Rattle.law_flow_shared.proofs.Edges.Spans.Facts.{Logged}
 use Rattle.law_flow_shared.proofs.Edges.Spans.Tiles.{Tiles, ends, event, inside, rises}
@@ -24,6 +6,23 @@ use Rattle.law_flow_shared.proofs.Edges.Spans.Told.{AreTiled, Around, IsAllLeft,
 use Rattle.law_flow_shared.proofs.Edges.StepEvents.Processes.{Facts, facts}
 use Rattle.law_whole.specs.Joined.{events_in, events_of_item, events_of_items, joined}
 use Rattle.law_whole.specs.Laws.{JoinedAreEvents, bare}
+use Rattle.ppd_ast.proofs.ValidLaws.{slice_get_below, slice_get_there}
+use Rattle.ppd_entry.specs.declared.entry.Entry.{Entry}
+use Rattle.ppd_flow_model.specs.Seen.{Seen, seen_of}
+use Rattle.ppd_graph.proofs.Leads.{length_mapped}
+use Rattle.ppd_model.proofs.IntervalWords.{item_of_event, item_of_span}
+use Rattle.ppd_model.proofs.Lists.{left_from, map_get}
+use Rattle.ppd_model.specs.Intervals.{Part, Span, Split, item_of, items_of, nested, own}
+use Rattle.ppd_model.specs.Logs.{closed_logs}
+use Rattle.ppd_model.specs.declared.flow.Item.{Item}
+use Rattle.ppd_model.specs.declared.flow.Item.TheVariants as item
+use Rattle.ppd_model.specs.declared.trace.TracedEvent.{TracedEvent}
+use Rattle.ppd_sem.specs.declared.event.Event.{Event}
+use Rattle.std.proofs.Common.{List, Some, [], ap, arith, drop, length, map, refl, subst, suc, sym, zero, ℕ, ◌++◌, ◌+◌, ◌<◌, ◌∙◌, ◌∷◌, ◌≡◌, ◌≤◌}
+use Rattle.std.proofs.lemmas.List.{append-nil, append_assoc, drop_all, length-map}
+use Rattle.std.proofs.lemmas.List.Concat.{flat_map-append}
+use Rattle.std.specs.List.{flat_map}
+use Rattle.std.specs.Prelude.{get_or, slice_get}
 
 module _ (x : Split) where
   abbrev all : List Event
@@ -111,4 +110,4 @@ joined_events program plan budget h p x v e =
     let f : Facts program plan budget h v p x = facts program plan budget h v p x e in
     let size : length (bare x.trace.events) ≡ length x.trace.events = length-map x.trace.events (λ (z : TracedEvent). z.event) in
     let none : drop (length x.trace.events) (bare x.trace.events) ≡ [] = drop_all (length x.trace.events) (bare x.trace.events) (omega (arith, size)) in
-    sym (whole x (entries_at (closed_logs program plan budget h) p) x.running f.told_by.tiled ∙ ap (λ l. events_in (seen_of x) ++ l) none ∙ append-nil (events_in (seen_of x)))
+    sym (whole x (get_or (closed_logs program plan budget h).lists p []) x.running f.told_by.tiled ∙ ap (λ l. events_in (seen_of x) ++ l) none ∙ append-nil (events_in (seen_of x)))

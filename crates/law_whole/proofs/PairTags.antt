@@ -1,6 +1,6 @@
 -- The pair of an event that the numbers of synchronizations give is that of the trace.
 use Rattle.std.proofs.Common.{◌≡◌, ℕ, zero, suc, ◌+◌, ◌<◌, ◌≤◌, Bool, true, false, cond, List, [], ◌∷◌, ◌++◌, Option, Some, None, refl, ap, ap₂, sym, subst, ◌∙◌, arith, length, get_or, map, take, true≢false, inl, inr, ◌⊎◌}
-use Rattle.std.specs.Prelude.{IsTrue, fold, is_some, slice_get, if◌then◌else◌}
+use Rattle.std.specs.Prelude.{IsTrue, fold, is_some, slice_get, if◌then◌else◌, filter_map}
 use Rattle.std.proofs.lemmas.Option.{none-some}
 use Rattle.ppd_ast.specs.Valid.{IsValid}
 use Rattle.ppd_ast.specs.declared.plan.Plan.{Plan}
@@ -24,14 +24,14 @@ use Rattle.ppd_model.specs.declared.tracing.Story.{Story}
 use Rattle.ppd_model.specs.declared.tracing.Taken.{Taken}
 use Rattle.ppd_model.specs.declared.tracing.Tracing.{Tracing}
 use Rattle.ppd_model.specs.FullTrace.{Tag, begun_tracing, event_of, trace_step}
-use Rattle.ppd_model.specs.HappenedBefore.{node, own_syncs, sync_at}
+use Rattle.ppd_model.specs.HappenedBefore.{node, sync_at}
 use Rattle.ppd_model.specs.Intervals.{Split, splits}
 use Rattle.ppd_model.specs.LocalTags.{AreOwn}
 use Rattle.ppd_model.specs.Logs.{closed_logs}
 use Rattle.ppd_model.specs.Record.{sync_record}
 use Rattle.ppd_model.specs.RecordedSets.{record_in}
-use Rattle.ppd_model.specs.Story.{own_steps, story, told}
-use Rattle.ppd_model.specs.Synchronizations.{Sync, kind_of_sync, leading_from, leads_at, numbered, paired_of, sync_of, syncs_of}
+use Rattle.ppd_model.specs.Story.{story, told}
+use Rattle.ppd_model.specs.Synchronizations.{Sync, kind_of_sync, leading_from, leads_at, numbered, sync_of}
 use Rattle.ppd_model.proofs.Accesses.{record_at}
 use Rattle.ppd_model.proofs.Changes.{some}
 use Rattle.ppd_model.proofs.Numbered.{AreNumbered as AreNumberedModel, steps_numbered}
@@ -82,7 +82,7 @@ none_paired events k = refl
 
 pair_is : (program : Program) (syncs : List (List Sync)) (p i : ℕ) (s : Sync) → sync_at syncs (node p i) ≡ Some s → pair_at (pairs_of program syncs) (node p i) ≡ partner_of program syncs s
 pair_is program syncs p i s e =
-    ap (λ l. get_or l i Nothing) (row_mapped (partner_of program syncs) syncs p) ∙ get_mapped (partner_of program syncs) (own_syncs syncs p) i Nothing s e
+    ap (λ l. get_or l i Nothing) (row_mapped (partner_of program syncs) syncs p) ∙ get_mapped (partner_of program syncs) (get_or syncs p []) i Nothing s e
 
 to_node : (pair : Paired) (a : NodeId) → node_of pair ≡ Some a → pair ≡ Node a
 to_node (Node b) a e = ap (λ z. Node z) (some e)
@@ -113,52 +113,52 @@ module _ (program : Program) (plan : Plan) (budget : ℕ) (h : List ℕ) (v : Is
   partners : ArePartners program Rec (pairs_of program Rec)
   partners = partners_found program Rec (λ a b s e f. (are_counted program plan budget h).once a b s e f)
 
-  syncs_are : (q : ℕ) → own_syncs Rec q ≡ syncs_of (did (told program plan budget h) q)
-  syncs_are q = record_at (story program plan budget h).steps q ∙ ap syncs_of (own_is program plan budget h q)
+  syncs_are : (q : ℕ) → get_or Rec q [] ≡ filter_map sync_of (did (told program plan budget h) q)
+  syncs_are q = record_at (story program plan budget h).steps q ∙ ap (filter_map sync_of) (own_is program plan budget h q)
 
-  sync_of_step : (q : ℕ) (before : List Taken) (y : Taken) (after : List Taken) (s : Sync) → did (told program plan budget h) q ≡ before ++ y ∷ after → sync_of y ≡ Some s → sync_at Rec (node q (length (syncs_of before))) ≡ Some s
-  sync_of_step q before y after s e f = ap (λ l. slice_get l (length (syncs_of before))) (syncs_are q ∙ ap syncs_of e) ∙ sync_there before y after s f
+  sync_of_step : (q : ℕ) (before : List Taken) (y : Taken) (after : List Taken) (s : Sync) → did (told program plan budget h) q ≡ before ++ y ∷ after → sync_of y ≡ Some s → sync_at Rec (node q (length (filter_map sync_of before))) ≡ Some s
+  sync_of_step q before y after s e f = ap (λ l. slice_get l (length (filter_map sync_of before))) (syncs_are q ∙ ap (filter_map sync_of) e) ∙ sync_there before y after s f
 
   -- the event of a step that is a synchronization
   place_is : (q : ℕ) (before : List Taken) (y : Taken) (after : List Taken) (s : Sync) → did (told program plan budget h) q ≡ before ++ y ∷ after → sync_of y ≡ Some s
-      → sync_event evs q (length (syncs_of before)) ≡ record { process = q; number = events_in before }
+      → sync_event evs q (length (filter_map sync_of before)) ≡ record { process = q; number = events_in before }
   place_is q before y after s e f =
       let lt_q : q < length (told program plan budget h).moments = below_moments (told program plan budget h).moments q before y after e in
       let there = split_there program plan budget (story program plan budget h) 0 (told program plan budget h).moments q lt_q in
       let x : Split = there.0 in
       let g : Facts program plan budget h v q x = facts program plan budget h v q x there.1 in
       let a : HasEvent program plan budget h v q x g before y = ev_at program plan budget h v q x g before y after e (sync_is_event y (ap is_some f)) in
-      let counted : count_to x.trace.events (events_in before) ≡ length (syncs_of before) = ev_count program plan budget h v q x g before (y ∷ after) e in
+      let counted : count_to x.trace.events (events_in before) ≡ length (filter_map sync_of before) = ev_count program plan budget h v q x g before (y ∷ after) e in
       let row : get_or evs q [] ≡ bare x.trace.events = get_mapped (λ (z : Split). bare z.trace.events) xs q [] x there.1 in
-      let number : get_or (syncs_from 0 (get_or evs q [])) (length (syncs_of before)) 0 ≡ 0 + events_in before =
+      let number : get_or (syncs_from 0 (get_or evs q [])) (length (filter_map sync_of before)) 0 ≡ 0 + events_in before =
       ap₂ (λ es i. get_or (syncs_from 0 es) i 0) row (sym counted) ∙ sync_number x.trace.events 0 (events_in before) (a.is_sync ∙ ap is_some f) in
       ap (λ i. record { process = q; number = i }) (number ∙ (let z : 0 + events_in before ≡ events_in before = omega arith in z))
 
   -- of a step that is a synchronization
   of_sync : (p : ℕ) (before : List Taken) (y : Taken) (after : List Taken) (s : Sync) → did (told program plan budget h) p ≡ before ++ y ∷ after → sync_of y ≡ Some s
-      → pair_tag evs (pair_at (pairs_of program (record_in logs)) (node p (length (syncs_of before)))) ≡ paired_of program (story program plan budget h) y
+      → pair_tag evs (pair_at (pairs_of program (record_in logs)) (node p (length (filter_map sync_of before)))) ≡ leading_from program (sync_of y) 0 (story program plan budget h).steps
   of_sync p before y after s e f =
-      ap (λ rec. pair_tag evs (pair_at (pairs_of program rec) (node p (length (syncs_of before))))) (record_syncs program plan budget h).closed
+      ap (λ rec. pair_tag evs (pair_at (pairs_of program rec) (node p (length (filter_map sync_of before))))) (record_syncs program plan budget h).closed
       ∙ elim (leading_all program (Some s) 0 (story program plan budget h).steps) [
         | inl l ↦ leads l.0 l.1 l.2
         | inr n' ↦ none n'.0 n'.1
       ]
     where
-      at_b : sync_at (sync_record program plan budget h) (node p (length (syncs_of before))) ≡ Some s
+      at_b : sync_at (sync_record program plan budget h) (node p (length (filter_map sync_of before))) ≡ Some s
       at_b = sync_of_step p before y after s e f
 
-      paired_is : paired_of program (story program plan budget h) y ≡ leading_from program (Some s) 0 (story program plan budget h).steps
+      paired_is : leading_from program (sync_of y) 0 (story program plan budget h).steps ≡ leading_from program (Some s) 0 (story program plan budget h).steps
       paired_is = ap (λ o. leading_from program o 0 (story program plan budget h).steps) f
 
       leads : (id : EventId) → leading_from program (Some s) 0 (story program plan budget h).steps ≡ Some id → LeadsFrom program (Some s) 0 (story program plan budget h).steps id
-          → pair_tag evs (pair_at (pairs_of program (sync_record program plan budget h)) (node p (length (syncs_of before)))) ≡ paired_of program (story program plan budget h) y
+          → pair_tag evs (pair_at (pairs_of program (sync_record program plan budget h)) (node p (length (filter_map sync_of before)))) ≡ leading_from program (sync_of y) 0 (story program plan budget h).steps
       leads id is l =
           let first = leads_some program (sync_of l.leads.step) (Some s) l.leads.leads in
           let steps : did (told program plan budget h) l.row ≡ l.leads.before ++ l.leads.step ∷ l.leads.after = sym (own_is program plan budget h l.row) ∙ l.leads.are in
-          let at_a : sync_at (sync_record program plan budget h) (node l.row (length (syncs_of l.leads.before))) ≡ Some first.0 = sync_of_step l.row l.leads.before l.leads.step l.leads.after first.0 steps first.1 in
-          let test : IsTrue (leads_at program (sync_at (sync_record program plan budget h) (node l.row (length (syncs_of l.leads.before)))) (sync_at (sync_record program plan budget h) (node p (length (syncs_of before))))) =
+          let at_a : sync_at (sync_record program plan budget h) (node l.row (length (filter_map sync_of l.leads.before))) ≡ Some first.0 = sync_of_step l.row l.leads.before l.leads.step l.leads.after first.0 steps first.1 in
+          let test : IsTrue (leads_at program (sync_at (sync_record program plan budget h) (node l.row (length (filter_map sync_of l.leads.before)))) (sync_at (sync_record program plan budget h) (node p (length (filter_map sync_of before))))) =
           ap₂ (λ a b. leads_at program a b) (at_a ∙ sym first.1) at_b ∙ l.leads.leads in
-          let pair = to_node (pair_at (pairs_of program (sync_record program plan budget h)) (node p (length (syncs_of before)))) (node l.row (length (syncs_of l.leads.before))) ((partners.leads (node l.row (length (syncs_of l.leads.before))) (node p (length (syncs_of before)))).0 test) in
+          let pair = to_node (pair_at (pairs_of program (sync_record program plan budget h)) (node p (length (filter_map sync_of before)))) (node l.row (length (filter_map sync_of l.leads.before))) ((partners.leads (node l.row (length (filter_map sync_of l.leads.before))) (node p (length (filter_map sync_of before)))).0 test) in
           let process : l.row ≡ id.process = (let z : 0 + l.row ≡ l.row = omega arith in sym z ∙ sym l.process_is) in
           let number : events_in l.leads.before ≡ id.number = (let z : 0 + events_in l.leads.before ≡ events_in l.leads.before = omega arith in sym z ∙ sym l.leads.number) in
           ap (pair_tag evs) pair
@@ -168,11 +168,11 @@ module _ (program : Program) (plan : Plan) (budget : ℕ) (h : List ℕ) (v : Is
 
       none : leading_from program (Some s) 0 (story program plan budget h).steps ≡ None
           → ((q : ℕ) (b : List Taken) (z : Taken) (a : List Taken) → get_or (story program plan budget h).steps q [] ≡ b ++ z ∷ a → leads_at program (sync_of z) (Some s) ≡ false)
-          → pair_tag evs (pair_at (pairs_of program (sync_record program plan budget h)) (node p (length (syncs_of before)))) ≡ paired_of program (story program plan budget h) y
+          → pair_tag evs (pair_at (pairs_of program (sync_record program plan budget h)) (node p (length (filter_map sync_of before)))) ≡ leading_from program (sync_of y) 0 (story program plan budget h).steps
       none is no_one = by_found (found (sync_record program plan budget h) (wanted program s)) refl
         where
-          pair : pair_at (pairs_of program (sync_record program plan budget h)) (node p (length (syncs_of before))) ≡ partner_of program (sync_record program plan budget h) s
-          pair = pair_is program (sync_record program plan budget h) p (length (syncs_of before)) s at_b
+          pair : pair_at (pairs_of program (sync_record program plan budget h)) (node p (length (filter_map sync_of before))) ≡ partner_of program (sync_record program plan budget h) s
+          pair = pair_is program (sync_record program plan budget h) p (length (filter_map sync_of before)) s at_b
 
           none_at : (a : NodeId) (o : Option Sync) → sync_at (sync_record program plan budget h) a ≡ o → leads_at program o (Some s) ≡ true → ⊥
           none_at a None g t = true≢false (sym t)
@@ -181,15 +181,15 @@ module _ (program : Program) (plan : Plan) (budget : ℕ) (h : List ℕ) (v : Is
               true≢false (sym (ap (λ o. leads_at program o (Some s)) c.is ∙ t) ∙ no_one a.process c.before c.step c.after (own_is program plan budget h a.process ∙ c.are))
 
           by_found : (o : Option NodeId) → found (sync_record program plan budget h) (wanted program s) ≡ o
-              → pair_tag evs (pair_at (pairs_of program (sync_record program plan budget h)) (node p (length (syncs_of before)))) ≡ paired_of program (story program plan budget h) y
+              → pair_tag evs (pair_at (pairs_of program (sync_record program plan budget h)) (node p (length (filter_map sync_of before)))) ≡ leading_from program (sync_of y) 0 (story program plan budget h).steps
           by_found (Some a) g =
-              let named : pair_at (pairs_of program (sync_record program plan budget h)) (node p (length (syncs_of before))) ≡ Node a = pair ∙ ap (paired_by s.kind) g in
-              let test = (partners.leads a (node p (length (syncs_of before)))).1 (ap node_of named) in
+              let named : pair_at (pairs_of program (sync_record program plan budget h)) (node p (length (filter_map sync_of before))) ≡ Node a = pair ∙ ap (paired_by s.kind) g in
+              let test = (partners.leads a (node p (length (filter_map sync_of before)))).1 (ap node_of named) in
               absurd (none_at a (sync_at (sync_record program plan budget h) a) refl (ap (leads_at program (sync_at (sync_record program plan budget h) a)) (sym at_b) ∙ test))
           by_found None g = ap (pair_tag evs) (pair ∙ ap (paired_by s.kind) g) ∙ none_paired evs s.kind ∙ sym (paired_is ∙ is)
 
   -- of a step that is none
-  of_other : (y : Taken) → sync_of y ≡ None → None ≡ paired_of program (story program plan budget h) y
+  of_other : (y : Taken) → sync_of y ≡ None → None ≡ leading_from program (sync_of y) 0 (story program plan budget h).steps
   of_other y f = sym (ap (λ o. leading_from program o 0 (story program plan budget h).steps) f ∙ nothing)
     where
       nothing : leading_from program None 0 (story program plan budget h).steps ≡ None
@@ -213,14 +213,14 @@ made_number (Some z) (Some i) s e = (i, refl)
 
 -- by whether the step is a synchronization
 by_sync : (program : Program) (plan : Plan) (budget : ℕ) (h : List ℕ) (v : IsValid program) (p edge : ℕ) (before : List Taken) (y : Taken) (after : List Taken) → did (told program plan budget h) p ≡ before ++ y ∷ after
-    → edge ≡ length (syncs_of before) → (o : Option Sync) → sync_of y ≡ o
-    → pair_of program (closed_logs program plan budget h) (all_events program plan budget h) p edge y.number ≡ paired_of program (story program plan budget h) y
+    → edge ≡ length (filter_map sync_of before) → (o : Option Sync) → sync_of y ≡ o
+    → pair_of program (closed_logs program plan budget h) (all_events program plan budget h) p edge y.number ≡ leading_from program (sync_of y) 0 (story program plan budget h).steps
 by_sync program plan budget h v p edge before y after are at (Some s) f =
     let m = made_number (kind_of_sync y.need) y.number s f in
     ap₂ (λ i o. pair_of program (closed_logs program plan budget h) (all_events program plan budget h) p i o) at m.1
     ∙ of_sync program plan budget h v p before y after s are f
 by_sync program plan budget h v p edge before y after are at None f =
-    let g : kind_of_sync y.need ≡ None = numbered_step (own_steps (story program plan budget h) p) before y after (steps_numbered program plan v budget h p) (own_is program plan budget h p ∙ are) f in
+    let g : kind_of_sync y.need ≡ None = numbered_step (get_or (story program plan budget h).steps p []) before y after (steps_numbered program plan v budget h p) (own_is program plan budget h p ∙ are) f in
     ap (λ o. pair_of program (closed_logs program plan budget h) (all_events program plan budget h) p edge o) ((numbered_at (did (told program plan budget h) p) before y after (numbered_told program plan budget h p) are) g)
     ∙ of_other program plan budget h v y f
   where
@@ -242,10 +242,10 @@ pairs_linked program plan budget h v p number x e there event_is =
     let event : slice_get x.trace.events number ≡ Some (new_event program plan told_story p s.step u) =
     ap₂ (λ es i. slice_get es i) f.events_are (sym s.number) ∙ at_event program plan budget told_story p steps f.steps_own f.steps_numbered s.before s.step s.after s.are s.finishes in
     let same : new_event program plan told_story p s.step u ≡ e = some (sym event ∙ event_is) in
-    let edge : edge_after (take number (bare x.trace.events)) ≡ length (syncs_of s.before) =
+    let edge : edge_after (take number (bare x.trace.events)) ≡ length (filter_map sync_of s.before) =
     edge_is x.trace.events number (omega (arith, lt)) ∙ ap (count_to x.trace.events) (sym s.number) ∙ ev_count program plan budget h v p x f s.before (s.step ∷ s.after) s.are in
     let number_is : e.event.number ≡ s.step.number = ap (λ (z : TracedEvent). z.event.number) (sym same) ∙ ap (λ todo. (event_of program plan u.proc s.step todo).number) head.2 in
-    let paired : e.paired ≡ paired_of program told_story s.step = ap (λ (z : TracedEvent). z.paired) (sym same) in
+    let paired : e.paired ≡ leading_from program (sync_of s.step) 0 told_story.steps = ap (λ (z : TracedEvent). z.paired) (sym same) in
     ap (λ o. pair_of program (closed_logs program plan budget h) (all_events program plan budget h) p (edge_after (take number (bare x.trace.events))) o) number_is
     ∙ by_sync program plan budget h v p (edge_after (take number (bare x.trace.events))) s.before s.step s.after s.are edge (sync_of s.step) refl
     ∙ sym paired

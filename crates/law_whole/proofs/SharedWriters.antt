@@ -1,6 +1,6 @@
 -- Shared reads: the writer that edges and marks give is the one that the tag names.
 use Rattle.std.proofs.Common.{◌≡◌, ℕ, ◌+◌, ◌<◌, ◌≤◌, ℤ, true, false, List, [], ◌∷◌, ◌++◌, Option, Some, None, refl, ap, ap₂, sym, subst, ◌∙◌, arith, length, filter, true≢false, inl, inr, ◌⊎◌, eq-eqb, get_or, map, take}
-use Rattle.std.specs.Prelude.{is_some, option_map, slice_get, unwrap_or}
+use Rattle.std.specs.Prelude.{is_some, option_map, slice_get, unwrap_or, filter_map}
 use Rattle.std.proofs.lemmas.List.{append-nil, append_assoc}
 use Rattle.std.proofs.lemmas.List.Sums.{fold-append}
 use Rattle.ppd_ast.specs.Valid.{IsValid}
@@ -25,8 +25,8 @@ use Rattle.ppd_model.specs.Races.{races}
 use Rattle.ppd_model.specs.Record.{sync_record}
 use Rattle.ppd_model.specs.Schedule.{run}
 use Rattle.ppd_model.specs.SharedReads.{IsAccess, IsAcross, IsFound, IsFromStart, IsWrittenBy, WritesIn, need_after}
-use Rattle.ppd_model.specs.Story.{Telling, next_event, own_moments, story, tell, told}
-use Rattle.ppd_model.specs.Synchronizations.{kind_of_sync, numbered, syncs_of}
+use Rattle.ppd_model.specs.Story.{Telling, next_event, story, tell, told}
+use Rattle.ppd_model.specs.Synchronizations.{kind_of_sync, numbered, sync_of}
 use Rattle.ppd_model.specs.World.{World, writes_cell}
 use Rattle.ppd_model.proofs.AccessSets.{accesses_there}
 use Rattle.ppd_model.proofs.Lists.{get_mapped}
@@ -57,17 +57,17 @@ write_yes c m u e = ap (writes_cell c) e ∙ eq-eqb c c refl
 -- the mark of a write after which the process synchronizes, with no more write of the cell before that
 mark_ended : (program : Program) (plan : Plan) (budget : ℕ) (h : List ℕ) (v : IsValid program) (q c : ℕ) (u : ℤ) (x : Split) (f : Facts program plan budget h v q x) (before : List Taken) (y : Taken) (mid after : List Taken)
     → did (told program plan budget h) q ≡ before ++ y ∷ (mid ++ after) → y.need ≡ n.Write c u → NoWrites program plan c mid → HasSync mid
-    → mark_in (length (syncs_of before)) (marks_of c (bare x.trace.events)) ≡ Some (events_in before)
+    → mark_in (length (filter_map sync_of before)) (marks_of c (bare x.trace.events)) ≡ Some (events_in before)
 mark_ended program plan budget h v q c u x f before y mid after are need none' s =
     let whole : did (told program plan budget h) q ≡ before ++ y ∷ (s.front ++ (s.step ∷ (s.back ++ after))) =
     are ∙ ap (λ l. before ++ y ∷ (l ++ after)) s.are ∙ ap (λ l. before ++ y ∷ l) (append_assoc s.front (s.step ∷ s.back) after) in
     let upto : did (told program plan budget h) q ≡ (before ++ y ∷ s.front) ++ s.step ∷ (s.back ++ after) = whole ∙ sym (append_assoc before (y ∷ s.front) (s.step ∷ (s.back ++ after))) in
     let e : HasEvent program plan budget h v q x f (before ++ y ∷ s.front) s.step = ev_at program plan budget h v q x f (before ++ y ∷ s.front) s.step (s.back ++ after) upto (sync_event s.step s.is_sync) in
     let sync : synchronizes (slice_get x.trace.events (events_in (before ++ y ∷ s.front))) ≡ true = e.is_sync ∙ s.is_sync in
-    let counted : count_to x.trace.events (events_in (before ++ y ∷ s.front)) ≡ length (syncs_of (before ++ y ∷ s.front)) = ev_count program plan budget h v q x f (before ++ y ∷ s.front) (s.step ∷ (s.back ++ after)) upto in
-    let plain : length (syncs_of (y ∷ s.front)) ≡ 0 = syncs_none (y ∷ s.front) (ap (λ m. numbered (kind_of_sync m) y.number) need, s.none) in
-    let sum : length (syncs_of (before ++ y ∷ s.front)) ≡ length (syncs_of before) + length (syncs_of (y ∷ s.front)) = syncs_both before (y ∷ s.front) in
-    let number : count_to x.trace.events (events_in (before ++ y ∷ s.front)) ≡ length (syncs_of before) = omega (arith, counted, plain, sum) in
+    let counted : count_to x.trace.events (events_in (before ++ y ∷ s.front)) ≡ length (filter_map sync_of (before ++ y ∷ s.front)) = ev_count program plan budget h v q x f (before ++ y ∷ s.front) (s.step ∷ (s.back ++ after)) upto in
+    let plain : length (filter_map sync_of (y ∷ s.front)) ≡ 0 = syncs_none (y ∷ s.front) (ap (λ m. numbered (kind_of_sync m) y.number) need, s.none) in
+    let sum : length (filter_map sync_of (before ++ y ∷ s.front)) ≡ length (filter_map sync_of before) + length (filter_map sync_of (y ∷ s.front)) = syncs_both before (y ∷ s.front) in
+    let number : count_to x.trace.events (events_in (before ++ y ∷ s.front)) ≡ length (filter_map sync_of before) = omega (arith, counted, plain, sum) in
     sym (ap (λ i. mark_in i (marks_of c (bare x.trace.events))) number)
     ∙ ended_found x.trace.events c (events_in (before ++ y ∷ s.front)) (events_in before) u
     (last_writer program plan budget h v q x f c u before y s.front (s.step ∷ (s.back ++ after)) whole need s.none (none_front program plan c s.front (s.step ∷ s.back) (subst (NoWrites program plan c) s.are none'))) sync e.within
@@ -125,14 +125,14 @@ module _ (program : Program) (plan : Plan) (budget : ℕ) (h : List ℕ) (w : Wo
         let need : s.step.need ≡ n.Write c u = write_is c s.step.need u (sym (e.writes c) ∙ ap (λ z. written_by c (slice_get x.trace.events z)) s.number ∙ l.writes) in
         let t : IsTakenAt program plan (begins program plan budget) g p s.before s.step = taken_at program plan (begins program plan budget) g p s.before s.step s.after s.are
         (let z : length (did (begins program plan budget) p) ≡ 0 = ap length (none_did program plan budget p) in omega (arith, z)) in
-        let counted : count_to x.trace.events m ≡ length (syncs_of s.before) = ap (count_to x.trace.events) (sym s.number) ∙ ev_count program plan budget h v p x f s.before (s.step ∷ (s.after ++ so_far.0)) whole in
-        let counted_g : count_to x.trace.events number ≡ length (syncs_of (did (told program plan budget g) p)) = ap (count_to x.trace.events) (sym events_are) ∙ ev_count program plan budget h v p x f (did (told program plan budget g) p) so_far.0 so_far.1 in
+        let counted : count_to x.trace.events m ≡ length (filter_map sync_of s.before) = ap (count_to x.trace.events) (sym s.number) ∙ ev_count program plan budget h v p x f s.before (s.step ∷ (s.after ++ so_far.0)) whole in
+        let counted_g : count_to x.trace.events number ≡ length (filter_map sync_of (did (told program plan budget g) p)) = ap (count_to x.trace.events) (sym events_are) ∙ ev_count program plan budget h v p x f (did (told program plan budget g) p) so_far.0 so_far.1 in
         let still : count_to x.trace.events m ≡ count_to x.trace.events number = plain_to m number l.plain l.since to (omega (arith, within, events_are)) in (
           t.sooner,
           t.later,
           t.schedule_is,
           (u, ap (λ (z : Taken). z.need) t.step_is ∙ need),
-          edge_is_count program plan budget t.sooner p ∙ ap (λ z. length (syncs_of z)) t.did_before ∙ sym counted ∙ still ∙ counted_g ∙ sym (edge_is_count program plan budget g p),
+          edge_is_count program plan budget t.sooner p ∙ ap (λ z. length (filter_map sync_of z)) t.did_before ∙ sym counted ∙ still ∙ counted_g ∙ sym (edge_is_count program plan budget g p),
           (λ un.
               let d = did_more program plan c p (begins program plan budget) g in
               let all : did (told program plan budget g) p ≡ d.0 = d.1 ∙ ap (λ z. z ++ d.0) (none_did program plan budget p) in
@@ -171,7 +171,7 @@ module _ (program : Program) (plan : Plan) (budget : ℕ) (h : List ℕ) (w : Wo
       before_h = are ∙ ap (λ l. l ++ p ∷ rest) y.schedule_is ∙ append_assoc y.before (y.process ∷ y.after) (p ∷ rest)
 
       number_is : record { process = y.process; number = events_in (did (told program plan budget y.before) y.process) } ≡ next_event (told program plan budget y.before) y.process
-      number_is = ap (λ z. record { process = y.process; number = z }) (sym (count_is (own_moments (told program plan budget y.before) y.process)))
+      number_is = ap (λ z. record { process = y.process; number = z }) (sym (count_is (get_or (told program plan budget y.before).moments y.process [])))
 
       -- what the writer's process did up to the read
       in_g : IsWrite program plan budget y.before y.after y.process c
@@ -193,9 +193,9 @@ module _ (program : Program) (plan : Plan) (budget : ℕ) (h : List ℕ) (w : Wo
       own_edge same edges =
           let steps_p : steps_at p ≡ did (told program plan budget y.before) y.process ++ next program plan (told program plan budget y.before) y.process ∷ (in_g.mid ++ later_h.0) = ap steps_at (sym same) ∙ later_h.1 in
           let done_p : did (told program plan budget g) p ≡ did (told program plan budget y.before) y.process ++ next program plan (told program plan budget y.before) y.process ∷ in_g.mid = ap (did (told program plan budget g)) (sym same) ∙ done_g in
-          let front : edge_in program plan budget y.before y.process ≡ length (syncs_of (did (told program plan budget y.before) y.process)) = edge_is_count program plan budget y.before y.process in
-          let total : edge_in program plan budget g p ≡ length (syncs_of (did (told program plan budget y.before) y.process ++ next program plan (told program plan budget y.before) y.process ∷ in_g.mid)) = edge_is_count program plan budget g p ∙ ap (λ l. length (syncs_of l)) done_p in
-          let sum : length (syncs_of (did (told program plan budget y.before) y.process ++ next program plan (told program plan budget y.before) y.process ∷ in_g.mid)) ≡ length (syncs_of (did (told program plan budget y.before) y.process)) + length (syncs_of (next program plan (told program plan budget y.before) y.process ∷ in_g.mid)) =
+          let front : edge_in program plan budget y.before y.process ≡ length (filter_map sync_of (did (told program plan budget y.before) y.process)) = edge_is_count program plan budget y.before y.process in
+          let total : edge_in program plan budget g p ≡ length (filter_map sync_of (did (told program plan budget y.before) y.process ++ next program plan (told program plan budget y.before) y.process ∷ in_g.mid)) = edge_is_count program plan budget g p ∙ ap (λ l. length (filter_map sync_of l)) done_p in
+          let sum : length (filter_map sync_of (did (told program plan budget y.before) y.process ++ next program plan (told program plan budget y.before) y.process ∷ in_g.mid)) ≡ length (filter_map sync_of (did (told program plan budget y.before) y.process)) + length (filter_map sync_of (next program plan (told program plan budget y.before) y.process ∷ in_g.mid)) =
           syncs_both (did (told program plan budget y.before) y.process) (next program plan (told program plan budget y.before) y.process ∷ in_g.mid) in
           let still = none_syncs (next program plan (told program plan budget y.before) y.process ∷ in_g.mid) (omega (arith, edges, front, total, sum)) in
           let l : IsLastWriter x.trace.events c 0 (events_in (did (told program plan budget y.before) y.process ++ next program plan (told program plan budget y.before) y.process ∷ in_g.mid)) (events_in (did (told program plan budget y.before) y.process)) y.writes.0 =
@@ -237,12 +237,12 @@ module _ (program : Program) (plan : Plan) (budget : ℕ) (h : List ℕ) (w : Wo
           -- the writer's process left that edge before the read
           no_sync : AreNone in_g.mid → ⊥
           no_sync still =
-              let none : length (syncs_of (next program plan (told program plan budget y.before) y.process ∷ in_g.mid)) ≡ 0 =
+              let none : length (filter_map sync_of (next program plan (told program plan budget y.before) y.process ∷ in_g.mid)) ≡ 0 =
               syncs_none (next program plan (told program plan budget y.before) y.process ∷ in_g.mid) (ap (λ m. numbered (kind_of_sync m) (next program plan (told program plan budget y.before) y.process).number) y.writes.1, still) in
-              let sum : length (syncs_of (did (told program plan budget y.before) y.process ++ next program plan (told program plan budget y.before) y.process ∷ in_g.mid)) ≡ length (syncs_of (did (told program plan budget y.before) y.process)) + length (syncs_of (next program plan (told program plan budget y.before) y.process ∷ in_g.mid)) =
+              let sum : length (filter_map sync_of (did (told program plan budget y.before) y.process ++ next program plan (told program plan budget y.before) y.process ∷ in_g.mid)) ≡ length (filter_map sync_of (did (told program plan budget y.before) y.process)) + length (filter_map sync_of (next program plan (told program plan budget y.before) y.process ∷ in_g.mid)) =
               syncs_both (did (told program plan budget y.before) y.process) (next program plan (told program plan budget y.before) y.process ∷ in_g.mid) in
-              let front : edge_in program plan budget y.before y.process ≡ length (syncs_of (did (told program plan budget y.before) y.process)) = edge_is_count program plan budget y.before y.process in
-              let total : edge_in program plan budget g y.process ≡ length (syncs_of (did (told program plan budget y.before) y.process ++ next program plan (told program plan budget y.before) y.process ∷ in_g.mid)) = edge_is_count program plan budget g y.process ∙ ap (λ l. length (syncs_of l)) done_g in
+              let front : edge_in program plan budget y.before y.process ≡ length (filter_map sync_of (did (told program plan budget y.before) y.process)) = edge_is_count program plan budget y.before y.process in
+              let total : edge_in program plan budget g y.process ≡ length (filter_map sync_of (did (told program plan budget y.before) y.process ++ next program plan (told program plan budget y.before) y.process ∷ in_g.mid)) = edge_is_count program plan budget g y.process ∙ ap (λ l. length (filter_map sync_of l)) done_g in
               let same : edge_in program plan budget y.before y.process ≡ edge_in program plan budget g y.process = omega (arith, none, sum, front, total) in
               later_not program plan budget h w v r g [] (p ∷ rest) (are ∙ ap (λ l. l ++ p ∷ rest) (sym (append-nil g))) p y.process
               (subst (λ l. EdgeBefore program (sync_record program plan budget h) (edge y.process (edge_in program plan budget l y.process)) (edge p (edge_in program plan budget g p))) (sym (append-nil g))

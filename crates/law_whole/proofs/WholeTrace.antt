@@ -16,7 +16,7 @@ use Rattle.ppd_model.specs.declared.trace.TracedEvent.{TracedEvent}
 use Rattle.ppd_model.specs.declared.tracing.Story.{Story}
 use Rattle.ppd_model.specs.declared.tracing.Taken.{Taken}
 use Rattle.ppd_model.specs.declared.tracing.Tracing.{Tracing}
-use Rattle.ppd_model.specs.FullTrace.{Tag, answers_past, full_trace, tag_at, tags_of, top_tags, tracing_of}
+use Rattle.ppd_model.specs.FullTrace.{Tag, tags_of, top_tags, tracing_of, tag_past}
 use Rattle.ppd_model.proofs.TraceWords.{events_from}
 use Rattle.ppd_model.specs.Intervals.{Split, split_of, splits}
 use Rattle.ppd_model.proofs.IntervalWords.{splits_from}
@@ -72,11 +72,11 @@ writers_are : (locals : List Tag) (shared : ℕ → Tag) (writer : Spot → Tag)
 writers_are locals shared writer own other answers [] h = refl
 writers_are locals shared writer own other answers (a ∷ as') h =
     ap₂ (λ w ws. w ∷ ws) (first a.spot refl)
-    (writers_are locals shared writer own other (answers_past answers a.spot) as' (λ i c b w e s t. h (suc i) c b w e s t))
+    (writers_are locals shared writer own other (tag_past locals answers a.spot).1 as' (λ i c b w e s t. h (suc i) c b w e s t))
   where
-    first : (s : Spot) → a.spot ≡ s → writer a.spot ≡ tag_at locals answers a.spot
-    first (Local frame c) is = ap writer is ∙ own frame c ∙ ap (tag_at locals answers) (sym is)
-    first (Shared c) is = ap writer is ∙ other c ∙ h 0 c a (tag_at locals answers a.spot) refl is refl
+    first : (s : Spot) → a.spot ≡ s → writer a.spot ≡ (tag_past locals answers a.spot).0
+    first (Local frame c) is = ap writer is ∙ own frame c ∙ ap (λ s. (tag_past locals answers s).0) (sym is)
+    first (Shared c) is = ap writer is ∙ other c ∙ h 0 c a (tag_past locals answers a.spot).0 refl is refl
 
 -- ---- one process
 

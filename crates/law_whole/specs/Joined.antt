@@ -1,10 +1,10 @@
 -- The events of a process in order, joined from the items that the replays of its intervals give.
-use Rattle.std.specs.Prelude.{ℕ, zero, suc, List, [], ◌∷◌, length}
+use Rattle.std.specs.Prelude.{ℕ, zero, suc, List, [], ◌∷◌, length, get_or}
 use Rattle.std.specs.List.{flat_map}
 use Rattle.ppd_sem.specs.declared.event.Event.{Event}
 use Rattle.ppd_model.specs.declared.flow.Item.{Item}
 use Rattle.ppd_model.specs.declared.flow.Item.TheVariants as item
-use Rattle.ppd_flow_model.specs.Seen.{Seen, items_at}
+use Rattle.ppd_flow_model.specs.Seen.{Seen}
 
 -- an item's events: an event is itself, and an interval what stands in it
 abbrev pub events_of_item : (ℕ → List Event) → Item → List Event
@@ -19,7 +19,7 @@ events_of_items inner items = flat_map (events_of_item inner) items
 -- numbers, so that no more than all stand in one another
 abbrev pub joined : ℕ → Seen → ℕ → List Event
 joined zero x m = []
-joined (suc n) x m = events_of_items (joined n x) (items_at x m)
+joined (suc n) x m = events_of_items (joined n x) (get_or x.items m [])
 
 -- all events of a process
 abbrev pub events_in : Seen → List Event

@@ -8,7 +8,7 @@ use Rattle.ppd_sem.specs.Process.{started}
 use Rattle.ppd_model.specs.declared.trace.TracedEvent.{TracedEvent}
 use Rattle.ppd_model.specs.declared.tracing.Story.{Story}
 use Rattle.ppd_model.specs.declared.tracing.Taken.{Taken}
-use Rattle.ppd_model.specs.FullTrace.{full_trace, tracing_of}
+use Rattle.ppd_model.specs.FullTrace.{tracing_of, full_trace}
 use Rattle.ppd_model.specs.Intervals.{Split, splits}
 use Rattle.ppd_model.specs.LocalTags.{AreOwn}
 use Rattle.ppd_model.specs.Logs.{closed_logs}
@@ -50,4 +50,4 @@ JoinedTraceIsFull =
     (program : Program) (plan : Plan) (budget : ℕ) (h : List ℕ) (w : World) → IsValid program
     → run program plan budget h ≡ Some w → races program plan budget h ≡ []
     → joined_trace program (closed_logs program plan budget h) (all_seen program plan budget h)
-    ≡ full_trace program plan budget h
+    ≡ full_trace program plan budget (story program plan budget h)

@@ -1,13 +1,13 @@
 -- What is kept of activations goes on as they do.
 use Rattle.std.proofs.Common.{◌≡◌, ℕ, ℤ, Bool, cond, List, [], ◌∷◌, map, drop, Option, Some, None, refl, ap, ◌∙◌}
-use Rattle.std.specs.Prelude.{nat_eq, option_map, slice_get}
+use Rattle.std.specs.Prelude.{nat_eq, option_map, slice_get, option_and_then}
 use Rattle.std.specs.Cmp.{nat_cmp_total}
 use Rattle.std.specs.FinMap.{get, get-empty, get-insert}
 use Rattle.std.specs.Ordering.{nat_cmp}
 use Rattle.ppd_ast.specs.declared.program.Kind.{Kind}
 use Rattle.ppd_ast.specs.declared.program.Kind.TheVariants.{If, While}
 use Rattle.ppd_ast.specs.declared.program.Program.{Program}
-use Rattle.ppd_ast.specs.Lookups.{kind_of, parent_if}
+use Rattle.ppd_ast.specs.Lookups.{kind_of}
 use Rattle.ppd_sem.specs.declared.event.Event.{Event}
 use Rattle.ppd_model.specs.declared.trace.EventId.{EventId}
 use Rattle.ppd_model.specs.declared.tracing.Activation.{Activation}
@@ -43,9 +43,9 @@ outer_as (Some s) tests = ap (λ (o : Option Test). option_map (λ x. x.event) o
 
 pub parent_in_as : (program : Program) (s : ℕ) (x : Activation) → parent_in program s (run_of x) ≡ trace.parent_in program s x
 parent_in_as program s x =
-    let outer : Option EventId = of_outer (parent_if (slice_get program.stmts s)) (latest_of x.tests) in
+    let outer : Option EventId = of_outer (option_and_then (λ x. x.parent) (slice_get program.stmts s)) (latest_of x.tests) in
     ap (λ (o : Option Test). option_or (of_run (kind_of program s) o) (option_or outer x.call)) (found_latest s x.tests)
-    ∙ ap (λ (o : Option EventId). option_or (of_run (kind_of program s) (latest s x.tests)) (option_or o x.call)) (outer_as (parent_if (slice_get program.stmts s)) x.tests)
+    ∙ ap (λ (o : Option EventId). option_or (of_run (kind_of program s) (latest s x.tests)) (option_or o x.call)) (outer_as (option_and_then (λ x. x.parent) (slice_get program.stmts s)) x.tests)
 
 -- ---- tags
 

@@ -1,13 +1,12 @@
 -- What is kept of an activation while its process is followed: of its tests the latest of each statement.
-use Rattle.std.specs.Prelude.{ℕ, ◌-◌, ℤ, ◌++◌, List, [], ◌∷◌, replicate, slice_get, slice_set, Option, Some, None, option_map, if◌then◌else◌}
+use Rattle.std.specs.Prelude.{ℕ, ◌-◌, ℤ, ◌++◌, List, [], ◌∷◌, replicate, slice_get, slice_set, Option, Some, None, option_map, if◌then◌else◌, option_and_then}
 use Rattle.std.specs.FinMap.{FinMap, empty, get, insert}
 use Rattle.std.specs.Ordering.{nat_cmp}
 use Rattle.ppd_ast.specs.declared.program.Kind.{Kind}
 use Rattle.ppd_ast.specs.declared.program.Kind.TheVariants.{If, While}
 use Rattle.ppd_ast.specs.declared.program.Program.{Program}
-use Rattle.ppd_ast.specs.Lookups.{kind_of, parent_if}
+use Rattle.ppd_ast.specs.Lookups.{kind_of, body_numbered}
 use Rattle.ppd_sem.specs.declared.event.Event.{Event}
-use Rattle.ppd_sem.specs.Runs.{size_if}
 use Rattle.ppd_model.specs.declared.trace.EventId.{EventId}
 use Rattle.ppd_model.specs.declared.tracing.Activation.{Activation}
 use Rattle.ppd_model.specs.declared.tracing.Test.{Test}
@@ -36,7 +35,7 @@ begun_run n = record { call = None; tags = replicate n None; latest = empty }
 abbrev pub called : Program → ℕ → ℕ → Option EventId → Run
 called program f count me = record {
   call = me;
-  tags = replicate count me ++ replicate (size_if (slice_get program.bodies f) - count) None;
+  tags = replicate count me ++ replicate ((body_numbered program f).cells - count) None;
   latest = empty;
 }
 
@@ -73,7 +72,7 @@ of_outer (Some s) tests = option_map (λ x. x.event) (get tests s)
 abbrev pub parent_in : Program → ℕ → Run → Option EventId
 parent_in program s x =
     option_or (of_run (kind_of program s) (get x.latest s))
-    (option_or (of_outer (parent_if (slice_get program.stmts s)) x.latest) x.call)
+    (option_or (of_outer (option_and_then (λ x. x.parent) (slice_get program.stmts s)) x.latest) x.call)
 
 -- the control parent of an event of statement s, and None in a process by itself
 abbrev pub parent_of : Program → List Run → ℕ → Option EventId

@@ -1,7 +1,7 @@
 // The tests behind an event.
-ghost use Rattle.std.specs.Prelude.{◌≡◌, ◌+◌, ◌≤◌, slice_get, OnOk};
+ghost use Rattle.std.specs.Prelude.{◌≡◌, ◌+◌, ◌≤◌, slice_get, OnOk, option_and_then};
 ghost use Rattle.std.specs.FinMap as map;
-ghost use Rattle.ppd_ast.specs.Lookups.{kind_of, parent_if};
+ghost use Rattle.ppd_ast.specs.Lookups.{kind_of};
 ghost use Rattle.ppd_model.specs.FullTrace.{is_passed as is_passed_of, of_run as of_run_tests};
 ghost use Rattle.std.specs.Option.{option_or};
 ghost use Rattle.ppd_activations.specs.Runs.{of_outer as of_outer_tests, parent_in as parent_in_run, parent_of as parent_of_runs, passed_event as passed_event_of, tests_after, with_test};
@@ -60,7 +60,7 @@ fn of_run(program: &Program, stmt: u32, test: Option<Test>) -> Option<EventId>
 
 /// The `If` or `While` in which a statement directly stands.
 fn outer_of(program: &Program, stmt: u32) -> Option<u32>
-    ensures { result ≡ parent_if (slice_get program.now.stmts stmt) }
+    ensures { result ≡ option_and_then (λ x. x.parent) (slice_get program.now.stmts stmt) }
 {
     match program.stmts.as_slice().get(stmt as usize) {
         Some(stmt) => stmt.parent,

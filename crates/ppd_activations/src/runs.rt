@@ -1,7 +1,7 @@
 // The runs of bodies, before their first event, and the tags in them.
-ghost use Rattle.std.specs.Prelude.{◌≡◌, ◌+◌, ◌*◌, ◌≤◌, ◌++◌, get_or, replicate, slice_get, None, IfOk, OnOk};
-ghost use Rattle.ppd_sem.specs.Runs.{size_if};
+ghost use Rattle.std.specs.Prelude.{◌≡◌, ◌+◌, ◌*◌, ◌≤◌, ◌++◌, get_or, replicate, None, IfOk, OnOk};
 ghost use Rattle.ppd_activations.specs.Runs.{begun_run as begun_run_of, called, top_tags as top_tags_of};
+ghost use Rattle.ppd_ast.specs.Lookups.{body_numbered};
 
 use crate::by_number::ByNumber;
 use ppd_ast::{Memory, Program, Seq, Steps};
@@ -67,7 +67,7 @@ pub fn called_run<L: Ledger>(
     steps: &mut Steps<L>,
 ) -> Result<Run, Memory>
     ensures value { IfOk result (λ run. run ≡ called program.now function count call) }
-    ensures cost { steps.new ≤ steps.old + 2 * (count + size_if (slice_get program.now.bodies function)) }
+    ensures cost { steps.new ≤ steps.old + 2 * (count + (body_numbered program.now function).cells) }
 {
     let others = (size_at(program, function) as usize).saturating_sub(count);
     let mut tags = Seq::new(alloc);

@@ -1,7 +1,6 @@
 // The tags of the local cells that events write.
 ghost use Rattle.std.specs.Prelude.{◌≡◌, ◌+◌, ◌≤◌, drop, OnOk};
-ghost use Rattle.ppd_model.specs.FullTrace.{into_at};
-ghost use Rattle.ppd_sem.specs.Process.{into_of as into_of_kind};
+ghost use Rattle.ppd_sem.specs.Process.{into_of as into_of_kind, into_at};
 ghost use Rattle.ppd_activations.specs.Runs.{tagged, tagged_into};
 
 use crate::runs::Run;

@@ -1,7 +1,7 @@
 -- The plan without cells is valid.
 use Rattle.std.proofs.Common.{◌≡◌, ℕ, suc, ◌+◌, Bool, true, false, List, [], ◌∷◌, length, map, Option, Some, None, refl, sym, ap, subst, arith, IsSomeAnd, if◌then◌else◌}
 use Rattle.std.specs.Prelude.{slice_get}
-use Rattle.std.specs.List.{All, flat_map}
+use Rattle.std.specs.List.{All, flat_map, enumerate_from}
 use Rattle.std.proofs.lemmas.List.Elements.{All-cons, All-append, All-map}
 use Rattle.ppd_ast.specs.declared.program.Stmt.{Stmt}
 use Rattle.ppd_ast.specs.declared.program.Body.{Body}
@@ -14,7 +14,7 @@ use Rattle.ppd_ast.specs.declared.plan.Start.{Start}
 use Rattle.ppd_ast.specs.declared.plan.Unit.{Unit as UnitOf}
 use Rattle.ppd_ast.specs.Bare.{bare, bare_block, bare_unit}
 use Rattle.ppd_ast.proofs.Vocabulary.{gives, loops_of, body_kind}
-use Rattle.ppd_ast.specs.Numbered.{is_block_loop, is_block_body, loops_at, blocks_of, blocks_by, starts_by, numbers_of, each_from}
+use Rattle.ppd_ast.specs.Numbered.{is_block_loop, is_block_body, loops_at, blocks_of, blocks_by, starts_by, numbers_of}
 use Rattle.ppd_ast.specs.Valid.{IsValid}
 use Rattle.ppd_ast.specs.ValidPlan.{AreCells, IsValidBlock, IsValidPlan, IsValidPolicy, IsFunctionBlock, IsLoopBlock}
 use Rattle.ppd_ast.proofs.ValidLaws.{stmt_in_body}
@@ -35,11 +35,11 @@ all_if P a h true = All-cons P a [] h (all_none P)
 all_if P a h false = all_none P
 
 -- what holds for each body, by its number, from number j on
-all_bodies : {A : Type 0} (P : A → Type 0) (f : ℕ → Body → List A) (j : ℕ) (bs : List Body) → ((i : ℕ) (b : Body) → slice_get bs i ≡ Some b → All P (f (j + i) b)) → All P (each_from f j bs)
+all_bodies : {A : Type 0} (P : A → Type 0) (f : ℕ → Body → List A) (j : ℕ) (bs : List Body) → ((i : ℕ) (b : Body) → slice_get bs i ≡ Some b → All P (f (j + i) b)) → All P (flat_map (λ e. f e.0 e.1) (enumerate_from j bs))
 all_bodies P f j [] h = all_none P
 all_bodies P f j (b ∷ bs) h =
     let here : j + 0 ≡ j = omega arith in
-    All-append P (f j b) (each_from f (j + 1) bs) (subst (λ n. All P (f n b)) here (h 0 b refl))
+    All-append P (f j b) (flat_map (λ e. f e.0 e.1) (enumerate_from (j + 1) bs)) (subst (λ n. All P (f n b)) here (h 0 b refl))
     (all_bodies P f (j + 1) bs (λ i c e. let next : j + suc i ≡ j + 1 + i = omega arith in subst (λ n. All P (f n c)) next (h (suc i) c e)))
 
 pub some_and_is : {X : Type 0} (P : X → Type 0) (o : Option X) (x : X) → o ≡ Some x → P x → IsSomeAnd o P

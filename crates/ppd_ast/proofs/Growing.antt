@@ -1,14 +1,14 @@
 -- Lists that a walk over statements or bodies makes longer.
 use Rattle.std.proofs.Common.{◌≡◌, ℕ, ◌+◌, ◌-◌, ◌<◌, ◌≤◌, true, false, List, [], ◌∷◌, ◌++◌, length, get_or, map, take, sym, ap, ◌∙◌, if◌then◌else◌}
 use Rattle.std.specs.Prelude.{Result, Ok, Err, OnOk}
-use Rattle.std.specs.List.{flat_map, range_with_len}
+use Rattle.std.specs.List.{flat_map, range_with_len, enumerate_from}
 use Rattle.std.proofs.lemmas.List.{append_assoc, map-append}
 use Rattle.ppd_ast.specs.declared.program.Stmt.{Stmt}
 use Rattle.ppd_ast.specs.declared.program.Body.{Body}
 use Rattle.ppd_ast.specs.declared.plan.Policy.{Policy}
 use Rattle.ppd_ast.specs.declared.plan.BlockKind.TheVariants.{Loop}
 use Rattle.ppd_ast.specs.declared.plan.Start.TheVariants.{After, Enter, Exit}
-use Rattle.ppd_ast.specs.Numbered.{is_left, is_block_loop, loops_at, starts_of, starts_at, each_from}
+use Rattle.ppd_ast.specs.Numbered.{is_left, is_block_loop, loops_at, starts_of, starts_at}
 use Rattle.ppd_ast.proofs.Vocabulary.{loops_of}
 use Rattle.ppd_ast.proofs.Ranges.{range_more, flat_one, each_more}
 use Rattle.ppd_ast.proofs.Walks.{got_some}
@@ -41,10 +41,10 @@ module _ {A X : Type 0} (h : A → X) where
 
   -- one more body
   pub bodies_grown : (f : ℕ → Body → List A) (now next : List X) (bs : List Body) (k : ℕ) (b : Body) → k < length bs → b ≡ get_or bs k b
-      → now ≡ map h (each_from f 0 (take k bs)) → next ≡ now ++ map h (f k b)
-      → next ≡ map h (each_from f 0 (take (k + 1) bs))
+      → now ≡ map h (flat_map (λ e. f e.0 e.1) (enumerate_from 0 (take k bs))) → next ≡ now ++ map h (f k b)
+      → next ≡ map h (flat_map (λ e. f e.0 e.1) (enumerate_from 0 (take (k + 1) bs)))
   bodies_grown f now next bs k b inside is e g =
-      g ∙ ap (λ l. l ++ map h (f k b)) e ∙ sym (map-append h (each_from f 0 (take k bs)) (f k b)) ∙ ap (map h) (sym (each_more f bs k b inside is))
+      g ∙ ap (λ l. l ++ map h (f k b)) e ∙ sym (map-append h (flat_map (λ e. f e.0 e.1) (enumerate_from 0 (take k bs))) (f k b)) ∙ ap (map h) (sym (each_more f bs k b inside is))
 
 -- what follows from what holds on success holds on success
 pub on_ok : {T E A B : Type 0} (r : Result T E) → (A → B) → OnOk r A → OnOk r B

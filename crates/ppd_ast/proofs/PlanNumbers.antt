@@ -1,7 +1,7 @@
 -- How many blocks and units a valid plan has.
 use Rattle.std.proofs.Common.{◌≡◌, ℕ, zero, suc, ◌+◌, ◌-◌, ◌*◌, ◌≤◌, min, Bool, true, false, List, [], ◌∷◌, ◌++◌, length, map, Option, Some, None, refl, ap, ◌∙◌, arith, length-append, if◌then◌else◌}
 use Rattle.std.specs.Prelude.{slice_get}
-use Rattle.std.specs.List.{flat_map, range_with_len}
+use Rattle.std.specs.List.{flat_map, range_with_len, enumerate_from}
 use Rattle.std.proofs.lemmas.List.{length-map}
 use Rattle.ppd_ast.specs.declared.program.Stmt.{Stmt}
 use Rattle.ppd_ast.specs.declared.program.Body.{Body}
@@ -12,7 +12,7 @@ use Rattle.ppd_ast.specs.declared.plan.Block.{Block}
 use Rattle.ppd_ast.specs.declared.plan.BlockKind.TheVariants.{Loop}
 use Rattle.ppd_ast.specs.declared.plan.Start.TheVariants.{After, Enter, Exit}
 use Rattle.ppd_ast.specs.declared.plan.Unit.{Unit as UnitOf}
-use Rattle.ppd_ast.specs.Numbered.{is_left, is_block_loop, is_block_body, loops_at, starts_of, starts_at, blocks_of, blocks_by, body_starts, starts_by, numbers_of, each_from}
+use Rattle.ppd_ast.specs.Numbered.{is_left, is_block_loop, is_block_body, loops_at, starts_of, starts_at, blocks_of, blocks_by, body_starts, starts_by, numbers_of}
 use Rattle.ppd_ast.proofs.Vocabulary.{body_kind}
 use Rattle.ppd_ast.proofs.Vocabulary.{loops_of}
 use Rattle.ppd_ast.specs.Valid.{IsValid, Follow}
@@ -51,19 +51,19 @@ in_body c f h stmts b =
 
 -- the bodies' ranges follow one another: at most one for each body and c for each statement
 each_short : {A : Type 0} (c : ℕ) (f : ℕ → Body → List A) → ((j : ℕ) (b : Body) → length (f j b) ≤ 1 + c * (b.end - b.first))
-    → (j n : ℕ) (bs : List Body) (end : ℕ) → Follow n bs end → (n ≤ end) × (length (each_from f j bs) ≤ length bs + c * (end - n))
+    → (j n : ℕ) (bs : List Body) (end : ℕ) → Follow n bs end → (n ≤ end) × (length (flat_map (λ e. f e.0 e.1) (enumerate_from j bs)) ≤ length bs + c * (end - n))
 each_short c f h j n [] end e = (omega arith, omega arith)
 each_short c f h j n (b ∷ bs) end follow =
     let first : b.first ≡ n = follow.0 in
     let up : n ≤ b.end = follow.1 in
     let rest = each_short c f h (j + 1) b.end bs end follow.2 in
     let low : b.end ≤ end = rest.0 in
-    let those : length (each_from f (j + 1) bs) ≤ length bs + c * (end - b.end) = rest.1 in
+    let those : length (flat_map (λ e. f e.0 e.1) (enumerate_from (j + 1) bs)) ≤ length bs + c * (end - b.end) = rest.1 in
     let here : length (f j b) ≤ 1 + c * (b.end - b.first) = h j b in
     let same : c * (b.end - b.first) ≡ c * (b.end - n) = ap (λ m. c * (b.end - m)) first in
     let sum : end - n ≡ (b.end - n) + (end - b.end) = omega arith in
     let times : c * (end - n) ≡ c * (b.end - n) + c * (end - b.end) = ap (λ m. c * m) sum ∙ omega arith in
-    let both : length (f j b ++ each_from f (j + 1) bs) ≡ length (f j b) + length (each_from f (j + 1) bs) = length-append (f j b) (each_from f (j + 1) bs) in
+    let both : length (f j b ++ flat_map (λ e. f e.0 e.1) (enumerate_from (j + 1) bs)) ≡ length (f j b) + length (flat_map (λ e. f e.0 e.1) (enumerate_from (j + 1) bs)) = length-append (f j b) (flat_map (λ e. f e.0 e.1) (enumerate_from (j + 1) bs)) in
     (omega (arith, low, up), omega (arith, those, here, same, times, both))
 
 module _ (stmts : List Stmt) (policy : Policy) where

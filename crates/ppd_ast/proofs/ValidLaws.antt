@@ -1,6 +1,6 @@
 -- What holds in a valid program, for the crates above.
 use Rattle.std.proofs.Common.{◌≡◌, ℕ, zero, suc, ◌+◌, ◌<◌, ◌≤◌, List, [], ◌∷◌, length, get_or, Option, Some, None, refl, subst, arith, IsSomeAnd}
-use Rattle.std.specs.Prelude.{slice_get, ⊤}
+use Rattle.std.specs.Prelude.{slice_get, ⊤, unwrap_or}
 use Rattle.std.specs.List.{All}
 use Rattle.std.proofs.lemmas.Option.{get_or_from_slice_get}
 use Rattle.ppd_ast.specs.declared.program.Var.{Var}
@@ -13,7 +13,7 @@ use Rattle.ppd_ast.specs.declared.program.Program.{Program}
 use Rattle.ppd_ast.specs.Table.{EachAt}
 use Rattle.ppd_ast.specs.Term.{Term, const, local, local_at, shared, shared_at, neg, not, two, and, or, term}
 use Rattle.ppd_ast.specs.Uses.{kind_uses}
-use Rattle.ppd_ast.specs.Cells.{size, after, CoverCells, IsScalarOf, IsArrayOf, NamesWhole, IsWholeTarget}
+use Rattle.ppd_ast.specs.Cells.{after, CoverCells, IsScalarOf, IsArrayOf, NamesWhole, IsWholeTarget}
 use Rattle.ppd_ast.specs.Order.{inner}
 use Rattle.ppd_ast.specs.Valid.{IsValid, IsValidBody, IsValidStmt, IsValidKind}
 
@@ -65,7 +65,7 @@ scalar_below vs n c covers h =
     let v = h.1 in
     let within = covers.within h.0 v h.2 in
     let is : get_or vs h.0 v ≡ v = h.3 in
-    let end : v.base + 1 ≤ n = subst (λ (o : Option ℕ). v.base + size o ≤ n) h.4.1 (subst (λ (w : Var). after w ≤ n) is within) in
+    let end : v.base + 1 ≤ n = subst (λ (o : Option ℕ). v.base + unwrap_or o 1 ≤ n) h.4.1 (subst (λ (w : Var). after w ≤ n) is within) in
     omega (arith, end, h.4.0)
 
 pub array_below : (vs : List Var) (n base len : ℕ) → CoverCells vs n → IsArrayOf vs base len → base + len ≤ n
@@ -73,7 +73,7 @@ array_below vs n base len covers h =
     let v = h.1 in
     let within = covers.within h.0 v h.2 in
     let is : get_or vs h.0 v ≡ v = h.3 in
-    let end : v.base + len ≤ n = subst (λ (o : Option ℕ). v.base + size o ≤ n) h.4.1 (subst (λ (w : Var). after w ≤ n) is within) in
+    let end : v.base + len ≤ n = subst (λ (o : Option ℕ). v.base + unwrap_or o 1 ≤ n) h.4.1 (subst (λ (w : Var). after w ≤ n) is within) in
     omega (arith, end, h.4.0)
 
 -- the cells that an expression names are below these numbers

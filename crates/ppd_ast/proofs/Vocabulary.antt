@@ -1,5 +1,5 @@
 -- What the proofs speak of: the parts of the definitions, each by a name of its own.
-use Rattle.std.specs.Prelude.{ℕ, Option, List, [], Bool, false, slice_get, ◌∷◌, ◌++◌, fold, ◌+◌, ◌||◌, length, if◌then◌else◌}
+use Rattle.std.specs.Prelude.{ℕ, Option, List, [], Bool, false, slice_get, ◌∷◌, ◌++◌, fold, ◌||◌, length, if◌then◌else◌, unwrap_or}
 use Rattle.std.specs.Option.{option_map_or}
 use Rattle.std.specs.List.{flat_map}
 use Rattle.ppd_ast.specs.declared.program.Body.{Body}
@@ -15,6 +15,7 @@ use Rattle.ppd_ast.specs.declared.plan.BlockKind.TheVariants.{Loop, Function, Pr
 use Rattle.ppd_ast.specs.declared.plan.Policy.{Policy}
 use Rattle.ppd_ast.specs.declared.limits.TheConstants.{MOST_NESTING}
 use Rattle.ppd_ast.specs.Numbered.{is_block_loop, is_call, is_while}
+use Rattle.ppd_ast.specs.Lookups.{no_body}
 
 -- the kind of a statement, and `End` where there is none
 abbrev pub kind_of_stmt : Option Stmt → Kind
@@ -22,11 +23,11 @@ kind_of_stmt o = option_map_or (λ x. x.kind) o kind.End
 
 -- how many parameters a body has, and 0 where there is none
 abbrev pub params_of_body : Option Body → ℕ
-params_of_body o = option_map_or (λ b. b.params) o 0
+params_of_body o = (unwrap_or o no_body).params
 
 -- the local variables of a body, and none where there is no body
 abbrev pub locals_of_body : Option Body → List Var
-locals_of_body o = option_map_or (λ b. b.locals) o []
+locals_of_body o = (unwrap_or o no_body).locals
 
 -- whether a body gives a value
 abbrev pub gives : Option Body → Bool

@@ -1,5 +1,5 @@
 -- Variables and the cells that are theirs.
-use Rattle.std.specs.Prelude.{◌≡◌, ℕ, ◌+◌, ◌<◌, ◌≤◌, nat_lt, nat_le, Bool, ◌&&◌, List, Option, Some, None, IsSomeAnd, slice_get, ⊤}
+use Rattle.std.specs.Prelude.{◌≡◌, ℕ, ◌+◌, ◌<◌, ◌≤◌, nat_lt, nat_le, Bool, ◌&&◌, List, Option, Some, None, IsSomeAnd, slice_get, ⊤, unwrap_or}
 use Rattle.std.specs.List.{All, Any, count_by}
 use Rattle.ppd_ast.specs.declared.program.Var.{Var}
 use Rattle.ppd_ast.specs.declared.program.Target.{Target}
@@ -8,14 +8,9 @@ use Rattle.ppd_ast.specs.declared.program.Kind.{Kind}
 use Rattle.ppd_ast.specs.declared.program.Kind.TheVariants as K
 use Rattle.ppd_ast.specs.Term.{Term, const, local, local_at, shared, shared_at, neg, not, two, and, or}
 
--- how many cells: one of a scalar, an array's length
-abbrev pub size : Option ℕ → ℕ
-size None = 1
-size (Some len) = len
-
--- the cell after the variable's last one
+-- the cell after the variable's last one: a scalar has one cell, an array its length
 abbrev pub after : Var → ℕ
-after v = v.base + size v.len
+after v = v.base + unwrap_or v.len 1
 
 -- whether the cell is one of the variable's
 abbrev pub holds : ℕ → Var → Bool

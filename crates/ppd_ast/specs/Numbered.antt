@@ -1,6 +1,6 @@
 -- How blocks and units are numbered for a policy.
-use Rattle.std.specs.Prelude.{ℕ, zero, suc, ◌+◌, ◌-◌, min, nat_lt, nat_le, Bool, true, false, not, ◌&&◌, ◌||◌, List, [], ◌∷◌, ◌++◌, length, Option, Some, None, slice_get, if◌then◌else◌}
-use Rattle.std.specs.List.{flat_map, range_with_len, list_any}
+use Rattle.std.specs.Prelude.{ℕ, zero, suc, ◌-◌, min, nat_lt, nat_le, Bool, true, false, not, ◌&&◌, ◌||◌, List, [], ◌∷◌, ◌++◌, length, Option, Some, None, slice_get, if◌then◌else◌}
+use Rattle.std.specs.List.{enumerate_from, flat_map, range_with_len, list_any}
 use Rattle.std.specs.Option.{option_map_or}
 use Rattle.ppd_ast.specs.declared.program.Kind.{Kind}
 use Rattle.ppd_ast.specs.declared.program.Kind.TheVariants as K
@@ -87,13 +87,8 @@ abbrev pub of_body : {X : Type 0} → (List Stmt → Policy → ℕ → Body →
     → List Stmt → Policy → ℕ → Body → List X
 of_body own at stmts policy j b = own stmts policy j b ++ flat_map (at stmts policy) (numbers_of stmts b)
 
--- what there is for each item and its number, one after another, from number j on
-abbrev pub each_from : {X Y : Type 0} → (ℕ → Y → List X) → ℕ → List Y → List X
-each_from f j [] = []
-each_from f j (y ∷ ys) = f j y ++ each_from f (j + 1) ys
-
 abbrev pub blocks_by : List Stmt → Policy → List Body → List BlockKind
-blocks_by stmts policy bodies = each_from (blocks_of stmts policy) 0 bodies
+blocks_by stmts policy bodies = flat_map (λ e. blocks_of stmts policy e.0 e.1) (enumerate_from 0 bodies)
 
 abbrev pub starts_by : List Stmt → Policy → List Body → List Start
-starts_by stmts policy bodies = each_from (body_starts stmts policy) 0 bodies
+starts_by stmts policy bodies = flat_map (λ e. body_starts stmts policy e.0 e.1) (enumerate_from 0 bodies)

@@ -1,8 +1,8 @@
 // The plan without cells.
 ghost use Rattle.std.specs.Prelude.{◌≡◌, ◌<◌, ◌^◌, [], ◌∷◌, ◌++◌, IfOk, OnOk, length, map, if◌then◌else◌};
-ghost use Rattle.std.specs.List.{flat_map};
+ghost use Rattle.std.specs.List.{flat_map, enumerate_from};
 ghost use Rattle.ppd_ast.specs.Bare.{bare, bare_block, bare_unit, gives_value};
-ghost use Rattle.ppd_ast.specs.Numbered.{each_from, is_block_loop, numbers_of, of_body};
+ghost use Rattle.ppd_ast.specs.Numbered.{is_block_loop, numbers_of, of_body};
 ghost use Rattle.ppd_ast.specs.Valid.{IsValid};
 ghost use Rattle.ppd_ast.specs.ValidPlan.{IsValidPlan, IsValidPolicy};
 
@@ -206,7 +206,8 @@ fn all_bare<T: Bare>(alloc: Global, program: &Program, policy: Policy) -> Result
     ensures { IfOk result
         (λ list. list
         ≡ map (T.bare program.now.bodies)
-        (each_from (of_body T.own T.at_stmt program.now.stmts policy) 0 program.now.bodies)) }
+        (flat_map (λ e. of_body T.own T.at_stmt program.now.stmts policy e.0 e.1)
+        (enumerate_from 0 program.now.bodies))) }
 {
     let mut list = Seq::new(alloc);
     let bodies = program.bodies.as_slice();

@@ -1,8 +1,8 @@
 ghost use Rattle.std.specs.Prelude.{◌≡◌, ◌↔◌, ◌<◌, ◌-◌, [], ◌∷◌, IsTrue, length, map, min, if◌then◌else◌};
-ghost use Rattle.std.specs.List.{flat_map};
+ghost use Rattle.std.specs.List.{flat_map, enumerate_from};
 ghost use Rattle.ppd_ast.specs.Begins.{Begins};
 ghost use Rattle.ppd_ast.specs.declared.plan.BlockKind.TheVariants.{Function, Process};
-ghost use Rattle.ppd_ast.specs.Numbered.{is_while, is_call, is_left, numbers_of, in_while, is_block_loop, has_call, is_block_body, loops_at, starts_at, of_body, each_from};
+ghost use Rattle.ppd_ast.specs.Numbered.{is_while, is_call, is_left, numbers_of, in_while, is_block_loop, has_call, is_block_body, loops_at, starts_at, of_body};
 ghost use Rattle.ppd_ast.specs.Order.{inner, preorder};
 
 use crate::limits::MOST_NESTING;
@@ -361,7 +361,7 @@ fn past_bodies<T: Numbered>(
     bodies: &[Body],
 ) -> Option<usize>
     ensures { Begins result (map T.key list.now) 0
-        (each_from (of_body T.own T.at_stmt stmts.now policy) 0 bodies.now) }
+        (flat_map (λ e. of_body T.own T.at_stmt stmts.now policy e.0 e.1) (enumerate_from 0 bodies.now)) }
 {
     let mut next = 0;
     for number in 0..bodies.len() {
@@ -377,7 +377,9 @@ pub(crate) fn are_numbered<T: Numbered>(
     policy: Policy,
     bodies: &[Body],
 ) -> bool
-    ensures { IsTrue result ↔ (map T.key list.now ≡ each_from (of_body T.own T.at_stmt stmts.now policy) 0 bodies.now) }
+    ensures { IsTrue result
+        ↔ (map T.key list.now
+        ≡ flat_map (λ e. of_body T.own T.at_stmt stmts.now policy e.0 e.1) (enumerate_from 0 bodies.now)) }
 {
     match past_bodies(list, stmts, policy, bodies) {
         None => false,

@@ -1,6 +1,6 @@
-ghost use Rattle.std.specs.Prelude.{◌≡◌, option_copied, slice_get};
+ghost use Rattle.std.specs.Prelude.{◌≡◌, option_copied, slice_get, option_and_then};
 ghost use Rattle.std.specs.Slice.{IsItemAt};
-ghost use Rattle.ppd_ast.specs.Lookups.{kind_of, parent_if};
+ghost use Rattle.ppd_ast.specs.Lookups.{kind_of};
 ghost use Rattle.ppd_ast.specs.Numbered.{is_while};
 
 use crate::lists::{Bytes, Ids, Nums, Seq};
@@ -161,7 +161,7 @@ impl Program {
 
     /// The `If` or `While` in which the statement with this number, from 0, directly stands.
     pub fn parent_of(&self, stmt: u32) -> Option<u32>
-        ensures { result ≡ parent_if (slice_get self.now.stmts stmt) }
+        ensures { result ≡ option_and_then (λ x. x.parent) (slice_get self.now.stmts stmt) }
     {
         self.stmt(stmt)?.parent
     }

@@ -1,25 +1,25 @@
 -- In a valid program what follows a statement is a statement.
-use Rattle.std.proofs.Common.{◌≡◌, ℕ, zero, suc, ◌<◌, List, [], ◌∷◌, Bool, Option, Some, None, refl, sym, subst, inl, inr, length, true≢false}
-use Rattle.std.specs.Prelude.{nat_eq, nat_lt, slice_get, ⊤, if◌then◌else◌, option_to_list}
-use Rattle.std.proofs.lemmas.Bool.{cases_Bool, cond-true, cond-false}
-use Rattle.ppd_ast.specs.declared.program.Kind.{Kind}
-use Rattle.ppd_ast.specs.declared.program.Kind.TheVariants as K
-use Rattle.ppd_ast.specs.declared.program.Stmt.{Stmt}
-use Rattle.ppd_ast.specs.declared.program.Body.{Body}
-use Rattle.ppd_ast.specs.declared.program.Program.{Program}
+use Rattle.ppd_ast.proofs.Members.{all_has, has_cons, has_first, has_later, has_left, has_right}
+use Rattle.ppd_ast.proofs.ValidLaws.{inner_below, slice_get_below, top_below}
+use Rattle.ppd_ast.proofs.Vocabulary.{kind_of_stmt}
+use Rattle.ppd_ast.specs.Lookups.{body_numbered, no_body}
+use Rattle.ppd_ast.specs.Members.{AreBelow, has}
 use Rattle.ppd_ast.specs.Order.{inner}
 use Rattle.ppd_ast.specs.Valid.{IsValid}
-use Rattle.ppd_ast.proofs.ValidLaws.{inner_below, top_below, slice_get_below}
-use Rattle.ppd_ast.specs.Members.{has, AreBelow}
-use Rattle.ppd_ast.specs.Lookups.{top_of_body, top_of}
-use Rattle.ppd_ast.proofs.Vocabulary.{kind_of_stmt}
-use Rattle.ppd_ast.proofs.Members.{has_first, has_later, has_cons, has_left, has_right, all_has}
 use Rattle.ppd_ast.specs.declared.limits.TheConstants.{MOST_NESTING}
-use Rattle.ppd_cfg.specs.Lists.{first_or, rising}
-use Rattle.ppd_cfg.proofs.Vocabulary.{rising_pair}
-use Rattle.ppd_cfg.specs.Flow.{next_in, follow_within, follow_under, follow_at, follow, successors, next_of}
-use Rattle.ppd_cfg.proofs.Vocabulary.{follow_of}
+use Rattle.ppd_ast.specs.declared.program.Body.{Body}
+use Rattle.ppd_ast.specs.declared.program.Kind.{Kind}
+use Rattle.ppd_ast.specs.declared.program.Kind.TheVariants as K
+use Rattle.ppd_ast.specs.declared.program.Program.{Program}
+use Rattle.ppd_ast.specs.declared.program.Stmt.{Stmt}
+use Rattle.ppd_cfg.proofs.Vocabulary.{follow_of, rising_pair}
+use Rattle.ppd_cfg.specs.Flow.{follow, follow_at, follow_under, follow_within, next_in, next_of, successors}
+use Rattle.ppd_cfg.specs.Lists.{rising}
 use Rattle.ppd_sets.proofs.Calling.{one_below}
+use Rattle.std.proofs.Common.{Bool, List, None, Option, Some, [], inl, inr, length, refl, subst, suc, sym, true≢false, zero, ℕ, ◌<◌, ◌∷◌, ◌≡◌}
+use Rattle.std.proofs.lemmas.Bool.{cases_Bool, cond-false, cond-true}
+use Rattle.std.specs.Option.{option_or}
+use Rattle.std.specs.Prelude.{if◌then◌else◌, nat_eq, nat_lt, option_to_list, slice_get, unwrap_or, ⊤}
 
 -- the number, if there is one, is below n
 abbrev pub Fits : ℕ → Option ℕ → Type 0
@@ -33,15 +33,19 @@ pub listed_below : (n : ℕ) (o : Option ℕ) → Fits n o → AreBelow n (optio
 listed_below n None f = none_below n
 listed_below n (Some x) f = one_below n x f
 
-first_fits : (n : ℕ) (xs : List ℕ) (after : Option ℕ) → AreBelow n xs → Fits n after → Fits n (first_or xs after)
+first_fits : (n : ℕ) (xs : List ℕ) (after : Option ℕ) → AreBelow n xs → Fits n after → Fits n (option_or (slice_get xs 0) after)
 first_fits n [] after h f = f
 first_fits n (x ∷ xs) after h f = h x (has_first x xs)
+
+head_fits : (n : ℕ) (xs : List ℕ) → AreBelow n xs → Fits n (slice_get xs 0)
+head_fits n [] h = tt
+head_fits n (x ∷ xs) h = h x (has_first x xs)
 
 next_fits : (n : ℕ) (xs : List ℕ) (s : ℕ) (after : Option ℕ) → AreBelow n xs → Fits n after → Fits n (next_in xs s after)
 next_fits n [] s after h f = tt
 next_fits n (x ∷ xs) s after h f = elim (cases_Bool (nat_eq x s)) [
-  | inl e ↦ subst (Fits n) (sym (cond-true (nat_eq x s) (first_or xs after) (next_in xs s after) e)) (first_fits n xs after (λ y l. h y (has_later x y xs l)) f)
-  | inr e ↦ subst (Fits n) (sym (cond-false (nat_eq x s) (first_or xs after) (next_in xs s after) e)) (next_fits n xs s after (λ y l. h y (has_later x y xs l)) f)
+  | inl e ↦ subst (Fits n) (sym (cond-true (nat_eq x s) (option_or (slice_get xs 0) after) (next_in xs s after) e)) (first_fits n xs after (λ y l. h y (has_later x y xs l)) f)
+  | inr e ↦ subst (Fits n) (sym (cond-false (nat_eq x s) (option_or (slice_get xs 0) after) (next_in xs s after) e)) (next_fits n xs s after (λ y l. h y (has_later x y xs l)) f)
 ]
 
 one_of : (n : ℕ) (b : Bool) (xs ys : List ℕ) → AreBelow n xs → AreBelow n ys → AreBelow n (if b then xs else ys)
@@ -64,12 +68,12 @@ within_fits : (p : Program) (q s : ℕ) (o : Option Stmt) (after : Option ℕ) �
 within_fits p q s None after v at f = tt
 within_fits p q s (Some x) after v at f = kinds_fit (length p.stmts) q x.kind s after (slice_get_below p.stmts q x at) (inner_are_below p q x v at) f
 
-tops_are_below : (p : Program) (b : ℕ) (o : Option Body) → IsValid p → slice_get p.bodies b ≡ o → AreBelow (length p.stmts) (top_of_body o)
+tops_are_below : (p : Program) (b : ℕ) (o : Option Body) → IsValid p → slice_get p.bodies b ≡ o → AreBelow (length p.stmts) (unwrap_or o no_body).top
 tops_are_below p b None v at = none_below (length p.stmts)
 tops_are_below p b (Some body) v at = λ y h. all_has (λ i. i < length p.stmts) body.top y (top_below p b body v at) h
 
 under_fits : (p : Program) (outer : ℕ → Option ℕ) (body s : ℕ) (parent : Option ℕ) → IsValid p → ((q : ℕ) → Fits (length p.stmts) (outer q)) → Fits (length p.stmts) (follow_under p outer body s parent)
-under_fits p outer body s None v f = next_fits (length p.stmts) (top_of p body) s None (tops_are_below p body (slice_get p.bodies body) v refl) tt
+under_fits p outer body s None v f = next_fits (length p.stmts) (body_numbered p body).top s None (tops_are_below p body (slice_get p.bodies body) v refl) tt
 under_fits p outer body s (Some q) v f = within_fits p q s (slice_get p.stmts q) (outer q) v refl (f q)
 
 of_fits : (p : Program) (outer : ℕ → Option ℕ) (s : ℕ) (o : Option Stmt) → IsValid p → ((q : ℕ) → Fits (length p.stmts) (outer q)) → Fits (length p.stmts) (follow_of p outer s o)
@@ -84,8 +88,8 @@ at_fits (suc d) p s v = of_fits p (follow_at d p) s (slice_get p.stmts s) v (λ 
 pub follow_fits : (p : Program) (s : ℕ) → IsValid p → Fits (length p.stmts) (follow p s)
 follow_fits p s v = at_fits MOST_NESTING p s v
 
-pub first_of_body_fits : (p : Program) (b : ℕ) → IsValid p → Fits (length p.stmts) (first_or (top_of p b) None)
-first_of_body_fits p b v = first_fits (length p.stmts) (top_of p b) None (tops_are_below p b (slice_get p.bodies b) v refl) tt
+pub first_of_body_fits : (p : Program) (b : ℕ) → IsValid p → Fits (length p.stmts) (slice_get (body_numbered p b).top 0)
+first_of_body_fits p b v = head_fits (length p.stmts) (body_numbered p b).top (tops_are_below p b (slice_get p.bodies b) v refl)
 
 -- ---- so are its successors
 
@@ -104,8 +108,8 @@ rising_below n (Some x) (Some y) f g = pair_below n x y f g
 
 successors_below : (n s : ℕ) (k : Kind) (after : Option ℕ) → s < n → AreBelow n (inner k) → Fits n after → AreBelow n (successors s k after)
 successors_below n s (K.If e first second) after l h f =
-    rising_below n (first_or first after) (first_or second after) (first_fits n first after (λ x i. h x (has_left first second x i)) f) (first_fits n second after (λ x i. h x (has_right first second x i)) f)
-successors_below n s (K.While e body) after l h f = rising_below n (first_or body (Some s)) after (first_fits n body (Some s) h l) f
+    rising_below n (option_or (slice_get first 0) after) (option_or (slice_get second 0) after) (first_fits n first after (λ x i. h x (has_left first second x i)) f) (first_fits n second after (λ x i. h x (has_right first second x i)) f)
+successors_below n s (K.While e body) after l h f = rising_below n (option_or (slice_get body 0) (Some s)) after (first_fits n body (Some s) h l) f
 successors_below n s (K.Return e) after l h f = none_below n
 successors_below n s K.End after l h f = none_below n
 successors_below n s k after l h f = listed_below n after f

@@ -1,7 +1,7 @@
 -- The block loops, and that the units start where the policy says.
 use Rattle.std.proofs.Common.{◌≡◌, ℕ, ◌+◌, List, [], ◌∷◌, ◌++◌, Bool, true, false, Option, Some, None, refl, sym, ap, ◌∙◌, subst, inl, inr, true≢false}
 use Rattle.std.specs.Prelude.{IsTrue, slice_get, if◌then◌else◌}
-use Rattle.std.specs.List.{flat_map}
+use Rattle.std.specs.List.{flat_map, enumerate_from}
 use Rattle.std.proofs.lemmas.Bool.{cases_Bool}
 use Rattle.std.proofs.lemmas.Grind.{flat_map-append}
 use Rattle.ppd_ast.specs.declared.program.Stmt.{Stmt}
@@ -10,7 +10,7 @@ use Rattle.ppd_ast.specs.declared.program.Program.{Program}
 use Rattle.ppd_ast.specs.declared.plan.Policy.{Policy}
 use Rattle.ppd_ast.specs.declared.plan.BlockKind.TheVariants.{Function, Process, Loop}
 use Rattle.ppd_ast.specs.declared.plan.Start.TheVariants.{Entry, After, Enter, Exit}
-use Rattle.ppd_ast.specs.Numbered.{is_left, is_block_loop, is_block_body, loops_at, blocks_of, starts_of, body_starts, starts_by, numbers_of, each_from}
+use Rattle.ppd_ast.specs.Numbered.{is_left, is_block_loop, is_block_body, loops_at, blocks_of, starts_of, body_starts, starts_by, numbers_of}
 use Rattle.ppd_ast.proofs.Vocabulary.{body_kind}
 use Rattle.ppd_ast.proofs.Vocabulary.{loops_of}
 use Rattle.ppd_ast.specs.Numbered.{starts_at as starts_of_policy}
@@ -31,7 +31,7 @@ module _ (p : Program) (policy : Policy) where
   loops_in ns = flat_map loop_in (flat_map (loops_at p.stmts policy) ns)
 
   loops_by : ℕ → List Body → List ℕ
-  loops_by j bs = flat_map loop_in (each_from (blocks_of p.stmts policy) j bs)
+  loops_by j bs = flat_map loop_in (flat_map (λ e. blocks_of p.stmts policy e.0 e.1) (enumerate_from j bs))
 
   -- ---- each is a block loop
 
@@ -71,8 +71,8 @@ module _ (p : Program) (policy : Policy) where
   cons_loops : (j : ℕ) (b : Body) (bs : List Body) → loops_by j (b ∷ bs) ≡ loops_in (numbers_of p.stmts b) ++ loops_by (j + 1) bs
   unfolding loops_by
   cons_loops j b bs =
-      flat_map-append loop_in (blocks_of p.stmts policy j b) (each_from (blocks_of p.stmts policy) (j + 1) bs)
-      ∙ ap (λ l. l ++ flat_map loop_in (each_from (blocks_of p.stmts policy) (j + 1) bs)) (body_loops j b)
+      flat_map-append loop_in (blocks_of p.stmts policy j b) (flat_map (λ e. blocks_of p.stmts policy e.0 e.1) (enumerate_from (j + 1) bs))
+      ∙ ap (λ l. l ++ flat_map loop_in (flat_map (λ e. blocks_of p.stmts policy e.0 e.1) (enumerate_from (j + 1) bs))) (body_loops j b)
 
   no_bodies : (j k : ℕ) → IsTrue (has (loops_by j []) k) → false ≡ true
   unfolding loops_by
@@ -121,11 +121,11 @@ module _ (p : Program) (policy : Policy) where
         ap (λ l. l ++ flat_map (unit_starts_at p loops) ns) (starts_at_stmt n (slice_get p.stmts n) refl (λ i h. there i (subst (λ xs. IsTrue (has xs i)) (sym both) (has_left (flat_map loop_in (loops_at p.stmts policy n)) (loops_in ns) i h))))
         ∙ ap (λ l. starts_of_policy p.stmts policy n ++ l) (starts_of_numbers ns (λ i h. there i (subst (λ xs. IsTrue (has xs i)) (sym both) (has_right (flat_map loop_in (loops_at p.stmts policy n)) (loops_in ns) i h))))
 
-    starts_of_bodies : (j : ℕ) (bs : List Body) → ((i : ℕ) → IsTrue (has (loops_by j bs) i) → IsTrue (has loops i)) → each_from (starts_in p loops) j bs ≡ each_from (body_starts p.stmts policy) j bs
+    starts_of_bodies : (j : ℕ) (bs : List Body) → ((i : ℕ) → IsTrue (has (loops_by j bs) i) → IsTrue (has loops i)) → flat_map (λ e. starts_in p loops e.0 e.1) (enumerate_from j bs) ≡ flat_map (λ e. body_starts p.stmts policy e.0 e.1) (enumerate_from j bs)
     starts_of_bodies j [] there = refl
     starts_of_bodies j (b ∷ bs) there =
         let both : loops_by j (b ∷ bs) ≡ loops_in (numbers_of p.stmts b) ++ loops_by (j + 1) bs = cons_loops j b bs in
-        ap (λ l. (Entry j ∷ l) ++ each_from (starts_in p loops) (j + 1) bs) (starts_of_numbers (numbers_of p.stmts b) (λ i h. there i (subst (λ xs. IsTrue (has xs i)) (sym both) (has_left (loops_in (numbers_of p.stmts b)) (loops_by (j + 1) bs) i h))))
+        ap (λ l. (Entry j ∷ l) ++ flat_map (λ e. starts_in p loops e.0 e.1) (enumerate_from (j + 1) bs)) (starts_of_numbers (numbers_of p.stmts b) (λ i h. there i (subst (λ xs. IsTrue (has xs i)) (sym both) (has_left (loops_in (numbers_of p.stmts b)) (loops_by (j + 1) bs) i h))))
         ∙ ap (λ l. body_starts p.stmts policy j b ++ l) (starts_of_bodies (j + 1) bs (λ i h. there i (subst (λ xs. IsTrue (has xs i)) (sym both) (has_right (loops_in (numbers_of p.stmts b)) (loops_by (j + 1) bs) i h))))
 
   pub by_policy : (k : ℕ) → IsTrue (has (block_loops p policy) k) → IsLoop k

@@ -16,7 +16,7 @@ use Rattle.ppd_ast.proofs.Members.{has_cases, below_range, flat_gives, all_has}
 use Rattle.ppd_ast.specs.declared.limits.TheConstants.{MOST_SHARED_CELLS}
 use Rattle.ppd_cfg.specs.Reach.{closure, leads}
 use Rattle.ppd_sets.specs.Gained.{Gains, HasCells}
-use Rattle.ppd_sets.specs.Named.{shared_cells, cells_in, reads}
+use Rattle.ppd_sets.specs.Named.{cells_in, reads, cells_if}
 use Rattle.ppd_sets.specs.Used.{reads_at, sorted}
 use Rattle.ppd_sets.proofs.Gaining.{gains_none, gains_as}
 use Rattle.ppd_sets.proofs.Meeting.{sorted_is}
@@ -41,7 +41,7 @@ along_is p rows starts stmts set cells long found has_them is =
 
 -- ---- they are below the count of shared cells
 
-shared_below : (base len m c : ℕ) → base + len ≤ m → IsTrue (has (shared_cells true base len) c) → c < m
+shared_below : (base len m c : ℕ) → base + len ≤ m → IsTrue (has (cells_if true base len) c) → c < m
 shared_below base len m c l h = let inside = below_range base len c h in omega (arith, l, inside.1)
 
 cells_below : (m n : ℕ) (t : Term) (c : ℕ) → AreBelow m n t → IsTrue (has (cells_in true t) c) → c < m
@@ -50,7 +50,7 @@ cells_below m n (local x) c b h = absurd (true≢false (sym h))
 cells_below m n (local_at base len i) c b h = cells_below m n i c b.1 h
 cells_below m n (shared x) c b h = shared_below x 1 m c (omega (arith, b)) h
 cells_below m n (shared_at base len i) c b h =
-    elim (has_cases (shared_cells true base len) (cells_in true i) c h) [ inl l ↦ shared_below base len m c b.0 l | inr r ↦ cells_below m n i c b.1 r ]
+    elim (has_cases (cells_if true base len) (cells_in true i) c h) [ inl l ↦ shared_below base len m c b.0 l | inr r ↦ cells_below m n i c b.1 r ]
 cells_below m n (neg x) c b h = cells_below m n x c b h
 cells_below m n (not x) c b h = cells_below m n x c b h
 cells_below m n (two op x y) c b h = elim (has_cases (cells_in true x) (cells_in true y) c h) [ inl l ↦ cells_below m n x c b.0 l | inr r ↦ cells_below m n y c b.1 r ]

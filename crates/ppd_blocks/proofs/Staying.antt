@@ -1,22 +1,21 @@
 -- The ways that stay in a unit.
-use Rattle.std.proofs.Common.{◌≡◌, ◌≢◌, ℕ, zero, suc, ◌+◌, ◌-◌, ◌<◌, List, Bool, true, false, Option, Some, None, refl, sym, ap, ◌∙◌, subst, arith, inl, inr, length}
-use Rattle.std.specs.Prelude.{IsTrue, nat_eq, not, ◌||◌, slice_get, option_to_list}
-use Rattle.std.proofs.lemmas.Bool.{cases_Bool, cond-true, cond-false}
-use Rattle.ppd_ast.specs.declared.program.Stmt.{Stmt}
-use Rattle.ppd_ast.specs.declared.program.Program.{Program}
-use Rattle.ppd_ast.specs.declared.plan.Start.TheVariants.{Entry, After, Exit}
+use Rattle.ppd_ast.proofs.Members.{filter_has, has_filter}
+use Rattle.ppd_ast.specs.Members.{AreBelow, has}
 use Rattle.ppd_ast.specs.Valid.{IsValid}
-use Rattle.ppd_ast.specs.Members.{has, AreBelow}
-use Rattle.ppd_ast.proofs.Members.{has_filter, filter_has}
-use Rattle.ppd_ast.specs.Lookups.{parent_if}
-use Rattle.ppd_cfg.specs.Lists.{row}
-use Rattle.ppd_cfg.specs.WorkList.{AreRowsBelow}
-use Rattle.ppd_cfg.specs.Flow.{next_of, flow_rows}
-use Rattle.ppd_cfg.proofs.Rows.{row_at, rows_are, length_rows}
-use Rattle.ppd_cfg.proofs.Leading.{row_there}
-use Rattle.ppd_blocks.specs.Walk.{stands_at, enters, is_between, unit_rows, unless, begin_of}
+use Rattle.ppd_ast.specs.declared.plan.Start.TheVariants.{After, Entry, Exit}
+use Rattle.ppd_ast.specs.declared.program.Program.{Program}
+use Rattle.ppd_ast.specs.declared.program.Stmt.{Stmt}
+use Rattle.ppd_blocks.proofs.Fitting.{Fits, first_of_body_fits, follow_fits, listed_below, next_below}
 use Rattle.ppd_blocks.proofs.Vocabulary.{unit_next}
-use Rattle.ppd_blocks.proofs.Fitting.{Fits, listed_below, next_below, follow_fits, first_of_body_fits}
+use Rattle.ppd_blocks.specs.Walk.{begin_of, enters, is_between, stands_at, unit_rows}
+use Rattle.ppd_cfg.proofs.Leading.{row_there}
+use Rattle.ppd_cfg.proofs.Rows.{length_rows, row_at, rows_are}
+use Rattle.ppd_cfg.specs.Flow.{flow_rows, next_of}
+use Rattle.ppd_cfg.specs.WorkList.{AreRowsBelow}
+use Rattle.std.proofs.Common.{Bool, List, None, Option, Some, ap, arith, false, inl, inr, length, refl, subst, suc, sym, true, zero, ℕ, ◌+◌, ◌-◌, ◌<◌, ◌∙◌, ◌≡◌, ◌≢◌}
+use Rattle.std.proofs.lemmas.Bool.{cases_Bool}
+use Rattle.std.specs.List.{find}
+use Rattle.std.specs.Prelude.{IsTrue, [], get_or, if◌then◌else◌, nat_eq, not, option_and_then, option_to_list, slice_get, ◌||◌}
 
 -- ---- what a statement stands in
 
@@ -29,27 +28,27 @@ unfolding stands_at
 stands_none zero stmts q = refl
 stands_none (suc d) stmts q = refl
 
-pub stands_some : (depth : ℕ) (stmts : List Stmt) (q s : ℕ) → depth ≢ 0 → stands_at depth stmts q (Some s) ≡ (nat_eq s q || stands_at (depth - 1) stmts q (parent_if (slice_get stmts s)))
+pub stands_some : (depth : ℕ) (stmts : List Stmt) (q s : ℕ) → depth ≢ 0 → stands_at depth stmts q (Some s) ≡ (nat_eq s q || stands_at (depth - 1) stmts q (option_and_then (λ x. x.parent) (slice_get stmts s)))
 unfolding stands_at
 stands_some zero stmts q s h = absurd (h refl)
-stands_some (suc d) stmts q s h = let e : d ≡ suc d - 1 = omega arith in ap (λ k. nat_eq s q || stands_at k stmts q (parent_if (slice_get stmts s))) e
+stands_some (suc d) stmts q s h = let e : d ≡ suc d - 1 = omega arith in ap (λ k. nat_eq s q || stands_at k stmts q (option_and_then (λ x. x.parent) (slice_get stmts s))) e
 
 -- ---- the rows
 
 pub unit_rows_long : (p : Program) (loops : List ℕ) → length (unit_rows p loops) ≡ length p.stmts
 unit_rows_long p loops = length_rows (unit_next p loops) 0 (length p.stmts)
 
-pub unit_row_is : (p : Program) (loops : List ℕ) (a : ℕ) → a < length p.stmts → row (unit_rows p loops) a ≡ unit_next p loops a
+pub unit_row_is : (p : Program) (loops : List ℕ) (a : ℕ) → a < length p.stmts → get_or (unit_rows p loops) a [] ≡ unit_next p loops a
 unit_row_is p loops a h = let e : 0 + a ≡ a = omega arith in row_at (unit_next p loops) 0 (length p.stmts) a h ∙ ap (unit_next p loops) e
 
-pub row_gives : (p : Program) (loops : List ℕ) (a b : ℕ) → IsTrue (has (row (unit_rows p loops) a) b) → IsTrue (has (next_of p a) b) × IsTrue (not (is_between p loops a b))
+pub row_gives : (p : Program) (loops : List ℕ) (a b : ℕ) → IsTrue (has (get_or (unit_rows p loops) a []) b) → IsTrue (has (next_of p a) b) × IsTrue (not (is_between p loops a b))
 row_gives p loops a b h =
     let there : a < length p.stmts = subst (λ n. a < n) (unit_rows_long p loops) (row_there (unit_rows p loops) a b h) in
     has_filter (λ t. not (is_between p loops a t)) (next_of p a) b (subst (λ xs. IsTrue (has xs b)) (unit_row_is p loops a there) h)
 
-pub row_from : (p : Program) (loops : List ℕ) (a b : ℕ) → IsTrue (has (next_of p a) b) → IsTrue (not (is_between p loops a b)) → IsTrue (has (row (unit_rows p loops) a) b)
+pub row_from : (p : Program) (loops : List ℕ) (a b : ℕ) → IsTrue (has (next_of p a) b) → IsTrue (not (is_between p loops a b)) → IsTrue (has (get_or (unit_rows p loops) a []) b)
 row_from p loops a b h k =
-    let flows : IsTrue (has (row (flow_rows p) a) b) = subst (λ xs. IsTrue (has xs b)) (sym (rows_are p a)) h in
+    let flows : IsTrue (has (get_or (flow_rows p) a []) b) = subst (λ xs. IsTrue (has xs b)) (sym (rows_are p a)) h in
     let there : a < length p.stmts = subst (λ n. a < n) (length_rows (next_of p) 0 (length p.stmts)) (row_there (flow_rows p) a b flows) in
     subst (λ xs. IsTrue (has xs b)) (sym (unit_row_is p loops a there)) (filter_has (λ t. not (is_between p loops a t)) (next_of p a) b h k)
 
@@ -58,13 +57,13 @@ unit_rows_below p loops v a x h = subst (λ n. x < n) (sym (unit_rows_long p loo
 
 -- ---- where a unit begins
 
-pub unless_yes : (test : ℕ → Bool) (x : ℕ) → test x ≡ true → unless test (Some x) ≡ None
-unless_yes test x e = cond-true (test x) None (Some x) e
+pub unless_yes : (test : ℕ → Bool) (x : ℕ) → test x ≡ true → find (λ t. not (test t)) (option_to_list (Some x)) ≡ None
+unless_yes test x e = ap (λ b. if not b then Some x else None) e
 
-pub unless_no : (test : ℕ → Bool) (x : ℕ) → test x ≡ false → unless test (Some x) ≡ Some x
-unless_no test x e = cond-false (test x) None (Some x) e
+pub unless_no : (test : ℕ → Bool) (x : ℕ) → test x ≡ false → find (λ t. not (test t)) (option_to_list (Some x)) ≡ Some x
+unless_no test x e = ap (λ b. if not b then Some x else None) e
 
-unless_fits : (n : ℕ) (test : ℕ → Bool) (o : Option ℕ) → Fits n o → Fits n (unless test o)
+unless_fits : (n : ℕ) (test : ℕ → Bool) (o : Option ℕ) → Fits n o → Fits n (find (λ t. not (test t)) (option_to_list o))
 unless_fits n test None f = tt
 unless_fits n test (Some x) f = elim (cases_Bool (test x)) [
   | inl e ↦ subst (Fits n) (sym (unless_yes test x e)) tt

@@ -1,14 +1,13 @@
 -- What the proofs speak of: the parts of the definitions, each by a name of its own.
-use Rattle.std.specs.Prelude.{ℕ, not, List, ◌∷◌, Option, true, length}
-use Rattle.std.specs.List.{filter, flat_map, range_with_len}
-use Rattle.std.specs.Option.{option_map_or}
+use Rattle.std.specs.Prelude.{ℕ, not, List, ◌∷◌, Option, true, length, unwrap_or}
+use Rattle.std.specs.List.{filter, flat_map, range_with_len, enumerate_from}
 use Rattle.ppd_ast.specs.declared.program.Program.{Program}
 use Rattle.ppd_cfg.specs.Flow.{next_of}
 use Rattle.ppd_blocks.specs.Walk.{is_between}
 use Rattle.ppd_ast.specs.declared.program.Body.{Body}
 use Rattle.ppd_ast.specs.declared.plan.Start.{Start}
 use Rattle.ppd_ast.specs.declared.plan.Start.TheVariants.{Entry}
-use Rattle.ppd_ast.specs.Numbered.{numbers_of, each_from, blocks_by}
+use Rattle.ppd_ast.specs.Numbered.{numbers_of, blocks_by}
 use Rattle.ppd_blocks.specs.Starts.{unit_starts_at}
 use Rattle.ppd_ast.specs.declared.plan.Policy.{Policy}
 use Rattle.ppd_blocks.specs.Blocks.{loop_in, postlog_of, prelog_of}
@@ -18,6 +17,7 @@ use Rattle.ppd_ast.specs.Bare.{gives_value}
 use Rattle.ppd_ast.specs.Members.{those}
 use Rattle.ppd_cfg.specs.Reach.{closure, leads}
 use Rattle.ppd_sets.specs.Used.{reads_at, sorted}
+use Rattle.ppd_ast.specs.Lookups.{no_body}
 
 -- the successors of statement s that are in its unit
 abbrev pub unit_next : Program → (loops : List ℕ) → ℕ → List ℕ
@@ -29,11 +29,11 @@ starts_in p loops j b = Entry j ∷ flat_map (unit_starts_at p loops) (numbers_o
 
 -- the starts of all bodies
 abbrev pub all_starts : Program → (loops : List ℕ) → List Start
-all_starts p loops = each_from (starts_in p loops) 0 p.bodies
+all_starts p loops = flat_map (λ e. starts_in p loops e.0 e.1) (enumerate_from 0 p.bodies)
 
 -- the cells of the parameters of a body, and none where there is no body
 abbrev pub params_of : Option Body → List ℕ
-params_of o = range_with_len 0 (option_map_or (λ b. b.params) o 0)
+params_of o = range_with_len 0 (unwrap_or o no_body).params
 
 -- the loops that are blocks of the policy
 abbrev pub block_loops : Program → Policy → List ℕ

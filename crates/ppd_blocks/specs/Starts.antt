@@ -1,11 +1,11 @@
 -- The units in the order of their numbers.
 use Rattle.std.specs.Prelude.{ℕ, List, [], ◌∷◌, map, if◌then◌else◌}
-use Rattle.std.specs.List.{flat_map}
+use Rattle.std.specs.List.{flat_map, enumerate_from}
 use Rattle.ppd_ast.specs.declared.program.Program.{Program}
 use Rattle.ppd_ast.specs.declared.plan.Start.{Start}
 use Rattle.ppd_ast.specs.declared.plan.Start.TheVariants.{Entry, After, Enter, Exit}
 use Rattle.ppd_ast.specs.declared.plan.Unit.{Unit as UnitOf}
-use Rattle.ppd_ast.specs.Numbered.{is_left, numbers_of, each_from}
+use Rattle.ppd_ast.specs.Numbered.{is_left, numbers_of}
 use Rattle.ppd_ast.specs.Members.{has}
 use Rattle.ppd_ast.specs.Lookups.{kind_of}
 use Rattle.ppd_blocks.specs.Walk.{unit_cells}
@@ -24,4 +24,4 @@ unit_of p loops start = record { start = start; cells = unit_cells p loops start
 abbrev pub units_of : Program → (loops : List ℕ) → List UnitOf
 units_of p loops =
     map (unit_of p loops)
-    (each_from (λ j b. Entry j ∷ flat_map (unit_starts_at p loops) (numbers_of p.stmts b)) 0 p.bodies)
+    (flat_map (λ e. Entry e.0 ∷ flat_map (unit_starts_at p loops) (numbers_of p.stmts e.1)) (enumerate_from 0 p.bodies))

@@ -1,11 +1,11 @@
 // The blocks with what their prelogs and postlogs hold.
-ghost use Rattle.std.specs.Prelude.{◌≡◌, [], ◌++◌, map, slice_get, IfOk, OnOk};
+ghost use Rattle.std.specs.Prelude.{◌≡◌, [], ◌++◌, map, slice_get, IfOk, OnOk, false};
 ghost use Rattle.std.specs.List.{flat_map, range_with_len};
 ghost use Rattle.ppd_sets.specs.Gained.{Gains};
 ghost use Rattle.ppd_sets.specs.SetsOf.{AreSetsOf};
-ghost use Rattle.ppd_sets.specs.Used.{loop_used_of, loop_defined_of, sorted};
-ghost use Rattle.ppd_ast.specs.Lookups.{params_of};
+ghost use Rattle.ppd_sets.specs.Used.{sorted, local_in, reads_at, writes_at};
 ghost use Rattle.ppd_blocks.specs.Blocks.{prelog_of, postlog_of, filled, loop_in};
+ghost use Rattle.ppd_ast.specs.Lookups.{body_numbered};
 
 use ppd_ast::{Block, BlockKind, Cells, Ids, Memory, Program, Seq};
 use ppd_sets::{CellSet, VarSets, add_cell};
@@ -45,7 +45,7 @@ fn first_cells(alloc: Global, count: u16) -> Result<Cells, Memory>
 
 // The cells of a function's parameters.
 fn params_of(alloc: Global, program: &Program, body: u16) -> Result<Cells, Memory>
-    ensures { IfOk result (λ cells. cells ≡ range_with_len 0 (params_of program.now body)) }
+    ensures { IfOk result (λ cells. cells ≡ range_with_len 0 (body_numbered program.now body).params) }
 {
     match program.body(body) {
         None => Ok(Cells::new(alloc)),
@@ -58,7 +58,7 @@ fn params_of(alloc: Global, program: &Program, body: u16) -> Result<Cells, Memor
 
 fn loop_used<'a>(program: &'a Program, sets: &'a VarSets, stmt: u32) -> &'a [u16]
     requires { AreSetsOf program.now sets.now }
-    ensures { result.now ≡ loop_used_of program.now stmt }
+    ensures { result.now ≡ local_in program.now (reads_at false program.now) stmt }
 {
     if sets.has_stmt(stmt) {
         sets.loop_used(stmt)
@@ -69,7 +69,7 @@ fn loop_used<'a>(program: &'a Program, sets: &'a VarSets, stmt: u32) -> &'a [u16
 
 fn loop_defined<'a>(program: &'a Program, sets: &'a VarSets, stmt: u32) -> &'a [u16]
     requires { AreSetsOf program.now sets.now }
-    ensures { result.now ≡ loop_defined_of program.now stmt }
+    ensures { result.now ≡ local_in program.now (writes_at false program.now) stmt }
 {
     if sets.has_stmt(stmt) {
         sets.loop_defined(stmt)

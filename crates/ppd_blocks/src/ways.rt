@@ -1,13 +1,12 @@
 // The ways that stay in a unit.
-ghost use Rattle.std.specs.Prelude.{◌≡◌, not, slice_get, IfOk, Some, None};
-ghost use Rattle.std.specs.List.{filter};
+ghost use Rattle.ppd_ast.specs.Lookups.{body_numbered, kind_of};
+ghost use Rattle.ppd_ast.specs.Members.{has};
 ghost use Rattle.ppd_ast.specs.Numbered.{is_left};
 ghost use Rattle.ppd_ast.specs.Valid.{IsValid};
-ghost use Rattle.ppd_ast.specs.Members.{has};
-ghost use Rattle.ppd_ast.specs.Lookups.{kind_of, top_of, parent_if};
-ghost use Rattle.ppd_cfg.specs.Lists.{first_or};
+ghost use Rattle.ppd_blocks.specs.Walk.{begin_of, enters, is_between, stands_at, unit_rows};
 ghost use Rattle.ppd_cfg.specs.Flow.{follow, next_of};
-ghost use Rattle.ppd_blocks.specs.Walk.{stands_at, enters, leaves, is_between, unit_rows, unless, begin_of};
+ghost use Rattle.std.specs.List.{filter, find};
+ghost use Rattle.std.specs.Prelude.{IfOk, None, Some, not, option_and_then, option_to_list, slice_get, ◌≡◌};
 
 use ppd_ast::limits::MOST_NESTING;
 use ppd_ast::{Ids, Kind, Memory, Program, Seq, Start, Stmt};
@@ -21,7 +20,7 @@ pub(crate) fn contains(list: &[u32], number: u32) -> bool
 }
 
 fn parent(stmts: &[Stmt], number: u32) -> Option<u32>
-    ensures { result ≡ parent_if (slice_get stmts.now number) }
+    ensures { result ≡ option_and_then (λ x. x.parent) (slice_get stmts.now number) }
 {
     match stmts.get(number as usize) {
         None => None,
@@ -57,7 +56,7 @@ fn does_enter(program: &Program, loops: &[u32], stmt: u32, next: u32) -> bool
 
 // Whether the way from a statement, a block loop, to `next` leaves it.
 fn does_leave(program: &Program, loops: &[u32], stmt: u32, next: u32) -> bool
-    ensures { result ≡ leaves program.now loops.now stmt next }
+    ensures { result ≡ enters program.now loops.now next stmt }
 {
     let stmts = program.stmts.as_slice();
     contains(loops, stmt) && !does_stand_in(stmts, stmt, Some(next), MOST_NESTING)
@@ -121,7 +120,7 @@ pub(crate) fn unit_rows(alloc: Global, program: &Program, loops: &[u32]) -> Resu
 }
 
 fn first_of(program: &Program, body: u16) -> Option<u32>
-    ensures { result ≡ first_or (top_of program.now body) None }
+    ensures { result ≡ slice_get (body_numbered program.now body).top 0 }
 {
     match program.bodies.as_slice().get(body as usize) {
         None => None,
@@ -133,7 +132,7 @@ fn first_of(program: &Program, body: u16) -> Option<u32>
 }
 
 fn begin_of_body(program: &Program, loops: &[u32], body: u16) -> Option<u32>
-    ensures { result ≡ unless (has loops.now) (first_or (top_of program.now body) None) }
+    ensures { result ≡ find (λ t. not (has loops.now t)) (option_to_list (slice_get (body_numbered program.now body).top 0)) }
 {
     match first_of(program, body) {
         None => None,
@@ -148,7 +147,8 @@ fn begin_of_body(program: &Program, loops: &[u32], body: u16) -> Option<u32>
 }
 
 fn begin_after(program: &Program, loops: &[u32], stmt: u32) -> Option<u32>
-    ensures { result ≡ unless (enters program.now loops.now stmt) (follow program.now stmt) }
+    ensures { result ≡ find (λ t. not (enters program.now loops.now stmt t))
+        (option_to_list (follow program.now stmt)) }
 {
     match next_after(program, stmt) {
         None => None,

@@ -3,7 +3,7 @@ use Rattle.std.proofs.Common.{◌≡◌, ◌≢◌, ℕ, zero, suc, ◌-◌, Som
 use Rattle.std.specs.Prelude.{slice_get}
 use Rattle.ppd_ast.specs.declared.program.Stmt.{Stmt}
 use Rattle.ppd_ast.specs.declared.program.Program.{Program}
-use Rattle.ppd_ast.specs.Lookups.{kind_of, top_of}
+use Rattle.ppd_ast.specs.Lookups.{kind_of, body_numbered}
 use Rattle.ppd_cfg.specs.Flow.{follow_at, follow_under, follow_within, next_in}
 use Rattle.ppd_cfg.proofs.Vocabulary.{follow_of}
 
@@ -19,7 +19,7 @@ step (suc d) p s h = let e : d ≡ suc d - 1 = omega arith in ap (λ k. follow_o
 pub follow_none : (depth : ℕ) (p : Program) (s : ℕ) → depth ≢ 0 → slice_get p.stmts s ≡ None → follow_at depth p s ≡ None
 follow_none depth p s h at = step depth p s h ∙ ap (follow_of p (follow_at (depth - 1) p) s) at
 
-pub follow_top : (depth : ℕ) (p : Program) (s : ℕ) (x : Stmt) → depth ≢ 0 → slice_get p.stmts s ≡ Some x → x.parent ≡ None → follow_at depth p s ≡ next_in (top_of p x.body) s None
+pub follow_top : (depth : ℕ) (p : Program) (s : ℕ) (x : Stmt) → depth ≢ 0 → slice_get p.stmts s ≡ Some x → x.parent ≡ None → follow_at depth p s ≡ next_in (body_numbered p x.body).top s None
 follow_top depth p s x h at top =
     step depth p s h ∙ ap (follow_of p (follow_at (depth - 1) p) s) at ∙ ap (follow_under p (follow_at (depth - 1) p) x.body s) top
 

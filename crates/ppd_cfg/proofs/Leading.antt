@@ -1,19 +1,18 @@
 -- The closed rows lead exactly where steps lead.
 use Rattle.std.proofs.Common.{◌≡◌, ◌<◌, ℕ, zero, suc, arith, List, [], ◌∷◌, ◌++◌, Bool, true, false, not, ◌↔◌, refl, sym, subst, inl, inr, ◌⊎◌, length, map, true≢false}
-use Rattle.std.specs.Prelude.{IsTrue, if◌then◌else◌}
+use Rattle.std.specs.Prelude.{IsTrue, if◌then◌else◌, get_or}
 use Rattle.std.specs.List.{range_with_len, filter, list_any}
 use Rattle.std.proofs.lemmas.Bool.{or_left, or_right, or_cases, cases_Bool, not_from_false}
 use Rattle.ppd_ast.specs.Members.{has, those}
 use Rattle.ppd_ast.proofs.Members.{has_cons, has_left, has_right, has_cases, has_filter, filter_has, any_from, any_gives, from_zero, filter_same_in}
 use Rattle.ppd_ast.proofs.Those.{both}
-use Rattle.ppd_cfg.specs.Lists.{row}
 use Rattle.ppd_cfg.specs.Reach.{Reached, start, next, closure, leads}
 use Rattle.ppd_cfg.proofs.Vocabulary.{through}
 use Rattle.ppd_cfg.proofs.Vocabulary.{closure_through}
 use Rattle.ppd_cfg.specs.WorkList.{is_marked}
 
 -- only a row that is there has something
-pub row_there : (rows : List (List ℕ)) (a b : ℕ) → IsTrue (has (row rows a) b) → a < length rows
+pub row_there : (rows : List (List ℕ)) (a b : ℕ) → IsTrue (has (get_or rows a []) b) → a < length rows
 row_there [] a b h = absurd (true≢false (sym h))
 row_there (xs ∷ rows) zero b h = omega arith
 row_there (xs ∷ rows) (suc a) b h = let below : a < length rows = row_there rows a b h in omega arith
@@ -59,30 +58,30 @@ through_long n via xs b h k =
 -- ---- all rows, through one number
 
 abbrev across : List (List ℕ) → ℕ → List (List ℕ)
-across rows n = map (through n (row rows n)) rows
+across rows n = map (through n (get_or rows n [])) rows
 
-row_map : (f : List ℕ → List ℕ) → f [] ≡ [] → (rows : List (List ℕ)) (a : ℕ) → row (map f rows) a ≡ f (row rows a)
+row_map : (f : List ℕ → List ℕ) → f [] ≡ [] → (rows : List (List ℕ)) (a : ℕ) → get_or (map f rows) a [] ≡ f (get_or rows a [])
 row_map f e [] a = sym e
 row_map f e (xs ∷ rows) zero = refl
 row_map f e (xs ∷ rows) (suc a) = row_map f e rows a
 
-row_across : (rows : List (List ℕ)) (n a : ℕ) → row (across rows n) a ≡ through n (row rows n) (row rows a)
-row_across rows n a = row_map (through n (row rows n)) refl rows a
+row_across : (rows : List (List ℕ)) (n a : ℕ) → get_or (across rows n) a [] ≡ through n (get_or rows n []) (get_or rows a [])
+row_across rows n a = row_map (through n (get_or rows n [])) refl rows a
 
 Steps : List (List ℕ) → ℕ → ℕ → Type 0
-Steps rows a b = IsTrue (has (row rows a) b)
+Steps rows a b = IsTrue (has (get_or rows a []) b)
 
 cases : (rows : List (List ℕ)) (n a b : ℕ) → Steps (across rows n) a b → Steps rows a b ⊎ (Steps rows a n × Steps rows n b)
 unfolding Steps
-cases rows n a b h = through_cases n (row rows n) (row rows a) b (subst (λ xs. IsTrue (has xs b)) (row_across rows n a) h)
+cases rows n a b h = through_cases n (get_or rows n []) (get_or rows a []) b (subst (λ xs. IsTrue (has xs b)) (row_across rows n a) h)
 
 short : (rows : List (List ℕ)) (n a b : ℕ) → Steps rows a b → Steps (across rows n) a b
 unfolding Steps
-short rows n a b h = subst (λ xs. IsTrue (has xs b)) (sym (row_across rows n a)) (through_short n (row rows n) (row rows a) b h)
+short rows n a b h = subst (λ xs. IsTrue (has xs b)) (sym (row_across rows n a)) (through_short n (get_or rows n []) (get_or rows a []) b h)
 
 long : (rows : List (List ℕ)) (n a b : ℕ) → Steps rows a n → Steps rows n b → Steps (across rows n) a b
 unfolding Steps
-long rows n a b h k = subst (λ xs. IsTrue (has xs b)) (sym (row_across rows n a)) (through_long n (row rows n) (row rows a) b h k)
+long rows n a b h k = subst (λ xs. IsTrue (has xs b)) (sym (row_across rows n a)) (through_long n (get_or rows n []) (get_or rows a []) b h k)
 
 -- what leads to n and on from n leads across it
 IsClosedAt : List (List ℕ) → ℕ → Type 0
@@ -151,25 +150,25 @@ sound_itself rows starts a b r h = next r h
 led : (rows : List (List ℕ)) (starts : List ℕ) (x : ℕ) → IsTrue (leads (closure rows) starts x) → Reached rows starts x
 unfolding IsSound Steps
 led rows starts x h =
-    elim (or_cases (has starts x) (list_any (λ a. has (row (closure rows) a) x) starts) h) [
+    elim (or_cases (has starts x) (list_any (λ a. has (get_or (closure rows) a []) x) starts) h) [
       | inl s ↦ start s
       | inr some ↦
-          let from = any_gives (λ a. has (row (closure rows) a) x) starts some in
+          let from = any_gives (λ a. has (get_or (closure rows) a []) x) starts some in
           sound_closed rows (range_with_len 0 (length rows)) rows (sound_itself rows) starts from.0 x (start from.1) from.2
     ]
 
 leads_to : (rows : List (List ℕ)) (starts : List ℕ) (x : ℕ) → Reached rows starts x → IsTrue (leads (closure rows) starts x)
 unfolding IsClosedAt Steps
-leads_to rows starts x (start s) = or_left (has starts x) (list_any (λ a. has (row (closure rows) a) x) starts) s
+leads_to rows starts x (start s) = or_left (has starts x) (list_any (λ a. has (get_or (closure rows) a []) x) starts) s
 leads_to rows starts x (next {a = a} r h) =
     let ns : List ℕ = range_with_len 0 (length rows) in
     let on : Steps (closure rows) a x = grows ns rows a x h in
-    or_right (has starts x) (list_any (λ s. has (row (closure rows) s) x) starts)
-    (elim (or_cases (has starts a) (list_any (λ s. has (row (closure rows) s) a) starts) (leads_to rows starts a r)) [
-      | inl s ↦ any_from (λ s. has (row (closure rows) s) x) starts a s on
+    or_right (has starts x) (list_any (λ s. has (get_or (closure rows) s []) x) starts)
+    (elim (or_cases (has starts a) (list_any (λ s. has (get_or (closure rows) s []) a) starts) (leads_to rows starts a r)) [
+      | inl s ↦ any_from (λ s. has (get_or (closure rows) s []) x) starts a s on
       | inr some ↦
-          let from = any_gives (λ s. has (row (closure rows) s) a) starts some in
-          any_from (λ s. has (row (closure rows) s) x) starts from.0 from.1
+          let from = any_gives (λ s. has (get_or (closure rows) s []) a) starts some in
+          any_from (λ s. has (get_or (closure rows) s []) x) starts from.0 from.1
           (closed_in ns rows a (from_zero a (length rows) (row_there rows a x h)) from.0 x from.2 on)
     ])
 

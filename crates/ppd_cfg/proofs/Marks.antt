@@ -5,7 +5,6 @@ use Rattle.std.proofs.lemmas.Bool.{cases_Bool}
 use Rattle.std.proofs.lemmas.List.{take_more}
 use Rattle.ppd_ast.specs.Members.{has, AreBelow}
 use Rattle.ppd_ast.proofs.Members.{has_first, has_later, has_cons}
-use Rattle.ppd_cfg.specs.Lists.{row}
 use Rattle.ppd_cfg.specs.Reach.{Reached, start, next}
 use Rattle.ppd_cfg.specs.WorkList.{WorkList, work, with_mark, with_marks, is_marked, AreRowsBelow}
 
@@ -159,7 +158,7 @@ pub record Holds (rows : List (List ℕ)) (starts : List ℕ) (w : WorkList) : T
   pub sound : (x : ℕ) → IsTrue (is_marked w.marks x) → Reached rows starts x
   pub started : (x : ℕ) → IsTrue (has starts x) → IsTrue (is_marked w.marks x)
   pub listed : (x : ℕ) → IsTrue (has w.todo x) → IsTrue (is_marked w.marks x)
-  pub closed : (a b : ℕ) → IsTrue (is_marked w.marks a) → IsTrue (has (row rows a) b) → IsTrue (is_marked w.marks b) ⊎ IsTrue (has w.todo a)
+  pub closed : (a b : ℕ) → IsTrue (is_marked w.marks a) → IsTrue (has (get_or rows a []) b) → IsTrue (is_marked w.marks b) ⊎ IsTrue (has w.todo a)
 
 none_marked : (n x : ℕ) → IsTrue (is_marked (replicate n false) x) → ⊥
 none_marked zero x h = true≢false (sym h)
@@ -183,10 +182,10 @@ holds_first rows starts below =
       closed = λ a b h k. elim (g.new a h) [ inl m ↦ absurd (none_marked (length rows) a m) | inr t ↦ inr t ];
     }
 
-pub holds_next : (rows : List (List ℕ)) (starts : List ℕ) (x : ℕ) (w : WorkList) → AreRowsBelow rows → Holds rows starts (work w.marks (x ∷ w.todo)) → Holds rows starts (with_marks (row rows x) w)
+pub holds_next : (rows : List (List ℕ)) (starts : List ℕ) (x : ℕ) (w : WorkList) → AreRowsBelow rows → Holds rows starts (work w.marks (x ∷ w.todo)) → Holds rows starts (with_marks (get_or rows x []) w)
 holds_next rows starts x w below o =
-    let fits : AreBelow (length w.marks) (row rows x) = λ y h. subst (λ n. y < n) (sym o.long) (below x y h) in
-    let g : Grows (row rows x) w (with_marks (row rows x) w) = grows_marks (row rows x) w fits in
+    let fits : AreBelow (length w.marks) (get_or rows x []) = λ y h. subst (λ n. y < n) (sym o.long) (below x y h) in
+    let g : Grows (get_or rows x []) w (with_marks (get_or rows x []) w) = grows_marks (get_or rows x []) w fits in
     let here : IsTrue (is_marked w.marks x) = o.listed x (has_first x w.todo) in
     record {
       long = g.long ∙ o.long;
@@ -197,7 +196,7 @@ holds_next rows starts x w below o =
         | inl m ↦ elim (o.closed a b m k) [
           | inl n ↦ inl (g.kept b n)
           | inr t ↦ elim (has_cons x a w.todo t) [
-            | inl e ↦ inl (g.done b (subst (λ z. IsTrue (has (row rows z) b)) (sym e) k))
+            | inl e ↦ inl (g.done b (subst (λ z. IsTrue (has (get_or rows z []) b)) (sym e) k))
             | inr t' ↦ inr (g.listed a t')
           ]
         ]
@@ -205,10 +204,10 @@ holds_next rows starts x w below o =
       ];
     }
 
-pub less_next : (rows : List (List ℕ)) (starts : List ℕ) (x : ℕ) (w : WorkList) → AreRowsBelow rows → Holds rows starts (work w.marks (x ∷ w.todo)) → work_left (with_marks (row rows x) w) < work_left (work w.marks (x ∷ w.todo))
+pub less_next : (rows : List (List ℕ)) (starts : List ℕ) (x : ℕ) (w : WorkList) → AreRowsBelow rows → Holds rows starts (work w.marks (x ∷ w.todo)) → work_left (with_marks (get_or rows x []) w) < work_left (work w.marks (x ∷ w.todo))
 less_next rows starts x w below o =
-    let fits : AreBelow (length w.marks) (row rows x) = λ y h. subst (λ n. y < n) (sym o.long) (below x y h) in
-    let g : Grows (row rows x) w (with_marks (row rows x) w) = grows_marks (row rows x) w fits in
+    let fits : AreBelow (length w.marks) (get_or rows x []) = λ y h. subst (λ n. y < n) (sym o.long) (below x y h) in
+    let g : Grows (get_or rows x []) w (with_marks (get_or rows x []) w) = grows_marks (get_or rows x []) w fits in
     let less = g.less in omega (arith, less)
 
 complete : (rows : List (List ℕ)) (starts : List ℕ) (marks : List Bool) → Holds rows starts (work marks []) → (x : ℕ) → Reached rows starts x → IsTrue (is_marked marks x)
@@ -237,7 +236,7 @@ pub with_marks_more : (xs : List ℕ) (i : ℕ) (w v u : WorkList) → i < lengt
 with_marks_more xs i w v u h before now =
     now ∙ ap (with_mark (get_or xs i 0)) before ∙ sym (with_marks_push (take i xs) (get_or xs i 0) w) ∙ ap (λ ys. with_marks ys w) (sym (take_more xs i 0 h))
 
-pub row_is : (rows : List (List ℕ)) (a : ℕ) (xs d : List ℕ) → a < length rows → xs ≡ get_or rows a d → xs ≡ row rows a
+pub row_is : (rows : List (List ℕ)) (a : ℕ) (xs d : List ℕ) → a < length rows → xs ≡ get_or rows a d → xs ≡ get_or rows a []
 row_is [] a xs d h e = absurd (omega arith)
 row_is (ys ∷ rows) zero xs d h e = e
 row_is (ys ∷ rows) (suc a) xs d h e = row_is rows a xs d (omega arith) e
@@ -251,21 +250,21 @@ popped_below rows starts x before w o e =
     let here : Holds rows starts (work w.marks (x ∷ w.todo)) = popped rows starts x before w o e in
     subst (λ n. x < n) here.long (marked_there w.marks x (here.listed x (has_first x w.todo)))
 
-pub popped_fits : (rows : List (List ℕ)) (starts xs : List ℕ) (x : ℕ) (before w : WorkList) → AreRowsBelow rows → Holds rows starts before → before ≡ work w.marks (x ∷ w.todo) → xs ≡ row rows x → AreBelow (length w.marks) xs
+pub popped_fits : (rows : List (List ℕ)) (starts xs : List ℕ) (x : ℕ) (before w : WorkList) → AreRowsBelow rows → Holds rows starts before → before ≡ work w.marks (x ∷ w.todo) → xs ≡ get_or rows x [] → AreBelow (length w.marks) xs
 popped_fits rows starts xs x before w below o e is =
     let here : Holds rows starts (work w.marks (x ∷ w.todo)) = popped rows starts x before w o e in
     λ y h. subst (λ n. y < n) (sym here.long) (below x y (subst (λ zs. IsTrue (has zs y)) is h))
 
-pub went_on : (rows : List (List ℕ)) (starts xs : List ℕ) (x : ℕ) (before w after : WorkList) → AreRowsBelow rows → Holds rows starts before → before ≡ work w.marks (x ∷ w.todo) → xs ≡ row rows x → after ≡ with_marks xs w → Holds rows starts after
+pub went_on : (rows : List (List ℕ)) (starts xs : List ℕ) (x : ℕ) (before w after : WorkList) → AreRowsBelow rows → Holds rows starts before → before ≡ work w.marks (x ∷ w.todo) → xs ≡ get_or rows x [] → after ≡ with_marks xs w → Holds rows starts after
 went_on rows starts xs x before w after below o e is now =
     subst (Holds rows starts) (sym (now ∙ ap (λ zs. with_marks zs w) is)) (holds_next rows starts x w below (popped rows starts x before w o e))
 
-pub went_less : (rows : List (List ℕ)) (starts xs : List ℕ) (x : ℕ) (before w after : WorkList) → AreRowsBelow rows → Holds rows starts before → before ≡ work w.marks (x ∷ w.todo) → xs ≡ row rows x → after ≡ with_marks xs w → work_left after < work_left before
+pub went_less : (rows : List (List ℕ)) (starts xs : List ℕ) (x : ℕ) (before w after : WorkList) → AreRowsBelow rows → Holds rows starts before → before ≡ work w.marks (x ∷ w.todo) → xs ≡ get_or rows x [] → after ≡ with_marks xs w → work_left after < work_left before
 went_less rows starts xs x before w after below o e is now =
-    let less : work_left (with_marks (row rows x) w) < work_left (work w.marks (x ∷ w.todo)) = less_next rows starts x w below (popped rows starts x before w o e) in
-    let a : work_left after ≡ work_left (with_marks (row rows x) w) = ap work_left (now ∙ ap (λ zs. with_marks zs w) is) in
+    let less : work_left (with_marks (get_or rows x []) w) < work_left (work w.marks (x ∷ w.todo)) = less_next rows starts x w below (popped rows starts x before w o e) in
+    let a : work_left after ≡ work_left (with_marks (get_or rows x []) w) = ap work_left (now ∙ ap (λ zs. with_marks zs w) is) in
     let b : work_left before ≡ work_left (work w.marks (x ∷ w.todo)) = ap work_left e in
-    subst (λ n. n < work_left before) (sym a) (subst (λ n. work_left (with_marks (row rows x) w) < n) (sym b) less)
+    subst (λ n. n < work_left before) (sym a) (subst (λ n. work_left (with_marks (get_or rows x []) w) < n) (sym b) less)
 
 pub all_done : (rows : List (List ℕ)) (starts : List ℕ) (w : WorkList) → Holds rows starts w → w.todo ≡ [] → (x : ℕ) → IsTrue (is_marked w.marks x) ↔ Reached rows starts x
 all_done rows starts w o e = holds_last rows starts w.marks (subst (λ t. Holds rows starts (work w.marks t)) e o)

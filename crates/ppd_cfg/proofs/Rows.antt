@@ -1,6 +1,7 @@
 -- The rows of successors, and that they rise.
+use Rattle.std.specs.Option.{option_or}
 use Rattle.std.proofs.Common.{◌≡◌, ℕ, zero, suc, ◌+◌, ◌-◌, ◌<◌, ◌≤◌, List, [], ◌∷◌, ◌++◌, true, false, Option, Some, None, refl, sym, subst, ap, ◌∙◌, arith, inl, inr, length, map}
-use Rattle.std.specs.Prelude.{nat_eq, nat_lt, slice_get, IsSomeAnd, if◌then◌else◌, option_to_list}
+use Rattle.std.specs.Prelude.{nat_eq, nat_lt, slice_get, IsSomeAnd, if◌then◌else◌, option_to_list, get_or}
 use Rattle.std.specs.List.{range_with_len}
 use Rattle.std.proofs.lemmas.Bool.{cases_Bool, cases_lt, ltb-true, ltb-false, eqb-false, cond-true, cond-false}
 use Rattle.ppd_ast.specs.declared.program.Kind.{Kind}
@@ -15,16 +16,16 @@ use Rattle.ppd_ast.proofs.Ranges.{range_more}
 use Rattle.ppd_ast.specs.Members.{RisesFrom}
 use Rattle.ppd_ast.specs.Lookups.{kind_of}
 use Rattle.ppd_ast.proofs.Vocabulary.{kind_of_stmt}
-use Rattle.ppd_cfg.specs.Lists.{row, first_or, rising}
+use Rattle.ppd_cfg.specs.Lists.{rising}
 use Rattle.ppd_cfg.proofs.Vocabulary.{rising_pair}
 use Rattle.ppd_cfg.specs.Flow.{follow, successors, next_of, flow_rows}
 
-pub row_at : (f : ℕ → List ℕ) (a n k : ℕ) → k < n → row (map f (range_with_len a n)) k ≡ f (a + k)
+pub row_at : (f : ℕ → List ℕ) (a n k : ℕ) → k < n → get_or (map f (range_with_len a n)) k [] ≡ f (a + k)
 row_at f a zero k h = absurd (omega arith)
 row_at f a (suc n) zero h = let e : a ≡ a + zero = omega arith in ap f e
 row_at f a (suc n) (suc k) h = let e : (a + 1) + k ≡ a + suc k = omega arith in row_at f (a + 1) n k (omega arith) ∙ ap f e
 
-row_past : (f : ℕ → List ℕ) (a n k : ℕ) → n ≤ k → row (map f (range_with_len a n)) k ≡ []
+row_past : (f : ℕ → List ℕ) (a n k : ℕ) → n ≤ k → get_or (map f (range_with_len a n)) k [] ≡ []
 row_past f a zero k h = refl
 row_past f a (suc n) zero h = absurd (omega arith)
 row_past f a (suc n) (suc k) h = row_past f (a + 1) n k (omega arith)
@@ -37,7 +38,7 @@ length_rows f a (suc n) = ap suc (length_rows f (a + 1) n)
 none_past : (p : Program) (s : ℕ) → length p.stmts ≤ s → next_of p s ≡ []
 none_past p s h = ap (λ (o : Option Stmt). successors s (kind_of_stmt o) (follow p s)) (got_none p.stmts s h)
 
-pub rows_are : (p : Program) (s : ℕ) → row (flow_rows p) s ≡ next_of p s
+pub rows_are : (p : Program) (s : ℕ) → get_or (flow_rows p) s [] ≡ next_of p s
 rows_are p s = elim (cases_lt s (length p.stmts)) [
   | inl below ↦ (let e : 0 + s ≡ s = omega arith in row_at (next_of p) 0 (length p.stmts) s below ∙ ap (next_of p) e)
   | inr past ↦ row_past (next_of p) 0 (length p.stmts) s past ∙ sym (none_past p s past)
@@ -68,8 +69,8 @@ rising_rises (Some x) None = (omega arith, tt)
 rising_rises (Some x) (Some y) = pair_rises x y
 
 successors_rise : (s : ℕ) (k : Kind) (after : Option ℕ) → RisesFrom 0 (successors s k after)
-successors_rise s (K.If e first second) after = rising_rises (first_or first after) (first_or second after)
-successors_rise s (K.While e body) after = rising_rises (first_or body (Some s)) after
+successors_rise s (K.If e first second) after = rising_rises (option_or (slice_get first 0) after) (option_or (slice_get second 0) after)
+successors_rise s (K.While e body) after = rising_rises (option_or (slice_get body 0) (Some s)) after
 successors_rise s (K.Return e) after = tt
 successors_rise s K.End after = tt
 successors_rise s k after = one_rises after
@@ -97,7 +98,7 @@ graph_is p bodies b body g at same first rows =
     let next : (s : ℕ) → HasStmt g s → row_of g s ≡ next_of p s = λ s h.
     let k : s - g.first < body.end - body.first = (let below = h.1 in let above = h.0 in omega (arith, below, above)) in
     let e : body.first + (s - g.first) ≡ s = (let above = h.0 in omega (arith, above)) in
-    ap (λ rs. row rs (s - g.first)) rows ∙ row_at (next_of p) body.first (body.end - body.first) (s - g.first) k ∙ ap (next_of p) e in
+    ap (λ rs. get_or rs (s - g.first) []) rows ∙ row_at (next_of p) body.first (body.end - body.first) (s - g.first) k ∙ ap (next_of p) e in
     let graph : IsFlowGraph p body g = record {
       first = first;
       count = long;

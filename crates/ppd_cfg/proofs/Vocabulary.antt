@@ -1,10 +1,9 @@
 -- What the proofs speak of: the parts of the definitions, each by a name of its own.
-use Rattle.std.specs.Prelude.{ℕ, Option, option_and_then, nat_eq, nat_lt, List, [], ◌∷◌, if◌then◌else◌, map, fold, not, ◌++◌}
+use Rattle.std.specs.Prelude.{ℕ, Option, option_and_then, nat_eq, nat_lt, List, [], ◌∷◌, if◌then◌else◌, map, fold, not, ◌++◌, get_or}
 use Rattle.std.specs.List.{filter}
 use Rattle.ppd_ast.specs.declared.program.Stmt.{Stmt}
 use Rattle.ppd_ast.specs.declared.program.Program.{Program}
 use Rattle.ppd_cfg.specs.Flow.{follow_under}
-use Rattle.ppd_cfg.specs.Lists.{row}
 use Rattle.ppd_ast.specs.Members.{has}
 
 -- what follows a statement, where `outer` is what follows those round it
@@ -21,4 +20,4 @@ through n via xs = if has xs n then xs ++ filter (λ x. not (has xs x)) via else
 
 -- the rows, closed through these numbers
 abbrev pub closure_through : List ℕ → List (List ℕ) → List (List ℕ)
-closure_through ns rows = fold (λ rows n. map (through n (row rows n)) rows) rows ns
+closure_through ns rows = fold (λ rows n. map (through n (get_or rows n [])) rows) rows ns

@@ -1,10 +1,9 @@
 -- The flow graph of a body.
-use Rattle.std.specs.Prelude.{◌≡◌, ℕ, ◌+◌, ◌-◌, ◌<◌, ◌≤◌, List, length, slice_get, IsSomeAnd}
+use Rattle.std.specs.Prelude.{◌≡◌, ℕ, ◌+◌, ◌-◌, ◌<◌, ◌≤◌, List, length, slice_get, IsSomeAnd, get_or, []}
 use Rattle.ppd_ast.specs.declared.program.Body.{Body}
 use Rattle.ppd_ast.specs.declared.program.Program.{Program}
 use Rattle.ppd_ast.specs.Members.{RisesFrom}
 use Rattle.ppd_cfg.specs.declared.graph.Cfg.{Cfg}
-use Rattle.ppd_cfg.specs.Lists.{row}
 use Rattle.ppd_cfg.specs.Flow.{next_of}
 
 -- the graph has a row for statement s
@@ -13,7 +12,7 @@ HasStmt g s = (g.first ≤ s) × (s < g.first + length g.rows)
 
 -- the graph's row for statement s
 abbrev pub row_of : Cfg → ℕ → List ℕ
-row_of g s = row g.rows (s - g.first)
+row_of g s = get_or g.rows (s - g.first) []
 
 -- the graph of a body has a row for each of its statements, which is its successors, rising
 pub record IsFlowGraph (p : Program) (b : Body) (g : Cfg) : Type 0 where

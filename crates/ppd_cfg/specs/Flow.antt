@@ -1,18 +1,19 @@
 -- The successors of a statement, and flow paths.
-use Rattle.std.specs.Prelude.{◌≡◌, IsTrue, ℕ, zero, suc, nat_eq, List, [], ◌∷◌, length, map, Option, Some, None, if◌then◌else◌, slice_get, option_to_list, option_and_then}
-use Rattle.std.specs.List.{range_with_len}
+use Rattle.ppd_ast.specs.Lookups.{body_numbered, kind_of}
+use Rattle.ppd_ast.specs.Members.{has}
+use Rattle.ppd_ast.specs.declared.limits.TheConstants.{MOST_NESTING}
 use Rattle.ppd_ast.specs.declared.program.Kind.{Kind}
 use Rattle.ppd_ast.specs.declared.program.Kind.TheVariants as K
 use Rattle.ppd_ast.specs.declared.program.Program.{Program}
-use Rattle.ppd_ast.specs.declared.limits.TheConstants.{MOST_NESTING}
-use Rattle.ppd_ast.specs.Members.{has}
-use Rattle.ppd_ast.specs.Lookups.{kind_of, top_of}
-use Rattle.ppd_cfg.specs.Lists.{first_or, rising}
+use Rattle.ppd_cfg.specs.Lists.{rising}
+use Rattle.std.specs.List.{range_with_len}
+use Rattle.std.specs.Option.{option_or}
+use Rattle.std.specs.Prelude.{IsTrue, List, None, Option, Some, [], if◌then◌else◌, length, map, nat_eq, option_and_then, option_to_list, slice_get, suc, zero, ℕ, ◌∷◌, ◌≡◌}
 
 -- the statement after s in the list, or what follows the list
 abbrev pub next_in : List ℕ → ℕ → Option ℕ → Option ℕ
 next_in [] s after = None
-next_in (x ∷ xs) s after = if nat_eq x s then first_or xs after else next_in xs s after
+next_in (x ∷ xs) s after = if nat_eq x s then option_or (slice_get xs 0) after else next_in xs s after
 
 -- what follows s, which stands directly in q, of this kind: after the last of a branch what follows the `If`,
 -- after the last of a loop's body the loop
@@ -22,7 +23,7 @@ follow_within q (K.While e body) s after = next_in body s (Some q)
 follow_within q k s after = None
 
 abbrev pub follow_under : Program → (ℕ → Option ℕ) → ℕ → ℕ → Option ℕ → Option ℕ
-follow_under p outer body s None = next_in (top_of p body) s None
+follow_under p outer body s None = next_in (body_numbered p body).top s None
 follow_under p outer body s (Some q) = follow_within q (kind_of p q) s (outer q)
 
 -- what follows statement s, which stands in at most so many lists
@@ -37,8 +38,9 @@ follow p s = follow_at MOST_NESTING p s
 
 -- the successors of statement s of this kind, which `after` follows
 abbrev pub successors : ℕ → Kind → Option ℕ → List ℕ
-successors s (K.If e first second) after = rising (first_or first after) (first_or second after)
-successors s (K.While e body) after = rising (first_or body (Some s)) after
+successors s (K.If e first second) after =
+    rising (option_or (slice_get first 0) after) (option_or (slice_get second 0) after)
+successors s (K.While e body) after = rising (option_or (slice_get body 0) (Some s)) after
 successors s (K.Return e) after = []
 successors s K.End after = []
 successors s k after = option_to_list after

@@ -1,7 +1,6 @@
 -- Marks, and what is marked and still to be gone on from.
 use Rattle.std.specs.Prelude.{ℕ, ◌<◌, Bool, true, false, List, [], ◌∷◌, length, get_or, set, IsTrue, if◌then◌else◌}
 use Rattle.ppd_ast.specs.Members.{has}
-use Rattle.ppd_cfg.specs.Lists.{row}
 
 pub record WorkList : Type 0 where
   pub marks : List Bool
@@ -23,4 +22,4 @@ with_marks (x ∷ xs) w = with_marks xs (with_mark x w)
 
 -- each row's numbers are those of rows
 abbrev pub AreRowsBelow : List (List ℕ) → Type 0
-AreRowsBelow rows = (a x : ℕ) → IsTrue (has (row rows a) x) → x < length rows
+AreRowsBelow rows = (a x : ℕ) → IsTrue (has (get_or rows a []) x) → x < length rows

@@ -1,13 +1,14 @@
-ghost use Rattle.std.specs.Prelude.{◌≡◌, IfOk};
-ghost use Rattle.ppd_ast.specs.Lookups.{kind_of, top_of};
-ghost use Rattle.ppd_cfg.specs.Lists.{first_or, rising};
+ghost use Rattle.std.specs.Option.{option_or};
+ghost use Rattle.std.specs.Prelude.{◌≡◌, IfOk, slice_get};
+ghost use Rattle.ppd_ast.specs.Lookups.{kind_of, body_numbered};
+ghost use Rattle.ppd_cfg.specs.Lists.{rising};
 ghost use Rattle.ppd_cfg.specs.Flow.{next_in, follow_within, follow_at, successors};
 
 use ppd_ast::{Ids, Kind, Memory, Program};
 use std::alloc::Global;
 
 fn first(list: &[u32], after: Option<u32>) -> Option<u32>
-    ensures { result ≡ first_or list.now after }
+    ensures { result ≡ option_or (slice_get list.now 0) after }
 {
     match list.first() {
         Some(item) => Some(*item),
@@ -29,7 +30,7 @@ fn next_in_list(list: &[u32], stmt: u32, after: Option<u32>) -> Option<u32>
 }
 
 fn top(program: &Program, body: u16) -> &[u32]
-    ensures { result.now ≡ top_of program.now body }
+    ensures { result.now ≡ (body_numbered program.now body).top }
 {
     match program.body(body) {
         Some(found) => found.top.as_slice(),

@@ -23,10 +23,9 @@ use Rattle.ppd_check_stmts.specs.Statements.{row_code}
 use Rattle.ppd_check_names.specs.Frames.{variable_of}
 use Rattle.ppd_check_names.specs.Syntax.{Item, shared, shared_array, semaphore, channel, function, process}
 use Rattle.ppd_check_stmts.specs.Table.{terms}
-use Rattle.ppd_check_bodies.specs.Sources.{outer, entry, ends_with_return, head_code, head_frame, heads, codes, core_of, faults_in}
-use Rattle.ppd_check_bodies.specs.Bodies.{close_code}
-use Rattle.ppd_check_names.specs.Globals.{Head, Globals, no_globals, with_item, globals}
-use Rattle.ppd_check_names.specs.Holding.{with_items, sem, chan}
+use Rattle.ppd_check_bodies.specs.Sources.{entered, entry, ends_with_return, head_code, head_frame, heads, codes, core_of, faults_in, close_code}
+use Rattle.ppd_check_names.specs.Globals.{Head, Globals, no_globals, with_item, globals, sem, chan}
+use Rattle.ppd_check_names.specs.Holding.{with_items}
 use Rattle.ppd_check_bodies.proofs.Filling.{params_count}
 use Rattle.ppd_check_stmts.proofs.Table.Writing.{length_flats}
 use Rattle.ppd_check_stmts.specs.Elements.{elements_of}
@@ -61,7 +60,7 @@ head_few scope h =
       arith,
       load_join (row_code h.block.row f) (close_code h),
       row_load h.block.row f,
-      params_count h.params (outer scope),
+      params_count h.params (entered (scope ∷ [])),
       close_load h h.process (ends_with_return h.block.row) refl refl,
     )
 

@@ -1,21 +1,23 @@
 -- The place past the most statements, among places of which it is known which come before it and which after.
-use Rattle.std.proofs.Common.{◌≡◌, refl, sym, ap, ◌∙◌, ℕ, zero, suc, ◌+◌, ◌<◌, ◌≤◌, arith, Bool, true, false, cond, nat_lt, nat_le, List, [], ◌∷◌, ◌++◌, map, length, Option, Some, None, if◌then◌else◌}
-use Rattle.std.specs.List.{All, Contains, count_by, filter}
-use Rattle.std.specs.List.Sorted.{IsPermutation}
-use Rattle.std.specs.Ordering.{is_lt, nat_cmp, ordering_then}
-use Rattle.std.proofs.lemmas.List.Elements.{All-head, All-tail, All-weaker, filter_passes, Contains-append_right}
-use Rattle.std.proofs.lemmas.List.Sums.{sum_by-append, sum_by-cons, count_by-le-length}
-use Rattle.std.proofs.lemmas.List.Sorted.{sum_by-IsPermutation, Contains-permutation, IsPermutation-sym}
-use Rattle.std.proofs.lemmas.Bool.{true≢false, ltb-true}
-use Rattle.ppd_ast.specs.declared.program.Place.{Place}
 use Rattle.ppd_ast.specs.Counting.{one_if}
-use Rattle.ppd_check_names.specs.declared.fault.Cause.TheVariants.{TooMany}
-use Rattle.ppd_check_names.specs.declared.fault.Limit.TheVariants as L
-use Rattle.ppd_check_names.specs.declared.fault.Fault.{Fault}
-use Rattle.ppd_check_names.specs.Faults.{at, by_then, is_before, first, first_of_both}
-use Rattle.ppd_check_names.proofs.Words.{first_of_two}
+use Rattle.ppd_ast.specs.declared.program.Place.{Place}
 use Rattle.ppd_check.proofs.Vocabulary.{is_up_to}
 use Rattle.ppd_check_names.proofs.Found.First.{first_of_both_assoc, first_of_both_swap}
+use Rattle.ppd_check_names.specs.Faults.{at, first, first_of_both, order}
+use Rattle.ppd_check_names.specs.declared.fault.Cause.TheVariants.{TooMany}
+use Rattle.ppd_check_names.specs.declared.fault.Fault.{Fault}
+use Rattle.ppd_check_names.specs.declared.fault.Limit.TheVariants as L
+use Rattle.std.proofs.Common.{Bool, List, None, Option, Some, [], ap, arith, cond, false, if◌then◌else◌, length, map, nat_lt, refl, suc, sym, true, zero, ℕ, ◌++◌, ◌+◌, ◌<◌, ◌∙◌, ◌∷◌, ◌≡◌, ◌≤◌}
+use Rattle.std.proofs.lemmas.Bool.{false_from_ne_true, ltb-true, true≢false}
+use Rattle.std.proofs.lemmas.List.Elements.{All-head, All-tail, All-weaker, Contains-append_right, filter_passes}
+use Rattle.std.proofs.lemmas.List.Sorted.{Contains-permutation, IsPermutation-sym, sum_by-IsPermutation}
+use Rattle.std.proofs.lemmas.List.Sums.{count_by-le-length, sum_by-append, sum_by-cons}
+use Rattle.std.specs.Cmp.{IsTotalOrder, nat_cmp_total, on_total, then_total, upto}
+use Rattle.std.specs.List.{All, Contains, count_by, filter}
+use Rattle.std.specs.List.Sorted.{IsPermutation}
+use Rattle.std.specs.Ordering.{is_gt, is_le, is_lt, nat_cmp, on, ordering_then, then_cmp}
+use Rattle.std.specs.declared.cmp.Ordering.{Ordering}
+use Rattle.std.specs.declared.cmp.Ordering.TheVariants.{Equal, Greater, Less}
 
 abbrev too_many : Place → Fault
 too_many p = at p (TooMany L.Statements)
@@ -25,26 +27,38 @@ too_many p = at p (TooMany L.Statements)
 pub up_to_itself : (p : Place) → is_up_to p p ≡ true
 up_to_itself p = go p.line p.column
   where
-    go : (a b : ℕ) → by_then a a (nat_le b b) ≡ true
+    go : (a b : ℕ) → is_le (ordering_then (nat_cmp a a) (nat_cmp b b)) ≡ true
     go a b = grind arith
 
-not_before : (x y : Place) → is_up_to y x ≡ true → is_before (too_many y) (too_many x) ≡ false
+not_before : (x y : Place) → is_up_to y x ≡ true → is_lt (order (too_many y) (too_many x)) ≡ false
 not_before x y h = go x.line x.column y.line y.column h
   where
-    go : (a b c d : ℕ) → by_then a c (nat_le b d) ≡ true → by_then c a (by_then d b false) ≡ false
+    go : (a b c d : ℕ) → is_le (ordering_then (nat_cmp a c) (nat_cmp b d)) ≡ true → is_lt (ordering_then (nat_cmp c a) (ordering_then (nat_cmp d b) Equal)) ≡ false
     go a b c d h = grind (arith, h)
+
+places : IsTotalOrder (then_cmp (on (λ (p : Place). p.line) nat_cmp) (on (λ (p : Place). p.column) nat_cmp))
+places = then_total (on_total (λ (p : Place). p.line) nat_cmp_total) (on_total (λ (p : Place). p.column) nat_cmp_total)
+
+up_to : (r : Ordering) → is_gt r ≡ false → is_le r ≡ true
+up_to Less h = refl
+up_to Equal h = refl
+up_to Greater h = absurd (true≢false h)
+
+not_past : (r : Ordering) → is_le r ≡ true → is_gt r ≡ false
+not_past Less h = refl
+not_past Equal h = refl
+not_past Greater h = absurd (true≢false (sym h))
 
 -- p is not before x, and x not up to q
 not_up_to : (p q x : Place) → is_up_to p x ≡ true → is_up_to q x ≡ false → is_up_to q p ≡ false
-not_up_to p q x h i = go p.line p.column q.line q.column x.line x.column h i
-  where
-    go : (a b c d e f : ℕ) → by_then e a (nat_le f b) ≡ true → by_then e c (nat_le f d) ≡ false → by_then a c (nat_le b d) ≡ false
-    go a b c d e f h i = grind (arith, h, i)
+not_up_to p q x h i =
+    false_from_ne_true (is_up_to q p)
+    (λ e. true≢false (sym (up_to _ (upto places x p q (not_past _ h) (not_past _ e))) ∙ i))
 
 pub from_key : (p q : Place) → is_lt (ordering_then (nat_cmp q.line p.line) (nat_cmp q.column p.column)) ≡ false → is_up_to q p ≡ true
 from_key p q h = go p.line p.column q.line q.column h
   where
-    go : (a b c d : ℕ) → is_lt (ordering_then (nat_cmp c a) (nat_cmp d b)) ≡ false → by_then a c (nat_le b d) ≡ true
+    go : (a b c d : ℕ) → is_lt (ordering_then (nat_cmp c a) (nat_cmp d b)) ≡ false → is_le (ordering_then (nat_cmp a c) (nat_cmp b d)) ≡ true
     go a b c d h = grind (arith, h)
 
 -- Counts.
@@ -100,7 +114,7 @@ first_passing p (y ∷ ys) x (suc k, l, e) px least = go (first_passing p ys x (
         → first (map too_many (cond b (y ∷ filter p ys) (filter p ys))) ≡ Some (too_many x)
     go rest false h = rest
     go rest true h =
-        ap (first_of_two (too_many y)) rest
+        ap (first_of_both (Some (too_many y))) rest
         ∙ first_of_both_swap (Some (too_many y)) (Some (too_many x))
         ∙ swap_to x y (least y h)
 

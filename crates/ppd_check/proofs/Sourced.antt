@@ -1,5 +1,6 @@
 -- A whole source: what was found in its parts, and its table from them.
 use Rattle.std.proofs.Common.{◌≡◌, refl, sym, ap, subst, ◌∙◌, ℕ, ℤ, ◌≤◌, arith, Bool, true, false, nat_lt, if◌then◌else◌, List, [], ◌∷◌, ◌++◌, map, length, Option, None, Some, not}
+use Rattle.std.specs.Ordering.{is_lt}
 use Rattle.std.specs.List.{flat_map}
 use Rattle.std.proofs.lemmas.List.{append_assoc, length-map}
 use Rattle.std.proofs.lemmas.Bool.{ltb-false}
@@ -23,16 +24,16 @@ use Rattle.ppd_check_names.specs.declared.globals.Globals.{Globals}
 use Rattle.ppd_check_names.specs.declared.writer.Writer.{Writer}
 use Rattle.ppd_check_bodies.specs.Bodies.{WroteHeads}
 use Rattle.ppd_check_stmts.specs.Code.{Code}
-use Rattle.ppd_check_names.specs.Faults.{at, if_so, is_before, first, first_of_both}
-use Rattle.ppd_check_names.proofs.Words.{first_of_two, head_name, object_name}
+use Rattle.ppd_check_names.specs.Faults.{at, if_so, first, first_of_both, order}
+use Rattle.ppd_check_names.proofs.Words.{head_name, object_name}
 use Rattle.ppd_check_names.specs.Fitted.{fitted}
 use Rattle.ppd_check_names.specs.Holding.{head_at, Holds}
 use Rattle.ppd_check_names.specs.Names.{innermost}
 use Rattle.ppd_check_names.specs.Globals as S
 use Rattle.ppd_check_bodies.specs.Sources.{past_statements, head_faults, heads, codes, faults_in, vars, bodies, all_stmts, core_of}
 use Rattle.ppd_check_names.specs.Reading.{source_of}
-use Rattle.ppd_check_names.specs.Globals.{no_globals, globals, with_item, items_faults, count_faults, past, past_cells}
-use Rattle.ppd_check_names.specs.Holding.{with_items, sem}
+use Rattle.ppd_check_names.specs.Globals.{no_globals, globals, with_item, items_faults, count_faults, past, past_cells, sem}
+use Rattle.ppd_check_names.specs.Holding.{with_items}
 use Rattle.ppd_check_names.specs.Frames.{after_cells}
 use Rattle.ppd_check_names.specs.Syntax.{Item, Source}
 use Rattle.ppd_check_stmts.specs.Table.{flats, terms}
@@ -44,9 +45,9 @@ use Rattle.ppd_check_names.proofs.Found.First.{found_in_both}
 clash_some : (f : Fault) → Some f ≡ None → ⊥
 clash_some f h = cc
 
-two_some : (f : Fault) (o : Option Fault) → first_of_two f o ≡ None → ⊥
+two_some : (f : Fault) (o : Option Fault) → first_of_both (Some f) o ≡ None → ⊥
 two_some f None h = clash_some f h
-two_some f (Some g) h = go (is_before g f) h
+two_some f (Some g) h = go (is_lt (order g f)) h
   where
     go : (b : Bool) → (if b then Some g else Some f) ≡ None → ⊥
     go true e = clash_some g e

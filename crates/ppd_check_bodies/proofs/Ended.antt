@@ -10,8 +10,7 @@ use Rattle.ppd_check_stmts.specs.Code as C
 use Rattle.ppd_check_bodies.specs.Endings.{with_rest, simple_ending, ending, close_by}
 use Rattle.ppd_check_names.specs.Nodes.{phrase_of, phrases_of, phrases_below, children_of}
 use Rattle.ppd_check_names.specs.Reading.{Phrase, as_row, rows, locals, followed}
-use Rattle.ppd_check_bodies.specs.Sources.{ends_with_return}
-use Rattle.ppd_check_bodies.specs.Bodies.{close_code}
+use Rattle.ppd_check_bodies.specs.Sources.{ends_with_return, close_code}
 use Rattle.ppd_check_names.specs.Globals.{Head}
 use Rattle.ppd_check_names.specs.Syntax.{Simple, give_back, Row, stop, simple, block, choice, repeat, count}
 use Rattle.ppd_check_stmts.proofs.Rows.Declaring.{locals_append, phrases_more}

@@ -1,5 +1,6 @@
 -- A function or a process from its parts: its parameters, statements, returns, cells and entry.
-use Rattle.std.proofs.Common.{◌≡◌, refl, sym, ap, subst, ◌∙◌, ℕ, ◌+◌, ◌<◌, ◌≤◌, arith, ◌-◌, nat_lt, Bool, true, false, if◌then◌else◌, List, [], ◌∷◌, ◌++◌, take, drop, length, get_or, Option, None, Some, MatchOption}
+use Rattle.std.proofs.Common.{◌≡◌, refl, sym, ap, subst, ◌∙◌, ℕ, ◌+◌, ◌<◌, ◌≤◌, arith, ◌-◌, nat_lt, Bool, true, false, if◌then◌else◌, List, [], ◌∷◌, ◌++◌, take, drop, length, get_or, Option, None, Some, MatchOption, fold}
+use Rattle.ppd_lex.specs.declared.token.Kind.TheVariants as K
 use Rattle.std.specs.List.{flat_map}
 use Rattle.std.proofs.lemmas.List.{append_assoc, append-nil, length-append, take_more, take_all, drop_at, length-map}
 use Rattle.std.proofs.lemmas.List.Concat.{flat_map-cons}
@@ -17,7 +18,7 @@ use Rattle.ppd_check_names.specs.declared.frame.Frame.{Frame}
 use Rattle.ppd_check_names.specs.declared.frame.Variable.{Variable}
 use Rattle.ppd_check_names.specs.declared.writer.Site.{Site}
 use Rattle.ppd_check_names.specs.declared.writer.Writer.{Writer}
-use Rattle.ppd_check_bodies.specs.Bodies.{entered, Parametered, Filled, WroteHeads}
+use Rattle.ppd_check_bodies.specs.Bodies.{Parametered, Filled, WroteHeads}
 use Rattle.ppd_check_stmts.specs.Code.{Code, join, count}
 use Rattle.ppd_check_bodies.specs.Endings.{ending, body_returns, close_by}
 use Rattle.ppd_check_names.specs.Faults.{first, first_of_both, if_so}
@@ -25,9 +26,8 @@ use Rattle.ppd_check_names.specs.Fitted.{fitted}
 use Rattle.ppd_check_names.specs.Holding.{head_said}
 use Rattle.ppd_check_names.specs.Names.{Scope, innermost}
 use Rattle.ppd_check_names.specs.Nodes.{phrase_of, phrases_of, phrases_below, children_of}
-use Rattle.ppd_check_names.specs.Reading.{Phrase, token, nowhere, phrase, last, kind, is_name, as_token, as_names, as_block, name_of, params}
-use Rattle.ppd_check_bodies.specs.Sources.{params_faults, head_code, head_frame, head_faults, entry, outer, vars}
-use Rattle.ppd_check_bodies.specs.Bodies.{with_params, return_faults, close_code}
+use Rattle.ppd_check_names.specs.Reading.{Phrase, token, nowhere, phrase, last, kind, same_kind, as_token, as_names, as_block, name_of, params}
+use Rattle.ppd_check_bodies.specs.Sources.{params_faults, head_code, head_frame, head_faults, entry, entered, vars, return_faults, close_code}
 use Rattle.ppd_check_names.specs.Globals.{Head, past_cells}
 use Rattle.ppd_check_stmts.specs.Statements.{row_code, row_faults, after_row}
 use Rattle.ppd_check_names.specs.Frames.{after_cells, declared, twice_faults}
@@ -48,20 +48,20 @@ front_more vs k v l is = ap (λ w. take k vs ++ w ∷ []) is ∙ sym (take_more 
 
 -- Parameters one after another.
 
-with_both : (xs ys : List Name) (f : Frame) → with_params (xs ++ ys) f ≡ with_params ys (with_params xs f)
+with_both : (xs ys : List Name) (f : Frame) → fold (declared None) f (xs ++ ys) ≡ fold (declared None) (fold (declared None) f xs) ys
 with_both [] ys f = refl
-with_both (x ∷ xs) ys f = with_both xs ys (declared x None f)
+with_both (x ∷ xs) ys f = with_both xs ys (declared None f x)
 
-faults_both : (xs ys : List Name) (f : Frame) → params_faults (xs ++ ys) f ≡ params_faults xs f ++ params_faults ys (with_params xs f)
+faults_both : (xs ys : List Name) (f : Frame) → params_faults (xs ++ ys) f ≡ params_faults xs f ++ params_faults ys (fold (declared None) f xs)
 faults_both [] ys f = refl
 faults_both (x ∷ xs) ys f =
-    ap (λ l. twice_faults (innermost f.scopes) x ++ l) (faults_both xs ys (declared x None f))
-    ∙ sym (append_assoc (twice_faults (innermost f.scopes) x) (params_faults xs (declared x None f)) (params_faults ys (with_params xs (declared x None f))))
+    ap (λ l. twice_faults (innermost f.scopes) x ++ l) (faults_both xs ys (declared None f x))
+    ∙ sym (append_assoc (twice_faults (innermost f.scopes) x) (params_faults xs (declared None f x)) (params_faults ys (fold (declared None) (declared None f x) xs)))
 
 pub parametered_both : (xs ys : List Name) (f g h : Frame) (o p q : Option Fault) → Parametered xs f g o p → Parametered ys g h p q → Parametered (xs ++ ys) f h o q
 parametered_both xs ys f g h o p q x y =
     record {
-      frame = y.frame ∙ ap (with_params ys) x.frame ∙ sym (with_both xs ys f);
+      frame = y.frame ∙ ap (λ k. fold (declared None) k ys) x.frame ∙ sym (with_both xs ys f);
       notes =
           found_in_both o p q (params_faults xs f) (params_faults ys g) x.notes y.notes
           ∙ ap (λ k. first_of_both o (first (params_faults xs f ++ params_faults ys k))) x.frame
@@ -73,11 +73,11 @@ one_param p true = refl
 one_param p false = refl
 
 pub parametered_more : (ps : List Phrase) (k : ℕ) (f g h : Frame) (o p q : Option Fault) → k < length ps → Parametered (params (take k ps)) f g o p
-    → Parametered (if is_name (kind (phrase ps k)) then name_of (as_token (phrase ps k)) ∷ [] else []) g h p q → Parametered (params (take (k + 1) ps)) f h o q
+    → Parametered (if same_kind K.Name (kind (phrase ps k)) then name_of (as_token (phrase ps k)) ∷ [] else []) g h p q → Parametered (params (take (k + 1) ps)) f h o q
 parametered_more ps k f g h o p q l x y =
     let c : Phrase = phrase ps k in
     subst (λ xs. Parametered xs f h o q) (sym (params_append (take k ps) (c ∷ [])) ∙ ap params (sym (take_more ps k (token nowhere) l)))
-    (parametered_both (params (take k ps)) (params (c ∷ [])) f g h o p q x (subst (λ xs. Parametered xs g h p q) (one_param c (is_name (kind c))) y))
+    (parametered_both (params (take k ps)) (params (c ∷ [])) f g h o p q x (subst (λ xs. Parametered xs g h p q) (one_param c (same_kind K.Name (kind c))) y))
 
 pub parametered_all : (ps : List Phrase) (k : ℕ) (f g : Frame) (o p : Option Fault) → length ps ≤ k → Parametered (params (take k ps)) f g o p → Parametered (params ps) f g o p
 parametered_all ps k f g o p h x = subst (λ l. Parametered (params l) f g o p) (take_all k ps h) x
@@ -108,19 +108,19 @@ parametered_below ns i k cs f g o p is h x = subst (λ l. Parametered (flat_map 
 
 -- Each parameter is a variable, and the scopes outside stay.
 
-pub params_count : (xs : List Name) (f : Frame) → length (with_params xs f).variables ≡ length f.variables + length xs
+pub params_count : (xs : List Name) (f : Frame) → length (fold (declared None) f xs).variables ≡ length f.variables + length xs
 params_count [] f = omega arith
 params_count (x ∷ xs) f =
-    let one : length (declared x None f).variables ≡ length f.variables + 1 = length-append f.variables _ in
-    let rest : length (with_params xs (declared x None f)).variables ≡ length (declared x None f).variables + length xs = params_count xs (declared x None f) in
+    let one : length (declared None f x).variables ≡ length f.variables + 1 = length-append f.variables _ in
+    let rest : length (fold (declared None) (declared None f x) xs).variables ≡ length (declared None f x).variables + length xs = params_count xs (declared None f x) in
     omega (arith, one, rest)
 
-outer_params : (xs : List Name) (f : Frame) → drop 1 (with_params xs f).scopes ≡ drop 1 f.scopes
+outer_params : (xs : List Name) (f : Frame) → drop 1 (fold (declared None) f xs).scopes ≡ drop 1 f.scopes
 outer_params [] f = refl
-outer_params (x ∷ xs) f = outer_params xs (declared x None f) ∙ outer_declared _ f.scopes
+outer_params (x ∷ xs) f = outer_params xs (declared None f x) ∙ outer_declared _ f.scopes
 
 -- the scopes after a body are those before it
-pub scopes_after : (h : Head) (scopes : List Scope) (f g k : Frame) (s : List Scope) → f ≡ entered scopes → g ≡ with_params h.params f → k ≡ after_row h.block.row g → s ≡ drop 1 k.scopes → s ≡ scopes
+pub scopes_after : (h : Head) (scopes : List Scope) (f g k : Frame) (s : List Scope) → f ≡ entered scopes → g ≡ fold (declared None) f h.params → k ≡ after_row h.block.row g → s ≡ drop 1 k.scopes → s ≡ scopes
 scopes_after h scopes f g k s e p r d =
     d
     ∙ ap (λ (x : Frame). drop 1 x.scopes) r
@@ -260,14 +260,14 @@ pub body_wrote : (scopes : List Scope) (h : Head) (site : Site) (f g k : Frame) 
 body_wrote scopes h site f g k u v x z top bs cs b p n e one begun pm fl cells at pe ne ee be ce = go (subst (λ (i : Frame). Filled site h i k (record u { found = x }) v [] top) entered_as fl)
   where
     entered_as : g ≡ entry (innermost scopes) h
-    entered_as = pm.frame ∙ ap (with_params h.params) (begun ∙ ap entered one)
+    entered_as = pm.frame ∙ ap (λ k. fold (declared None) k h.params) (begun ∙ ap entered one)
 
     known : length g.variables ≡ length h.params
     known =
-        let many : length (with_params h.params (outer (innermost scopes))).variables ≡ 0 + length h.params = params_count h.params (outer (innermost scopes)) in
+        let many : length (fold (declared None) (entered ((innermost scopes) ∷ [])) h.params).variables ≡ 0 + length h.params = params_count h.params (entered ((innermost scopes) ∷ [])) in
         ap (λ (i : Frame). length i.variables) entered_as ∙ many ∙ omega arith
 
-    started : x ≡ first_of_both u.found (first (params_faults h.params (outer (innermost scopes))))
+    started : x ≡ first_of_both u.found (first (params_faults h.params (entered ((innermost scopes) ∷ []))))
     started = pm.notes ∙ ap (λ i. first_of_both u.found (first (params_faults h.params i))) (begun ∙ ap entered one)
 
     go : Filled site h (entry (innermost scopes) h) k (record u { found = x }) v [] top → WroteHeads (innermost scopes) (h ∷ []) u (record v { found = z }) bs cs
@@ -293,12 +293,12 @@ body_wrote scopes h site f g k u v x z top bs cs b p n e one begun pm fl cells a
               (pe ∙ ap (fitted 16) known) (ap (λ (i : Frame). i.cells) y.frame) ne (ee ∙ long) (ap (λ (i : Frame). vars 0 i.variables) y.frame) w.row);
           found =
               found_in_both u.found v.found z
-              (params_faults h.params (outer scope) ++ (row_faults h.block.row (entry scope h) ++ return_faults h)) (past_cells MOST_LOCAL_CELLS L.Locals 0 k.variables)
-              (found_in_both u.found x v.found (params_faults h.params (outer scope)) (row_faults h.block.row (entry scope h) ++ return_faults h) started w.found)
+              (params_faults h.params (entered (scope ∷ [])) ++ (row_faults h.block.row (entry scope h) ++ return_faults h)) (past_cells MOST_LOCAL_CELLS L.Locals 0 k.variables)
+              (found_in_both u.found x v.found (params_faults h.params (entered (scope ∷ []))) (row_faults h.block.row (entry scope h) ++ return_faults h) started w.found)
               cells
               ∙ ap (λ l. first_of_both u.found (first l))
-              (parts_joined (params_faults h.params (outer scope)) (row_faults h.block.row (entry scope h)) (return_faults h) (past_cells MOST_LOCAL_CELLS L.Locals 0 k.variables)
-              ∙ ap (λ (i : Frame). params_faults h.params (outer scope) ++ (row_faults h.block.row (entry scope h) ++ (return_faults h ++ past_cells MOST_LOCAL_CELLS L.Locals 0 i.variables))) y.frame
+              (parts_joined (params_faults h.params (entered (scope ∷ []))) (row_faults h.block.row (entry scope h)) (return_faults h) (past_cells MOST_LOCAL_CELLS L.Locals 0 k.variables)
+              ∙ ap (λ (i : Frame). params_faults h.params (entered (scope ∷ [])) ++ (row_faults h.block.row (entry scope h) ++ (return_faults h ++ past_cells MOST_LOCAL_CELLS L.Locals 0 i.variables))) y.frame
               ∙ sym (flat_one (head_faults scope) h));
         }
 

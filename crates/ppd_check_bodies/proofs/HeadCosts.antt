@@ -1,5 +1,7 @@
 -- What the bodies of a source have, against the nodes of their functions and processes.
-use Rattle.std.proofs.Common.{◌≡◌, ap, ◌∙◌, ℕ, ◌+◌, ◌*◌, ◌≤◌, arith, Bool, true, false, List, [], ◌∷◌, length, map, Option, None, drop, ◌++◌, length-append, length-drop}
+use Rattle.ppd_check_bodies.specs.Sources.{entered}
+use Rattle.ppd_check_names.specs.Frames.{declared}
+use Rattle.std.proofs.Common.{◌≡◌, ap, ◌∙◌, ℕ, ◌+◌, ◌*◌, ◌≤◌, arith, Bool, true, false, List, [], ◌∷◌, length, map, Option, None, drop, ◌++◌, length-append, length-drop, fold}
 use Rattle.std.specs.List.{flat_map}
 use Rattle.ppd_ast.specs.declared.program.Stmt.{Stmt}
 use Rattle.ppd_parse.specs.declared.node.Node.{Node}
@@ -21,9 +23,8 @@ use Rattle.ppd_check_stmts.proofs.Costs.Rows.{row_size, row_load}
 use Rattle.ppd_check_stmts.proofs.Costs.Phrases.{children_said}
 use Rattle.ppd_check_stmts.proofs.Costs.Tables.{row_holds}
 use Rattle.ppd_check_names.proofs.Table.Trees.{all_said_forest}
-use Rattle.ppd_check_bodies.specs.Bodies.{entered}
 use Rattle.ppd_check_names.specs.Names.{Scope}
-use Rattle.ppd_check_bodies.specs.Bodies.{with_params}
+use Rattle.ppd_check_bodies.specs.Bodies.{}
 use Rattle.ppd_check_names.specs.Globals.{Head}
 use Rattle.ppd_check_bodies.proofs.Filling.{params_count}
 
@@ -58,7 +59,7 @@ pub inside_few : (old new inside added : List Stmt) (start : ℕ) → new ≡ ol
 inside_few old new inside added start e s i = omega (arith, ap (λ (l : List Stmt). length l) i, length-drop start new, ap (λ (l : List Stmt). length l) e, length-append old added, s)
 
 -- the variables of a body after its parameters, and after all its statements
-pub body_few : (ns : List Node) (i : ℕ) (b : Bool) (scopes : List Scope) (f g h : Frame) → f ≡ entered scopes → g ≡ with_params (head_said b (phrases_below ns i)).params f → h ≡ after_row (head_said b (phrases_below ns i)).block.row g
+pub body_few : (ns : List Node) (i : ℕ) (b : Bool) (scopes : List Scope) (f g h : Frame) → f ≡ entered scopes → g ≡ fold (declared None) f (head_said b (phrases_below ns i)).params → h ≡ after_row (head_said b (phrases_below ns i)).block.row g
     → (length g.variables ≤ 9 * plain_below ns i + 9 * nested_below ns i) × (length h.variables ≤ 9 * plain_below ns i + 9 * nested_below ns i)
 body_few ns i b scopes f g h d e l =
     let x : Head = head_said b (phrases_below ns i) in

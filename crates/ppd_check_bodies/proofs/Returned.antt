@@ -14,7 +14,6 @@ use Rattle.ppd_lex.specs.declared.token.Kind.TheVariants as K
 use Rattle.ppd_parse.specs.declared.symbol.Rule.{Rule}
 use Rattle.ppd_parse.specs.declared.symbol.Rule.TheVariants as R
 use Rattle.ppd_parse.specs.Grammar.{Shape, leaf, node, Shapes, no_shapes, shape_then}
-use Rattle.ppd_parse.specs.Stack.{is_assign}
 use Rattle.ppd_check_names.specs.declared.fault.Cause.TheVariants.{ReturnPlace}
 use Rattle.ppd_check_names.specs.declared.fault.Fault.{Fault}
 use Rattle.ppd_check_stmts.specs.Writing.{block_at}
@@ -27,13 +26,11 @@ use Rattle.ppd_check_bodies.specs.Endings.{with_rest, simple_ending, ending, kin
 use Rattle.ppd_check_stmts.specs.Expressions.{term_of}
 use Rattle.ppd_check_names.specs.Faults.{at, if_so, first, first_of_both}
 use Rattle.ppd_check_names.specs.Nodes.{tree_at, phrase_of}
-use Rattle.ppd_check_names.specs.Reading.{Phrase, token, goal, calling, changing, row, body, phrase, last, kind, is_semicolon, is_int, is_bracket, as_row, as_block, as_value, name_at, number_at, formula_at, rows, locals, local_item, changed, statement, worded, followed, before, beyond, for_start, for_row, some_change, made, said, all_said}
-use Rattle.ppd_check_bodies.specs.Sources.{simple_returns, returns, last_return}
-use Rattle.ppd_check_bodies.specs.Bodies.{return_faults}
+use Rattle.ppd_check_names.specs.Reading.{Phrase, token, goal, calling, changing, row, body, phrase, last, kind, same_kind, as_row, as_block, as_value, name_at, number_at, formula_at, rows, locals, local_item, changed, statement, worded, followed, before, beyond, for_start, for_row, some_change, made, said, all_said}
+use Rattle.ppd_check_bodies.specs.Sources.{simple_returns, returns, last_return, return_faults}
 use Rattle.ppd_check_names.specs.Globals.{Head}
-use Rattle.ppd_check_stmts.specs.Statements.{put, store_acts, spot_of, code_of, after, after_row, row_code, opened, with_scopes_of}
+use Rattle.ppd_check_stmts.specs.Statements.{put, store_acts, spot_of, code_of, after, after_row, row_code, opened, with_scopes_of, code_of_any}
 use Rattle.ppd_check_stmts.proofs.Vocabulary.{after_any}
-use Rattle.ppd_check_stmts.specs.Plain.{code_of_any}
 use Rattle.ppd_check_names.specs.Syntax.{number, Value, plain, result, received, Simple, fresh, array, store, change, call, give_back, take as take_sem, give, send, print, assert, Row, stop, simple, block, repeat}
 use Rattle.ppd_check_names.specs.Syntax as S
 use Rattle.ppd_check_stmts.specs.Table.{weight, weights, root, terms, act_terms, numbers, stmts, kind as kind_of}
@@ -78,7 +75,7 @@ plain_drop (suc n) (p ∷ ps) h = plain_drop n ps h.1
 
 plain_before : (ps : List Phrase) → ArePlain ps → ArePlain (before ps)
 plain_before [] h = tt
-plain_before (p ∷ ps) h = go (is_semicolon (kind p)) (plain_before ps h.1)
+plain_before (p ∷ ps) h = go (same_kind K.Semicolon (kind p)) (plain_before ps h.1)
   where
     go : (b : Bool) → ArePlain (before ps) → ArePlain (if b then [] else p ∷ before ps)
     go true i = tt
@@ -86,7 +83,7 @@ plain_before (p ∷ ps) h = go (is_semicolon (kind p)) (plain_before ps h.1)
 
 plain_beyond : (ps : List Phrase) → ArePlain ps → ArePlain (beyond ps)
 plain_beyond [] h = tt
-plain_beyond (p ∷ ps) h = go (is_semicolon (kind p)) (plain_beyond ps h.1)
+plain_beyond (p ∷ ps) h = go (same_kind K.Semicolon (kind p)) (plain_beyond ps h.1)
   where
     go : (b : Bool) → ArePlain (beyond ps) → ArePlain (if b then ps else beyond ps)
     go true i = h.1
@@ -97,7 +94,7 @@ plain_change (changing s) h = h
 plain_change p h = tt
 
 plain_start : (ps : List Phrase) → ArePlain ps → PlainAny (for_start ps)
-plain_start ps h = go (is_int (kind (phrase ps 0)))
+plain_start ps h = go (same_kind K.IntWord (kind (phrase ps 0)))
   where
     go : (b : Bool) → PlainAny (if b then Some (fresh (name_at ps 1) (plain (formula_at ps 3))) else some_change (phrase ps 0))
     go true = refl
@@ -154,7 +151,7 @@ plain_statement (token t) ps h i = plain_worded ps (kind (phrase ps 0)) refl i
 plain_statement p ps h i = tt
 
 plain_item : (ps : List Phrase) → simple_returns (local_item ps) ≡ []
-plain_item ps = go (is_bracket (kind (phrase ps 1))) (is_assign (kind (phrase ps 1)))
+plain_item ps = go (same_kind K.LeftBracket (kind (phrase ps 1))) (same_kind K.AssignMark (kind (phrase ps 1)))
   where
     go : (b c : Bool) → simple_returns (if b then array (name_at ps 0) (number_at ps 2) else if c then fresh (name_at ps 0) (as_value (phrase ps 2)) else fresh (name_at ps 0) (plain (number (pos 0)))) ≡ []
     go true c = refl

@@ -1,6 +1,7 @@
 -- A whole source: what it declares, the rules that it breaks, and its program.
-use Rattle.std.specs.Prelude.{◌≡◌, ℕ, ◌+◌, Bool, true, false, not, ◌&&◌, ◌||◌, nat_lt, nat_le, List, [], ◌∷◌, ◌++◌, map, fold, length, Option, None, is_some, if◌then◌else◌}
+use Rattle.std.specs.Prelude.{◌≡◌, ℕ, ◌+◌, Bool, true, false, not, ◌&&◌, ◌||◌, nat_lt, List, [], ◌∷◌, ◌++◌, map, fold, length, Option, None, is_some, if◌then◌else◌}
 use Rattle.std.specs.List.{flat_map, filter, count_by}
+use Rattle.std.specs.Ordering.{is_le, nat_cmp, ordering_then}
 use Rattle.ppd_ast.specs.declared.limits.TheConstants.{MOST_STATEMENTS, MOST_LOCAL_CELLS}
 use Rattle.ppd_ast.specs.declared.program.Place.{Place}
 use Rattle.ppd_ast.specs.declared.program.Var.{Var}
@@ -13,7 +14,7 @@ use Rattle.ppd_check_names.specs.declared.fault.Fault.{Fault}
 use Rattle.ppd_check_names.specs.declared.frame.Variable.{Variable}
 use Rattle.ppd_check_names.specs.declared.frame.Frame.{Frame}
 use Rattle.ppd_check_names.specs.Fitted.{fitted}
-use Rattle.ppd_check_names.specs.Faults.{at, if_so, by_then}
+use Rattle.ppd_check_names.specs.Faults.{at, if_so}
 use Rattle.ppd_check_names.specs.Names.{Scope, innermost}
 use Rattle.ppd_check_stmts.specs.Code.{Code, done, act, join}
 use Rattle.ppd_check_stmts.specs.Code as C
@@ -21,13 +22,14 @@ use Rattle.ppd_check_stmts.specs.Table.{stmts, numbers, terms, flats, weights}
 use Rattle.ppd_check_stmts.specs.Statements.{after_row, row_code, row_faults}
 use Rattle.ppd_check_names.specs.Frames.{after_cells, declared, twice_faults}
 use Rattle.ppd_check_names.specs.Syntax.{Name, Simple, Row, stop, simple, block, choice, repeat, count, give_back, shared, process, Source}
-use Rattle.ppd_check_names.specs.Globals.{Head, Globals, no_globals, globals, items_faults, past_cells, count_faults}
+use Rattle.ppd_check_names.specs.Globals.{Head, Globals, sem, chan, no_globals, globals, items_faults, past_cells, count_faults}
 
 -- the places up to which more statements stand than there may be
 abbrev pub past_statements : List Place → List Fault
 past_statements ps =
     map (λ q. at q (TooMany L.Statements))
-    (filter (λ q. nat_lt MOST_STATEMENTS (count_by (λ p. by_then p.line q.line (nat_le p.column q.column)) ps)) ps)
+    (filter (λ q. nat_lt MOST_STATEMENTS (count_by
+    (λ p. is_le (ordering_then (nat_cmp p.line q.line) (nat_cmp p.column q.column))) ps)) ps)
 
 -- Returns.
 
@@ -60,14 +62,14 @@ last_return gives close (count p start e step b r) = returns b ++ last_return gi
 
 abbrev pub params_faults : List Name → Frame → List Fault
 params_faults [] f = []
-params_faults (x ∷ xs) f = twice_faults (innermost f.scopes) x ++ params_faults xs (declared x None f)
+params_faults (x ∷ xs) f = twice_faults (innermost f.scopes) x ++ params_faults xs (declared None f x)
 
--- a body's one outermost scope inside that of the source, and its parameters in it
-abbrev pub outer : Scope → Frame
-outer scope = record { scopes = [] ∷ scope ∷ []; variables = []; cells = 0; hidden = 0 }
+-- a body's outermost scope inside others, and its parameters in it inside that of the source
+abbrev pub entered : List Scope → Frame
+entered scopes = record { scopes = [] ∷ scopes; variables = []; cells = 0; hidden = 0 }
 
 abbrev pub entry : Scope → Head → Frame
-entry scope h = fold (λ f x. declared x None f) (outer scope) h.params
+entry scope h = fold (declared None) (entered (scope ∷ [])) h.params
 
 abbrev pub ends_with_return : Row → Bool
 ends_with_return stop = false
@@ -78,13 +80,19 @@ ends_with_return (choice p e a b r) = ends_with_return r
 ends_with_return (repeat p e b r) = ends_with_return r
 ends_with_return (count p start e step b r) = ends_with_return r
 
+-- what stands at the closing brace of a body, and the rules that its returns break
+abbrev pub close_code : Head → Code
+close_code h =
+    if h.process then act h.block.close C.finish done
+    else if ends_with_return h.block.row then done
+    else act h.block.close (C.give_back None) done
+
+abbrev pub return_faults : Head → List Fault
+return_faults h = if h.process then returns h.block.row else last_return h.gives h.block.close h.block.row
+
 -- the core statements of a body, with what stands at its closing brace
 abbrev pub head_code : Scope → Head → Code
-head_code scope h =
-    join (row_code h.block.row (entry scope h))
-    (if h.process then act h.block.close C.finish done
-    else if ends_with_return h.block.row then done
-    else act h.block.close (C.give_back None) done)
+head_code scope h = join (row_code h.block.row (entry scope h)) (close_code h)
 
 -- the frame at the closing brace
 abbrev pub head_frame : Scope → Head → Frame
@@ -92,9 +100,9 @@ head_frame scope h = after_row h.block.row (entry scope h)
 
 abbrev pub head_faults : Scope → Head → List Fault
 head_faults scope h =
-    params_faults h.params (outer scope)
+    params_faults h.params (entered (scope ∷ []))
     ++ (row_faults h.block.row (entry scope h)
-    ++ ((if h.process then returns h.block.row else last_return h.gives h.block.close h.block.row)
+    ++ (return_faults h
     ++ past_cells MOST_LOCAL_CELLS L.Locals 0 (head_frame scope h).variables))
 
 -- functions in order, then processes in order
@@ -146,8 +154,8 @@ core_of s =
       functions = fitted 16 (length g.functions);
       shared = vars 0 g.shared;
       starts = g.starts;
-      sems = map (λ o. record { name = o.name.text; start = fitted 32 o.number }) g.semaphores;
-      chans = map (λ o. record { name = o.name.text; capacity = fitted 8 o.number }) g.channels;
+      sems = map sem g.semaphores;
+      chans = map chan g.channels;
     }
 
 -- every broken rule with its place

@@ -1,16 +1,17 @@
 // Functions and processes: their parameters, statements and cells.
 ghost use Rattle.std.specs.Prelude.{◌≡◌, if◌then◌else◌, ◌<◌, ◌++◌, [], ◌∷◌, OnOk, IfOk, IfSome, length, drop, map, nat_lt, ◌≤◌, ◌+◌, ◌*◌};
+ghost use Rattle.ppd_lex.specs.declared.token.Kind.TheVariants as K;
 ghost use Rattle.std.specs.List.{All, flat_map};
 ghost use Rattle.ppd_ast.specs.declared.limits.TheConstants.{MOST_LOCAL_CELLS};
 ghost use Rattle.ppd_check_names.specs.declared.fault.Limit.TheVariants.{Locals};
-ghost use Rattle.ppd_check_bodies.specs.Bodies.{entered, Fills, Parametered, WroteHeads};
+ghost use Rattle.ppd_check_bodies.specs.Bodies.{Fills, Parametered, WroteHeads};
 ghost use Rattle.ppd_check_bodies.specs.Endings.{ending};
 ghost use Rattle.ppd_check_names.specs.Faults.{first, first_of_both};
 ghost use Rattle.ppd_check_names.specs.Holding.{head_at, head_said, IsHeadAt};
 ghost use Rattle.ppd_check_names.specs.Names.{innermost};
 ghost use Rattle.ppd_check_names.specs.Nodes.{phrase_of, below};
-ghost use Rattle.ppd_check_names.specs.Reading.{last, phrase, kind, is_name, name_at, as_block, as_names, as_token, params};
-ghost use Rattle.ppd_check_bodies.specs.Sources.{vars};
+ghost use Rattle.ppd_check_names.specs.Reading.{last, phrase, kind, same_kind, name_at, as_block, as_names, as_token, params};
+ghost use Rattle.ppd_check_bodies.specs.Sources.{vars, entered};
 ghost use Rattle.ppd_check_names.specs.Globals.{past_cells};
 ghost use Rattle.ppd_check_names.specs.Cost.{nodes_at, nested_at, plain_at, if_there, total, nested_below, plain_below};
 ghost use Rattle.ppd_check_stmts.specs.Writing.{block_at};
@@ -64,8 +65,8 @@ fn declare_name<L: Ledger>(
     steps: &mut Steps<L>,
 ) -> Result<(), Memory>
     requires within { id < length source.nodes.now }
-    ensures declares { OnOk result (Parametered (if is_name (kind (phrase (below source.entry id) k)) then name_at
-        (below source.entry id) k ∷ [] else []) frame.old frame.new found.old found.new) }
+    ensures declares { OnOk result (Parametered (if same_kind K.Name (kind (phrase (below source.entry id) k))
+        then name_at (below source.entry id) k ∷ [] else []) frame.old frame.new found.old found.new) }
     ensures cost { steps.new ≤ steps.old + 5 }
 {
     if !is_name(kind_at(source, id, k)) {

@@ -1,6 +1,6 @@
 -- What a source has declared so far, as the code keeps it: semaphores and channels as in the table, functions and
 -- processes by their nodes. Start values are kept as far as the shared cells are not too many.
-use Rattle.std.specs.Prelude.{ℕ, ℤ, pos, Bool, nat_le, nat_lt, List, [], ◌∷◌, ◌++◌, map, take, drop, length, replicate, Option, Some, if◌then◌else◌}
+use Rattle.std.specs.Prelude.{ℕ, ℤ, pos, Bool, nat_le, nat_lt, List, [], ◌∷◌, ◌++◌, length, replicate, Option, Some, if◌then◌else◌}
 use Rattle.ppd_ast.specs.declared.limits.TheConstants.{MOST_SHARED_CELLS, MOST_SEMAPHORES, MOST_CHANNELS}
 use Rattle.ppd_ast.specs.declared.program.Place.{Place}
 use Rattle.ppd_check_names.specs.declared.fault.Cause.TheVariants.{TooMany}
@@ -12,7 +12,7 @@ use Rattle.ppd_check_names.specs.Faults.{if_so}
 use Rattle.ppd_check_names.specs.declared.globals.Sort.{Sort}
 use Rattle.ppd_check_names.specs.declared.globals.Sort.TheVariants.{Array, Semaphore, Channel}
 use Rattle.ppd_check_names.specs.Fitted.{fitted}
-use Rattle.ppd_check_names.specs.Names.{Meaning, Scope, declare, innermost}
+use Rattle.ppd_check_names.specs.Names.{Meaning, Scope, declare, innermost, in_innermost}
 use Rattle.ppd_check_names.specs.Names as N
 use Rattle.ppd_check_names.specs.Frames.{after_cells, variable_of, twice_faults}
 use Rattle.ppd_check_names.specs.Syntax.{Name}
@@ -29,10 +29,6 @@ nothing = record {
   functions = [];
   processes = [];
 }
-
--- a change of the innermost scope
-abbrev pub in_innermost : (Scope → Scope) → List Scope → List Scope
-in_innermost f scopes = map f (take 1 scopes) ++ drop 1 scopes
 
 -- a name with its meaning
 abbrev pub named : Name → Meaning → List Scope → List Scope

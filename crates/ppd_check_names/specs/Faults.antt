@@ -1,5 +1,7 @@
 -- The rules that a source can break, and which broken rule comes first.
-use Rattle.std.specs.Prelude.{ℕ, Bool, true, false, if◌then◌else◌, nat_lt, nat_eq, List, [], ◌∷◌, Option, Some, None}
+use Rattle.std.specs.Prelude.{ℕ, Bool, true, false, if◌then◌else◌, List, [], ◌∷◌, Option, Some, None}
+use Rattle.std.specs.Ordering.{is_lt, nat_cmp, on, then_cmp}
+use Rattle.std.specs.declared.cmp.Ordering.{Ordering}
 use Rattle.std.specs.Option.{option_map_or}
 use Rattle.ppd_ast.specs.declared.program.Place.{Place}
 use Rattle.ppd_check_names.specs.declared.fault.Cause.{Cause}
@@ -33,23 +35,18 @@ rank (TooMany Shared) = 85
 rank (TooMany Locals) = 86
 rank BadSize = 90
 
--- by the first numbers, and where these are equal by the test
-abbrev pub by_then : ℕ → ℕ → Bool → Bool
-by_then m n next = if nat_lt m n then true else if nat_eq m n then next else false
-
 -- by line, then by column, then by the rule's number
-abbrev pub is_before : Fault → Fault → Bool
-is_before a b =
-    by_then a.place.line b.place.line
-    (by_then a.place.column b.place.column
-    (nat_lt (rank a.cause) (rank b.cause)))
+abbrev pub order : Fault → Fault → Ordering
+order =
+    then_cmp (on (λ f. f.place.line) nat_cmp)
+    (then_cmp (on (λ f. f.place.column) nat_cmp) (on (λ f. rank f.cause) nat_cmp))
+
+-- the first of what was found in two parts
+abbrev pub first_of_both : Option Fault → Option Fault → Option Fault
+first_of_both None b = b
+first_of_both (Some f) b = option_map_or (λ g. if is_lt (order g f) then Some g else Some f) b (Some f)
 
 -- the first of some broken rules
 abbrev pub first : List Fault → Option Fault
 first [] = None
-first (f ∷ fs) = option_map_or (λ g. if is_before g f then Some g else Some f) (first fs) (Some f)
-
--- the same for what was found in two parts
-abbrev pub first_of_both : Option Fault → Option Fault → Option Fault
-first_of_both None b = b
-first_of_both (Some f) b = option_map_or (λ g. if is_before g f then Some g else Some f) b (Some f)
+first (f ∷ fs) = first_of_both (Some f) (first fs)

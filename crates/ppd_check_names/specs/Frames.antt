@@ -1,30 +1,30 @@
 -- The variables of a body, and what a declaration adds to them.
-use Rattle.std.specs.Prelude.{ℕ, ◌+◌, ◌&&◌, nat_le, List, [], ◌∷◌, ◌++◌, map, take, drop, Option, None, is_some, decimal, not}
 use Rattle.ppd_ast.specs.declared.program.Place.{Place}
-use Rattle.ppd_ast.specs.Cells.{size}
-use Rattle.ppd_lex.specs.Front.{looked_up}
-use Rattle.ppd_check_names.specs.declared.fault.Cause.TheVariants.{Twice, BadSize}
-use Rattle.ppd_check_names.specs.declared.fault.Fault.{Fault}
-use Rattle.ppd_check_names.specs.declared.frame.Variable.{Variable}
-use Rattle.ppd_check_names.specs.declared.frame.Frame.{Frame}
-use Rattle.ppd_check_names.specs.Fitted.{fitted}
 use Rattle.ppd_check_names.specs.Faults.{if_so}
-use Rattle.ppd_check_names.specs.Names.{Scope, declare}
+use Rattle.ppd_check_names.specs.Fitted.{fitted}
 use Rattle.ppd_check_names.specs.Names as N
-use Rattle.ppd_check_names.specs.Syntax.{Name, Number}
+use Rattle.ppd_check_names.specs.Names.{Scope, declare, in_innermost}
+use Rattle.ppd_check_names.specs.Syntax.{Name}
+use Rattle.ppd_check_names.specs.declared.fault.Cause.TheVariants.{BadSize, Twice}
+use Rattle.ppd_check_names.specs.declared.fault.Fault.{Fault}
+use Rattle.ppd_check_names.specs.declared.frame.Frame.{Frame}
+use Rattle.ppd_check_names.specs.declared.frame.Variable.{Variable}
+use Rattle.ppd_check_names.specs.declared.nodes.Number.{Number}
+use Rattle.ppd_lex.specs.Front.{looked_up}
+use Rattle.std.specs.Prelude.{List, None, Option, [], decimal, is_some, nat_le, not, unwrap_or, ℕ, ◌&&◌, ◌++◌, ◌+◌, ◌∷◌}
 
 -- the cell after a variable that begins at cell n
 abbrev pub after_cells : ℕ → Option ℕ → ℕ
-after_cells n length = fitted 16 (n + size length)
+after_cells n length = fitted 16 (n + unwrap_or length 1)
 
 abbrev pub variable_of : Name → Option ℕ → Variable
 variable_of x length = record { name = x.text; length = length; place = x.place }
 
 -- one more variable of the body, which its name means in the innermost scope from here on
-abbrev pub declared : Name → Option ℕ → Frame → Frame
-declared x length f =
+abbrev pub declared : Option ℕ → Frame → Name → Frame
+declared length f x =
     record {
-      scopes = map (declare x.text (N.local f.cells length)) (take 1 f.scopes) ++ drop 1 f.scopes;
+      scopes = in_innermost (declare x.text (N.local f.cells length)) f.scopes;
       variables = f.variables ++ variable_of x length ∷ [];
       cells = after_cells f.cells length;
       hidden = f.hidden;

@@ -1,6 +1,8 @@
 -- What a source declares in the scope that all of it sees, and the rules for it.
 use Rattle.std.specs.Prelude.{ℕ, ℤ, pos, ◌+◌, Bool, true, false, nat_lt, List, [], ◌∷◌, ◌++◌, map, fold, drop, replicate, length, Option, Some, None}
 use Rattle.ppd_ast.specs.declared.limits.TheConstants.{MOST_FUNCTIONS, MOST_PROCESSES, MOST_SHARED_CELLS, MOST_SEMAPHORES, MOST_CHANNELS, MOST_START, LEAST_CAPACITY, MOST_CAPACITY}
+use Rattle.ppd_ast.specs.declared.program.Sem.{Sem}
+use Rattle.ppd_ast.specs.declared.program.Chan.{Chan}
 use Rattle.ppd_check_names.specs.declared.fault.Cause.TheVariants.{TooMany}
 use Rattle.ppd_check_names.specs.declared.fault.Limit.{Limit}
 use Rattle.ppd_check_names.specs.declared.fault.Limit.TheVariants as L
@@ -8,7 +10,7 @@ use Rattle.ppd_check_names.specs.declared.fault.Fault.{Fault}
 use Rattle.ppd_check_names.specs.declared.frame.Variable.{Variable}
 use Rattle.ppd_check_names.specs.Fitted.{fitted}
 use Rattle.ppd_check_names.specs.Faults.{at, if_so}
-use Rattle.ppd_check_names.specs.Names.{Meaning, Scope, declare}
+use Rattle.ppd_check_names.specs.Names.{Scope, declare}
 use Rattle.ppd_check_names.specs.Names as N
 use Rattle.ppd_check_names.specs.Frames.{after_cells, variable_of, twice_faults, size_faults}
 use Rattle.ppd_check_names.specs.Syntax.{Name, block, Block, Item, shared, shared_array, semaphore, channel, function, process, Source}
@@ -25,6 +27,13 @@ pub record Head : Type 0 where
 pub record Object : Type 0 where
   pub name : Name
   pub number : ℕ
+
+-- the same in the table
+abbrev pub sem : Object → Sem
+sem o = record { name = o.name.text; start = fitted 32 o.number }
+
+abbrev pub chan : Object → Chan
+chan o = record { name = o.name.text; capacity = fitted 8 o.number }
 
 -- what is declared in the one scope that the whole source sees, and the first cell after the shared ones
 pub record Globals : Type 0 where
@@ -58,41 +67,40 @@ item_name (channel x n) = x
 item_name (function gives x params b) = x
 item_name (process x b) = x
 
--- what an item's name means: shared cells and semaphores, channels and functions are numbered in order
-abbrev pub item_meaning : Globals → Item → Meaning
-item_meaning g (shared x v) = N.shared g.cells None
-item_meaning g (shared_array x n) = N.shared g.cells (Some (fitted 16 n.value))
-item_meaning g (semaphore x n) = N.semaphore (fitted 8 (length g.semaphores))
-item_meaning g (channel x n) = N.channel (fitted 8 (length g.channels))
-item_meaning g (function gives x params b) = N.function (fitted 16 (length g.functions)) (length params) gives
-item_meaning g (process x b) = N.process
-
 abbrev pub with_shared : Name → Option ℕ → List ℤ → Globals → Globals
 with_shared x length starts g =
     record g {
+      scope = declare x.text (N.shared g.cells length) g.scope;
       shared = g.shared ++ variable_of x length ∷ [];
       cells = after_cells g.cells length;
       starts = g.starts ++ starts;
     }
 
-abbrev pub listed : Item → Globals → Globals
-listed (shared x v) g = with_shared x None (v ∷ []) g
-listed (shared_array x n) g = with_shared x (Some (fitted 16 n.value)) (replicate (fitted 16 n.value) (pos 0)) g
-listed (semaphore x n) g = record g { semaphores = g.semaphores ++ record { name = x; number = n.value } ∷ [] }
-listed (channel x n) g = record g { channels = g.channels ++ record { name = x; number = n.value } ∷ [] }
-listed (function gives x params b) g =
+-- what is declared after one more item: shared cells and semaphores, channels and functions are numbered in order
+abbrev pub with_item : Item → Globals → Globals
+with_item (shared x v) g = with_shared x None (v ∷ []) g
+with_item (shared_array x n) g = with_shared x (Some (fitted 16 n.value)) (replicate (fitted 16 n.value) (pos 0)) g
+with_item (semaphore x n) g =
     record g {
+      scope = declare x.text (N.semaphore (fitted 8 (length g.semaphores))) g.scope;
+      semaphores = g.semaphores ++ record { name = x; number = n.value } ∷ [];
+    }
+with_item (channel x n) g =
+    record g {
+      scope = declare x.text (N.channel (fitted 8 (length g.channels))) g.scope;
+      channels = g.channels ++ record { name = x; number = n.value } ∷ [];
+    }
+with_item (function gives x params b) g =
+    record g {
+      scope = declare x.text (N.function (fitted 16 (length g.functions)) (length params) gives) g.scope;
       functions = g.functions
           ++ record { process = false; gives = gives; name = x; params = params; block = b } ∷ [];
     }
-listed (process x b) g =
+with_item (process x b) g =
     record g {
-      processes = g.processes ++ record { process = true; gives = false; name = x; params = []; block = b }
-          ∷ [];
+      scope = declare x.text N.process g.scope;
+      processes = g.processes ++ record { process = true; gives = false; name = x; params = []; block = b } ∷ [];
     }
-
-abbrev pub with_item : Item → Globals → Globals
-with_item i g = record (listed i g) { scope = declare (item_name i).text (item_meaning g i) g.scope }
 
 abbrev pub globals : Source → Globals
 globals s = fold (λ g i. with_item i g) no_globals s.items

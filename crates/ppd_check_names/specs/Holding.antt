@@ -1,9 +1,8 @@
 -- What the items of a source declare, as the code keeps it and as it is defined.
 use Rattle.std.specs.Prelude.{◌≡◌, ◌≤◌, ◌<◌, ℕ, ℤ, pos, neg_ℤ, if◌then◌else◌, Bool, true, false, not, ◌&&◌, List, [], ◌∷◌, ◌++◌, map, fold, length, Option, Some, None, nat_lt}
+use Rattle.ppd_lex.specs.declared.token.Kind.TheVariants as K
 use Rattle.std.specs.List.{All, flat_map}
 use Rattle.ppd_ast.specs.declared.limits.TheConstants.{MOST_SHARED_CELLS, MOST_SEMAPHORES, MOST_CHANNELS, MOST_FUNCTIONS, MOST_PROCESSES}
-use Rattle.ppd_ast.specs.declared.program.Sem.{Sem}
-use Rattle.ppd_ast.specs.declared.program.Chan.{Chan}
 use Rattle.ppd_parse.specs.declared.node.Node.{Node}
 use Rattle.ppd_check_names.specs.declared.fault.Cause.TheVariants.{TooMany}
 use Rattle.ppd_check_names.specs.declared.fault.Limit.TheVariants as L
@@ -14,18 +13,11 @@ use Rattle.ppd_check_names.specs.Faults.{if_so, first, first_of_both}
 use Rattle.ppd_check_names.specs.Fitted.{fitted}
 use Rattle.ppd_check_names.specs.Frames.{after_cells, twice_faults}
 use Rattle.ppd_check_names.specs.Syntax.{stop, Item, shared, shared_array, semaphore, channel, function, process}
-use Rattle.ppd_check_names.specs.Reading.{Phrase, phrase, last, kind, is_minus, is_int, number_at, name_at, value_of, as_token, nowhere, name_of, as_names, as_block, as_items}
+use Rattle.ppd_check_names.specs.Reading.{Phrase, phrase, last, kind, same_kind, number_at, name_at, value_of, as_token, nowhere, name_of, as_names, as_block, as_items}
 use Rattle.ppd_check_names.specs.Nodes.{phrase_of, phrases_below}
 use Rattle.ppd_check_names.specs.Declaring.{counted}
 use Rattle.ppd_check_names.specs.Globals as S
-use Rattle.ppd_check_names.specs.Globals.{Head, item_name, item_size_faults, with_item}
-
--- a semaphore and a channel of the table
-abbrev pub sem : S.Object → Sem
-sem o = record { name = o.name.text; start = fitted 32 o.number }
-
-abbrev pub chan : S.Object → Chan
-chan o = record { name = o.name.text; capacity = fitted 8 o.number }
+use Rattle.ppd_check_names.specs.Globals.{Head, sem, chan, item_name, item_size_faults, with_item}
 
 -- what is declared after more items
 abbrev pub with_items : List Item → S.Globals → S.Globals
@@ -53,7 +45,7 @@ abbrev pub head_said : (is_process : Bool) → List Phrase → Head
 head_said is_process ps =
     record {
       process = is_process;
-      gives = not is_process && is_int (kind (phrase ps 0));
+      gives = not is_process && same_kind K.IntWord (kind (phrase ps 0));
       name = name_at ps 1;
       params = if is_process then [] else flat_map as_names ps;
       block = as_block (last ps);
@@ -108,5 +100,5 @@ DeclaresAt source i old new found found' =
 -- the start value that a shared scalar's declaration says
 abbrev pub start_said : List Phrase → ℤ
 start_said ps =
-    if is_minus (kind (phrase ps 2)) then neg_ℤ (pos (number_at ps 3).value)
+    if same_kind K.MinusMark (kind (phrase ps 2)) then neg_ℤ (pos (number_at ps 3).value)
     else value_of (as_token (phrase ps 2)).kind

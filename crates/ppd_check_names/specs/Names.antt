@@ -3,6 +3,8 @@ use Rattle.std.specs.Prelude.{ℕ, Bool, true, false, if◌then◌else◌, List,
 use Rattle.std.specs.Option.{option_or}
 use Rattle.indexmap.specs.IndexMap.{IndexMap}
 use Rattle.ppd_lex.specs.Front.{looked_up}
+use Rattle.ppd_check_names.specs.declared.meaning.Use.{Use}
+use Rattle.ppd_check_names.specs.declared.meaning.Use.TheVariants.{Scalar, Element, Semaphore, Channel, Function}
 pub use Rattle.ppd_check_names.specs.declared.meaning.Meaning.{Meaning}
 pub use Rattle.ppd_check_names.specs.declared.meaning.Meaning.TheVariants.{
   Shared as shared,
@@ -30,34 +32,28 @@ abbrev pub innermost : List Scope → Scope
 innermost [] = []
 innermost (s ∷ ss) = s
 
--- a variable that may stand with an index, as an array may, or without one
-abbrev pub fits_index : Bool → Meaning → Bool
-fits_index true (shared base (Some n)) = true
-fits_index true (local base (Some n)) = true
-fits_index false (shared base None) = true
-fits_index false (local base None) = true
-fits_index indexed m = false
+-- the scopes after a change of the innermost one
+abbrev pub in_innermost : (Scope → Scope) → List Scope → List Scope
+in_innermost f [] = []
+in_innermost f (s ∷ ss) = f s ∷ ss
 
-abbrev pub is_semaphore : Meaning → Bool
-is_semaphore (semaphore k) = true
-is_semaphore m = false
+-- whether what a name means can be used so: an element is one of an array
+abbrev pub is_use : Use → Meaning → Bool
+is_use Scalar (shared base None) = true
+is_use Scalar (local base None) = true
+is_use Element (shared base (Some n)) = true
+is_use Element (local base (Some n)) = true
+is_use Semaphore (semaphore k) = true
+is_use Channel (channel k) = true
+is_use Function (function k params gives) = true
+is_use wanted m = false
 
-abbrev pub is_channel : Meaning → Bool
-is_channel (channel k) = true
-is_channel m = false
-
--- the number of a semaphore, of a channel and of a function, and 0 where it is none
-abbrev pub semaphore_of : Option Meaning → ℕ
-semaphore_of (Some (semaphore k)) = k
-semaphore_of m = 0
-
-abbrev pub channel_of : Option Meaning → ℕ
-channel_of (Some (channel k)) = k
-channel_of m = 0
-
-abbrev pub function_of : Option Meaning → ℕ
-function_of (Some (function k params gives)) = k
-function_of m = 0
+-- the number of the semaphore, channel or function that a name is used as, and 0 where it means none
+abbrev pub number_as : Use → Option Meaning → ℕ
+number_as Semaphore (Some (semaphore k)) = k
+number_as Channel (Some (channel k)) = k
+number_as Function (Some (function k params gives)) = k
+number_as wanted m = 0
 
 -- the scope that a map keeps
 abbrev pub scope_of : {S A : Type 0} → IndexMap (Vec ℕ A) Meaning S → Scope

@@ -8,11 +8,12 @@ use Rattle.ppd_lex.specs.declared.token.TokenKind.{TokenKind}
 use Rattle.ppd_lex.specs.declared.token.TokenKind.TheVariants as T
 use Rattle.ppd_lex.specs.declared.token.Kind.{Kind}
 use Rattle.ppd_lex.specs.declared.token.Kind.TheVariants as K
+use Rattle.ppd_lex.specs.contracts.token.KindPartialEq.TheImpl.{ghosts as kinds}
 use Rattle.ppd_parse.specs.declared.symbol.Rule.{Rule}
 use Rattle.ppd_parse.specs.declared.symbol.Rule.TheVariants as R
 use Rattle.ppd_parse.specs.Grammar.{kind_of, Shape, leaf, node, Shapes, no_shapes, shape_then}
-use Rattle.ppd_parse.specs.Stack.{is_assign}
-use Rattle.ppd_check_names.specs.Syntax.{Name, Number, Formula, number, variable, element, negated, inverted, two, both, either, Goal, scalar, item, Value, plain, result, received, Simple, fresh, array, store, change, call, give_back, take, give, send, print, assert, Row, stop, simple, block, choice, repeat, count, Block, Item, shared, shared_array, semaphore, channel, function, process, Source}
+use Rattle.ppd_check_names.specs.declared.nodes.Number.{Number}
+use Rattle.ppd_check_names.specs.Syntax.{Name, Formula, number, variable, element, negated, inverted, two, both, either, Goal, scalar, item, Value, plain, result, received, Simple, fresh, array, store, change, call, give_back, take, give, send, print, assert, Row, stop, simple, block, choice, repeat, count, Block, Item, shared, shared_array, semaphore, channel, function, process, Source}
 
 -- what a node says: its token, or what its rule makes of its children
 pub data Phrase : Type 0 where
@@ -33,45 +34,21 @@ pub data Phrase : Type 0 where
 abbrev pub nowhere : Token
 nowhere = record { kind = T.End; from = 0; to = 0; place = record { line = 0; column = 0 } }
 
-abbrev pub text_of : TokenKind → List ℕ
-text_of (T.Name x) = x
-text_of _ = []
-
 abbrev pub value_of : TokenKind → ℤ
 value_of (T.Number n) = n
 value_of _ = pos 0
 
+-- a name without text where the token is none
 abbrev pub name_of : Token → Name
-name_of t = record { text = text_of t.kind; place = t.place }
+name_of t = record { text = go t.kind; place = t.place }
+  where
+    go : TokenKind → List ℕ
+    go (T.Name x) = x
+    go _ = []
 
-abbrev pub number_of : Token → Number
-number_of t = record { value = nat_abs (value_of t.kind); place = t.place }
-
--- The kinds that tell phrases apart: a declared array, a start value, a minus, a word.
-
-abbrev pub is_name : Kind → Bool
-is_name K.Name = true
-is_name _ = false
-
-abbrev pub is_bracket : Kind → Bool
-is_bracket K.LeftBracket = true
-is_bracket _ = false
-
-abbrev pub is_minus : Kind → Bool
-is_minus K.MinusMark = true
-is_minus _ = false
-
-abbrev pub is_semicolon : Kind → Bool
-is_semicolon K.Semicolon = true
-is_semicolon _ = false
-
-abbrev pub is_int : Kind → Bool
-is_int K.IntWord = true
-is_int _ = false
-
-abbrev pub is_recv : Kind → Bool
-is_recv K.RecvWord = true
-is_recv _ = false
+-- whether two kinds of tokens are the same one, as `==` of the code says
+abbrev pub same_kind : Kind → Kind → Bool
+same_kind j k = kinds.eq j k
 
 -- Phrases by their number among the children; one that is missing says nothing.
 
@@ -131,7 +108,9 @@ abbrev pub name_at : List Phrase → ℕ → Name
 name_at ps k = name_of (as_token (phrase ps k))
 
 abbrev pub number_at : List Phrase → ℕ → Number
-number_at ps k = number_of (as_token (phrase ps k))
+number_at ps k =
+    let t : Token = as_token (phrase ps k) in
+    record { value = nat_abs (value_of t.kind); place = t.place }
 
 abbrev pub formula_at : List Phrase → ℕ → Formula
 formula_at ps k = as_formula (phrase ps k)
@@ -142,11 +121,11 @@ place_at ps k = (as_token (phrase ps k)).place
 -- the phrases before the first semicolon, and those after it
 abbrev pub before : List Phrase → List Phrase
 before [] = []
-before (p ∷ ps) = if is_semicolon (kind p) then [] else p ∷ before ps
+before (p ∷ ps) = if same_kind K.Semicolon (kind p) then [] else p ∷ before ps
 
 abbrev pub beyond : List Phrase → List Phrase
 beyond [] = []
-beyond (p ∷ ps) = if is_semicolon (kind p) then ps else beyond ps
+beyond (p ∷ ps) = if same_kind K.Semicolon (kind p) then ps else beyond ps
 
 -- Expressions.
 
@@ -187,16 +166,10 @@ formulas (p ∷ ps) = if is_formula p then as_formula p ∷ formulas ps else for
 
 -- Statements.
 
-abbrev pub goal_of : List Phrase → Goal
-goal_of ps = if is_bracket (kind (phrase ps 1)) then item (name_at ps 0) (formula_at ps 2) else scalar (name_at ps 0)
-
-abbrev pub value_said : List Phrase → Value
-value_said ps = if is_recv (kind (phrase ps 0)) then received (name_at ps 2) else called (phrase ps 0)
-
 abbrev pub local_item : List Phrase → Simple
 local_item ps =
-    if is_bracket (kind (phrase ps 1)) then array (name_at ps 0) (number_at ps 2)
-    else if is_assign (kind (phrase ps 1)) then fresh (name_at ps 0) (as_value (phrase ps 2))
+    if same_kind K.LeftBracket (kind (phrase ps 1)) then array (name_at ps 0) (number_at ps 2)
+    else if same_kind K.AssignMark (kind (phrase ps 1)) then fresh (name_at ps 0) (as_value (phrase ps 2))
     else fresh (name_at ps 0) (plain (number (pos 0)))
 
 abbrev pub changed : List Phrase → Simple
@@ -237,22 +210,18 @@ some_change _ = None
 
 abbrev pub for_start : List Phrase → Option Simple
 for_start ps =
-    if is_int (kind (phrase ps 0)) then Some (fresh (name_at ps 1) (plain (formula_at ps 3)))
+    if same_kind K.IntWord (kind (phrase ps 0)) then Some (fresh (name_at ps 1) (plain (formula_at ps 3)))
     else some_change (phrase ps 0)
-
-abbrev pub for_test : List Formula → Formula
-for_test [] = number (pos 1)
-for_test (f ∷ fs) = f
 
 abbrev pub for_row : List Phrase → Row
 for_row ps =
     let inside : List Phrase = drop 2 ps in
     let later : List Phrase = beyond inside in
-    count (place_at ps 0) (for_start (before inside)) (for_test (formulas (before later)))
+    count (place_at ps 0) (for_start (before inside)) (slice_index_or (formulas (before later)) 0 (number (pos 1)))
     (some_change (phrase (beyond later) 0)) (as_row (last ps)) stop
 
 abbrev pub returned : Phrase → Option Value
-returned p = if is_semicolon (kind p) then None else Some (as_value p)
+returned p = if same_kind K.Semicolon (kind p) then None else Some (as_value p)
 
 -- a statement that begins with a word, or the empty one
 abbrev pub worded : List Phrase → Row
@@ -281,34 +250,32 @@ statement (calling f args) ps = simple (call f args) stop
 statement (token t) ps = worded ps
 statement _ ps = stop
 
-abbrev pub block_of : List Phrase → Block
-block_of ps = record { row = rows ps; close = (as_token (last ps)).place }
-
 -- Declarations.
 
 -- a start value is at least the number's negative
 abbrev pub shared_item : List Phrase → Item
 shared_item ps =
-    if is_bracket (kind (phrase ps 1)) then shared_array (name_at ps 0) (number_at ps 2)
-    else if is_minus (kind (phrase ps 2)) then shared (name_at ps 0) (neg_ℤ (pos (number_at ps 3).value))
+    if same_kind K.LeftBracket (kind (phrase ps 1)) then shared_array (name_at ps 0) (number_at ps 2)
+    else if same_kind K.MinusMark (kind (phrase ps 2)) then shared (name_at ps 0) (neg_ℤ (pos (number_at ps 3).value))
     else shared (name_at ps 0) (value_of (as_token (phrase ps 2)).kind)
 
 -- the number after a name's `=` or bracket, and 0 where there is none
 abbrev pub number_behind : Name → List Phrase → Number
 number_behind x ps =
-    if is_assign (kind (phrase ps 0)) || is_bracket (kind (phrase ps 0)) then number_at ps 1
+    if same_kind K.AssignMark (kind (phrase ps 0)) || same_kind K.LeftBracket (kind (phrase ps 0)) then number_at ps 1
     else record { value = 0; place = x.place }
 
 -- names with the numbers that stand behind them
 abbrev pub numbered : (Name → Number → Item) → List Phrase → List Item
 numbered make [] = []
 numbered make (p ∷ ps) =
-    if is_name (kind p) then make (name_of (as_token p)) (number_behind (name_of (as_token p)) ps) ∷ numbered make ps
+    if same_kind K.Name (kind p)
+    then make (name_of (as_token p)) (number_behind (name_of (as_token p)) ps) ∷ numbered make ps
     else numbered make ps
 
 abbrev pub params : List Phrase → List Name
 params [] = []
-params (p ∷ ps) = if is_name (kind p) then name_of (as_token p) ∷ params ps else params ps
+params (p ∷ ps) = if same_kind K.Name (kind p) then name_of (as_token p) ∷ params ps else params ps
 
 -- what a rule makes of the phrases of its children
 abbrev pub made : Rule → List Phrase → Phrase
@@ -319,15 +286,19 @@ made R.Sitem ps = items (shared_item ps ∷ [])
 made R.Sems ps = items (numbered semaphore ps)
 made R.Chans ps = items (numbered channel ps)
 made R.Function ps =
-    items (function (is_int (kind (phrase ps 0))) (name_at ps 1) (flat_map as_names ps) (as_block (last ps)) ∷ [])
+    items (function (same_kind K.IntWord (kind (phrase ps 0))) (name_at ps 1) (flat_map as_names ps) (as_block (last ps))
+    ∷ [])
 made R.Params ps = names (params ps)
 made R.Process ps = items (process (name_at ps 1) (as_block (last ps)) ∷ [])
-made R.Block ps = body (block_of ps)
+made R.Block ps = body (record { row = rows ps; close = (as_token (last ps)).place })
 made R.Local ps = row (locals ps)
 made R.Litem ps = changing (local_item ps)
-made R.Value ps = value (value_said ps)
+made R.Value ps =
+    value (if same_kind K.RecvWord (kind (phrase ps 0)) then received (name_at ps 2) else called (phrase ps 0))
 made R.Call ps = calling (name_at ps 0) (formulas ps)
-made R.Place ps = goal (goal_of ps)
+made R.Place ps =
+    goal (if same_kind K.LeftBracket (kind (phrase ps 1)) then item (name_at ps 0) (formula_at ps 2)
+    else scalar (name_at ps 0))
 made R.Change ps = changing (changed ps)
 made R.Stmt ps = row (statement (phrase ps 0) ps)
 made R.Unary ps = formula (unary ps)
@@ -343,11 +314,10 @@ abbrev mutual
   all_said no_shapes = []
   all_said (shape_then t ts) = said t ∷ all_said ts
 
--- the place of the last token below a root
-abbrev pub last_place : Shape → Place
-last_place (leaf t) = t.place
-last_place (node r ts) = (as_token (last (all_said ts))).place
-
--- the source that a tree says
+-- the source that a tree says; it ends at the last token below the root
 abbrev pub source_of : Shape → Source
-source_of t = record { items = as_items (said t); end = last_place t }
+source_of t = record { items = as_items (said t); end = go t }
+  where
+    go : Shape → Place
+    go (leaf t) = t.place
+    go (node r ts) = (as_token (last (all_said ts))).place

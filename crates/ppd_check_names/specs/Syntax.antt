@@ -2,13 +2,10 @@
 use Rattle.std.specs.Prelude.{ℕ, ℤ, List, Option, Bool}
 use Rattle.ppd_ast.specs.declared.program.Place.{Place}
 use Rattle.ppd_ast.specs.declared.program.Op.{Op}
+use Rattle.ppd_check_names.specs.declared.nodes.Number.{Number}
 
 pub record Name : Type 0 where
   pub text : List ℕ
-  pub place : Place
-
-pub record Number : Type 0 where
-  pub value : ℕ
   pub place : Place
 
 -- an expression

@@ -4,7 +4,7 @@ ghost use Rattle.std.specs.List.{flat_map};
 ghost use Rattle.ppd_parse.specs.Tree.{tree_of};
 ghost use Rattle.ppd_check_names.specs.Faults.{first, first_of_both, if_so};
 ghost use Rattle.ppd_check_names.specs.declared.fault.Cause.TheVariants.{NoProcess};
-ghost use Rattle.ppd_check_names.specs.Reading.{as_items, last_place, source_of};
+ghost use Rattle.ppd_check_names.specs.Reading.{as_items, source_of};
 ghost use Rattle.ppd_check_names.specs.Nodes.{phrase_of, no_node, below};
 ghost use Rattle.ppd_check_names.specs.Holding.{Holds, Declares, DeclaresAt};
 ghost use Rattle.ppd_check_names.specs.Globals.{Globals as Held, globals, no_globals, items_faults, count_faults};
@@ -109,7 +109,7 @@ fn root_token(source: Source<'_>) -> Option<&Token>
 
 // The place of a source's end: that of the last token below its root.
 pub fn end_at(source: Source<'_>) -> Place
-    ensures { result ≡ last_place (tree_of source.entry.nodes.now) }
+    ensures { result ≡ (source_of (tree_of source.entry.nodes.now)).end }
 {
     match root_token(source) {
         Some(token) => token.place,
@@ -149,7 +149,8 @@ fn has_process(globals: &Globals) -> bool
 pub fn note_no_process(source: Source<'_>, globals: &Globals, found: &mut Option<Fault>)
     ensures { (held : Held) → Holds source.entry.nodes.now globals.now held
         → found.new ≡ first_of_both found.old
-        (first (if_so (not (nat_lt 0 (length held.processes))) (last_place (tree_of source.entry.nodes.now)) NoProcess)) }
+        (first (if_so (not (nat_lt 0 (length held.processes))) (source_of (tree_of source.entry.nodes.now)).end
+        NoProcess)) }
 {
     let end = end_at(source);
     note_unless(found, has_process(globals), end, Cause::NoProcess);

@@ -1,6 +1,7 @@
 // The rules that a source can break.
 ghost use Rattle.std.specs.Prelude.{◌≡◌, Some, not};
-ghost use Rattle.ppd_check_names.specs.Faults.{is_before, first, first_of_both, if_so};
+ghost use Rattle.std.specs.Ordering.{is_lt};
+ghost use Rattle.ppd_check_names.specs.Faults.{order, first, first_of_both, if_so};
 
 use ppd_ast::Place;
 
@@ -47,7 +48,7 @@ pub struct Fault {
 impl Fault {
     // Whether it stands before another: by line, column and the rule's number.
     fn is_before(&self, other: &Fault) -> bool
-        ensures { result ≡ is_before self.now other.now }
+        ensures { result ≡ is_lt (order self.now other.now) }
     {
         self < other
     }

@@ -98,7 +98,7 @@ pub fn declare<L: Ledger>(
     found: &mut Option<Fault>,
     steps: &mut Steps<L>,
 ) -> Result<(), Memory>
-    ensures frame { OnOk result (frame.new ≡ declared (label_name label.entry) length frame.old) }
+    ensures frame { OnOk result (frame.new ≡ declared length frame.old (label_name label.entry)) }
     ensures faults { OnOk result
         (found.new ≡ first_of_both found.old
         (first (twice_faults (innermost frame.old.scopes) (label_name label.entry)))) }

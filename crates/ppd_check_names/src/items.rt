@@ -6,12 +6,12 @@ ghost use Rattle.ppd_check_names.specs.Nodes.{label_name, below};
 ghost use Rattle.ppd_check_names.specs.Syntax.{shared};
 ghost use Rattle.ppd_check_names.specs.Holding.{Declares, start_said};
 ghost use Rattle.ppd_check_names.specs.Cost.{starts_left, SameHeads};
-ghost use Rattle.ppd_check_names.specs.Items.{size_number, numbered_item, least_number, most_number};
+ghost use Rattle.ppd_check_names.specs.Items.{numbered_item, least_number, most_number};
 
 use crate::fault::{Cause, Fault, note_unless};
 use crate::globals::{Globals, Sort, add_numbered, add_scalar};
 use crate::level::Source;
-use crate::nodes::{Label, Size, kind_at, label_at, size_at, value_at};
+use crate::nodes::{Label, Number, kind_at, label_at, size_at, value_at};
 use ppd_ast::limits::{LEAST_CAPACITY, MOST_CAPACITY, MOST_SHARED_CELLS, MOST_START};
 use ppd_ast::{Memory, Steps};
 use ppd_parse::Kind;
@@ -58,7 +58,7 @@ fn is_fit(sort: Sort, number: u64) -> bool
 pub fn declare_numbered<L: Ledger>(
     sort: Sort,
     label: Label<'_>,
-    size: Size,
+    size: Number,
     globals: &mut Globals,
     found: &mut Option<Fault>,
     steps: &mut Steps<L>,
@@ -66,7 +66,7 @@ pub fn declare_numbered<L: Ledger>(
     ensures declares { OnOk result
         ((ns : List NodeOf)
         → Declares ns
-        (numbered_item sort (label_name label.entry) (size_number size)
+        (numbered_item sort (label_name label.entry) size
         ∷ []) globals.old globals.new found.old found.new) }
     ensures cost { steps.new + starts_left globals.new ≤ steps.old + starts_left globals.old + 5 }
     ensures heads { SameHeads globals.old globals.new }

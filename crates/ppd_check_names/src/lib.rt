@@ -22,10 +22,10 @@ pub use frame::{Frame, Variable, after_cells, bytes_of, declare, hide};
 pub use globals::Globals;
 pub use items::is_within;
 pub use level::{Here, Level, Source};
-pub use meaning::Meaning;
+pub use meaning::{Meaning, Use};
 pub use nodes::{
-    Label, Operand, Size, child_at, children_of, kind_at, label_at, operand_at, place_at, rule_of,
-    size_at, value_at,
+    Label, Number, Operand, child_at, children_of, kind_at, label_at, operand_at, place_at,
+    rule_of, size_at, value_at,
 };
 pub use objects::is_name;
 pub use scopes::Scopes;

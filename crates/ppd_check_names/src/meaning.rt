@@ -1,6 +1,6 @@
 // What a name stands for.
-ghost use Rattle.std.specs.Prelude.{◌≡◌, true, false};
-ghost use Rattle.ppd_check_names.specs.Names.{is_semaphore, is_channel, fits_index};
+ghost use Rattle.std.specs.Prelude.{◌≡◌};
+ghost use Rattle.ppd_check_names.specs.Names.{is_use};
 
 /// What a name can mean. Variables have their first cell and, as arrays, their length.
 #[derive(Clone, Copy)]
@@ -14,42 +14,30 @@ pub enum Meaning {
     Process,
 }
 
+/// What a name can be used as.
+#[derive(Clone, Copy)]
+pub enum Use {
+    Scalar,
+    Element,
+    Semaphore,
+    Channel,
+    Function,
+}
+
 impl Meaning {
-    fn is_scalar(&self) -> bool
-        ensures { result ≡ fits_index false self.now }
+    /// Whether it can be used so.
+    pub fn is_use(&self, wanted: Use) -> bool
+        ensures { result ≡ is_use wanted self.now }
     {
-        matches!(*self, Meaning::Shared(_, None) | Meaning::Local(_, None))
-    }
-
-    fn is_array(&self) -> bool
-        ensures { result ≡ fits_index true self.now }
-    {
-        matches!(
-            *self,
-            Meaning::Shared(_, Some(_)) | Meaning::Local(_, Some(_))
-        )
-    }
-
-    // Whether it may stand with an index, or without one.
-    pub fn fits(&self, indexed: bool) -> bool
-        ensures { result ≡ fits_index indexed self.now }
-    {
-        if indexed {
-            self.is_array()
-        } else {
-            self.is_scalar()
+        match wanted {
+            Use::Scalar => matches!(*self, Meaning::Shared(_, None) | Meaning::Local(_, None)),
+            Use::Element => matches!(
+                *self,
+                Meaning::Shared(_, Some(_)) | Meaning::Local(_, Some(_))
+            ),
+            Use::Semaphore => matches!(*self, Meaning::Semaphore(_)),
+            Use::Channel => matches!(*self, Meaning::Channel(_)),
+            Use::Function => matches!(*self, Meaning::Function(_, _, _)),
         }
-    }
-
-    pub fn is_semaphore(&self) -> bool
-        ensures { result ≡ is_semaphore self.now }
-    {
-        matches!(*self, Meaning::Semaphore(_))
-    }
-
-    pub fn is_channel(&self) -> bool
-        ensures { result ≡ is_channel self.now }
-    {
-        matches!(*self, Meaning::Channel(_))
     }
 }

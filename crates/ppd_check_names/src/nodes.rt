@@ -3,8 +3,7 @@ ghost use Rattle.std.specs.Prelude.{◌≡◌, ◌+◌, ◌<◌, ◌≤◌, leng
 ghost use Rattle.std.specs.List.{All};
 ghost use Rattle.ppd_check_names.specs.Nodes.{phrase_of, children_of, SaysBy, label_name, operand_formula, IsOperand, IsAfter, below};
 ghost use Rattle.ppd_check_names.specs.Cost.{nested_at, plain_at, nested_by, plain_by, if_there, nested_child, plain_child, nested_below, plain_below, operand_nodes};
-ghost use Rattle.ppd_check_names.specs.Reading.{phrase, token, as_token, nowhere, kind, value_of, formula_at, place_at, name_at, text_of, number_at};
-ghost use Rattle.ppd_check_names.specs.Items.{size_number};
+ghost use Rattle.ppd_check_names.specs.Reading.{phrase, token, as_token, nowhere, kind, value_of, formula_at, place_at, name_at, name_of, number_at};
 
 use crate::level::Source;
 use ppd_ast::Place;
@@ -27,7 +26,7 @@ pub struct Label<'a> {
 
 /// A number without its sign, and its place.
 #[derive(Clone, Copy)]
-pub struct Size {
+pub struct Number {
     pub value: u64,
     pub place: Place,
 }
@@ -130,11 +129,11 @@ pub fn value_at(source: Source<'_>, id: u32, k: usize) -> i64
 }
 
 /// The number that the child says, without its sign, and 0 where it says none.
-pub fn size_at(source: Source<'_>, id: u32, k: usize) -> Size
+pub fn size_at(source: Source<'_>, id: u32, k: usize) -> Number
     requires within { id < length source.nodes.now }
-    ensures { size_number result ≡ number_at (below source.entry id) k }
+    ensures { result ≡ number_at (below source.entry id) k }
 {
-    Size {
+    Number {
         value: value_at(source, id, k).unsigned_abs(),
         place: place_at(source, id, k),
     }
@@ -147,7 +146,7 @@ pub fn label_at(source: Source<'_>, id: u32, k: usize) -> Label<'_>
 {
     match token_at(source, id, k) {
         Some(token) => Label {
-            text: text_of(&token.kind),
+            text: text_of(token),
             place: token.place,
         },
         None => Label {
@@ -183,10 +182,10 @@ fn value_of(kind: &TokenKind) -> i64
 }
 
 // The bytes of a name.
-fn text_of(kind: &TokenKind) -> &[u8]
-    ensures { result.now ≡ text_of kind.now }
+fn text_of(token: &Token) -> &[u8]
+    ensures { result.now ≡ (name_of token.now).text }
 {
-    match kind {
+    match &token.kind {
         TokenKind::Name(text) => text.as_slice(),
         _ => &[],
     }

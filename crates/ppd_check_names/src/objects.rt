@@ -1,10 +1,11 @@
 // The semaphores and channels of a declaration.
 ghost use Rattle.std.specs.Prelude.{◌≡◌, ◌<◌, ◌||◌, OnOk, IfOk, List, length, ◌≤◌, ◌+◌, ◌*◌};
+ghost use Rattle.ppd_lex.specs.declared.token.Kind.TheVariants as K;
 ghost use Rattle.ppd_parse.specs.declared.node.Node.{Node as NodeOf};
-ghost use Rattle.ppd_parse.specs.Stack.{is_assign};
-ghost use Rattle.ppd_check_names.specs.Reading.{is_name, is_bracket, numbered};
-ghost use Rattle.ppd_check_names.specs.Syntax.{Name, Number, Item};
-ghost use Rattle.ppd_check_names.specs.Items.{size_number, number_after, numbered_at, numbered_item, said_item};
+ghost use Rattle.ppd_check_names.specs.Reading.{same_kind, numbered};
+ghost use Rattle.ppd_check_names.specs.declared.nodes.Number.{Number};
+ghost use Rattle.ppd_check_names.specs.Syntax.{Name, Item};
+ghost use Rattle.ppd_check_names.specs.Items.{number_after, numbered_at, numbered_item, said_item};
 ghost use Rattle.ppd_check_names.specs.Holding.{Declares};
 ghost use Rattle.ppd_check_names.specs.Cost.{SameHeads, starts_left};
 ghost use Rattle.ppd_check_names.specs.Nodes.{below};
@@ -13,7 +14,7 @@ use crate::fault::Fault;
 use crate::globals::{Globals, Sort};
 use crate::items::declare_numbered;
 use crate::level::Source;
-use crate::nodes::{Label, Size, children_of, kind_at, label_at, size_at};
+use crate::nodes::{Label, Number, children_of, kind_at, label_at, size_at};
 use ppd_ast::{Memory, Place, Steps};
 use ppd_parse::Kind;
 use std::sync::ledger::Ledger;
@@ -22,32 +23,32 @@ use std::sync::ledger::Ledger;
 #[derive(Clone, Copy)]
 pub struct Numbered<'a> {
     pub label: Label<'a>,
-    pub size: Size,
+    pub size: Number,
 }
 
 /// Whether a token is a name.
 pub fn is_name(kind: Kind) -> bool
-    ensures { result ≡ is_name kind }
+    ensures { result ≡ same_kind K.Name kind }
 {
     matches!(kind, Kind::Name)
 }
 
 // Whether a number follows a token.
 fn is_before_size(kind: Kind) -> bool
-    ensures { result ≡ is_assign kind || is_bracket kind }
+    ensures { result ≡ same_kind K.AssignMark kind || same_kind K.LeftBracket kind }
 {
     matches!(kind, Kind::AssignMark | Kind::LeftBracket)
 }
 
 // The number behind the name at child `k`, and 0 at the name's place where there is none.
-fn size_after(source: Source<'_>, id: u32, k: u32, name: Place) -> Size
+fn size_after(source: Source<'_>, id: u32, k: u32, name: Place) -> Number
     requires within { id < length source.nodes.now }
-    ensures { size_number result ≡ number_after name (below source.entry id) k }
+    ensures { result ≡ number_after name (below source.entry id) k }
 {
     if is_before_size(kind_at(source, id, k as usize + 1)) {
         return size_at(source, id, k as usize + 2);
     }
-    Size {
+    Number {
         value: 0,
         place: name,
     }

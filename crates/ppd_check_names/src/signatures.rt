@@ -1,8 +1,9 @@
 // Functions, by their names and parameters.
 ghost use Rattle.std.specs.Prelude.{◌≡◌, if◌then◌else◌, ◌<◌, ◌+◌, OnOk, IfOk, length, ◌≤◌, ◌*◌, ◌++◌, ◌∷◌, []};
+ghost use Rattle.ppd_lex.specs.declared.token.Kind.TheVariants as K;
 ghost use Rattle.std.specs.List.{flat_map};
 ghost use Rattle.ppd_parse.specs.declared.symbol.Rule.TheVariants.{Function};
-ghost use Rattle.ppd_check_names.specs.Reading.{phrase, kind, is_int, is_name, params, as_names};
+ghost use Rattle.ppd_check_names.specs.Reading.{phrase, kind, same_kind, params, as_names};
 ghost use Rattle.ppd_check_names.specs.Nodes.{children_of, phrase_of, phrases_below, SaysBy, below};
 ghost use Rattle.ppd_check_names.specs.Holding.{DeclaresAt};
 ghost use Rattle.ppd_check_names.specs.Cost.{plain_at, nested_below, plain_below};
@@ -18,7 +19,7 @@ use std::sync::ledger::Ledger;
 
 // Whether a function that begins with this token gives a value.
 fn is_int(kind: Kind) -> bool
-    ensures { result ≡ is_int kind }
+    ensures { result ≡ same_kind K.IntWord kind }
 {
     matches!(kind, Kind::IntWord)
 }
@@ -36,7 +37,7 @@ fn sum(a: usize, b: usize) -> Result<usize, Memory>
 // How many names the child is.
 fn names_at(source: Source<'_>, id: u32, k: usize) -> usize
     requires within { id < length source.nodes.now }
-    ensures { result ≡ (if is_name (kind (phrase (below source.entry id) k)) then 1 else 0) }
+    ensures { result ≡ (if same_kind K.Name (kind (phrase (below source.entry id) k)) then 1 else 0) }
 {
     if is_name(kind_at(source, id, k)) {
         1

@@ -6,14 +6,16 @@ use Rattle.ppd_check_names.specs.declared.fault.Cause.TheVariants.{Unknown, Wron
 use Rattle.ppd_check_names.specs.declared.fault.Fault.{Fault}
 use Rattle.ppd_check_names.specs.declared.frame.Frame.{Frame}
 use Rattle.ppd_check_names.specs.declared.meaning.Meaning.{Meaning}
+use Rattle.ppd_check_names.specs.declared.meaning.Use.{Use}
 use Rattle.ppd_check_names.specs.Faults.{at, if_so}
+use Rattle.ppd_check_names.specs.Names.{is_use}
 use Rattle.ppd_check_names.specs.Frames.{with_hidden}
 use Rattle.ppd_check_names.specs.Syntax.{Simple}
 use Rattle.ppd_check_stmts.specs.Statements.{after}
 
--- what a name means must pass the test
-abbrev pub wrong_use : (Meaning → Bool) → Option Meaning → Place → List Fault
-wrong_use test o place = option_map_or (λ m. if_so (not (test m)) place WrongKind) o (at place Unknown ∷ [])
+-- what a name means must be used so
+abbrev pub wrong_use : Use → Option Meaning → Place → List Fault
+wrong_use wanted o place = option_map_or (λ m. if_so (not (is_use wanted m)) place WrongKind) o (at place Unknown ∷ [])
 
 -- one more hidden variable, where it is needed
 abbrev pub hidden_if : Bool → Place → Frame → Frame

@@ -1,6 +1,5 @@
 -- Statements without statements inside them, as the code sees them.
-use Rattle.std.specs.Prelude.{List, [], Option, Some, None}
-use Rattle.std.specs.Option.{option_map_or}
+use Rattle.std.specs.Prelude.{List, Option, Some, None}
 use Rattle.ppd_lex.specs.declared.token.Kind.{Kind}
 use Rattle.ppd_lex.specs.declared.token.Kind.TheVariants as K
 use Rattle.ppd_ast.specs.declared.program.Place.{Place}
@@ -8,10 +7,6 @@ use Rattle.ppd_check_stmts.specs.declared.simple.Signal.{Signal}
 use Rattle.ppd_check_stmts.specs.declared.simple.Signal.TheVariants.{Take, Give}
 use Rattle.ppd_check_stmts.specs.declared.simple.Showing.{Showing}
 use Rattle.ppd_check_stmts.specs.declared.simple.Showing.TheVariants.{Print, Assert}
-use Rattle.ppd_check_names.specs.declared.fault.Fault.{Fault}
-use Rattle.ppd_check_names.specs.declared.frame.Frame.{Frame}
-use Rattle.ppd_check_stmts.specs.Code.{Code, done}
-use Rattle.ppd_check_stmts.specs.Statements.{code_of, faults_of}
 use Rattle.ppd_check_names.specs.Reading.{Phrase, goal, calling, changing, phrase, place_at, name_at, formula_at, as_value, returned}
 use Rattle.ppd_check_names.specs.Syntax.{Name, Formula, Simple, Row, stop, simple, block, store, call, give_back, take, give, send, print, assert}
 
@@ -40,13 +35,6 @@ plain_statement (changing s) ps = simple s stop
 plain_statement (goal g) ps = simple (store g (as_value (phrase ps 2))) stop
 plain_statement (calling f args) ps = simple (call f args) stop
 plain_statement _ ps = stop
-
--- the core statements of a statement that may be missing, and the rules that it breaks
-abbrev pub code_of_any : Option Simple → Frame → Code
-code_of_any o f = option_map_or (λ s. code_of s f) o done
-
-abbrev pub faults_of_any : Option Simple → Frame → List Fault
-faults_of_any o f = option_map_or (λ s. faults_of s f) o []
 
 -- the row of a statement that may be missing
 abbrev pub row_any : Option Simple → Row

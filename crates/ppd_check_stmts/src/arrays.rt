@@ -4,7 +4,6 @@ ghost use Rattle.ppd_check_names.specs.Nodes.{operand_formula, IsOperand, label_
 ghost use Rattle.ppd_check_names.specs.Syntax.{array, give_back, plain};
 ghost use Rattle.ppd_check_stmts.specs.Statements.{after};
 ghost use Rattle.ppd_check_names.specs.Cost.{operand_nodes};
-ghost use Rattle.ppd_check_names.specs.Items.{size_number};
 ghost use Rattle.ppd_check_stmts.specs.Outputs.{Keeps, PutsSimple};
 
 use crate::formulas::write_term;
@@ -12,18 +11,18 @@ use crate::lowering::Lowering;
 use ppd_ast::limits::MOST_LOCAL_CELLS;
 use ppd_ast::{Kind, Memory, Place};
 use ppd_check_names::{
-    Cause, Here, Label, Operand, Site, Size, as_short, declare, is_within, note_unless, put_stmt,
+    Cause, Here, Label, Number, Operand, Site, as_short, declare, is_within, note_unless, put_stmt,
 };
 use std::sync::ledger::Ledger;
 
 impl<L: Ledger> Lowering<'_, L> {
     // A declared local array.
     #[tactic(auto, using(ppd_check_names::proofs::Found::First::found_in_both))]
-    pub fn lower_array(&mut self, site: Site, label: Label<'_>, size: Size) -> Result<(), Memory>
+    pub fn lower_array(&mut self, site: Site, label: Label<'_>, size: Number) -> Result<(), Memory>
         ensures kept { Keeps self.old self.new }
         ensures wrote { OnOk result (PutsSimple site (array (label_name label.entry)
-            (size_number size)) self.old self.new) }
-        ensures frame { OnOk result (self.new.frame.now ≡ after (array (label_name label.entry) (size_number size))
+            size) self.old self.new) }
+        ensures frame { OnOk result (self.new.frame.now ≡ after (array (label_name label.entry) size)
             self.old.frame.now) }
         ensures cost { self.new.steps.now ≤ self.old.steps.now + 7 }
     {

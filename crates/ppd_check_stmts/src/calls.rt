@@ -3,41 +3,21 @@ ghost use Rattle.std.specs.Prelude.{◌≡◌, ◌<◌, ◌++◌, [], ◌∷◌,
 ghost use Rattle.ppd_check_names.specs.Nodes.{children_of, phrase_of, label_name};
 ghost use Rattle.ppd_check_names.specs.Reading.{is_formula};
 ghost use Rattle.ppd_check_names.specs.Faults.{first, first_of_both, if_so};
-ghost use Rattle.ppd_check_names.specs.Names.{meaning, semaphore_of, channel_of, function_of};
+ghost use Rattle.ppd_check_names.specs.Names.{meaning, number_as};
+ghost use Rattle.ppd_check_names.specs.declared.meaning.Use.TheVariants.{Semaphore, Channel, Function};
 ghost use Rattle.ppd_check_names.specs.declared.fault.Cause.TheVariants.{Arity, VoidValue};
-ghost use Rattle.ppd_check_stmts.specs.Expressions.{name_faults, is_use, wrong_call};
+ghost use Rattle.ppd_check_stmts.specs.Expressions.{name_faults, wrong_call};
 ghost use Rattle.ppd_check_stmts.specs.Writing.{Argued};
 ghost use Rattle.ppd_check_names.specs.Cost.{plain_at, nested_below, plain_below};
 
 use crate::formulas::write_term;
 use ppd_ast::{Ids, Memory, Place, Steps};
 use ppd_check_names::{
-    Cause, Fault, Frame, Label, Meaning, Operand, Scopes, Source, Writer, children_of, note,
+    Cause, Fault, Frame, Label, Meaning, Operand, Scopes, Source, Use, Writer, children_of, note,
     note_if, note_unless, rule_of,
 };
 use ppd_parse::Rule;
 use std::sync::ledger::Ledger;
-
-// What a name is used as.
-#[derive(Clone, Copy)]
-pub enum Use {
-    Scalar,
-    Element,
-    Semaphore,
-    Channel,
-}
-
-// Whether what a name means is used so.
-fn is_use(wanted: Use, meaning: Meaning) -> bool
-    ensures { result ≡ is_use wanted meaning }
-{
-    match wanted {
-        Use::Scalar => meaning.fits(false),
-        Use::Element => meaning.fits(true),
-        Use::Semaphore => meaning.is_semaphore(),
-        Use::Channel => meaning.is_channel(),
-    }
-}
 
 // What a name means, with the fault of one that is not used as what it is.
 #[tactic(auto, using(ppd_check_names::proofs::Found::First::first_of_both_none))]
@@ -51,14 +31,14 @@ pub fn used<L: Ledger>(
     ensures means { result ≡ meaning scopes.now label.entry.text.now }
     ensures faults { found.new
         ≡ first_of_both found.old
-        (first (name_faults (is_use wanted) scopes.now (label_name label.entry))) }
+        (first (name_faults wanted scopes.now (label_name label.entry))) }
     ensures cost { steps.new ≤ steps.old + 1 }
 {
     let meaning = scopes.find(label.text, steps);
     match meaning {
         None => note(found, label.place, Cause::Unknown),
         Some(meaning) => {
-            if !is_use(wanted, meaning) {
+            if !meaning.is_use(wanted) {
                 note(found, label.place, Cause::WrongKind);
             }
         }
@@ -68,7 +48,7 @@ pub fn used<L: Ledger>(
 
 // The number of a semaphore, 0 where there is none.
 pub fn semaphore_number(meaning: Option<Meaning>) -> u8
-    ensures { result ≡ semaphore_of meaning }
+    ensures { result ≡ number_as Semaphore meaning }
 {
     match meaning {
         Some(Meaning::Semaphore(number)) => number,
@@ -78,7 +58,7 @@ pub fn semaphore_number(meaning: Option<Meaning>) -> u8
 
 // The number of a channel, 0 where there is none.
 pub fn channel_number(meaning: Option<Meaning>) -> u8
-    ensures { result ≡ channel_of meaning }
+    ensures { result ≡ number_as Channel meaning }
 {
     match meaning {
         Some(Meaning::Channel(number)) => number,
@@ -121,24 +101,17 @@ pub fn function<L: Ledger>(
     found: &mut Option<Fault>,
     steps: &mut Steps<L>,
 ) -> u16
-    ensures number { result ≡ function_of (meaning scopes.now label.entry.text.now) }
+    ensures number { result ≡ number_as Function (meaning scopes.now label.entry.text.now) }
     ensures faults { found.new ≡ first_of_both found.old (first (wrong_call (meaning scopes.now
         label.entry.text.now) label.entry.place count used)) }
     ensures cost { steps.new ≤ steps.old + 1 }
 {
-    match scopes.find(label.text, steps) {
-        None => {
-            note(found, label.place, Cause::Unknown);
-            0
-        }
+    match crate::calls::used(scopes, label, Use::Function, found, steps) {
         Some(Meaning::Function(number, params, gives)) => {
             fit_call(params, gives, label.place, count, used, found);
             number
         }
-        Some(_) => {
-            note(found, label.place, Cause::WrongKind);
-            0
-        }
+        _ => 0,
     }
 }
 

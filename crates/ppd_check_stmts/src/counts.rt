@@ -1,8 +1,10 @@
 // The parts of a `for`, as statements.
-ghost use Rattle.std.specs.Prelude.{◌≡◌, ◌<◌, ◌≤◌, ◌-◌, OnOk, length, take, drop, ◌+◌, ◌*◌};
+ghost use Rattle.std.specs.Prelude.{◌≡◌, ◌<◌, ◌≤◌, ◌-◌, OnOk, length, take, drop, ◌+◌, ◌*◌, slice_index_or, pos};
+ghost use Rattle.ppd_check_stmts.specs.Statements.{code_of_any, faults_of_any};
+ghost use Rattle.ppd_check_names.specs.Syntax.{number};
 ghost use Rattle.ppd_check_names.specs.Nodes.{operand_formula, IsOperand, below};
-ghost use Rattle.ppd_check_stmts.specs.Plain.{row_any, code_of_any, faults_of_any};
-ghost use Rattle.ppd_check_names.specs.Reading.{phrase, before, beyond, last, formulas, for_start, for_test, some_change};
+ghost use Rattle.ppd_check_stmts.specs.Plain.{row_any};
+ghost use Rattle.ppd_check_names.specs.Reading.{phrase, before, beyond, last, formulas, for_start, some_change};
 ghost use Rattle.ppd_check_names.specs.Cost.{plain_below, operand_nodes};
 ghost use Rattle.ppd_check_stmts.specs.Outputs.{Keeps, Puts, Walks};
 
@@ -65,8 +67,8 @@ impl<L: Ledger> Lowering<'_, L> {
 // The test of a `for`.
 pub fn test_of<L: Ledger>(source: Source<'_>, id: u32, steps: &mut Steps<L>) -> Operand
     requires within { id < length source.nodes.now }
-    ensures formula { operand_formula source.entry.nodes.now result ≡ for_test (formulas (before (beyond (drop 2
-        (below source.entry id))))) }
+    ensures formula { operand_formula source.entry.nodes.now result ≡ slice_index_or (formulas (before (beyond (drop 2
+        (below source.entry id))))) 0 (number (pos 1)) }
     ensures within { IsOperand source.entry.nodes.now result }
     ensures nodes { operand_nodes source.entry.nodes.now result ≤ plain_below source.entry.nodes.now id }
     ensures cost { steps.new ≤ steps.old + 3 * length (below source.entry id) }

@@ -1,7 +1,8 @@
 // What a node says as an expression.
 ghost use Rattle.std.specs.Prelude.{◌≡◌, ◌+◌, ◌<◌, ◌≤◌, length};
 ghost use Rattle.ppd_check_names.specs.Nodes.{phrase_of, below};
-ghost use Rattle.ppd_check_names.specs.Reading.{as_formula, unary, joined, kind, phrase, formula_at, goal_of, goal_formula};
+ghost use Rattle.ppd_parse.specs.declared.symbol.Rule.TheVariants as R;
+ghost use Rattle.ppd_check_names.specs.Reading.{as_formula, unary, joined, kind, phrase, formula_at, goal_formula, made, as_goal};
 ghost use Rattle.ppd_check_stmts.specs.Forms.{operator_of, form_formula, ArePartsAfter, form_nodes};
 ghost use Rattle.ppd_check_names.specs.Cost.{plain_at, nested_below, plain_below};
 
@@ -70,7 +71,8 @@ fn unary_form<'a>(source: Source<'a>, id: u32) -> Form<'a>
 // A variable, or an element of one.
 fn place_form<'a>(source: Source<'a>, id: u32) -> Form<'a>
     requires within { id < length source.nodes.now }
-    ensures formula { form_formula source.entry.nodes.now result ≡ goal_formula (goal_of (below source.entry id)) }
+    ensures formula { form_formula source.entry.nodes.now result ≡ goal_formula (as_goal (made R.Place
+        (below source.entry id))) }
     ensures parts { ArePartsAfter source.entry.nodes.now id result }
     ensures nodes { form_nodes source.entry.nodes.now result ≤ 1 + plain_below source.entry.nodes.now id +
         nested_below source.entry.nodes.now id }

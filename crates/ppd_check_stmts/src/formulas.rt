@@ -1,18 +1,18 @@
 // Expressions into the table.
-ghost use Rattle.std.specs.Prelude.{◌≡◌, ◌<◌, ◌++◌, [], ◌∷◌, OnOk, IfOk, length, ℕ, ◌≤◌, ◌+◌, ◌*◌};
+ghost use Rattle.std.specs.Prelude.{◌≡◌, ◌<◌, ◌++◌, [], ◌∷◌, OnOk, IfOk, length, ℕ, ◌≤◌, ◌+◌, ◌*◌, None, Some};
 ghost use Rattle.ppd_check_names.specs.Nodes.{phrase_of, operand_formula, IsOperand};
 ghost use Rattle.ppd_check_names.specs.Reading.{as_formula};
 ghost use Rattle.ppd_check_names.specs.Faults.{first, first_of_both};
-ghost use Rattle.ppd_check_stmts.specs.Expressions.{term_of, formula_faults, read_scalar, read_element};
+ghost use Rattle.ppd_check_stmts.specs.Expressions.{term_of, formula_faults, read};
 ghost use Rattle.ppd_check_stmts.specs.Forms.{joined_expr, Added};
 ghost use Rattle.ppd_check_stmts.specs.Table.{flat, root};
 ghost use Rattle.ppd_ast.specs.Term.{Term};
 ghost use Rattle.ppd_check_names.specs.Cost.{plain_at, operand_nodes};
 
-use crate::calls::{Use, used};
+use crate::calls::used;
 use crate::forms::{Form, Operator, form_at};
 use ppd_ast::{Expr, Memory, Seq, Steps};
-use ppd_check_names::{Fault, Frame, Meaning, Operand, Scopes, Source, Writer};
+use ppd_check_names::{Fault, Frame, Meaning, Operand, Scopes, Source, Use, Writer};
 use std::sync::ledger::Ledger;
 
 // One more expression; its number.
@@ -35,7 +35,7 @@ pub fn put<L: Ledger>(
 
 // The expression that reads a scalar.
 pub fn scalar_expr(meaning: Option<Meaning>) -> Expr
-    ensures { (m : ℕ) → flat m (read_scalar meaning) ≡ result ∷ [] }
+    ensures { (m : ℕ) → flat m (read meaning None) ≡ result ∷ [] }
 {
     match meaning {
         Some(Meaning::Local(cell, None)) => Expr::Local(cell),
@@ -46,7 +46,7 @@ pub fn scalar_expr(meaning: Option<Meaning>) -> Expr
 
 // The expression that reads an element, whose index has number `at`.
 pub fn element_expr(meaning: Option<Meaning>, at: u32) -> Expr
-    ensures { (m : ℕ) (i : Term) → at ≡ root m i → flat m (read_element meaning i) ≡ flat m i ++ result ∷ [] }
+    ensures { (m : ℕ) (i : Term) → at ≡ root m i → flat m (read meaning (Some i)) ≡ flat m i ++ result ∷ [] }
 {
     match meaning {
         Some(Meaning::Local(base, Some(len))) => Expr::LocalAt { base, len, at },

@@ -1,8 +1,8 @@
 // Values of calls and channels into places and returns, through hidden local scalars where need be.
-ghost use Rattle.std.specs.Prelude.{◌≡◌, ◌++◌, [], ◌∷◌, OnOk, List, Some, ◌≤◌, ◌+◌, ◌*◌};
+ghost use Rattle.std.specs.Prelude.{◌≡◌, ◌++◌, [], ◌∷◌, OnOk, List, Some, ◌≤◌, ◌+◌, ◌*◌, None};
 ghost use Rattle.ppd_parse.specs.declared.node.Node.{Node};
 ghost use Rattle.ppd_check_stmts.specs.Code.{acts};
-ghost use Rattle.ppd_check_stmts.specs.Expressions.{formula_faults, read_scalar};
+ghost use Rattle.ppd_check_stmts.specs.Expressions.{formula_faults, read};
 ghost use Rattle.ppd_check_names.specs.Reading.{goal_formula};
 ghost use Rattle.ppd_check_names.specs.Syntax.{store, give_back};
 ghost use Rattle.ppd_check_stmts.specs.Statements.{after, put, spot, spot_of, goal_name, value_faults};
@@ -23,7 +23,7 @@ use std::sync::ledger::Ledger;
 
 // The cell of a local scalar.
 fn cell_of(meaning: Option<Meaning>) -> Option<u16>
-    ensures { local_cell (spot (read_scalar meaning)) ≡ result }
+    ensures { local_cell (spot (read meaning None)) ≡ result }
 {
     match meaning {
         Some(Meaning::Local(cell, None)) => Some(cell),

@@ -1,8 +1,10 @@
 // The parts of a `for`, between its semicolons.
-ghost use Rattle.std.specs.Prelude.{◌≡◌, ◌<◌, ◌≤◌, ◌-◌, ◌+◌, length, take, drop};
+ghost use Rattle.std.specs.Prelude.{◌≡◌, ◌<◌, ◌≤◌, ◌-◌, ◌+◌, length, take, drop, slice_index_or, pos};
+ghost use Rattle.ppd_check_names.specs.Syntax.{number};
+ghost use Rattle.ppd_lex.specs.declared.token.Kind.TheVariants as K;
 ghost use Rattle.ppd_check_names.specs.Nodes.{operand_formula, IsOperand, below};
 ghost use Rattle.ppd_check_names.specs.Cost.{plain_below, operand_nodes};
-ghost use Rattle.ppd_check_names.specs.Reading.{before, beyond, phrase, kind, is_semicolon, formulas, for_test};
+ghost use Rattle.ppd_check_names.specs.Reading.{before, beyond, phrase, kind, same_kind, formulas};
 
 use crate::calls::is_formula;
 use ppd_ast::Steps;
@@ -13,7 +15,7 @@ use std::sync::ledger::Ledger;
 // Whether the child is a semicolon.
 fn is_semicolon(source: Source<'_>, id: u32, k: usize) -> bool
     requires within { id < length source.nodes.now }
-    ensures { result ≡ is_semicolon (kind (phrase (below source.entry id) k)) }
+    ensures { result ≡ same_kind K.Semicolon (kind (phrase (below source.entry id) k)) }
 {
     match kind_at(source, id, k) {
         Kind::Semicolon => true,
@@ -102,8 +104,8 @@ pub fn test_among<L: Ledger>(
 ) -> Operand
     requires within { id < length source.nodes.now }
     requires past { from ≤ end }
-    ensures formula { operand_formula source.entry.nodes.now result ≡ for_test (formulas (take (end - from)
-        (drop from (below source.entry id)))) }
+    ensures formula { operand_formula source.entry.nodes.now result ≡ slice_index_or (formulas (take (end - from)
+        (drop from (below source.entry id)))) 0 (number (pos 1)) }
     ensures within { IsOperand source.entry.nodes.now result }
     ensures nodes { operand_nodes source.entry.nodes.now result ≤ plain_below source.entry.nodes.now id }
     ensures cost { steps.new + from ≤ steps.old + end }

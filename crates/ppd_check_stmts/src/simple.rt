@@ -7,11 +7,11 @@ ghost use Rattle.ppd_check_stmts.specs.Outputs.{Keeps, PutsSimple};
 ghost use Rattle.ppd_check_names.specs.Nodes.{below};
 ghost use Rattle.ppd_check_stmts.specs.Plain.{signalled, shown};
 
-use crate::calls::{Use, channel_number, semaphore_number, used};
+use crate::calls::{channel_number, semaphore_number, used};
 use crate::formulas::write_term;
 use crate::lowering::Lowering;
 use ppd_ast::{Kind, Memory};
-use ppd_check_names::{Level, label_at, operand_at, place_at, put_stmt};
+use ppd_check_names::{Level, Use, label_at, operand_at, place_at, put_stmt};
 use std::sync::ledger::Ledger;
 
 // The statements on semaphores.

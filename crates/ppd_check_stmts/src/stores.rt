@@ -1,11 +1,12 @@
 // Values into local scalars and other places.
-ghost use Rattle.std.specs.Prelude.{◌≡◌, ◌<◌, ◌++◌, [], ◌∷◌, OnOk, IfOk, length, map, is_some, ℕ, ◌≤◌, ◌+◌, ◌*◌};
+ghost use Rattle.std.specs.Prelude.{◌≡◌, ◌<◌, ◌++◌, [], ◌∷◌, OnOk, IfOk, length, map, is_some, ℕ, ◌≤◌, ◌+◌, ◌*◌, None, Some};
+ghost use Rattle.ppd_check_names.specs.declared.meaning.Use.TheVariants.{Function};
 ghost use Rattle.ppd_check_names.specs.Nodes.{label_name, below};
 ghost use Rattle.ppd_check_names.specs.Reading.{name_at, formulas, goal_formula};
 ghost use Rattle.ppd_check_names.specs.Syntax.{fresh};
-ghost use Rattle.ppd_check_names.specs.Names.{meaning, function_of};
+ghost use Rattle.ppd_check_names.specs.Names.{meaning, number_as};
 ghost use Rattle.ppd_check_names.specs.Faults.{first, first_of_both};
-ghost use Rattle.ppd_check_stmts.specs.Expressions.{term_of, formula_faults, call_faults, read_scalar, read_element};
+ghost use Rattle.ppd_check_stmts.specs.Expressions.{term_of, formula_faults, call_faults, read};
 ghost use Rattle.ppd_ast.specs.Term.{Term};
 ghost use Rattle.ppd_check_stmts.specs.Statements.{put, value_faults, after, spot, spot_of};
 ghost use Rattle.ppd_check_stmts.specs.Table.{flats, root, spot_terms, target};
@@ -15,13 +16,13 @@ ghost use Rattle.ppd_check_names.specs.Cost.{nested_below, plain_below};
 ghost use Rattle.ppd_check_stmts.specs.Code as C;
 ghost use Rattle.ppd_check_stmts.specs.Outputs.{Keeps, PutsSimple, PutsAct};
 
-use crate::calls::{Use, arguments, channel_number, function, used};
+use crate::calls::{arguments, channel_number, function, used};
 use crate::formulas::{element_expr, formula, put, scalar_expr, write_term};
 use crate::lowering::Lowering;
 use crate::values::{Goal, Value};
 use ppd_ast::{Ids, Kind, Memory, Steps, Target};
 use ppd_check_names::{
-    Frame, Here, Label, Level, Meaning, Source, Writer, declare, label_at, put_stmt,
+    Frame, Here, Label, Level, Meaning, Source, Use, Writer, declare, label_at, put_stmt,
 };
 use std::sync::ledger::Ledger;
 
@@ -31,7 +32,7 @@ impl<L: Ledger> Lowering<'_, L> {
         requires within { id < length here.level.source.nodes.now }
         ensures kept { Keeps self.old self.new }
         ensures frame { self.new.frame.now ≡ self.old.frame.now }
-        ensures wrote { OnOk result (PutsAct here.entry.level.site here.entry.place (C.call (function_of (meaning
+        ensures wrote { OnOk result (PutsAct here.entry.level.site here.entry.place (C.call (number_as Function (meaning
             self.old.frame.now.scopes (name_at (below here.entry.level.source id) 0).text)) (map (term_of
             self.old.frame.now.scopes) (formulas (below here.entry.level.source id))) into) (call_faults
             self.old.frame.now.scopes (is_some into) (name_at (below here.entry.level.source id) 0) (formulas (below
@@ -187,8 +188,8 @@ pub fn write_spot<L: Ledger>(
 
 // The target of a scalar.
 fn scalar_target(meaning: Option<Meaning>) -> Target
-    ensures target { (m : ℕ) → target m (spot (read_scalar meaning)) ≡ result }
-    ensures terms { spot_terms (spot (read_scalar meaning)) ≡ [] }
+    ensures target { (m : ℕ) → target m (spot (read meaning None)) ≡ result }
+    ensures terms { spot_terms (spot (read meaning None)) ≡ [] }
 {
     match meaning {
         Some(Meaning::Local(cell, None)) => Target::Local(cell),
@@ -199,8 +200,8 @@ fn scalar_target(meaning: Option<Meaning>) -> Target
 
 // The target of an element, whose index has number `at`.
 fn element_target(meaning: Option<Meaning>, at: u32) -> Target
-    ensures target { (m : ℕ) (i : Term) → at ≡ root m i → target m (spot (read_element meaning i)) ≡ result }
-    ensures terms { (i : Term) → spot_terms (spot (read_element meaning i)) ≡ i ∷ [] }
+    ensures target { (m : ℕ) (i : Term) → at ≡ root m i → target m (spot (read meaning (Some i))) ≡ result }
+    ensures terms { (i : Term) → spot_terms (spot (read meaning (Some i))) ≡ i ∷ [] }
 {
     match meaning {
         Some(Meaning::Local(base, Some(len))) => Target::LocalAt { base, len, at },

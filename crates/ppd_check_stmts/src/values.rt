@@ -1,6 +1,7 @@
 // Places where values are stored, and what is stored there.
 ghost use Rattle.std.specs.Prelude.{◌≡◌, ◌<◌, ◌≤◌, length};
-ghost use Rattle.ppd_check_names.specs.Reading.{phrase, as_goal, as_value, called, goal_of, value_said};
+ghost use Rattle.ppd_parse.specs.declared.symbol.Rule.TheVariants as R;
+ghost use Rattle.ppd_check_names.specs.Reading.{phrase, as_goal, as_value, called, made};
 ghost use Rattle.ppd_check_stmts.specs.Values.{goal_said, value_said_by, IsGoal, IsValue, goal_nodes, value_nodes};
 ghost use Rattle.ppd_check_names.specs.Cost.{plain_below};
 ghost use Rattle.ppd_check_names.specs.Nodes.{below};
@@ -27,7 +28,7 @@ pub enum Value<'a> {
 // The place that a node of places says.
 fn goal_in<'a>(source: Source<'a>, id: u32) -> Goal<'a>
     requires within { id < length source.nodes.now }
-    ensures goal { goal_said source.entry.nodes.now result ≡ goal_of (below source.entry id) }
+    ensures goal { goal_said source.entry.nodes.now result ≡ as_goal (made R.Place (below source.entry id)) }
     ensures within { IsGoal source.entry.nodes.now result }
     ensures nodes { goal_nodes source.entry.nodes.now result ≤ plain_below source.entry.nodes.now id }
 {
@@ -61,7 +62,7 @@ pub fn goal_at<'a>(source: Source<'a>, id: u32, k: usize) -> Goal<'a>
 // What a node says as a value that is stored.
 fn value_in<'a>(source: Source<'a>, id: u32) -> Value<'a>
     requires within { id < length source.nodes.now }
-    ensures value { value_said_by source.entry.nodes.now result ≡ value_said (below source.entry id) }
+    ensures value { value_said_by source.entry.nodes.now result ≡ as_value (made R.Value (below source.entry id)) }
     ensures within { IsValue source.entry.nodes.now result }
     ensures nodes { value_nodes source.entry.nodes.now result ≤ plain_below source.entry.nodes.now id }
 {

@@ -1,37 +1,37 @@
 -- What is answered by a past's graph and the first edges in its races is what the definition finds.
-use Rattle.std.proofs.Common.{◌≡◌, ℕ, ◌≤◌, ◌&&◌, ◌||◌, List, length, Option, Some, None, Result, Ok, Err, refl, ap, ap₂, sym, subst, ◌∙◌, if◌then◌else◌}
-use Rattle.std.specs.Prelude.{nat_eq, nat_le, unwrap_or}
-use Rattle.law_clean.specs.Answers.{CleanOr, no_item, unclean, unclean_or}
+use Rattle.law_clean.specs.Answers.{CleanOr, is_reached, no_item, unclean, unclean_or}
 use Rattle.law_clean.specs.Cuts.{cut_logs}
+use Rattle.law_clean.specs.Pasts.{first_raced}
 use Rattle.law_clean.specs.Search as sought
-use Rattle.ppd_clean_past.specs.declared.asked.Asked.{Asked}
-use Rattle.ppd_clean.specs.declared.clean_error.CleanError.{CleanError}
-use Rattle.ppd_clean.specs.declared.clean_error.CleanError.TheVariants as error
-use Rattle.ppd_clean.specs.declared.clean.Clean.{Clean}
-use Rattle.ppd_clean.specs.Answers.{Diverges, Fails, FailsFrom, IsCleanBy, IsFound, IsOrdered, answer_at, answer_by, cut_of, is_begun_unclean, item_at, reached_from, seens_of, unless_begun, with_edges}
-use Rattle.ppd_clean.specs.ByOrder.{cut_for, edge_of_item, first_unclean, last_before, own_last}
-use Rattle.ppd_clean_past.specs.ByOrder.{is_led_to, is_unclean_at, last_edge, leads_from_race}
-use Rattle.ppd_clean.specs.Firsts.{firsts_of}
 use Rattle.ppd_clean.proofs.Orders.{first_is, leads_is}
 use Rattle.ppd_clean.proofs.WantedEdges.{cut_is, first_bound}
+use Rattle.ppd_clean.specs.Answers.{Diverges, Fails, FailsFrom, IsCleanBy, IsFound, IsOrdered, answer_at, answer_by, cut_of, item_at, reached_from, seens_of, unless_begun, with_edges}
+use Rattle.ppd_clean.specs.ByOrder.{cut_for, edge_of_item, first_unclean, last_before, own_last}
+use Rattle.ppd_clean.specs.Firsts.{firsts_of}
+use Rattle.ppd_clean.specs.declared.clean.Clean.{Clean}
+use Rattle.ppd_clean.specs.declared.clean_error.CleanError.{CleanError}
+use Rattle.ppd_clean.specs.declared.clean_error.CleanError.TheVariants as error
+use Rattle.ppd_clean_past.specs.ByOrder.{is_led_to, is_unclean_at, last_edge, leads_from_race}
+use Rattle.ppd_clean_past.specs.declared.asked.Asked.{Asked}
 use Rattle.ppd_entry.specs.declared.entry.Logs.{Logs}
-use Rattle.ppd_entry.specs.Entries.{entries_at}
 use Rattle.ppd_flow_model.specs.Ends.{first_edge, is_sync_item}
 use Rattle.ppd_flow_model.specs.Found.{found_edges}
 use Rattle.ppd_flow_model.specs.Seen.{Seen}
 use Rattle.ppd_flow_model.specs.Shared.{Missing, seen_at}
-use Rattle.ppd_flow_past.specs.declared.past.Past.{Past}
 use Rattle.ppd_flow_past.specs.Pasts.{IsPast}
+use Rattle.ppd_flow_past.specs.declared.past.Past.{Past}
+use Rattle.ppd_model.specs.HappenedBefore.{edge}
+use Rattle.ppd_model.specs.RecordedSets.{record_in}
+use Rattle.ppd_model.specs.Synchronizations.{Sync}
 use Rattle.ppd_model.specs.declared.flow.FlowEdge.{FlowEdge}
 use Rattle.ppd_model.specs.declared.flow.Item.{Item}
 use Rattle.ppd_model.specs.declared.flow.Item.TheVariants as item
 use Rattle.ppd_model.specs.declared.graph.Race.{Race}
-use Rattle.ppd_model.specs.HappenedBefore.{edge}
-use Rattle.ppd_model.specs.RecordedSets.{record_in}
-use Rattle.ppd_model.specs.Synchronizations.{Sync}
-use Rattle.ppd_race.specs.Races.{races_of_logs}
+use Rattle.ppd_race.specs.Races.{edges_of_logs, races_among}
+use Rattle.std.proofs.Common.{Err, List, None, Ok, Option, Result, Some, ap, ap₂, if◌then◌else◌, length, refl, subst, sym, ℕ, ◌&&◌, ◌||◌, ◌∙◌, ◌≡◌, ◌≤◌}
+use Rattle.std.specs.Prelude.{[], get_or, nat_eq, nat_le, unwrap_or}
 
-module _ (past : Past) (is : IsPast past) (races : List Race) (races_are : races ≡ races_of_logs past.program.now past.logs.now)
+module _ (past : Past) (is : IsPast past) (races : List Race) (races_are : races ≡ races_among (edges_of_logs past.program.now past.logs.now))
     (ordered : IsOrdered past) (a : Asked) (firsts_are : a.firsts.now ≡ firsts_of races (length past.logs.now.lists)) where
   abbrev rec : List (List Sync)
   rec = record_in past.logs.now
@@ -43,7 +43,7 @@ module _ (past : Past) (is : IsPast past) (races : List Race) (races_are : races
   last = last_edge past.logs.now a.process
 
   abbrev begins : ℕ
-  begins = first_edge (entries_at past.logs.now a.process) a.interval
+  begins = first_edge (get_or past.logs.now.lists a.process []) a.interval
 
   -- ---- an item
 
@@ -67,11 +67,6 @@ module _ (past : Past) (is : IsPast past) (races : List Race) (races_are : races
         ∙ ap (λ b. nat_le u (sought.edge_of_item past.program.now past.plan.now past.budget past.logs.now (record_in past.logs.now) races a.process a.interval a.item xs t) || b)
         (led_is t (sought.edge_of_item past.program.now past.plan.now past.budget past.logs.now (record_in past.logs.now) races a.process a.interval a.item xs t))
 
-    reached_is : (w : Option ℕ) → reached_from past a w
-        ≡ sought.reached past.program.now past.plan.now past.budget past.logs.now (record_in past.logs.now) races a.process a.interval a.item w
-    reached_is None = refl
-    reached_is (Some u) = refl
-
     none_is : (w : Option ℕ) → unclean_or a.process w no_item
         ≡ unclean_or a.process w no_item
     none_is None = refl
@@ -85,7 +80,7 @@ module _ (past : Past) (is : IsPast past) (races : List Race) (races_are : races
 
     item_is : a.first ≡ z → (o : Option Item) → answer_at past a xs o
         ≡ sought.by_item past.program.now past.plan.now past.budget past.logs.now (record_in past.logs.now) races a.process a.interval a.item z xs o
-    item_is e None = ap (reached_from past a) e ∙ reached_is z
+    item_is e None = ap (reached_from past a) e
     item_is e (Some t) =
         ap₂ (λ b (x : CleanOr). if b then x else with_edges t (found_edges past.program.now past.plan.now past.logs.now xs a.process a.interval a.item))
         (ap (is_unclean_at past a t (edge_of_item past a (seen_at xs a.process) t)) e ∙ unclean_is z t) (ap (λ w. unclean_or a.process w no_item) e ∙ none_is z)
@@ -95,12 +90,12 @@ module _ (past : Past) (is : IsPast past) (races : List Race) (races_are : races
 
   -- ---- the logs that are cut
 
-  module _ (begun : ℕ) (begun_is : begun ≡ first_edge (entries_at past.logs.now a.process) a.interval)
+  module _ (begun : ℕ) (begun_is : begun ≡ first_edge (get_or past.logs.now.lists a.process []) a.interval)
       (first_is_so : a.first ≡ first_unclean past.graph.now a.firsts.now a.process begun (last_edge past.logs.now a.process)) where
     by_firsts : a.first ≡ first_unclean past.graph.now (firsts_of races (length past.logs.now.lists)) a.process begun (last_edge past.logs.now a.process)
     by_firsts = first_is_so ∙ ap (λ fs. first_unclean past.graph.now fs a.process begun last) firsts_are
 
-    raced_is : a.first ≡ sought.first_raced past.program.now past.plan.now past.budget past.logs.now (record_in past.logs.now) races a.process a.interval a.item
+    raced_is : a.first ≡ first_raced past.program.now (record_in past.logs.now) races (get_or past.logs.now.lists a.process []) a.process a.interval
     raced_is =
         by_firsts ∙ ap (λ n. first_unclean past.graph.now (firsts_of races (length past.logs.now.lists)) a.process n last) begun_is
         ∙ first_is past.program.now past.logs.now past.graph.now is.graph_is races races_are a.process begins
@@ -133,11 +128,11 @@ module _ (past : Past) (is : IsPast past) (races : List Race) (races_are : races
         ≡ sought.clean_by past.program.now past.plan.now past.budget past.logs.now races a.process a.interval a.item
     found_is =
         ap (λ z. unless_begun begun a.process z (answer_by past a (cut_for past a))) raced_is
-        ∙ from_first_is (sought.first_raced past.program.now past.plan.now past.budget past.logs.now (record_in past.logs.now) races a.process a.interval a.item) raced_is
+        ∙ from_first_is (first_raced past.program.now (record_in past.logs.now) races (get_or past.logs.now.lists a.process []) a.process a.interval) raced_is
 
-    begun_so : is_begun_unclean begun a.first
-        ≡ is_begun_unclean (first_edge (entries_at past.logs.now a.process) a.interval) (sought.first_raced past.program.now past.plan.now past.budget past.logs.now (record_in past.logs.now) races a.process a.interval a.item)
-    begun_so = ap₂ is_begun_unclean begun_is raced_is
+    begun_so : is_reached begun a.first
+        ≡ is_reached (first_edge (get_or past.logs.now.lists a.process []) a.interval) (first_raced past.program.now (record_in past.logs.now) races (get_or past.logs.now.lists a.process []) a.process a.interval)
+    begun_so = ap₂ is_reached begun_is raced_is
 
     fails_so : (q n : ℕ) → FailsFrom begun past a q n → Diverges past races a.process a.interval a.item q n
     fails_so q n f = (sym begun_so ∙ f.0, subst (λ (cut : Logs). Fails past cut q n) cut_for_is f.1)

@@ -2,17 +2,17 @@
 use Rattle.std.proofs.Common.{◌≡◌, ℕ, zero, suc, ◌<◌, ◌≤◌, true, false, List, [], ◌∷◌, Option, Some, None, Result, Ok, Err, refl, ap, sym, subst, ◌∙◌, get_or, length, map, true≢false, if◌then◌else◌}
 use Rattle.std.proofs.lemmas.Option.{get_or_from_slice_get, slice_get_past}
 use Rattle.std.specs.Prelude.{slice_get}
-use Rattle.law_clean.specs.Answers.{CleanOr, no_item, unclean, unclean_or}
+use Rattle.law_clean.specs.Answers.{CleanOr, no_item, unclean, unclean_or, is_reached}
 use Rattle.ppd_ast.proofs.ValidLaws.{slice_get_there}
 use Rattle.ppd_clean_past.specs.declared.asked.Asked.{Asked}
 use Rattle.ppd_clean.specs.declared.clean_error.CleanError.{CleanError}
 use Rattle.ppd_clean.specs.declared.clean_error.CleanError.TheVariants as error
 use Rattle.ppd_clean.specs.declared.clean.Clean.{Clean}
-use Rattle.ppd_clean.specs.Answers.{AreEdges, AreItems, Fails, FailsFrom, IsAnswer, IsCleanItem, IsFound, IsItem, answer_at, edges_in, is_begun_unclean, item_at, of_flow, reached_from, unclean_error, unless_begun, with_edges}
+use Rattle.ppd_clean.specs.Answers.{AreEdges, AreItems, Fails, FailsFrom, IsAnswer, IsCleanItem, IsFound, IsItem, answer_at, edges_in, item_at, of_flow, reached_from, unclean_error, unless_begun, with_edges}
 use Rattle.ppd_clean.specs.ByOrder.{cut_for, is_unclean}
 use Rattle.ppd_entry.specs.declared.entry.At.{At}
 use Rattle.ppd_entry.specs.declared.entry.Entry.{Entry}
-use Rattle.ppd_flow_model.specs.Seen.{Seen, items_at}
+use Rattle.ppd_flow_model.specs.Seen.{Seen}
 use Rattle.ppd_flow_model.specs.Shared.{seen_at}
 use Rattle.ppd_flow_past.specs.ByReplays.{IsFoundBy, failure_or, first_failed_in}
 use Rattle.ppd_flow_past.specs.declared.flow_error.FlowError.{FlowError}
@@ -117,7 +117,7 @@ module _ (past : Past) where
 
     -- the item of the items that replays give
     pub at_item : (items : List Item) → items ≡ items_in past a.process a.interval → slice_get items a.item ≡ item_at a (seens_in past)
-    at_item items e = ap (λ (xs : List Item). slice_get xs a.item) e ∙ ap (λ (x : Seen). slice_get (items_at x a.interval) a.item) (sym (same_seen past a.process))
+    at_item items e = ap (λ (xs : List Item). slice_get xs a.item) e ∙ ap (λ (x : Seen). slice_get (get_or x.items a.interval []) a.item) (sym (same_seen past a.process))
 
     as_found : (x : CleanOr) (e : CleanError) → IsAnswer x (Err e) → IsFound (Fails past past.cut.now) x (Err e)
     as_found x (error.Unclean e) h = h
@@ -148,17 +148,17 @@ module _ (past : Past) where
 -- ---- an interval that begins in an edge whose past has a race
 
 module _ (begun : ℕ) (past : Past) (a : Asked) (rest : CleanOr) where
-  pub begins_raced : (o : Option ℕ) → is_begun_unclean begun o ≡ true
+  pub begins_raced : (o : Option ℕ) → is_reached begun o ≡ true
       → IsFound (FailsFrom begun past a) (unless_begun begun a.process o rest) (Err (unclean_error a.process o))
   begins_raced None e = absurd (true≢false (sym e))
   begins_raced (Some u) e = ap (λ b. if b then unclean (edge a.process u) else rest) e
 
-  passed_on : (o : Option ℕ) → is_begun_unclean begun o ≡ false → rest ≡ unless_begun begun a.process o rest
+  passed_on : (o : Option ℕ) → is_reached begun o ≡ false → rest ≡ unless_begun begun a.process o rest
   passed_on None e = refl
   passed_on (Some u) e = sym (ap (λ b. if b then unclean (edge a.process u) else rest) e)
 
   -- and one that does not
-  pub begins_clean : (r : Result Clean CleanError) → is_begun_unclean begun a.first ≡ false → IsFound (Fails past (cut_for past a)) rest r
+  pub begins_clean : (r : Result Clean CleanError) → is_reached begun a.first ≡ false → IsFound (Fails past (cut_for past a)) rest r
       → IsFound (FailsFrom begun past a) (unless_begun begun a.process a.first rest) r
   begins_clean r e h = by r (subst (λ (x : CleanOr). IsFound (Fails past (cut_for past a)) x r) (passed_on a.first e) h)
     where

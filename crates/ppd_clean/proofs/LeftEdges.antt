@@ -5,7 +5,6 @@ use Rattle.law_clean.specs.Pasts.{left_edge}
 use Rattle.ppd_clean.specs.ByOrder.{left_at}
 use Rattle.ppd_entry.specs.declared.entry.Entry.{Entry}
 use Rattle.ppd_entry.specs.declared.entry.Logs.{Logs}
-use Rattle.ppd_entry.specs.Entries.{entries_at}
 use Rattle.ppd_flow_model.specs.Ends.{syncs_before}
 use Rattle.ppd_flow_past.specs.declared.past.Past.{Past}
 use Rattle.ppd_flow_past.proofs.Outward.{extent_at}
@@ -25,13 +24,13 @@ abbrev left_or : Logs → ℕ → Option Interval → ℕ
 left_or logs p None = 0
 left_or logs p (Some i) = left_at logs p i
 
-left_by : (logs : Logs) (p : ℕ) (o : Option Row) → left_in (entries_at logs p) (option_map extent_of o) ≡ left_or logs p (option_map interval_of o)
+left_by : (logs : Logs) (p : ℕ) (o : Option Row) → left_in (get_or logs.lists p []) (option_map extent_of o) ≡ left_or logs p (option_map interval_of o)
 left_by logs p None = refl
-left_by logs p (Some r) = ap (λ n. if r.closed then syncs_before (entries_at logs p) (unwrap_or r.last 0) else n) (sym (syncs_at logs.lists p))
+left_by logs p (Some r) = ap (λ n. if r.closed then syncs_before (get_or logs.lists p []) (unwrap_or r.last 0) else n) (sym (syncs_at logs.lists p))
 
 module _ (past : Past) (p k : ℕ) (h : IsIndexOf past.plan.now past.logs.now past.index.now.tables) where
   pub left_is : (o : Option Interval) → o ≡ option_map interval_of (slice_get (rows_at past.index.now.tables p) k)
-      → left_or past.logs.now p o ≡ left_edge (entries_at past.logs.now p) k
+      → left_or past.logs.now p o ≡ left_edge (get_or past.logs.now.lists p []) k
   left_is o e =
       ap (left_or past.logs.now p) e ∙ sym (left_by past.logs.now p (slice_get (rows_at past.index.now.tables p) k))
-      ∙ ap (left_in (entries_at past.logs.now p)) (sym (extent_at past.plan.now past.logs.now past.index.now.tables p k h))
+      ∙ ap (left_in (get_or past.logs.now.lists p [])) (sym (extent_at past.plan.now past.logs.now past.index.now.tables p k h))

@@ -1,29 +1,29 @@
 -- The write that the search by cut logs misses is missing.
-use Rattle.std.proofs.Common.{◌≡◌, ℕ, Bool, true, false, List, Option, Some, None, Result, Ok, Err, refl, ap, ◌∙◌, if◌then◌else◌}
-use Rattle.std.specs.Prelude.{nat_le, slice_get}
-use Rattle.law_clean.specs.Answers.{no_item, unclean, unwritten, unclean_or}
+use Rattle.law_clean.specs.Answers.{is_reached, no_item, unclean, unclean_or, unwritten}
+use Rattle.law_clean.specs.Pasts.{first_raced, left_edge}
 use Rattle.law_clean.specs.Search as sought
-use Rattle.law_flow_missing.specs.Missing.{AreIndexed, IsMissingWrite, write_at}
 use Rattle.law_flow_missing.proofs.MissingWrites.{missing_writes_are_told}
+use Rattle.law_flow_missing.specs.Missing.{AreIndexed, IsMissingWrite, write_at}
 use Rattle.ppd_ast.specs.declared.plan.Plan.{Plan}
 use Rattle.ppd_ast.specs.declared.program.Program.{Program}
 use Rattle.ppd_clean.specs.Answers.{IsCleanBy}
 use Rattle.ppd_clean.specs.Missing.{IsCauseOfSets}
+use Rattle.ppd_clean.specs.declared.clean.Clean.{Clean}
 use Rattle.ppd_clean.specs.declared.clean_error.CleanError.{CleanError}
 use Rattle.ppd_clean.specs.declared.clean_error.CleanError.TheVariants as error
-use Rattle.ppd_clean.specs.declared.clean.Clean.{Clean}
 use Rattle.ppd_entry.specs.declared.entry.Logs.{Logs}
-use Rattle.ppd_entry.specs.Entries.{entries_at}
 use Rattle.ppd_flow_model.specs.Ends.{first_edge}
 use Rattle.ppd_flow_model.specs.Found.{found_edges}
-use Rattle.ppd_flow_model.specs.Seen.{Seen, items_at}
+use Rattle.ppd_flow_model.specs.Seen.{Seen}
 use Rattle.ppd_flow_model.specs.Shared.{Missing, seen_at}
 use Rattle.ppd_flow_past.specs.declared.past.Past.{Past}
+use Rattle.ppd_model.specs.HappenedBefore.{edge}
+use Rattle.ppd_model.specs.RecordedSets.{record_in}
 use Rattle.ppd_model.specs.declared.flow.FlowEdge.{FlowEdge}
 use Rattle.ppd_model.specs.declared.flow.Item.{Item}
 use Rattle.ppd_model.specs.declared.graph.Race.{Race}
-use Rattle.ppd_model.specs.HappenedBefore.{edge}
-use Rattle.ppd_model.specs.RecordedSets.{record_in}
+use Rattle.std.proofs.Common.{Bool, Err, List, None, Ok, Option, Result, Some, ap, false, if◌then◌else◌, refl, true, ℕ, ◌∙◌, ◌≡◌}
+use Rattle.std.specs.Prelude.{[], get_or, nat_le, slice_get}
 
 module _ (program : Program) (plan : Plan) (budget : ℕ) (logs : Logs) (races : List Race) (p k j : ℕ)
     (indexed : AreIndexed program plan logs) (m : Missing) where
@@ -41,22 +41,18 @@ module _ (program : Program) (plan : Plan) (budget : ℕ) (logs : Logs) (races :
       let is : n ≡ m = cc f in
       (missing_writes_are_told program plan logs (seens o) indexed).edges p k j m (e ∙ ap (λ (x : Missing). Some (Err x)) is)
 
-  never_reached : (o : Option ℕ) → sought.reached program plan budget logs (record_in logs) races p k j o ≡ unwritten m → ⊥
-  never_reached None f = cc f
-  never_reached (Some u) f = by _ f
-    where
-      by : (b : Bool) → (if b then unclean (edge p u) else no_item) ≡ unwritten m → ⊥
-      by true f = cc f
-      by false f = cc f
-
   never_unclean : (o : Option ℕ) → unclean_or p o no_item ≡ unwritten m → ⊥
   never_unclean None f = cc f
   never_unclean (Some u) f = cc f
 
+  never_reached : (b : Bool) (o : Option ℕ) → (if b then unclean_or p o no_item else no_item) ≡ unwritten m → ⊥
+  never_reached true o f = never_unclean o f
+  never_reached false o f = cc f
+
   of_item : (o : Option ℕ) (t : Option Item)
       → sought.by_item program plan budget logs (record_in logs) races p k j o (seens o) t ≡ unwritten m
       → IsMissingWrite logs (seens o) m
-  of_item o None f = absurd (never_reached o f)
+  of_item o None f = absurd (never_reached (is_reached (left_edge (get_or logs.lists p []) k) o) o f)
   of_item o (Some t) f =
       by (sought.is_unclean program plan budget logs (record_in logs) races p k j (seens o) o t) f
     where
@@ -70,19 +66,19 @@ module _ (program : Program) (plan : Plan) (budget : ℕ) (logs : Logs) (races :
 
   of_first : (z : Option ℕ) → sought.from_first program plan budget logs (record_in logs) races p k j z ≡ unwritten m
       → IsMissingWrite logs (seens z) m
-  of_first None f = of_item None (slice_get (items_at (seen_at (seens None) p) k) j) f
-  of_first (Some u) f = by (nat_le u (first_edge (entries_at logs p) k)) f
+  of_first None f = of_item None (slice_get (get_or (seen_at (seens None) p).items k []) j) f
+  of_first (Some u) f = by (nat_le u (first_edge (get_or logs.lists p []) k)) f
     where
       by : (b : Bool)
           → (if b then unclean (edge p u)
           else sought.by_first program plan budget logs (record_in logs) races p k j (Some u)) ≡ unwritten m
           → IsMissingWrite logs (seens (Some u)) m
       by true g = absurd (cc g)
-      by false g = of_item (Some u) (slice_get (items_at (seen_at (seens (Some u)) p) k) j) g
+      by false g = of_item (Some u) (slice_get (get_or (seen_at (seens (Some u)) p).items k []) j) g
 
   pub clean_missed : sought.clean_by program plan budget logs races p k j ≡ unwritten m
-      → IsMissingWrite logs (seens (sought.first_raced program plan budget logs (record_in logs) races p k j)) m
-  clean_missed f = of_first (sought.first_raced program plan budget logs (record_in logs) races p k j) f
+      → IsMissingWrite logs (seens (first_raced program (record_in logs) races (get_or logs.lists p []) p k)) m
+  clean_missed f = of_first (first_raced program (record_in logs) races (get_or logs.lists p []) p k) f
 
 pub sets_missed : (past : Past) (races : List Race) (p k j : ℕ) (r : Result Clean CleanError)
     → IsCleanBy past races p k j r → IsCauseOfSets past races p k j r

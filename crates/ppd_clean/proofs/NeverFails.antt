@@ -2,7 +2,7 @@
 use Rattle.std.proofs.Common.{◌≡◌, ℕ, zero, suc, ◌+◌, ◌<◌, ◌≤◌, List, [], ◌∷◌, ◌++◌, length, map, Option, Some, None, refl, ap, sym, subst, ◌∙◌, arith, append-nil, get_or, length-append, inl, inr}
 use Rattle.std.proofs.lemmas.Bool.{cases_lt}
 use Rattle.std.proofs.lemmas.Option.{none-some, slice_get-map}
-use Rattle.std.specs.Prelude.{option_map, option_to_list, slice_get, ⊤}
+use Rattle.std.specs.Prelude.{option_map, option_to_list, slice_get, ⊤, filter_map}
 use Rattle.law_clean.specs.Cuts.{cut, stop}
 use Rattle.law_clean.specs.Ordered.{AreUnracedReads, IsUnracedIn}
 use Rattle.law_clean.proofs.CutEdges.{replays_of_cut}
@@ -39,8 +39,8 @@ use Rattle.ppd_model.specs.Intervals.{Span, Split, split_of, splits}
 use Rattle.ppd_model.specs.Logs.{begun_log, closed_log, closed_logs, log_of}
 use Rattle.ppd_model.proofs.LogWords.{logs_from}
 use Rattle.ppd_model.specs.Schedule.{IsWhole, run, started_world}
-use Rattle.ppd_model.specs.Story.{Moment, moment_of, own_moments, steps_of, story, told}
-use Rattle.ppd_model.specs.Synchronizations.{sync_of, syncs_of}
+use Rattle.ppd_model.specs.Story.{Moment, moment_of, steps_of, story, told}
+use Rattle.ppd_model.specs.Synchronizations.{sync_of}
 use Rattle.ppd_model.proofs.Changes.{some}
 use Rattle.ppd_model.proofs.Forward.{fewer}
 use Rattle.ppd_sem.specs.declared.proc.Proc.{Proc}
@@ -64,14 +64,14 @@ module _ (program : Program) (policy : Policy) (budget : ℕ) (h : List ℕ) (v 
   plan = plan_of program policy
 
   abbrev own_log : List Entry
-  own_log = closed_log (log_of program plan budget q (own_moments (told program plan budget h) q))
+  own_log = closed_log (log_of program plan budget q (get_or (told program plan budget h).moments q []))
 
   -- ---- where a synchronization ends the last edge
 
   ended_never : (i : ℕ) → i < edge_in program plan budget h q → ((e : ℕ) → e ≤ i → IsUnracedIn program plan budget h q e) → (k : ℕ)
       → failed_at program plan budget (cut (Some i) own_log) k ≡ None
   ended_never i ended clear k =
-      let none : edge_in program plan budget [] q ≡ 0 = edge_is_count program plan budget [] q ∙ ap (λ ts. length (syncs_of ts)) (none_did program plan budget q) in
+      let none : edge_in program plan budget [] q ≡ 0 = edge_is_count program plan budget [] q ∙ ap (λ ts. length (filter_map sync_of ts)) (none_did program plan budget q) in
       let ends : EndsEdge program plan budget h q i = edge_ends program plan budget h q i ended none in
       let g : List ℕ = ends.before ++ q ∷ [] in
       let more : length (option_to_list (sync_of (moment_of program plan (told program plan budget ends.before) q).taken)) ≡ 1 = one_of (sync_of (moment_of program plan (told program plan budget ends.before) q).taken) ends.is_sync in
@@ -102,36 +102,36 @@ module _ (program : Program) (policy : Policy) (budget : ℕ) (h : List ℕ) (v 
           (let up : edge_in program plan budget b q ≤ edge_in program plan budget (b ++ q ∷ more) q = fewer program plan budget b (q ∷ more) whole.last (subst (λ l. run program plan budget l ≡ Some whole.last) is whole.runs) q in
           subst (λ l. edge_in program plan budget b q ≤ edge_in program plan budget l q) (sym is) up))
 
-      reads : AreRead plan (begun_in_force program plan q) (own_moments (told program plan budget h) q)
+      reads : AreRead plan (begun_in_force program plan q) (get_or (told program plan budget h).moments q [])
       reads = unraced_reads program policy budget h [] whole.last q v runs reads_clear
 
       whole_never : (k : ℕ) → failed_at program plan budget own_log k ≡ None
       whole_never k =
-          ap failure_of (replays_alike program policy v budget q 0 (omega arith) there (own_moments (told program plan budget h) q) (schedules_run program plan budget h q v whole there) (story program plan budget h) reads k
+          ap failure_of (replays_alike program policy v budget q 0 (omega arith) there (get_or (told program plan budget h).moments q []) (schedules_run program plan budget h q v whole there) (story program plan budget h) reads k
           ∙ ap (λ (z : Split). modelled_of z (slice_get z.spans k)) (ap (split_of program plan budget (story program plan budget h) q) (sym (own_steps_are program plan budget h q)) ∙ split_is program plan budget h q y at))
           ∙ no_failure y (slice_get y.spans k)
 
     -- ---- where no edge is wanted
 
-    none_yet : own_moments (told program plan budget []) q ≡ []
+    none_yet : get_or (told program plan budget []).moments q [] ≡ []
     none_yet = nothing (started_world program plan budget).procs q
 
     begun : Logging
     begun = begun_log program plan budget q
 
     start_is : cut None own_log ≡ (begun_log program plan budget q).entries ++ stop ∷ []
-    start_is = ap (λ es. cut None es) (log_tail program plan (own_moments (told program plan budget h) q) (begun_log program plan budget q))
+    start_is = ap (λ es. cut None es) (log_tail program plan (get_or (told program plan budget h).moments q []) (begun_log program plan budget q))
 
     begun_reads : AreUnracedReads program plan budget [] ([] ++ h) q
     begun_reads b more c is read = absurd (nothing_after b q more is)
 
     begun_never : (k : ℕ) → failed_at program plan budget (cut None own_log) k ≡ None
     begun_never k =
-        let l_is : log_of program plan budget q (own_moments (told program plan budget []) q) ≡ begun_log program plan budget q = ap (log_of program plan budget q) none_yet in
+        let l_is : log_of program plan budget q (get_or (told program plan budget []).moments q []) ≡ begun_log program plan budget q = ap (log_of program plan budget q) none_yet in
         ap (λ es. failed_at program plan budget es k) (start_is ∙ ap (λ (l : Logging). l.entries ++ entry.End status.Budget l.rest l.reads l.writes ∷ []) (sym l_is))
         ∙ ap failure_of (cut_replays program policy budget [] h q v whole there (ap (λ (l : Logging). l.proc.status) l_is) begun_reads (story program plan budget []) k)
-        ∙ no_failure (split_of program plan budget (story program plan budget []) q (steps_of (own_moments (told program plan budget []) q)))
-        (slice_get (split_of program plan budget (story program plan budget []) q (steps_of (own_moments (told program plan budget []) q))).spans k)
+        ∙ no_failure (split_of program plan budget (story program plan budget []) q (steps_of (get_or (told program plan budget []).moments q [])))
+        (slice_get (split_of program plan budget (story program plan budget []) q (steps_of (get_or (told program plan budget []).moments q []))).spans k)
 
     -- ---- all of them
 
@@ -145,7 +145,7 @@ module _ (program : Program) (policy : Policy) (budget : ℕ) (h : List ℕ) (v 
     cut_never (Some i) clear k = elim (cases_lt i (edge_in program plan budget h q)) [
       | inl lt ↦ ended_never i lt (λ e le. clear e le (omega (arith, le, lt))) k
       | inr ge ↦
-          let many = closed_syncs (log_of program plan budget q (own_moments (told program plan budget h) q)) in
+          let many = closed_syncs (log_of program plan budget q (get_or (told program plan budget h).moments q [])) in
           let all = syncs_in_log program plan budget h q in
           ap (λ es. failed_at program plan budget es k) (stays_whole i own_log (omega (arith, many, all, ge)))
           ∙ whole_never (λ e le. clear e (omega (arith, le, ge)) le) k
@@ -189,10 +189,10 @@ module _ (program : Program) (policy : Policy) (budget : ℕ) (h : List ℕ) (v 
           let lt : q < length (told program all_plan budget h).moments = there_below program all_plan budget 0 (told program all_plan budget h).moments q es e in
           let y = split_there program all_plan budget (story program all_plan budget h) 0 (told program all_plan budget h).moments q lt in
           let z : 0 + q ≡ q = omega arith in
-          let listed : slice_get lists q ≡ Some (closed_log (log_of program all_plan budget q (own_moments (told program all_plan budget h) q))) =
+          let listed : slice_get lists q ≡ Some (closed_log (log_of program all_plan budget q (get_or (told program all_plan budget h).moments q []))) =
           slice_get-map closed_log (logs_from program all_plan budget 0 (told program all_plan budget h).moments) q
           ∙ ap (option_map closed_log) (logging_at program all_plan budget (story program all_plan budget h) 0 (told program all_plan budget h).moments q y.0 y.1
-          ∙ ap (λ n. Some (log_of program all_plan budget n (own_moments (told program all_plan budget h) q))) z) in
-          let is : es ≡ closed_log (log_of program all_plan budget q (own_moments (told program all_plan budget h) q)) = some (sym e ∙ listed) in
+          ∙ ap (λ n. Some (log_of program all_plan budget n (get_or (told program all_plan budget h).moments q []))) z) in
+          let is : es ≡ closed_log (log_of program all_plan budget q (get_or (told program all_plan budget h).moments q [])) = some (sym e ∙ listed) in
           ap (λ xs. failed_at program all_plan budget (cut (last q) xs) k) is
           ∙ cut_never program policy budget h v whole q y.0 y.1 (last q) (clear q y.0 y.1) k

@@ -1,62 +1,62 @@
 -- What is answered of what is kept of a whole run is what is to be answered of the run.
-use Rattle.law_clean.specs.Cuts.{cut_logs}
-use Rattle.std.specs.Option.{option_map_or}
-use Rattle.std.proofs.Common.{◌≡◌, ℕ, zero, suc, ◌+◌, ◌<◌, ◌≤◌, Bool, true, false, not, List, [], ◌∷◌, length, Option, Some, None, Result, Ok, Err, inl, inr, ◌⊎◌, refl, ap, sym, subst, ◌∙◌, arith, eq-eqb, eqb-true, true≢false, if◌then◌else◌}
-use Rattle.std.proofs.lemmas.Bool.{and_from, cases_lt, false_from_ne_true, leb-false, or_left}
-use Rattle.std.proofs.lemmas.Option.{none-some}
-use Rattle.std.specs.List.{range_with_len}
-use Rattle.std.specs.Prelude.{find, fold, nat_eq, slice_get, unwrap_or, ⊤}
-use Rattle.law_clean.specs.Answers.{CleanOr, answer_of, by_part, no_item, unclean_or, unwritten}
-use Rattle.law_clean.specs.Laws.{AnswersAreOfRuns}
-use Rattle.law_clean.specs.Ordered.{IsUnracedIn}
-use Rattle.law_clean.specs.Pasts.{edges_between, is_clean, is_raced, left_edge, lies, is_past, is_same_edge}
-use Rattle.law_clean.specs.Search as sought
-use Rattle.law_clean.proofs.PastWords as words
 use Rattle.law_clean.proofs.PastRaces.{both, grows_to, not_raced, race_of_edge}
+use Rattle.law_clean.proofs.PastWords as words
+use Rattle.law_clean.proofs.PastWords.{first_item}
 use Rattle.law_clean.proofs.Places.{begun_left, left_all}
 use Rattle.law_clean.proofs.Ranges.{NonePasses, first_between}
 use Rattle.law_clean.proofs.Reached.{total_syncs}
+use Rattle.law_clean.specs.Answers.{CleanOr, answer_of, by_part, is_reached, no_item, unclean_or, unwritten}
+use Rattle.law_clean.specs.Cuts.{cut_logs}
+use Rattle.law_clean.specs.Laws.{AnswersAreOfRuns}
+use Rattle.law_clean.specs.Ordered.{IsUnracedIn}
+use Rattle.law_clean.specs.Pasts.{any_raced, first_raced, is_clean, is_past, is_raced, is_same_edge, left_edge, lies}
+use Rattle.law_clean.specs.Search as sought
+use Rattle.law_flow_missing.specs.Missing.{write_at}
 use Rattle.law_logs.specs.Graph.Accepted.{LogsOfRunsAreOrdered}
 use Rattle.ppd_ast.specs.Valid.{IsValid}
 use Rattle.ppd_ast.specs.declared.plan.Plan.{Plan}
 use Rattle.ppd_ast.specs.declared.plan.Policy.{Policy}
 use Rattle.ppd_ast.specs.declared.program.Program.{Program}
 use Rattle.ppd_blocks.specs.Blocks.{plan_of}
+use Rattle.ppd_clean.proofs.NeverFails.{IsClear, cuts_never}
+use Rattle.ppd_clean.specs.Answers.{IsAnswer, IsFound}
+use Rattle.ppd_clean.specs.Runs.{CleansAreOfRuns}
+use Rattle.ppd_clean.specs.declared.clean.Clean.{Clean}
 use Rattle.ppd_clean.specs.declared.clean_error.CleanError.{CleanError}
 use Rattle.ppd_clean.specs.declared.clean_error.CleanError.TheVariants as error
-use Rattle.ppd_clean.specs.declared.clean.Clean.{Clean}
-use Rattle.ppd_clean.specs.Answers.{IsAnswer, IsFound, is_begun_unclean}
-use Rattle.ppd_clean.specs.Runs.{CleansAreOfRuns}
-use Rattle.ppd_clean.proofs.NeverFails.{IsClear, cuts_never}
 use Rattle.ppd_entry.specs.declared.entry.Logs.{Logs}
-use Rattle.ppd_entry.specs.Entries.{entries_at}
-use Rattle.law_flow_missing.specs.Missing.{write_at}
 use Rattle.ppd_flow_model.specs.Ends.{first_edge}
 use Rattle.ppd_flow_model.specs.Shared.{Missing}
 use Rattle.ppd_flow_past.specs.SeenBy.{failed_at}
+use Rattle.ppd_model.proofs.Accesses.{record_at}
+use Rattle.ppd_model.proofs.Changes.{some}
+use Rattle.ppd_model.proofs.IntervalWords.{splits_from}
+use Rattle.ppd_model.proofs.RecordedSyncs.{record_syncs}
+use Rattle.ppd_model.proofs.Tested.{none_before_itself}
+use Rattle.ppd_model.specs.FlowbackEdges.{edges}
+use Rattle.ppd_model.specs.Forward.{edge_in}
+use Rattle.ppd_model.specs.HappenedBefore.{Before, edge, is_edge_before}
+use Rattle.ppd_model.specs.Intervals.{Part, Span, Split, item_of, splits}
+use Rattle.ppd_model.specs.Logs.{closed_logs}
+use Rattle.ppd_model.specs.Races.{races}
+use Rattle.ppd_model.specs.Record.{sync_record}
+use Rattle.ppd_model.specs.RecordedSets.{record_in}
+use Rattle.ppd_model.specs.Schedule.{IsWhole}
+use Rattle.ppd_model.specs.Story.{story}
+use Rattle.ppd_model.specs.Synchronizations.{Sync, sync_of}
 use Rattle.ppd_model.specs.declared.flow.FlowEdge.{FlowEdge}
 use Rattle.ppd_model.specs.declared.flow.Item.{Item}
 use Rattle.ppd_model.specs.declared.graph.NodeId.{NodeId}
 use Rattle.ppd_model.specs.declared.graph.Race.{Race}
 use Rattle.ppd_model.specs.declared.tracing.Story.{Story}
 use Rattle.ppd_model.specs.declared.tracing.Taken.{Taken}
-use Rattle.ppd_model.specs.FlowbackEdges.{edges}
-use Rattle.ppd_model.specs.Forward.{edge_in}
-use Rattle.ppd_model.specs.HappenedBefore.{Before, edge, is_edge_before, own_syncs}
-use Rattle.ppd_model.specs.Intervals.{Part, Span, Split, item_of, splits}
-use Rattle.ppd_model.proofs.IntervalWords.{splits_from}
-use Rattle.ppd_model.specs.Logs.{closed_logs}
-use Rattle.ppd_model.specs.Races.{races}
-use Rattle.ppd_model.specs.Record.{sync_record}
-use Rattle.ppd_model.specs.RecordedSets.{record_in}
-use Rattle.ppd_model.specs.Schedule.{IsWhole}
-use Rattle.ppd_model.specs.Story.{own_steps, story}
-use Rattle.ppd_model.specs.Synchronizations.{Sync, syncs_of}
-use Rattle.ppd_model.proofs.Accesses.{record_at}
-use Rattle.ppd_model.proofs.Changes.{some}
-use Rattle.ppd_model.proofs.RecordedSyncs.{record_syncs}
-use Rattle.ppd_race.specs.Races.{RunRacesAreOfLogs, races_of_logs}
-use Rattle.law_clean.proofs.PastWords.{first_unclean, first_item}
+use Rattle.ppd_race.specs.Races.{RunRacesAreOfLogs, edges_of_logs, races_among}
+use Rattle.std.proofs.Common.{Bool, Err, List, None, Ok, Option, Result, Some, [], ap, arith, eq-eqb, eqb-true, false, if◌then◌else◌, inl, inr, length, not, refl, subst, suc, sym, true, true≢false, zero, ℕ, ◌+◌, ◌<◌, ◌∙◌, ◌∷◌, ◌≡◌, ◌≤◌, ◌⊎◌}
+use Rattle.std.proofs.lemmas.Bool.{and_from, cases_lt, false_from_ne_true, leb-false, or_left}
+use Rattle.std.proofs.lemmas.Option.{none-some}
+use Rattle.std.specs.List.{range_with_len}
+use Rattle.std.specs.Option.{option_map_or}
+use Rattle.std.specs.Prelude.{filter_map, find, fold, get_or, nat_eq, slice_get, unwrap_or, ⊤, ◌-◌}
 
 -- ---- the last of a range
 
@@ -92,19 +92,23 @@ module _ (program : Program) (plan : Plan) (budget : ℕ) (h : List ℕ) (p k j 
   first_unwritten [] es e = cc e
   first_unwritten (t ∷ ts) es e = cc e
 
-  abbrev unclean_to : ℕ → Option ℕ
-  unclean_to last = first_unclean program (story program plan budget h) p (edges_between (first_edge (entries_at (closed_logs program plan budget h) p) k) last)
+  or_not_reached : (b : Bool) (o : Option ℕ) → (if b then unclean_or p o no_item else no_item) ≡ unwritten m → ⊥
+  or_not_reached true o e = or_unwritten o e
+  or_not_reached false o e = cc e
 
-  part_unwritten : (x : Split) (o : Option Part) → by_part program plan budget h p k j x o ≡ unwritten m → ⊥
-  part_unwritten x None e = or_unwritten (unclean_to (left_edge (entries_at (closed_logs program plan budget h) p) k)) e
-  part_unwritten x (Some part) e = by (is_clean program (story program plan budget h) p (lies (entries_at (closed_logs program plan budget h) p) x part)) e
+  abbrev first : Option ℕ
+  first = first_raced program (sync_record program plan budget h) (races program plan budget h) (get_or (closed_logs program plan budget h).lists p []) p k
+
+  part_unwritten : (x : Split) (o : Option Part) → by_part program plan budget h p k j first x o ≡ unwritten m → ⊥
+  part_unwritten x None e = or_not_reached (is_reached (left_edge (get_or (closed_logs program plan budget h).lists p []) k) first) first e
+  part_unwritten x (Some part) e = by (is_clean program (story program plan budget h) p (lies (get_or (closed_logs program plan budget h).lists p []) x part)) e
     where
-      by : (b : Bool) → (if b then first_item (item_of x part) (unwrap_or (edges program plan budget (story program plan budget h) p k j) []) else unclean_or p (unclean_to (edge_in program plan budget h p)) no_item) ≡ unwritten m → ⊥
+      by : (b : Bool) → (if b then first_item (item_of x part) (unwrap_or (edges program plan budget (story program plan budget h) p k j) []) else unclean_or p first no_item) ≡ unwritten m → ⊥
       by true f = first_unwritten (item_of x part) (unwrap_or (edges program plan budget (story program plan budget h) p k j) []) f
-      by false f = or_unwritten (unclean_to (edge_in program plan budget h p)) f
+      by false f = or_unwritten first f
 
   abbrev by_spans : Split → Option Span → CleanOr
-  by_spans x o = option_map_or (λ i. by_part program plan budget h p k j x (slice_get i.parts j)) o no_item
+  by_spans x o = option_map_or (λ i. by_part program plan budget h p k j first x (slice_get i.parts j)) o no_item
 
   span_unwritten : (x : Split) (o : Option Span) → by_spans x o ≡ unwritten m → ⊥
   span_unwritten x None e = cc e
@@ -137,24 +141,24 @@ module _ (program : Program) (policy : Policy) (budget : ℕ) (h : List ℕ) (p 
   logs = closed_logs program plan budget h
 
   abbrev begun : ℕ
-  begun = first_edge (entries_at logs p) k
+  begun = first_edge (get_or logs.lists p []) k
 
   abbrev far : ℕ
-  far = length (own_syncs Rec p)
+  far = length (get_or Rec p [])
 
   abbrev Has : ℕ → Bool
-  Has i = sought.has_race program Rec Rs (edge p i)
+  Has i = any_raced (is_past program Rec (edge p i)) Rs
 
   there : p < length s.steps
   there = process_there program plan budget s 0 s.steps p x at
 
-  far_is : length (own_syncs Rec p) ≡ length (syncs_of (own_steps s p))
+  far_is : length (get_or Rec p []) ≡ length (filter_map sync_of (get_or s.steps p []))
   far_is = ap length (record_at s.steps p)
 
   begun_le : begun ≤ far
   begun_le =
-      let a = begun_left (entries_at logs p) k in
-      let b = left_all (entries_at logs p) k in
+      let a = begun_left (get_or logs.lists p []) k in
+      let b = left_all (get_or logs.lists p []) k in
       let c : _ ≡ edge_in program plan budget h p = total_syncs program plan budget h p x at in
       omega (arith, a, b, c)
 
@@ -177,7 +181,7 @@ module _ (program : Program) (policy : Policy) (budget : ℕ) (h : List ℕ) (p 
   Clear q None = ⊤
   Clear q (Some i) = (e : ℕ) → e ≤ i → e ≤ edge_in program (plan_of program policy) budget h q → IsUnracedIn program (plan_of program policy) budget h q e
 
-  own_clear : (z : Option ℕ) → find Has (edges_between begun far) ≡ z → is_begun_unclean begun z ≡ false → Clear p (sought.own_last program Rec Rs p z)
+  own_clear : (z : Option ℕ) → find Has (range_with_len begun (far + 1 - begun)) ≡ z → is_reached begun z ≡ false → Clear p (sought.own_last program Rec Rs p z)
   own_clear None e begins = λ i le up. unraced i (below_clear i (far + 1) (let b = begun_le in omega (arith, b)) none (omega (arith, le)))
     where
       none : NonePasses Has begun (far + 1)
@@ -199,7 +203,7 @@ module _ (program : Program) (policy : Policy) (budget : ℕ) (h : List ℕ) (p 
   other_clear q top (Some i) e = λ n le up. not_raced program Rec Rs q i raced n le
     where
       wanted : sought.is_wanted program Rec Rs p top q i ≡ true
-      wanted = elim (last_passes (sought.is_wanted program Rec Rs p top q) 0 (length (own_syncs Rec q)) None i e) [
+      wanted = elim (last_passes (sought.is_wanted program Rec Rs p top q) 0 (length (get_or Rec q [])) None i e) [
         | inl missing ↦ absurd (none-some i missing)
         | inr passes ↦ passes
       ]
@@ -207,13 +211,13 @@ module _ (program : Program) (policy : Policy) (budget : ℕ) (h : List ℕ) (p 
       raced : words.is_raced_to program Rec Rs q i ≡ false
       raced = unnot (words.is_raced_to program Rec Rs q i) (both (is_edge_before program Rec (edge q i) (edge p top)) (not (words.is_raced_to program Rec Rs q i)) wanted).1
 
-  last_clear : (q : ℕ) → is_begun_unclean begun (find Has (edges_between begun far)) ≡ false
-      → Clear q (sought.last_wanted program Rec Rs p (find Has (edges_between begun far)) q)
+  last_clear : (q : ℕ) → is_reached begun (find Has (range_with_len begun (far + 1 - begun))) ≡ false
+      → Clear q (sought.last_wanted program Rec Rs p (find Has (range_with_len begun (far + 1 - begun))) q)
   last_clear q begins = by (nat_eq q p) refl
     where
-      by : (b : Bool) → nat_eq q p ≡ b → Clear q (if b then sought.own_last program Rec Rs p (find Has (edges_between begun far)) else words.other_last program Rec Rs p (unwrap_or (find Has (edges_between begun far)) far) q)
-      by true is = subst (λ r. Clear r (sought.own_last program Rec Rs p (find Has (edges_between begun far)))) (sym (eqb-true q p is)) (own_clear (find Has (edges_between begun far)) refl begins)
-      by false is = other_clear q (unwrap_or (find Has (edges_between begun far)) far) (words.other_last program Rec Rs p (unwrap_or (find Has (edges_between begun far)) far) q) refl
+      by : (b : Bool) → nat_eq q p ≡ b → Clear q (if b then sought.own_last program Rec Rs p (find Has (range_with_len begun (far + 1 - begun))) else words.other_last program Rec Rs p (unwrap_or (find Has (range_with_len begun (far + 1 - begun))) far) q)
+      by true is = subst (λ r. Clear r (sought.own_last program Rec Rs p (find Has (range_with_len begun (far + 1 - begun))))) (sym (eqb-true q p is)) (own_clear (find Has (range_with_len begun (far + 1 - begun))) refl begins)
+      by false is = other_clear q (unwrap_or (find Has (range_with_len begun (far + 1 - begun))) far) (words.other_last program Rec Rs p (unwrap_or (find Has (range_with_len begun (far + 1 - begun))) far) q) refl
 
   as_clear : (q : ℕ) (y : Split) (at_q : slice_get (splits program (plan_of program policy) budget (story program (plan_of program policy) budget h)) q ≡ Some y)
       (o : Option ℕ) → Clear q o → IsClear program policy budget h v whole q y at_q o
@@ -222,12 +226,12 @@ module _ (program : Program) (policy : Policy) (budget : ℕ) (h : List ℕ) (p 
 
   abbrev Never : List (List Sync) → Type 0
   Never rec = (q n m : ℕ)
-      → is_begun_unclean begun (sought.first_raced program plan budget logs rec Rs p k j) ≡ false
-      → failed_at program plan budget (entries_at (cut_logs (sought.last_wanted program rec Rs p (sought.first_raced program plan budget logs rec Rs p k j)) logs) q) m ≡ Some n → ⊥
+      → is_reached begun (first_raced program rec Rs (get_or logs.lists p []) p k) ≡ false
+      → failed_at program plan budget (get_or (cut_logs (sought.last_wanted program rec Rs p (first_raced program rec Rs (get_or logs.lists p []) p k)) logs).lists q []) m ≡ Some n → ⊥
 
   by_record : Never Rec
   by_record q n m begins fails =
-      let o : Option ℕ = sought.first_raced program plan budget logs Rec Rs p k j in
+      let o : Option ℕ = first_raced program Rec Rs (get_or logs.lists p []) p k in
       let last : ℕ → Option ℕ = sought.last_wanted program Rec Rs p o in
       none-some n (sym (cuts_never program policy budget h v whole last (λ r y at_r. as_clear r y at_r (last r) (last_clear r begins)) q m) ∙ fails)
 
@@ -239,8 +243,8 @@ module _ (program : Program) (policy : Policy) (budget : ℕ) (h : List ℕ) (p 
 module _ (program : Program) (budget : ℕ) (h : List ℕ) (p k j : ℕ) where
   abbrev Cleaned : Plan → Logs → List Race → Result Clean CleanError → Type 0
   Cleaned plan logs rs result =
-      IsFound (λ q n. (is_begun_unclean (first_edge (entries_at logs p) k) (sought.first_raced program plan budget logs (record_in logs) rs p k j) ≡ false)
-      × ((m : ℕ) × (failed_at program plan budget (entries_at (cut_logs (sought.last_wanted program (record_in logs) rs p (sought.first_raced program plan budget logs (record_in logs) rs p k j)) logs) q) m ≡ Some n)))
+      IsFound (λ q n. (is_reached (first_edge (get_or logs.lists p []) k) (first_raced program (record_in logs) rs (get_or logs.lists p []) p k) ≡ false)
+      × ((m : ℕ) × (failed_at program plan budget (get_or (cut_logs (sought.last_wanted program (record_in logs) rs p (first_raced program (record_in logs) rs (get_or logs.lists p []) p k)) logs).lists q []) m ≡ Some n)))
       (sought.clean_by program plan budget logs rs p k j) result
 
   module _ (answers : AnswersAreOfRuns) (policy : Policy) (v : IsValid program) (x : Split) (i : Span) (at_k : slice_get x.spans k ≡ Some i) where
@@ -266,8 +270,8 @@ cleans_of_runs answers raced ordered past rs p k j result v races_are found poli
     let plan : Plan = past.plan.now in
     let budget : ℕ = past.budget in
     let logs : Logs = closed_logs program plan budget h in
-    let is_ordered = subst (λ (l : Logs). (a : NodeId) → Before program (record_in l) a a → ⊥) (sym r.logs_are) (ordered program plan budget h r.whole.last r.whole.runs).acyclic in
-    let same : rs ≡ races program plan budget h = races_are ∙ ap (races_of_logs program) r.logs_are ∙ (raced program plan budget h v).0 in
+    let is_ordered = subst (λ (l : Logs). (a : NodeId) → Before program (record_in l) a a → ⊥) (sym r.logs_are) (none_before_itself program (record_in logs) (ordered program plan budget h r.whole.last r.whole.runs).acyclic) in
+    let same : rs ≡ races program plan budget h = races_are ∙ ap (λ (l : Logs). races_among (edges_of_logs program l)) r.logs_are ∙ (raced program plan budget h v).0 in
     of_plan program budget h p k j answers policy v x i at_k result plan r.plan_is r.whole at
     (subst (λ (zs : List Race). Cleaned program budget h p k j plan logs zs result) same
     (subst (λ (l : Logs). Cleaned program budget h p k j plan l rs result) r.logs_are (found is_ordered)))

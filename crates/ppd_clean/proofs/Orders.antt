@@ -1,36 +1,36 @@
 -- Pasts with races by the order of a past's graph are those by happened-before.
-use Rattle.std.proofs.Common.{◌≡◌, ℕ, zero, suc, ◌+◌, ◌-◌, ◌<◌, ◌≤◌, Bool, true, false, ◌||◌, List, [], inl, inr, ◌⊎◌, refl, ap, sym, subst, ◌∙◌, arith, eqb-true, eq-eqb, get_or, length, if◌then◌else◌}
-use Rattle.std.proofs.lemmas.Bool.{and_from, cases_eq, cases_lt, false_from_ne_true, le-ltb, leb-false, leb-true, lt-ltb, ltb-true, or_left, or_right}
-use Rattle.std.specs.List.{list_any}
-use Rattle.std.specs.Prelude.{IsTrue, find, is_some, nat_eq, nat_le, nat_lt}
-use Rattle.law_clean.specs.Pasts.{edges_between, is_raced, is_past, is_same_edge}
-use Rattle.law_clean.specs.Search as sought
-use Rattle.law_clean.proofs.CleanCuts.{before_back, next_before}
 use Rattle.law_clean.proofs.PastClear.{some_there}
 use Rattle.law_clean.proofs.PastRaces.{both, edge_of_race, either}
+use Rattle.law_clean.proofs.PastsGrow.{before_back, next_before}
+use Rattle.law_clean.specs.Pasts.{any_raced, is_past, is_raced, is_same_edge}
+use Rattle.law_clean.specs.Search as sought
 use Rattle.ppd_ast.proofs.Those.{both as same_tests}
 use Rattle.ppd_ast.proofs.ValidLaws.{slice_get_there}
 use Rattle.ppd_ast.specs.declared.program.Program.{Program}
-use Rattle.ppd_clean.specs.ByOrder.{first_unclean, has_race}
-use Rattle.ppd_clean_past.specs.ByOrder.{ends_before, is_in_past, last_edge, leads_from_race}
-use Rattle.ppd_clean.specs.Firsts.{firsts_of}
 use Rattle.ppd_clean.proofs.FirstEdges.{first_raced, same_any}
 use Rattle.ppd_clean.proofs.Ranges.{any_same, find_same}
 use Rattle.ppd_clean.proofs.There.{raced_there}
+use Rattle.ppd_clean.specs.ByOrder.{first_unclean, has_race}
+use Rattle.ppd_clean.specs.Firsts.{firsts_of}
 use Rattle.ppd_clean_past.proofs.LastEdges.{counted}
+use Rattle.ppd_clean_past.specs.ByOrder.{ends_before, is_in_past, last_edge, leads_from_race}
 use Rattle.ppd_entry.specs.declared.entry.Logs.{Logs}
 use Rattle.ppd_flow_past.proofs.Edges.Before.{before_is}
+use Rattle.ppd_graph.specs.Graphs.{IsEdge, IsGraphOf, edge_count, is_before_by}
 use Rattle.ppd_graph.specs.declared.sync_graph.SyncGraph.{SyncGraph}
-use Rattle.ppd_graph.specs.Graphs.{IsEdge, IsGraphOf, count_at, edge_count, is_before_by}
+use Rattle.ppd_model.proofs.LastEdges.{before_from}
+use Rattle.ppd_model.proofs.Tested.{In, before_there, tests_before, tests_edges}
+use Rattle.ppd_model.specs.HappenedBefore.{Before, EdgeBefore, across, earlier, edge, is_before, is_edge_before, node, sync_at, through}
+use Rattle.ppd_model.specs.RecordedSets.{record_in}
+use Rattle.ppd_model.specs.Synchronizations.{Sync}
 use Rattle.ppd_model.specs.declared.graph.EdgeId.{EdgeId}
 use Rattle.ppd_model.specs.declared.graph.NodeId.{NodeId}
 use Rattle.ppd_model.specs.declared.graph.Race.{Race}
-use Rattle.ppd_model.specs.HappenedBefore.{Before, EdgeBefore, across, earlier, edge, ends_before as ends_before_of, is_before, is_edge_before, node, own_syncs, sync_at, through}
-use Rattle.ppd_model.specs.RecordedSets.{record_in}
-use Rattle.ppd_model.specs.Synchronizations.{Sync}
-use Rattle.ppd_model.proofs.LastEdges.{before_from}
-use Rattle.ppd_model.proofs.Tested.{In, before_there, tests_before, tests_edges}
-use Rattle.ppd_race.specs.Races.{IsThere, edges_of_logs, races_of_logs}
+use Rattle.ppd_race.specs.Races.{IsThere, edges_of_logs, races_among}
+use Rattle.std.proofs.Common.{Bool, List, [], ap, arith, eq-eqb, eqb-true, false, get_or, if◌then◌else◌, inl, inr, length, refl, subst, suc, sym, true, zero, ℕ, ◌+◌, ◌-◌, ◌<◌, ◌||◌, ◌∙◌, ◌≡◌, ◌≤◌, ◌⊎◌}
+use Rattle.std.proofs.lemmas.Bool.{and_from, cases_eq, cases_lt, false_from_ne_true, le-ltb, leb-false, leb-true, lt-ltb, ltb-true, or_left, or_right}
+use Rattle.std.specs.List.{list_any, range_with_len}
+use Rattle.std.specs.Prelude.{IsTrue, find, is_some, nat_eq, nat_le, nat_lt}
 
 -- ---- happened-before along a process
 
@@ -70,10 +70,10 @@ module _ (program : Program) (rec : List (List Sync)) where
       (tests_before program rec (node a.process i) (node p e)).1
       (node_back a.process a.edge i (node p e) ((tests_before program rec (node a.process a.edge) (node p e)).0 h) le)
 
-  there_is : (p e : ℕ) → e < length (own_syncs rec p) → IsTrue (is_some (sync_at rec (node p e)))
-  there_is p e lt = ap is_some (slice_get_there (own_syncs rec p) e lt).1
+  there_is : (p e : ℕ) → e < length (get_or rec p []) → IsTrue (is_some (sync_at rec (node p e)))
+  there_is p e lt = ap is_some (slice_get_there (get_or rec p []) e lt).1
 
-  earlier_before : (p a e : ℕ) → a < e → e < length (own_syncs rec p) → Before program rec (node p a) (node p e)
+  earlier_before : (p a e : ℕ) → a < e → e < length (get_or rec p []) → Before program rec (node p a) (node p e)
   earlier_before p a e lt there =
       let z : (e - 1) + 1 ≡ e = omega (arith, lt) in
       let last : Before program rec (node p (e - 1)) (node p ((e - 1) + 1)) = next_before program rec p (e - 1) (subst (λ i. IsTrue (is_some (sync_at rec (node p i)))) (sym z) (there_is p e there)) in
@@ -81,7 +81,7 @@ module _ (program : Program) (rec : List (List Sync)) where
 
   -- where nothing happens before itself, the synchronizations of a process are in their order
   module _ (ordered : (a : NodeId) → Before program rec a a → ⊥) where
-    pub own_order : (p a e : ℕ) → e < length (own_syncs rec p) → is_before program rec (node p a) (node p e) ≡ nat_lt a e
+    pub own_order : (p a e : ℕ) → e < length (get_or rec p []) → is_before program rec (node p a) (node p e) ≡ nat_lt a e
     own_order p a e there =
         same_tests (is_before program rec (node p a) (node p e)) (nat_lt a e) (λ h. lt-ltb a e (forth ((tests_before program rec (node p a) (node p e)).0 h)))
         (λ h. (tests_before program rec (node p a) (node p e)).1 (earlier_before p a e (ltb-true a e h) there))
@@ -91,7 +91,7 @@ module _ (program : Program) (rec : List (List Sync)) where
           | inl lt ↦ lt
           | inr ge ↦ absurd (elim (cases_eq a e) [
             | inl same ↦ ordered (node p e) (subst (λ i. Before program rec (node p i) (node p e)) same b)
-            | inr other ↦ ordered (node p a) (through b (earlier_before p e a (omega (arith, ge, other)) (some_there (own_syncs rec p) a (before_from program rec (node p a) (node p e) b))))
+            | inr other ↦ ordered (node p a) (through b (earlier_before p e a (omega (arith, ge, other)) (some_there (get_or rec p []) a (before_from program rec (node p a) (node p e) b))))
           ])
         ]
 
@@ -119,17 +119,15 @@ module _ (program : Program) (logs : Logs) (g : SyncGraph) (is : IsGraphOf progr
 
   pub before_same : (a b : EdgeId) → IsEdge g a → IsIn b → is_before_by g a b ≡ is_edge_before program (record_in logs) a b
   before_same a b x (inl y) = before_is program logs g is a b x y
-  before_same a b x (inr e) = by (nat_eq a.process b.process) b.edge e
+  before_same a b x (inr e) = by b.edge e
     where
-      by : (t : Bool) (j : ℕ) → j ≡ 0 → (if t then nat_lt a.edge j else nat_lt a.edge (count_at g.times b.process j a.process))
-          ≡ (if t then nat_lt a.edge j else ends_before_of program (record_in logs) a.process a.edge b.process j)
-      by true j e = refl
-      by false zero e = le-ltb a.edge 0 (omega arith)
-      by false (suc j) e = absurd (omega (arith, e))
+      by : (j : ℕ) → j ≡ 0 → is_before_by g a (record b { edge = j }) ≡ is_edge_before program (record_in logs) a (record b { edge = j })
+      by zero e = ap (λ z. if nat_eq a.process b.process then nat_lt a.edge 0 else z) (le-ltb a.edge 0 (omega arith))
+      by (suc j) e = absurd (omega (arith, e))
 
   -- ---- by the first edges in races
 
-  module _ (races : List Race) (races_are : races ≡ races_of_logs program logs) where
+  module _ (races : List Race) (races_are : races ≡ races_among (edges_of_logs program logs)) where
     abbrev firsts : List EdgeId
     firsts = firsts_of races (length logs.lists)
 
@@ -145,7 +143,7 @@ module _ (program : Program) (logs : Logs) (g : SyncGraph) (is : IsGraphOf progr
         → list_any t (firsts_of races (length logs.lists)) ≡ list_any (λ (r : Race). t (edge r.p r.i) || t (edge r.q r.j)) races
     any_first t down = same_any races (length logs.lists) (λ a h. (raced_is a h).0) t down
 
-    pub has_race_is : (e : EdgeId) → IsIn e → has_race g (firsts_of races (length logs.lists)) e ≡ sought.has_race program (record_in logs) races e
+    pub has_race_is : (e : EdgeId) → IsIn e → has_race g (firsts_of races (length logs.lists)) e ≡ any_raced (is_past program (record_in logs) e) races
     has_race_is e x =
         any_same (is_in_past g e) (is_past program (record_in logs) e) firsts (λ a m. ap (λ b. is_same_edge a e || b) (before_same a e (first_is_edge a m) x))
         ∙ any_first (is_past program (record_in logs) e) (past_back program (record_in logs) races e)
@@ -153,9 +151,9 @@ module _ (program : Program) (logs : Logs) (g : SyncGraph) (is : IsGraphOf progr
     -- ---- the first edge whose past has a race
 
     pub first_is : (p from : ℕ) → first_unclean g (firsts_of races (length logs.lists)) p from (last_edge logs p)
-        ≡ find (λ i. sought.has_race program (record_in logs) races (edge p i)) (edges_between from (last_edge logs p))
+        ≡ find (λ i. any_raced (is_past program (record_in logs) (edge p i)) races) (range_with_len from (last_edge logs p + 1 - from))
     first_is p from =
-        find_same (λ i. has_race g firsts (edge p i)) (λ i. sought.has_race program (record_in logs) races (edge p i)) from (last_edge logs p + 1 - from)
+        find_same (λ i. has_race g firsts (edge p i)) (λ i. any_raced (is_past program (record_in logs) (edge p i)) races) from (last_edge logs p + 1 - from)
         (λ i low high. has_race_is (edge p i) (inside p i (omega (arith, low, high))))
 
     -- ---- a race that leads to a synchronization
@@ -167,7 +165,7 @@ module _ (program : Program) (logs : Logs) (g : SyncGraph) (is : IsGraphOf progr
       none_leads : last_edge logs p ≤ e → false ≡ sought.leads_from_race program (record_in logs) races (edge p e)
       none_leads past = sym (false_from_ne_true (sought.leads_from_race program (record_in logs) races (edge p e)) (λ h.
           let f = edge_of_race leads races h in
-          let there : e < length (own_syncs (record_in logs) p) = some_there (own_syncs (record_in logs) p) e (before_there program (record_in logs) (node f.0.process f.0.edge) (node p e) ((tests_before program (record_in logs) (node f.0.process f.0.edge) (node p e)).0 f.2)) in
+          let there : e < length (get_or (record_in logs) p []) = some_there (get_or (record_in logs) p []) e (before_there program (record_in logs) (node f.0.process f.0.edge) (node p e) ((tests_before program (record_in logs) (node f.0.process f.0.edge) (node p e)).0 f.2)) in
           omega (arith, there, past)))
 
       one_leads : e < last_edge logs p → (a : EdgeId) → In a (firsts_of races (length logs.lists)) → ends_before g (edge p e) a ≡ is_before program (record_in logs) (node a.process a.edge) (node p e)
@@ -179,8 +177,8 @@ module _ (program : Program) (logs : Logs) (g : SyncGraph) (is : IsGraphOf progr
           across_is : (t : Bool) → nat_eq a.process p ≡ t → t ≡ false → is_before_by g a (edge p (e + 1)) ≡ is_before program (record_in logs) (node a.process a.edge) (node p e)
           across_is t is apart =
               before_same a (edge p (e + 1)) (first_is_edge a m) (inl (ended p e lt).1)
-              ∙ ap (λ b. if b then nat_lt a.edge (e + 1) else ends_before_of program (record_in logs) a.process a.edge p (e + 1)) (is ∙ apart)
-              ∙ ap (ends_before_of program (record_in logs) a.process a.edge p) (sym next)
+              ∙ ap (λ n. is_edge_before program (record_in logs) a (edge p n)) (sym next)
+              ∙ ap (λ b. if b then nat_lt a.edge (suc e) else is_before program (record_in logs) (node a.process a.edge) (node p e)) (is ∙ apart)
 
           by : (t : Bool) → nat_eq a.process p ≡ t → (if t then nat_lt a.edge e else is_before_by g a (edge p (e + 1))) ≡ is_before program (record_in logs) (node a.process a.edge) (node p e)
           by true is =

@@ -1,31 +1,32 @@
 -- The edges that are wanted, and the logs that are cut after them, by the order of a past's graph.
-use Rattle.std.proofs.Common.{◌≡◌, ℕ, zero, suc, ◌+◌, ◌-◌, ◌<◌, ◌≤◌, Bool, true, ◌&&◌, not, List, [], ◌∷◌, Option, Some, None, inl, inr, refl, ap, ap₂, sym, ◌∙◌, arith, length, ne_eqb, if◌then◌else◌}
+use Rattle.std.specs.List.{range_with_len}
+use Rattle.law_clean.proofs.PastRaces.{both}
+use Rattle.law_clean.proofs.PastWords as words
+use Rattle.law_clean.proofs.PastWords.{cut_from}
+use Rattle.law_clean.proofs.Ranges.{first_between}
+use Rattle.law_clean.specs.Cuts.{cut, cut_logs}
+use Rattle.law_clean.specs.Pasts.{any_raced, is_past}
+use Rattle.law_clean.specs.Search as sought
+use Rattle.ppd_ast.specs.declared.program.Program.{Program}
+use Rattle.ppd_clean.proofs.Orders.{IsIn, any_first, before_same, ended, first_is, inside}
+use Rattle.ppd_clean.proofs.Ranges.{fold_same}
+use Rattle.ppd_clean.specs.ByOrder.{first_unclean, is_raced_to, is_wanted, last_before, own_last}
+use Rattle.ppd_clean.specs.Firsts.{firsts_of}
+use Rattle.ppd_clean_past.specs.ByOrder.{last_edge}
+use Rattle.ppd_entry.specs.declared.entry.Entry.{Entry}
+use Rattle.ppd_entry.specs.declared.entry.Logs.{Logs}
+use Rattle.ppd_graph.specs.Graphs.{IsEdge, IsGraphOf}
+use Rattle.ppd_graph.specs.declared.sync_graph.SyncGraph.{SyncGraph}
+use Rattle.ppd_model.proofs.Changes.{some}
+use Rattle.ppd_model.specs.HappenedBefore.{edge}
+use Rattle.ppd_model.specs.RecordedSets.{record_in}
+use Rattle.ppd_model.specs.declared.graph.EdgeId.{EdgeId}
+use Rattle.ppd_model.specs.declared.graph.Race.{Race}
+use Rattle.ppd_race.specs.Races.{edges_of_logs, races_among}
+use Rattle.std.proofs.Common.{Bool, List, None, Option, Some, [], ap, ap₂, arith, if◌then◌else◌, inl, inr, length, ne_eqb, not, refl, suc, sym, true, zero, ℕ, ◌&&◌, ◌+◌, ◌-◌, ◌<◌, ◌∙◌, ◌∷◌, ◌≡◌, ◌≤◌}
 use Rattle.std.proofs.lemmas.Bool.{and_from, le-leb, leb-true}
 use Rattle.std.proofs.lemmas.Option.{none-some}
 use Rattle.std.specs.Prelude.{find, nat_eq, nat_le, unwrap_or}
-use Rattle.law_clean.specs.Cuts.{cut, cut_logs}
-use Rattle.law_clean.specs.Pasts.{edges_between}
-use Rattle.law_clean.specs.Search as sought
-use Rattle.law_clean.proofs.PastWords as words
-use Rattle.law_clean.proofs.PastRaces.{both}
-use Rattle.law_clean.proofs.Ranges.{first_between}
-use Rattle.ppd_ast.specs.declared.program.Program.{Program}
-use Rattle.ppd_clean.specs.ByOrder.{first_unclean, is_raced_to, is_wanted, last_before, own_last}
-use Rattle.ppd_clean_past.specs.ByOrder.{last_edge}
-use Rattle.ppd_clean.specs.Firsts.{firsts_of}
-use Rattle.ppd_clean.proofs.Orders.{IsIn, any_first, before_same, ended, first_is, inside}
-use Rattle.ppd_clean.proofs.Ranges.{fold_same}
-use Rattle.ppd_entry.specs.declared.entry.Entry.{Entry}
-use Rattle.ppd_entry.specs.declared.entry.Logs.{Logs}
-use Rattle.ppd_graph.specs.declared.sync_graph.SyncGraph.{SyncGraph}
-use Rattle.ppd_graph.specs.Graphs.{IsEdge, IsGraphOf}
-use Rattle.ppd_model.specs.declared.graph.EdgeId.{EdgeId}
-use Rattle.ppd_model.specs.declared.graph.Race.{Race}
-use Rattle.ppd_model.specs.HappenedBefore.{edge}
-use Rattle.ppd_model.specs.RecordedSets.{record_in}
-use Rattle.ppd_model.proofs.Changes.{some}
-use Rattle.ppd_race.specs.Races.{races_of_logs}
-use Rattle.law_clean.proofs.PastWords.{cut_from}
 
 same_cuts : (f g : ℕ → Option ℕ) → ((q : ℕ) → f q ≡ g q) → (p : ℕ) (lists : List (List Entry)) → cut_from f p lists ≡ cut_from g p lists
 same_cuts f g h p [] = refl
@@ -34,7 +35,7 @@ same_cuts f g h p (es ∷ lists) = ap₂ (λ o (rest : List (List Entry)). cut o
 pub cuts_same : (f g : ℕ → Option ℕ) (logs : Logs) → ((q : ℕ) → f q ≡ g q) → cut_logs f logs ≡ cut_logs g logs
 cuts_same f g logs h = ap (λ (lists : List (List Entry)). record { lists = lists }) (same_cuts f g h 0 logs.lists)
 
-module _ (program : Program) (logs : Logs) (g : SyncGraph) (is : IsGraphOf program logs g) (races : List Race) (races_are : races ≡ races_of_logs program logs) where
+module _ (program : Program) (logs : Logs) (g : SyncGraph) (is : IsGraphOf program logs g) (races : List Race) (races_are : races ≡ races_among (edges_of_logs program logs)) where
   abbrev firsts : List EdgeId
   firsts = firsts_of races (length logs.lists)
 
@@ -78,8 +79,8 @@ module _ (program : Program) (logs : Logs) (g : SyncGraph) (is : IsGraphOf progr
   -- the first edge whose past has a race is one of the process
   pub first_bound : (p from u : ℕ) → first_unclean g (firsts_of races (length logs.lists)) p from (last_edge logs p) ≡ Some u → u ≤ last_edge logs p
   first_bound p from u e =
-      let t : ℕ → Bool = λ i. sought.has_race program (record_in logs) races (edge p i) in
-      let found : find t (edges_between from (last_edge logs p)) ≡ Some u = sym (first_is program logs g is races races_are p from) ∙ e in
+      let t : ℕ → Bool = λ i. any_raced (is_past program (record_in logs) (edge p i)) races in
+      let found : find t (range_with_len from (last_edge logs p + 1 - from)) ≡ Some u = sym (first_is program logs g is races races_are p from) ∙ e in
       elim (first_between t from (last_edge logs p)) [
         | inl none ↦ absurd (none-some u (sym none.0 ∙ found))
         | inr r ↦

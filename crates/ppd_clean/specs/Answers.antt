@@ -1,32 +1,31 @@
 -- What is answered for an item of a run with races.
+use Rattle.law_clean.specs.Answers.{CleanOr, clean, is_reached, no_item, unclean, unclean_or, unwritten}
 use Rattle.law_clean.specs.Cuts.{cut_logs}
-use Rattle.std.specs.Prelude.{◌≡◌, ℕ, nat_le, Bool, false, List, map, slice_get, Option, Some, None, Result, Ok, Err, ⊤, if◌then◌else◌}
-use Rattle.law_clean.specs.Answers.{CleanOr, clean, no_item, unclean, unclean_or, unwritten}
-use Rattle.law_clean.specs.Pasts.{left_edge}
-use Rattle.law_clean.specs.Search.{clean_by, first_raced, last_wanted}
-use Rattle.ppd_clean_past.specs.declared.asked.Asked.{Asked}
+use Rattle.law_clean.specs.Pasts.{first_raced, left_edge}
+use Rattle.law_clean.specs.Search.{clean_by, last_wanted}
+use Rattle.law_flow_missing.specs.Missing.{write_at}
+use Rattle.ppd_clean.specs.ByOrder.{cut_for, is_unclean}
+use Rattle.ppd_clean.specs.declared.clean.Clean.{Clean}
 use Rattle.ppd_clean.specs.declared.clean_error.CleanError.{CleanError}
 use Rattle.ppd_clean.specs.declared.clean_error.CleanError.TheVariants as error
-use Rattle.ppd_clean.specs.declared.clean.Clean.{Clean}
-use Rattle.ppd_clean.specs.ByOrder.{cut_for, is_unclean}
+use Rattle.ppd_clean_past.specs.declared.asked.Asked.{Asked}
 use Rattle.ppd_entry.specs.declared.entry.Logs.{Logs}
-use Rattle.ppd_entry.specs.Entries.{entries_at}
-use Rattle.law_flow_missing.specs.Missing.{write_at}
+use Rattle.ppd_flow.specs.SharedCells.{seens_in}
 use Rattle.ppd_flow_model.specs.Ends.{first_edge}
 use Rattle.ppd_flow_model.specs.Found.{found_edges}
-use Rattle.ppd_flow_model.specs.Seen.{Seen, items_at}
+use Rattle.ppd_flow_model.specs.Seen.{Seen}
 use Rattle.ppd_flow_model.specs.Shared.{Missing, seen_at}
+use Rattle.ppd_flow_past.specs.SeenBy.{failed_at, items_in, seen_by}
 use Rattle.ppd_flow_past.specs.declared.flow_error.FlowError.{FlowError}
 use Rattle.ppd_flow_past.specs.declared.flow_error.FlowError.TheVariants as flow_error
 use Rattle.ppd_flow_past.specs.declared.past.Past.{Past}
-use Rattle.ppd_flow_past.specs.SeenBy.{failed_at, items_in, seen_by}
-use Rattle.ppd_flow.specs.SharedCells.{seens_in}
+use Rattle.ppd_model.specs.HappenedBefore.{Before, edge}
+use Rattle.ppd_model.specs.RecordedSets.{record_in}
 use Rattle.ppd_model.specs.declared.flow.FlowEdge.{FlowEdge}
 use Rattle.ppd_model.specs.declared.flow.Item.{Item}
 use Rattle.ppd_model.specs.declared.graph.NodeId.{NodeId}
 use Rattle.ppd_model.specs.declared.graph.Race.{Race}
-use Rattle.ppd_model.specs.HappenedBefore.{Before, edge}
-use Rattle.ppd_model.specs.RecordedSets.{record_in}
+use Rattle.std.specs.Prelude.{Err, List, None, Ok, Option, Result, Some, [], false, get_or, if◌then◌else◌, map, nat_le, slice_get, ℕ, ⊤, ◌≡◌}
 
 -- ---- answers
 
@@ -42,7 +41,7 @@ IsAnswer x (Err error.Memory) = ⊤
 -- the replay of some interval of process q, from these logs, fails at entry n
 abbrev pub Fails : Past → Logs → (q n : ℕ) → Type 0
 Fails past cut q n =
-    (m : ℕ) × (failed_at past.program.now past.plan.now past.budget (entries_at cut q) m ≡ Some n)
+    (m : ℕ) × (failed_at past.program.now past.plan.now past.budget (get_or cut.lists q []) m ≡ Some n)
 
 -- this is answered, where a write may be missing, or a replay fails
 abbrev pub IsFound : (ℕ → ℕ → Type 0) → CleanOr → Result Clean CleanError → Type 0
@@ -62,19 +61,14 @@ abbrev pub cut_of : Past → List Race → (p k j : ℕ) → Logs
 cut_of past races p k j =
     cut_logs
     (last_wanted past.program.now (record_in past.logs.now) races p
-    (first_raced past.program.now past.plan.now past.budget past.logs.now (record_in past.logs.now) races p k j))
+    (first_raced past.program.now (record_in past.logs.now) races (get_or past.logs.now.lists p []) p k))
     past.logs.now
-
--- an interval that begins in this edge begins in one whose past has a race, the first of them being this
-abbrev pub is_begun_unclean : ℕ → Option ℕ → Bool
-is_begun_unclean begun None = false
-is_begun_unclean begun (Some u) = nat_le u begun
 
 -- the interval does not begin in an edge whose past has a race, and a replay from the cut logs fails
 abbrev pub Diverges : Past → List Race → (p k j q n : ℕ) → Type 0
 Diverges past races p k j q n =
-    (is_begun_unclean (first_edge (entries_at past.logs.now p) k)
-    (first_raced past.program.now past.plan.now past.budget past.logs.now (record_in past.logs.now) races p k j)
+    (is_reached (first_edge (get_or past.logs.now.lists p []) k)
+    (first_raced past.program.now (record_in past.logs.now) races (get_or past.logs.now.lists p []) p k)
     ≡ false)
     × Fails past (cut_of past races p k j) q n
 
@@ -98,9 +92,9 @@ unclean_error p (Some i) = error.Unclean (edge p i)
 
 -- the interval that is asked reaches an edge whose past has a race, or there is no such item
 abbrev pub reached_from : Past → Asked → Option ℕ → CleanOr
-reached_from past a None = no_item
-reached_from past a (Some u) =
-    if nat_le u (left_edge (entries_at past.logs.now a.process) a.interval) then unclean (edge a.process u) else no_item
+reached_from past a o =
+    if is_reached (left_edge (get_or past.logs.now.lists a.process []) a.interval) o
+    then unclean_or a.process o no_item else no_item
 
 abbrev pub with_edges : Item → Option (Result (List FlowEdge) Missing) → CleanOr
 with_edges t None = no_item
@@ -117,7 +111,7 @@ answer_at past a xs (Some t) =
 
 -- the item that replays give
 abbrev pub item_at : Asked → List Seen → Option Item
-item_at a xs = slice_get (items_at (seen_at xs a.process) a.interval) a.item
+item_at a xs = slice_get (get_or (seen_at xs a.process).items a.interval []) a.item
 
 -- of cut logs
 abbrev pub seens_of : Past → Logs → List Seen
@@ -133,7 +127,7 @@ unless_begun begun p None rest = rest
 unless_begun begun p (Some u) rest = if nat_le u begun then unclean (edge p u) else rest
 
 abbrev pub FailsFrom : ℕ → Past → Asked → (q n : ℕ) → Type 0
-FailsFrom begun past a q n = (is_begun_unclean begun a.first ≡ false) × Fails past (cut_for past a) q n
+FailsFrom begun past a q n = (is_reached begun a.first ≡ false) × Fails past (cut_for past a) q n
 
 -- ---- by the parts of a search
 

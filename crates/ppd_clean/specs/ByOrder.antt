@@ -1,12 +1,11 @@
 -- Pasts with races, wanted edges and cut logs, by the order of a graph and the first edge of each process in a race.
-use Rattle.std.specs.Prelude.{ℕ, ◌-◌, nat_eq, nat_le, Bool, ◌&&◌, not, List, find, fold, Option, Some, None, unwrap_or, if◌then◌else◌}
+use Rattle.std.specs.Prelude.{ℕ, ◌-◌, nat_eq, nat_le, Bool, ◌&&◌, not, List, find, fold, Option, Some, None, unwrap_or, if◌then◌else◌, get_or, [], ◌+◌}
 use Rattle.std.specs.List.{list_any, range_with_len}
 use Rattle.law_clean.specs.Cuts.{cut_logs}
-use Rattle.law_clean.specs.Pasts.{edges_between, left_edge}
+use Rattle.law_clean.specs.Pasts.{left_edge}
 use Rattle.ppd_clean_past.specs.declared.asked.Asked.{Asked}
 use Rattle.ppd_clean_past.specs.ByOrder.{is_in_past, is_unclean_at, last_edge}
 use Rattle.ppd_entry.specs.declared.entry.Logs.{Logs}
-use Rattle.ppd_entry.specs.Entries.{entries_at}
 use Rattle.ppd_flow_model.specs.Ends.{edge_at, syncs_before}
 use Rattle.ppd_flow_model.specs.Seen.{Seen}
 use Rattle.ppd_flow_past.specs.declared.past.Past.{Past}
@@ -26,7 +25,7 @@ has_race g firsts e = list_any (is_in_past g e) firsts
 
 -- the least edge of process p, from one through another, whose past has one of these
 abbrev pub first_unclean : SyncGraph → List EdgeId → (p from last : ℕ) → Option ℕ
-first_unclean g firsts p from last = find (λ i. has_race g firsts (edge p i)) (edges_between from last)
+first_unclean g firsts p from last = find (λ i. has_race g firsts (edge p i)) (range_with_len from (last + 1 - from))
 
 -- ---- wanted edges
 
@@ -64,12 +63,12 @@ cut_for past a = cut_logs (last_wanted past a) past.logs.now
 
 -- the edge in which an interval of process p is left
 abbrev pub left_at : Logs → ℕ → Interval → ℕ
-left_at logs p i = if i.closed then syncs_before (entries_at logs p) i.last else last_edge logs p
+left_at logs p i = if i.closed then syncs_before (get_or logs.lists p []) i.last else last_edge logs p
 
 -- of an item that is asked, in a process of which this is seen
 abbrev pub edge_of_item : Past → Asked → Seen → Item → ℕ
-edge_of_item past a x (item.Own e) = edge_at (entries_at past.logs.now a.process) x a.interval a.item
-edge_of_item past a x (item.Nested m b values closed) = left_edge (entries_at past.logs.now a.process) m
+edge_of_item past a x (item.Own e) = edge_at (get_or past.logs.now.lists a.process []) x a.interval a.item
+edge_of_item past a x (item.Nested m b values closed) = left_edge (get_or past.logs.now.lists a.process []) m
 
 abbrev pub is_unclean : Past → Asked → Seen → Item → Bool
 is_unclean past a x t = is_unclean_at past a t (edge_of_item past a x t) a.first

@@ -1,4 +1,5 @@
 -- What the answers are of what is kept of a whole run, with races or without.
+use Rattle.ppd_race.specs.Races.{races_among, edges_of_logs}
 use Rattle.std.specs.Prelude.{◌≡◌, ℕ, List, slice_get, Some, Result}
 use Rattle.law_clean.specs.Answers.{answer_of}
 use Rattle.ppd_ast.specs.Valid.{IsValid}
@@ -13,7 +14,6 @@ use Rattle.ppd_model.specs.declared.graph.Race.{Race}
 use Rattle.ppd_model.specs.Intervals.{Span, Split}
 use Rattle.ppd_model.specs.Logs.{closed_logs}
 use Rattle.ppd_model.specs.Schedule.{IsWhole}
-use Rattle.ppd_race.specs.Races.{races_of_logs}
 
 -- what is kept of a whole schedule, with races or without, under the plan of a policy
 pub record IsOfAnyRun (past : Past) (policy : Policy) (h : List ℕ) : Type 0 where
@@ -32,5 +32,5 @@ GivesClean past p k j result =
 abbrev pub CleansAreOfRuns : Type 0
 CleansAreOfRuns =
     (past : Past) (races : List Race) (p k j : ℕ) (result : Result Clean CleanError)
-    → IsValid past.program.now → races ≡ races_of_logs past.program.now past.logs.now
+    → IsValid past.program.now → races ≡ races_among (edges_of_logs past.program.now past.logs.now)
     → (IsOrdered past → IsCleanBy past races p k j result) → GivesClean past p k j result

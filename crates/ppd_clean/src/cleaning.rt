@@ -1,6 +1,8 @@
+ghost use Rattle.law_clean.specs.Answers.{is_reached};
+ghost use Rattle.ppd_race.specs.Races.{edges_of_logs, races_among};
 ghost use Rattle.std.specs.Prelude.{◌≡◌, ◌≤◌, length, IfOk, OnOk};
 ghost use Rattle.ppd_ast.specs.declared.limits.TheConstants.{MOST_NAMED};
-ghost use Rattle.ppd_clean.specs.Answers.{AreEdges, AreItems, Fails, FailsFrom, IsCleanBy, IsFound, IsOrdered, answer_at, answer_by, is_begun_unclean, item_at, of_flow as of_flow_error, unless_begun};
+ghost use Rattle.ppd_clean.specs.Answers.{AreEdges, AreItems, Fails, FailsFrom, IsCleanBy, IsFound, IsOrdered, answer_at, answer_by, item_at, of_flow as of_flow_error, unless_begun};
 ghost use Rattle.ppd_clean.specs.ByOrder.{cut_for};
 ghost use Rattle.ppd_clean.specs.Missing.{IsCauseOfSets};
 ghost use Rattle.ppd_clean.specs.Runs.{GivesClean};
@@ -8,7 +10,6 @@ ghost use Rattle.ppd_flow.specs.SharedCells.{seens_in};
 ghost use Rattle.ppd_flow_past.specs.Pasts.{IsPast};
 ghost use Rattle.ppd_index.specs.Fitting.{AreFittingLogs};
 ghost use Rattle.ppd_index.specs.Indexes.{IsIndexOf};
-ghost use Rattle.ppd_race.specs.Races.{races_of_logs};
 
 use crate::by_order::first_unclean;
 use crate::clean::Clean;
@@ -144,7 +145,7 @@ fn answered_by_cut<L: Ledger>(
 
 /// Whether the interval begins in an edge whose past has a race.
 fn begins_unclean(asked: &Asked, begun: u32) -> bool
-    ensures { result ≡ is_begun_unclean begun asked.now.first }
+    ensures { result ≡ is_reached begun asked.now.first }
 {
     match asked.first {
         Some(first) => first <= begun,
@@ -197,7 +198,7 @@ pub fn clean_edges<L: Ledger>(
     steps: &mut Steps<L>,
 ) -> Result<Clean, CleanError>
     requires past { IsPast past.now }
-    requires races { races.now ≡ races_of_logs past.now.program.now past.now.logs.now }
+    requires races { races.now ≡ races_among (edges_of_logs past.now.program.now past.now.logs.now) }
     ensures found { IsOrdered past.now → IsCleanBy past.now races.now process interval item result }
     ensures run { GivesClean past.now process interval item result }
     ensures sets { IsOrdered past.now → IsCauseOfSets past.now races.now process interval item result }

@@ -1,7 +1,6 @@
 // The internal edge in which an item lies.
-ghost use Rattle.std.specs.Prelude.{◌≡◌, IfOk, take};
+ghost use Rattle.std.specs.Prelude.{◌≡◌, IfOk, take, get_or, []};
 ghost use Rattle.ppd_clean.specs.ByOrder.{edge_of_item as edge_of_item_in, left_at as left_at_of};
-ghost use Rattle.ppd_entry.specs.Entries.{entries_at};
 ghost use Rattle.ppd_flow_past.specs.Pasts.{IsPast};
 ghost use Rattle.ppd_flow_past.specs.SeenBy.{items_in, seen_in};
 ghost use Rattle.law_clean.specs.Pasts.{left_edge as left_edge_of};
@@ -29,7 +28,7 @@ fn left_at(past: &Past, process: u8, found: Interval) -> Result<u32, Memory>
 /// where it has more than 32 bits.
 pub(crate) fn left_edge(past: &Past, process: u8, interval: u32) -> Result<u32, Memory>
     requires { IsPast past.now }
-    ensures { IfOk result (λ edge. edge ≡ left_edge_of (entries_at past.now.logs.now process) interval) }
+    ensures { IfOk result (λ edge. edge ≡ left_edge_of (get_or past.now.logs.now.lists process []) interval) }
 {
     match past.index.interval(process, interval) {
         None => Ok(0),

@@ -1,5 +1,5 @@
 -- Pasts with races, by the order of a graph and the first edge of each process in a race.
-use Rattle.std.specs.Prelude.{ℕ, ◌+◌, nat_eq, nat_le, nat_lt, Bool, false, ◌&&◌, ◌||◌, List, length, Option, Some, None, if◌then◌else◌}
+use Rattle.std.specs.Prelude.{ℕ, ◌+◌, nat_eq, nat_le, nat_lt, Bool, false, ◌&&◌, ◌||◌, List, length, Option, Some, None, if◌then◌else◌, get_or, []}
 use Rattle.std.specs.List.{list_any}
 use Rattle.law_clean.specs.Pasts.{is_same_edge}
 use Rattle.ppd_clean_past.specs.declared.asked.Asked.{Asked}
@@ -10,12 +10,12 @@ use Rattle.ppd_graph.specs.declared.sync_graph.SyncGraph.{SyncGraph}
 use Rattle.ppd_graph.specs.Graphs.{is_before_by}
 use Rattle.ppd_model.specs.declared.flow.Item.{Item}
 use Rattle.ppd_model.specs.declared.graph.EdgeId.{EdgeId}
-use Rattle.ppd_model.specs.HappenedBefore.{edge, own_syncs}
+use Rattle.ppd_model.specs.HappenedBefore.{edge}
 use Rattle.ppd_model.specs.RecordedSets.{record_in}
 
 -- the number of process q's last edge
 abbrev pub last_edge : Logs → ℕ → ℕ
-last_edge logs q = length (own_syncs (record_in logs) q)
+last_edge logs q = length (get_or (record_in logs) q [])
 
 -- edge a is edge e, or is before it
 abbrev pub is_in_past : SyncGraph → EdgeId → EdgeId → Bool

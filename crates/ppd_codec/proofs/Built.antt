@@ -4,12 +4,12 @@ use Rattle.std.specs.List.{AllByRecursion, find, flat_map}
 use Rattle.std.specs.Option.{option_map_or}
 use Rattle.std.proofs.Common.{◌≡◌, ℕ, zero, suc, ◌+◌, ◌≤◌, List, [], ◌∷◌, ◌++◌, length, take, drop, Bool, true, false, cond, Option, Some, None, Result, Ok, Err, refl, ap, sym, ◌∙◌, subst, arith, length-append}
 use Rattle.std.proofs.lemmas.Bool.Decides.{nat_tests}
-use Rattle.std.proofs.lemmas.List.{take-append-drop}
+use Rattle.std.proofs.lemmas.List.{append_assoc, take-append-drop}
 use Rattle.ppd_codec.specs.declared.bad.BadBytes.{BadBytes}
 use Rattle.ppd_codec.specs.declared.bad.BadBytes.TheVariants as bad
-use Rattle.ppd_codec.specs.Reader.{Got, Reader, after, both, done, field, next, several}
-use Rattle.ppd_codec.specs.Form.{Along, Form, block, listed, listed_along, named, one_of, only, pair, ranged, tagged}
-use Rattle.ppd_codec.proofs.Inverts.{AreBytes, Inverts, Wrote, checked_inverts, done_inverts, got, kept_inverts, next_inverts, ok_is}
+use Rattle.ppd_codec.specs.Reader.{Got, Reader, after, done, field, next, several}
+use Rattle.ppd_codec.specs.Form.{Along, Form, listed, listed_along, named, one_of, pair, ranged}
+use Rattle.ppd_codec.proofs.Inverts.{AreBytes, Inverts, Wrote, bytes_after, checked_inverts, done_inverts, got, kept_inverts, next_inverts, ok_is}
 use Rattle.ppd_codec.proofs.Widths.{drop_front, length_take, take_front}
 
 -- reading and spelling of a form undo each other
@@ -52,26 +52,51 @@ as_inverts f r w v P Q i down up = record {
         } in
         subst (λ (h : Got _). Wrote v Q at bytes h.value h.at h.rest) same here
 
--- two, one after the other
-both_inverts : {A B : Type 0} (r : Reader A) (s : A → Reader B) (w : A → List ℕ) (v : A → B → List ℕ) (P : A → Type 0) (Q : A → B → Type 0)
-    → Inverts r w P → ((x : A) → Inverts (s x) (v x) (Q x)) → Inverts {A = A × B} (both r s) (λ p. w p.0 ++ v p.0 p.1) (λ p. P p.0 × Q p.0 p.1)
-both_inverts {A} {B} r s w v P Q first second =
-    same_inverts {A = A × B} (both r s) (λ p. w p.0 ++ v p.0 p.1) (λ p. w p.0 ++ v p.0 p.1) (λ p. P p.0 × (Q p.0 p.1 × (p ≡ (p.0, p.1)))) (λ p. P p.0 × Q p.0 p.1)
-    (next_inverts {A = A} {B = A × B} r more w (λ x p. v x p.1) P IsBoth (λ p. p.0) first second_too (λ x p q. ap (λ (z : A × B). z.0) q.1))
-    (λ p q. ((q.0, (q.1, refl)), refl)) (λ p q. ((q.0, q.1.0), refl))
+-- two, one after the other, by the name of the whole
+both_inverts : {A B C : Type 0} (f : A → B → C) (r : Reader A) (s : A → Reader B) (w : A → List ℕ) (v : A → B → List ℕ) (u : C → List ℕ) (P : A → Type 0) (Q : A → B → Type 0) (R : C → Type 0)
+    → Inverts r w P → ((x : A) → Inverts (s x) (v x) (Q x))
+    → ((z : C) → R z → (x : A) × (y : B) × P x × Q x y × (f x y ≡ z) × (u z ≡ w x ++ v x y)) → ((x : A) (y : B) → P x → Q x y → R (f x y) × (u (f x y) ≡ w x ++ v x y))
+    → Inverts (next r (λ x. next (s x) (λ y. done (f x y)))) u R
+both_inverts {A} {B} {C} f r s w v u P Q R first second down up = record {
+  there = λ z q at rest.
+      let h = down z q in
+      let x = h.0 in
+      let y = h.1 in
+      let one : r at (w x ++ (v x y ++ rest)) ≡ Ok (got x (at + length (w x)) (v x y ++ rest)) = first.there x h.2 at (v x y ++ rest) in
+      let two : s x (at + length (w x)) (v x y ++ rest) ≡ Ok (got y ((at + length (w x)) + length (v x y)) rest) = (second x).there y h.3 (at + length (w x)) rest in
+      let all : next r (λ a. next (s a) (λ b. done (f a b))) at ((w x ++ v x y) ++ rest) ≡ Ok (got z (at + length (w x ++ v x y)) rest) =
+      ap (λ (bs : List ℕ). next r (λ a. next (s a) (λ b. done (f a b))) at bs) (append_assoc (w x) (v x y) rest)
+      ∙ ap (λ (g : Result (Got A) BadBytes). after g (λ a. next (s a) (λ b. done (f a b)))) one
+      ∙ ap (λ (g : Result (Got B) BadBytes). after g (λ b. done (f x b))) two
+      ∙ ap (λ (c : C). Ok (got c ((at + length (w x)) + length (v x y)) rest)) h.4
+      ∙ ap (λ (n : ℕ). Ok (got z n rest)) (omega (arith, length-append (w x) (v x y))) in
+      subst (λ (bs : List ℕ). next r (λ a. next (s a) (λ b. done (f a b))) at (bs ++ rest) ≡ Ok (got z (at + length bs) rest)) (sym h.5) all;
+  back = λ at bytes z now rest b e. by at bytes z now rest b (r at bytes) refl e;
+}
   where
-    more : A → Reader (A × B)
-    more x = next (s x) (λ y. done {A = A × B} (x, y))
+    go : (at : ℕ) (bytes : List ℕ) (z : C) (now : ℕ) (rest : List ℕ) → AreBytes bytes → (g : Got A) → Wrote w P at bytes g.value g.at g.rest → (k : Result (Got B) BadBytes) → s g.value g.at g.rest ≡ k
+        → after k (λ b. done (f g.value b)) ≡ Ok (got z now rest) → Wrote u R at bytes z now rest
+    go at bytes z now rest b g one (Err x) is e = absurd (cc)
+    go at bytes z now rest b g one (Ok k) is e =
+        let two : Wrote (v g.value) (Q g.value) g.at g.rest k.value k.at k.rest = (second g.value).back g.at g.rest k.value k.at k.rest (bytes_after (w g.value) g.rest (subst AreBytes one.bytes_are b)) is in
+        let whole = up g.value k.value one.lawful two.lawful in
+        let same : got (f g.value k.value) k.at k.rest ≡ got z now rest = ok_is (Ok (got (f g.value k.value) k.at k.rest)) (got (f g.value k.value) k.at k.rest) (got z now rest) refl e in
+        let at_is : k.at ≡ at + length (w g.value ++ v g.value k.value) = omega (arith, one.at_is, two.at_is, length-append (w g.value) (v g.value k.value)) in
+        let here : Wrote u R at bytes (f g.value k.value) k.at k.rest = record {
+          lawful = whole.0;
+          bytes_are = one.bytes_are ∙ ap (λ (bs : List ℕ). w g.value ++ bs) two.bytes_are ∙ sym (append_assoc (w g.value) (v g.value k.value) k.rest) ∙ ap (λ (bs : List ℕ). bs ++ k.rest) (sym whole.1);
+          at_is = at_is ∙ ap (λ (bs : List ℕ). at + length bs) (sym whole.1);
+        } in
+        subst (λ (h : Got C). Wrote u R at bytes h.value h.at h.rest) same here
 
-    IsBoth : A → A × B → Type 0
-    IsBoth x p = Q x p.1 × (p ≡ (x, p.1))
-
-    second_too : (x : A) → Inverts {A = A × B} (next (s x) (λ y. done {A = A × B} (x, y))) (λ p. v x p.1) (λ p. Q x p.1 × (p ≡ (x, p.1)))
-    second_too x = as_inverts {A = B} {B = A × B} (λ y. (x, y)) (s x) (v x) (λ p. v x p.1) (Q x) (λ p. Q x p.1 × (p ≡ (x, p.1))) (second x)
-        (λ p q. (p.1, q.0, sym q.1, refl)) (λ y q. ((q, refl), refl))
+    by : (at : ℕ) (bytes : List ℕ) (z : C) (now : ℕ) (rest : List ℕ) → AreBytes bytes → (g : Result (Got A) BadBytes) → r at bytes ≡ g → after g (λ a. next (s a) (λ b. done (f a b))) ≡ Ok (got z now rest)
+        → Wrote u R at bytes z now rest
+    by at bytes z now rest b (Err x) is e = absurd (cc)
+    by at bytes z now rest b (Ok g) is e = go at bytes z now rest b g (first.back at bytes g.value g.at g.rest b is) (s g.value g.at g.rest) refl e
 
 pub pair_holds : {A B : Type 0} (f : Form A) (g : A → Form B) → Holds f → ((x : A) → Holds (g x)) → Holds (pair f g)
-pair_holds f g first second = both_inverts f.read (λ x. (g x).read) f.bytes (λ x. (g x).bytes) f.Lawful (λ x. (g x).Lawful) first second
+pair_holds {A} {B} f g first second = both_inverts {A = A} {B = B} {C = A × B} (λ x y. (x, y)) f.read (λ x. (g x).read) f.bytes (λ x. (g x).bytes) (pair f g).bytes f.Lawful (λ x. (g x).Lawful) (pair f g).Lawful first second
+    (λ p q. (p.0, p.1, q.0, q.1, refl, refl)) (λ x y l m. ((l, m), refl))
 
 pub ranged_holds : {A : Type 0} (bad : ℕ → BadBytes) (test : A → Bool) (f : Form A) → Holds f → Holds (ranged bad test f)
 ranged_holds bad test f h = kept_inverts test bad f.read f.bytes f.Lawful h
@@ -95,7 +120,7 @@ one_of_holds bad code all f h = checked_inverts (coded code all) bad f.read code
     (λ y l. l)
     (λ x y l e. let is : code y ≡ x = coded_is code all x y e in (is, (subst f.Lawful (sym is) l, ap (coded code all) is ∙ e)))
 
--- ---- names and tags
+-- ---- names
 
 pub named_holds : {A B : Type 0} (whole : A → B) (parts : B → Option A) (f : Form A) → ((x : A) → parts (whole x) ≡ Some x) → ((x : A) (y : B) → parts y ≡ Some x → whole x ≡ y)
     → Holds f → Holds (named whole parts f)
@@ -107,24 +132,10 @@ named_holds {A} {B} whole parts f to from h = as_inverts whole f.read f.bytes (n
     by y None is q = absurd q
     by y (Some x) is q = (x, q, from x y is, ap (λ (o : Option A). option_map_or f.bytes o []) is)
 
-pub tagged_holds : {T A : Type 0} (tag : Form T) (tag_of : A → T) (row : T → Form A) → ((t : T) (y : A) → (row t).Lawful y → tag_of y ≡ t)
-    → Holds tag → ((t : T) → Holds (row t)) → Holds (tagged tag tag_of row)
-tagged_holds tag tag_of row seen first second = next_inverts tag.read (λ t. (row t).read) tag.bytes (λ t. (row t).bytes) tag.Lawful (λ t. (row t).Lawful) tag_of first second seen
-
-pub only_holds : {A : Type 0} (test : Bool) (bad : BadBytes) (f : Form A) → Holds f → Holds (only test bad f)
-only_holds true bad f h = record {
-  there = λ x l at rest. h.there x l.1 at rest;
-  back = λ at bytes x now rest b e. let w = h.back at bytes x now rest b e in record { lawful = (refl, w.lawful); bytes_are = w.bytes_are; at_is = w.at_is };
-}
-only_holds false bad f h = record {
-  there = λ x l at rest. absurd (let e = l.0 in cc);
-  back = λ at bytes x now rest b e. absurd (cc);
-}
-
 -- ---- lists
 
 -- bytes that stand for themselves
-raw_inverts : (w : ℕ) → Inverts (field w (λ bs. bs)) (λ s. s) (λ s. length s ≡ w)
+pub raw_inverts : (w : ℕ) → Inverts (field w (λ bs. bs)) (λ s. s) (λ s. length s ≡ w)
 raw_inverts w = record {
   there = λ x l at rest.
       let whole : nat_le w (length (x ++ rest)) ≡ true = (let a = length-append x rest in grind (arith, nat_tests)) in
@@ -153,12 +164,6 @@ raw_inverts w = record {
         } in
         subst (λ (h : Got (List ℕ)). Wrote (λ s. s) (λ s. length s ≡ w) at bytes h.value h.at h.rest) same here
 
-pub block_holds : (count : Form ℕ) → Holds count → Holds (block count)
-block_holds count h = same_inverts (block count).read _ (block count).bytes _ (block count).Lawful
-    (next_inverts count.read (λ n. field n (λ bs. bs)) count.bytes (λ n s. s) count.Lawful (λ n s. length s ≡ n) length h raw_inverts (λ n s m. m))
-    (λ s q. ((q, refl), refl))
-    (λ s p. (p.0, refl))
-
 -- each is lawful at what the one before it leaves
 abbrev pub EachAlong : {S A : Type 0} → (S → A → Type 0) → (A → S) → S → List A → Type 0
 EachAlong P leaves s [] = ⊤
@@ -176,18 +181,15 @@ module _ {S A : Type 0} (r : S → Reader A) (leaves : A → S) (w : A → List 
   no_up s [] p = ((refl, tt), refl)
   no_up s (x ∷ xs) p = absurd (cc)
 
-  abbrev pub IsPair : S → ℕ → A × List A → Type 0
-  IsPair s n p = P s p.0 × AreSeveral (leaves p.0) n p.1
-
-  some_down : (s : S) (n : ℕ) (xs : List A) → AreSeveral s (suc n) xs → (p : A × List A) × IsPair s n p × (p.0 ∷ p.1 ≡ xs) × (flat_map w xs ≡ w p.0 ++ flat_map w p.1)
+  some_down : (s : S) (n : ℕ) (xs : List A) → AreSeveral s (suc n) xs → (x : A) × (ys : List A) × P s x × AreSeveral (leaves x) n ys × (x ∷ ys ≡ xs) × (flat_map w xs ≡ w x ++ flat_map w ys)
   some_down s n [] q = absurd (omega (arith, q.0))
-  some_down s n (x ∷ xs) q = ((x, xs), (q.1.0, (omega (arith, q.0), q.1.1)), refl, refl)
+  some_down s n (x ∷ xs) q = (x, xs, q.1.0, (omega (arith, q.0), q.1.1), refl, refl)
 
   pub several_inverts : (s : S) (n : ℕ) → Inverts (several r leaves s n) (flat_map w) (AreSeveral s n)
   several_inverts s zero = same_inverts (done []) (λ y. []) (flat_map w) (λ y. y ≡ []) (AreSeveral s 0) (done_inverts []) (λ xs q. no_down s xs q) (λ xs p. no_up s xs p)
-  several_inverts s (suc n) = as_inverts (λ p. p.0 ∷ p.1) (both (r s) (λ x. several r leaves (leaves x) n)) (λ p. w p.0 ++ flat_map w p.1) (flat_map w) (IsPair s n) (AreSeveral s (suc n))
-      (both_inverts (r s) (λ x. several r leaves (leaves x) n) w (λ x xs. flat_map w xs) (P s) (λ x xs. AreSeveral (leaves x) n xs) (i s) (λ x. several_inverts (leaves x) n))
-      (λ xs q. some_down s n xs q) (λ p l. ((ap suc l.1.0, (l.0, l.1.1)), refl))
+  several_inverts s (suc n) =
+      both_inverts (λ x xs. x ∷ xs) (r s) (λ x. several r leaves (leaves x) n) w (λ x xs. flat_map w xs) (flat_map w) (P s) (λ x xs. AreSeveral (leaves x) n xs) (AreSeveral s (suc n)) (i s) (λ x. several_inverts (leaves x) n)
+      (λ xs q. some_down s n xs q) (λ x xs l m. ((ap suc m.0, (l, m.1)), refl))
 
   pub counted_inverts : (count : Form ℕ) (s : S) → Holds count → Inverts (next count.read (several r leaves s)) (λ xs. count.bytes (length xs) ++ flat_map w xs) (λ xs. count.Lawful (length xs) × EachAlong P leaves s xs)
   counted_inverts count s h = same_inverts (next count.read (several r leaves s)) _ (λ xs. count.bytes (length xs) ++ flat_map w xs) _ (λ xs. count.Lawful (length xs) × EachAlong P leaves s xs)

@@ -4,7 +4,7 @@ use Rattle.std.proofs.Common.{◌≡◌, ◌^◌, ℕ, ◌+◌, ◌<◌, List, [
 use Rattle.std.proofs.lemmas.List.{append_assoc}
 use Rattle.ppd_codec.specs.declared.bad.BadBytes.{BadBytes}
 use Rattle.std.specs.Option.{option_map_or}
-use Rattle.ppd_codec.specs.Reader.{Got, Reader, after, checked, done, next, refuse}
+use Rattle.ppd_codec.specs.Reader.{Got, Reader, after, checked, done, next}
 
 abbrev pub AreBytes : List ℕ → Type 0
 AreBytes [] = ⊤
@@ -83,12 +83,12 @@ pub checked_inverts : {A B : Type 0} (of : A → Option B) (bad : ℕ → BadByt
 checked_inverts of bad r code w P Q inner there back = record {
   there = λ y l at rest.
       let t = there y l in
-      ap (λ (g : Result (Got _) BadBytes). after g (λ x. option_map_or done (of x) (refuse (bad at)))) (inner.there (code y) t.0 at rest)
-      ∙ ap (λ (o : Option _). option_map_or done o (refuse (bad at)) (at + length (w (code y))) rest) t.1;
+      ap (λ (g : Result (Got _) BadBytes). after g (λ x. option_map_or done (of x) (λ now rest. Err (bad at)))) (inner.there (code y) t.0 at rest)
+      ∙ ap (λ (o : Option _). option_map_or done o (λ now rest. Err (bad at)) (at + length (w (code y))) rest) t.1;
   back = λ at bytes y now rest b e. by at bytes y now rest b (r at bytes) refl e;
 }
   where
-    go : (at : ℕ) (bytes : List ℕ) (y : _) (now : ℕ) (rest : List ℕ) (g : Got _) → Wrote w P at bytes g.value g.at g.rest → (o : Option _) → of g.value ≡ o → option_map_or done o (refuse (bad at)) g.at g.rest ≡ Ok (got y now rest)
+    go : (at : ℕ) (bytes : List ℕ) (y : _) (now : ℕ) (rest : List ℕ) (g : Got _) → Wrote w P at bytes g.value g.at g.rest → (o : Option _) → of g.value ≡ o → option_map_or done o (λ now rest. Err (bad at)) g.at g.rest ≡ Ok (got y now rest)
         → Wrote (λ z. w (code z)) Q at bytes y now rest
     go at bytes y now rest g one None is e = absurd (cc)
     go at bytes y now rest g one (Some z) is e =
@@ -101,7 +101,7 @@ checked_inverts of bad r code w P Q inner there back = record {
           at_is = sym (ap (λ (h : Got _). h.at) same) ∙ one.at_is ∙ ap (λ x. at + length (w x)) (sym k.0);
         }
 
-    by : (at : ℕ) (bytes : List ℕ) (y : _) (now : ℕ) (rest : List ℕ) → AreBytes bytes → (g : Result (Got _) BadBytes) → r at bytes ≡ g → after g (λ x. option_map_or done (of x) (refuse (bad at))) ≡ Ok (got y now rest)
+    by : (at : ℕ) (bytes : List ℕ) (y : _) (now : ℕ) (rest : List ℕ) → AreBytes bytes → (g : Result (Got _) BadBytes) → r at bytes ≡ g → after g (λ x. option_map_or done (of x) (λ now rest. Err (bad at))) ≡ Ok (got y now rest)
         → Wrote (λ z. w (code z)) Q at bytes y now rest
     by at bytes y now rest b (Err x) is e = absurd (cc)
     by at bytes y now rest b (Ok g) is e = go at bytes y now rest g (inner.back at bytes g.value g.at g.rest b is) (of g.value) refl e

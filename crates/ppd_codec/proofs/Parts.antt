@@ -1,5 +1,5 @@
 -- The parts of a recording, both ways.
-use Rattle.std.specs.Prelude.{◌+◌, List, get_or, FitsSigned}
+use Rattle.std.specs.Prelude.{◌+◌, List, length, get_or, FitsSigned}
 use Rattle.std.specs.Int.{cast_signed, cast_unsigned, w16, w32, w64, to_be_bytes, from_be_bytes}
 use Rattle.std.proofs.Common.{Fits, ◌≡◌, ℕ, ◌<◌, ◌^◌, ℤ, [], ◌∷◌, Some, refl, ap, sym, ◌∙◌}
 use Rattle.std.proofs.lemmas.Nat.{be_bytes_8, from_be_bytes-to_be_bytes_8}
@@ -11,22 +11,24 @@ use Rattle.ppd_codec.specs.declared.bad.BadBytes.TheVariants as bad
 use Rattle.ppd_codec.specs.declared.facts.Facts.{Facts}
 use Rattle.ppd_codec_fields.specs.declared.tag.Tag.{Tag}
 use Rattle.ppd_codec_fields.specs.declared.tag.Tag.TheVariants as T
-use Rattle.ppd_codec.specs.Form.{byte, number_2, number_4, value}
-use Rattle.ppd_codec.specs.Format.{End, Sync, an_entry, back, budget, cells, end_parts, end_status, ended, front, log, logs, magic, numbered, numbered_parts, out_of, policy_number, process_count, recording, row, source, source_length, sync_kind, sync_number, sync_parts, sync_value, synced, tag, tag_of, values, version}
+use Rattle.ppd_codec.specs.Form.{byte, value, number}
+use Rattle.ppd_codec.specs.Format.{Fields, an_entry, budget, cells, end_status, fields_of, front, log, logs, magic, numbered, out_of, policy_number, process_count, recording, row, source, source_length, sync_kind, sync_number, sync_value, tag, tag_of, values, version}
+use Rattle.ppd_codec.specs.Reader.{field}
 use Rattle.ppd_codec_fields.specs.Fields.{is_next, kind_code, kinds, status_code, statuses, tag_code, tags}
 use Rattle.ppd_codec.proofs.Widths.{IsWidth, bound_8, byte_at, field_inverts, width_1, width_2, width_4}
-use Rattle.ppd_codec.proofs.Built.{Holds, block_holds, listed_along_holds, listed_holds, named_holds, one_of_holds, only_holds, pair_holds, ranged_holds, tagged_holds}
+use Rattle.ppd_codec.proofs.Built.{Holds, listed_along_holds, listed_holds, named_holds, one_of_holds, pair_holds, ranged_holds, raw_inverts, same_inverts}
+use Rattle.ppd_codec.proofs.Inverts.{next_inverts}
 
 -- ---- numbers
 
 pub byte_holds : Holds byte
 byte_holds = field_inverts 1 (λ bs. get_or bs 0 0) byte.bytes byte.Lawful width_1
 
-pub number_2_holds : Holds number_2
-number_2_holds = field_inverts 2 (from_be_bytes w16) (to_be_bytes w16) number_2.Lawful width_2
+pub number_2_holds : Holds (number w16)
+number_2_holds = field_inverts 2 (from_be_bytes w16) (to_be_bytes w16) (number w16).Lawful width_2
 
-pub number_4_holds : Holds number_4
-number_4_holds = field_inverts 4 (from_be_bytes w32) (to_be_bytes w32) number_4.Lawful width_4
+pub number_4_holds : Holds (number w32)
+number_4_holds = field_inverts 4 (from_be_bytes w32) (to_be_bytes w32) (number w32).Lawful width_4
 
 small : {v : ℤ} → FitsSigned w64 v → cast_unsigned w64 v < 2 ^ 64
 small f = Fits-lt-pow (Fits-of_z f)
@@ -51,106 +53,86 @@ value_holds = field_inverts 8 value_of value.bytes (FitsSigned w64) width_8
 -- ---- the front
 
 magic_holds : Holds magic
-magic_holds = one_of_holds bad.Magic (λ t. 0x5050_4452) (tt ∷ []) number_4 number_4_holds
+magic_holds = one_of_holds bad.Magic (λ t. 0x5050_4452) (tt ∷ []) (number w32) number_4_holds
 
 source_holds : Holds source
-source_holds = block_holds source_length (ranged_holds _ _ number_4 number_4_holds)
+source_holds = same_inverts source.read _ source.bytes _ source.Lawful
+    (next_inverts source_length.read (λ n. field n (λ bytes. bytes)) source_length.bytes (λ n bytes. bytes) source_length.Lawful (λ n bytes. length bytes ≡ n) length (ranged_holds _ _ (number w32) number_4_holds) raw_inverts (λ n bytes m. m))
+    (λ bytes q. ((q, refl), refl))
+    (λ bytes p. (p.0, refl))
 
 pub front_holds : Holds front
 front_holds =
     pair_holds magic _ magic_holds (λ m.
     pair_holds version _ (ranged_holds _ _ byte byte_holds) (λ v.
-    pair_holds budget _ (ranged_holds _ _ number_4 number_4_holds) (λ b.
-    pair_holds (policy_number F.Leaf) _ (ranged_holds _ _ number_2 number_2_holds) (λ l.
-    pair_holds (policy_number F.Loops) _ (ranged_holds _ _ number_2 number_2_holds) (λ p. source_holds)))))
+    pair_holds budget _ (ranged_holds _ _ (number w32) number_4_holds) (λ b.
+    pair_holds (policy_number F.Leaf) _ (ranged_holds _ _ (number w16) number_2_holds) (λ l.
+    pair_holds (policy_number F.Loops) _ (ranged_holds _ _ (number w16) number_2_holds) (λ p. source_holds)))))
 
 -- ---- rows
 
 values_hold : Holds values
-values_hold = listed_holds number_2 value number_2_holds value_holds
+values_hold = listed_holds (number w16) value number_2_holds value_holds
 
 cells_hold : (shared : ℕ) → Holds (cells shared)
-cells_hold shared = listed_along_holds number_2 (out_of F.Cells) (is_next shared) (λ c. c + 1) 0 number_2 number_2_holds number_2_holds
+cells_hold shared = listed_along_holds (number w16) (out_of F.Cells) (is_next shared) (λ c. c + 1) 0 (number w16) number_2_holds number_2_holds
 
 numbered_holds : Holds numbered
-numbered_holds = pair_holds number_2 (λ b. values) number_2_holds (λ b. values_hold)
-
-synced_holds : (f : Facts) → Holds (synced f)
-synced_holds f =
-    pair_holds (sync_kind f.version) _ (one_of_holds (out_of F.Kind) kind_code (kinds f.version) byte byte_holds) (λ k.
-    pair_holds byte _ byte_holds (λ o.
-    pair_holds sync_number _ (ranged_holds _ _ number_4 number_4_holds) (λ n.
-    pair_holds (sync_value k) _ (ranged_holds _ _ value value_holds) (λ v.
-    pair_holds (cells f.shared) _ (cells_hold f.shared) (λ r. cells_hold f.shared)))))
-
-ended_holds : (f : Facts) → Holds (ended f)
-ended_holds f =
-    pair_holds end_status _ (one_of_holds (out_of F.Status) status_code statuses byte byte_holds) (λ s.
-    pair_holds number_4 _ number_4_holds (λ n.
-    pair_holds (cells f.shared) _ (cells_hold f.shared) (λ r. cells_hold f.shared)))
+numbered_holds = pair_holds (number w16) (λ b. values) number_2_holds (λ b. values_hold)
 
 tag_holds : Holds tag
 tag_holds = one_of_holds (out_of F.Tag) tag_code tags byte byte_holds
 
--- an entry of a block or a unit, with its values
-abbrev with_values : Tag → ℕ × List ℤ → Entry
-with_values T.Prelog p = entry.Prelog p.0 p.1
-with_values T.Unit p = entry.Unit p.0 p.1
-with_values t p = entry.Postlog p.0 p.1
+-- an entry from which these fields come is made of them
+prelog_back : (x : Fields T.Prelog) (y : Entry) → fields_of T.Prelog y ≡ Some x → entry.Prelog x.0 x.1 ≡ y
+prelog_back x (entry.Prelog b vs) e = let same : (b, vs) ≡ x = cc in ap (λ (p : Fields T.Prelog). entry.Prelog p.0 p.1) (sym same)
+prelog_back x (entry.Unit b vs) e = absurd (cc)
+prelog_back x (entry.Sync k o n v r w) e = absurd (cc)
+prelog_back x (entry.Postlog b vs) e = absurd (cc)
+prelog_back x (entry.End s n r w) e = absurd (cc)
 
-abbrev sync_of : Sync → Entry
-sync_of p = entry.Sync p.0 p.1.0 p.1.1.0 p.1.1.1.0 p.1.1.1.1.0 p.1.1.1.1.1
+unit_back : (x : Fields T.Unit) (y : Entry) → fields_of T.Unit y ≡ Some x → entry.Unit x.0 x.1 ≡ y
+unit_back x (entry.Prelog b vs) e = absurd (cc)
+unit_back x (entry.Unit b vs) e = let same : (b, vs) ≡ x = cc in ap (λ (p : Fields T.Unit). entry.Unit p.0 p.1) (sym same)
+unit_back x (entry.Sync k o n v r w) e = absurd (cc)
+unit_back x (entry.Postlog b vs) e = absurd (cc)
+unit_back x (entry.End s n r w) e = absurd (cc)
 
-abbrev end_of : End → Entry
-end_of p = entry.End p.0 p.1.0 p.1.1.0 p.1.1.1
-
-numbered_back : (t : Tag) (x : ℕ × List ℤ) (y : Entry) → numbered_parts t y ≡ Some x → with_values t x ≡ y
-numbered_back T.Prelog x (entry.Prelog b vs) e = let same : (b, vs) ≡ x = cc in ap (with_values T.Prelog) (sym same)
-numbered_back T.Prelog x (entry.Unit b vs) e = absurd (cc)
-numbered_back T.Prelog x (entry.Sync k o n v r w) e = absurd (cc)
-numbered_back T.Prelog x (entry.Postlog b vs) e = absurd (cc)
-numbered_back T.Prelog x (entry.End s n r w) e = absurd (cc)
-numbered_back T.Unit x (entry.Prelog b vs) e = absurd (cc)
-numbered_back T.Unit x (entry.Unit b vs) e = let same : (b, vs) ≡ x = cc in ap (with_values T.Unit) (sym same)
-numbered_back T.Unit x (entry.Sync k o n v r w) e = absurd (cc)
-numbered_back T.Unit x (entry.Postlog b vs) e = absurd (cc)
-numbered_back T.Unit x (entry.End s n r w) e = absurd (cc)
-numbered_back T.Sync x (entry.Prelog b vs) e = absurd (cc)
-numbered_back T.Sync x (entry.Unit b vs) e = absurd (cc)
-numbered_back T.Sync x (entry.Sync k o n v r w) e = absurd (cc)
-numbered_back T.Sync x (entry.Postlog b vs) e = absurd (cc)
-numbered_back T.Sync x (entry.End s n r w) e = absurd (cc)
-numbered_back T.Postlog x (entry.Prelog b vs) e = absurd (cc)
-numbered_back T.Postlog x (entry.Unit b vs) e = absurd (cc)
-numbered_back T.Postlog x (entry.Sync k o n v r w) e = absurd (cc)
-numbered_back T.Postlog x (entry.Postlog b vs) e = let same : (b, vs) ≡ x = cc in ap (with_values T.Postlog) (sym same)
-numbered_back T.Postlog x (entry.End s n r w) e = absurd (cc)
-numbered_back T.End x (entry.Prelog b vs) e = absurd (cc)
-numbered_back T.End x (entry.Unit b vs) e = absurd (cc)
-numbered_back T.End x (entry.Sync k o n v r w) e = absurd (cc)
-numbered_back T.End x (entry.Postlog b vs) e = absurd (cc)
-numbered_back T.End x (entry.End s n r w) e = absurd (cc)
-
-sync_back : (x : Sync) (y : Entry) → sync_parts y ≡ Some x → sync_of x ≡ y
+sync_back : (x : Fields T.Sync) (y : Entry) → fields_of T.Sync y ≡ Some x → entry.Sync x.0 x.1.0 x.1.1.0 x.1.1.1.0 x.1.1.1.1.0 x.1.1.1.1.1 ≡ y
 sync_back x (entry.Prelog b vs) e = absurd (cc)
 sync_back x (entry.Unit b vs) e = absurd (cc)
-sync_back x (entry.Sync k o n v r w) e = let same : (k, (o, (n, (v, (r, w))))) ≡ x = cc in ap sync_of (sym same)
+sync_back x (entry.Sync k o n v r w) e = let same : (k, (o, (n, (v, (r, w))))) ≡ x = cc in ap (λ (p : Fields T.Sync). entry.Sync p.0 p.1.0 p.1.1.0 p.1.1.1.0 p.1.1.1.1.0 p.1.1.1.1.1) (sym same)
 sync_back x (entry.Postlog b vs) e = absurd (cc)
 sync_back x (entry.End s n r w) e = absurd (cc)
 
-end_back : (x : End) (y : Entry) → end_parts y ≡ Some x → end_of x ≡ y
+postlog_back : (x : Fields T.Postlog) (y : Entry) → fields_of T.Postlog y ≡ Some x → entry.Postlog x.0 x.1 ≡ y
+postlog_back x (entry.Prelog b vs) e = absurd (cc)
+postlog_back x (entry.Unit b vs) e = absurd (cc)
+postlog_back x (entry.Sync k o n v r w) e = absurd (cc)
+postlog_back x (entry.Postlog b vs) e = let same : (b, vs) ≡ x = cc in ap (λ (p : Fields T.Postlog). entry.Postlog p.0 p.1) (sym same)
+postlog_back x (entry.End s n r w) e = absurd (cc)
+
+end_back : (x : Fields T.End) (y : Entry) → fields_of T.End y ≡ Some x → entry.End x.0 x.1.0 x.1.1.0 x.1.1.1 ≡ y
 end_back x (entry.Prelog b vs) e = absurd (cc)
 end_back x (entry.Unit b vs) e = absurd (cc)
 end_back x (entry.Sync k o n v r w) e = absurd (cc)
 end_back x (entry.Postlog b vs) e = absurd (cc)
-end_back x (entry.End s n r w) e = let same : (s, (n, (r, w))) ≡ x = cc in ap end_of (sym same)
+end_back x (entry.End s n r w) e = let same : (s, (n, (r, w))) ≡ x = cc in ap (λ (p : Fields T.End). entry.End p.0 p.1.0 p.1.1.0 p.1.1.1) (sym same)
 
 row_holds : (f : Facts) (t : Tag) → Holds (row f t)
-row_holds f T.Prelog = named_holds (with_values T.Prelog) (numbered_parts T.Prelog) numbered (λ x. refl) (numbered_back T.Prelog) numbered_holds
-row_holds f T.Unit = named_holds (with_values T.Unit) (numbered_parts T.Unit) numbered (λ x. refl) (numbered_back T.Unit) numbered_holds
-row_holds f T.Sync = named_holds sync_of sync_parts (synced f) (λ x. refl) sync_back (synced_holds f)
-row_holds f T.Postlog = named_holds (with_values T.Postlog) (numbered_parts T.Postlog) numbered (λ x. refl) (numbered_back T.Postlog) numbered_holds
-row_holds f T.End = named_holds end_of end_parts (ended f) (λ x. refl) end_back (ended_holds f)
+row_holds f T.Prelog = named_holds _ (fields_of T.Prelog) numbered (λ x. refl) prelog_back numbered_holds
+row_holds f T.Unit = named_holds _ (fields_of T.Unit) numbered (λ x. refl) unit_back numbered_holds
+row_holds f T.Sync = named_holds _ (fields_of T.Sync) _ (λ x. refl) sync_back (
+    pair_holds (sync_kind f.version) _ (one_of_holds (out_of F.Kind) kind_code (kinds f.version) byte byte_holds) (λ k.
+    pair_holds byte _ byte_holds (λ o.
+    pair_holds sync_number _ (ranged_holds _ _ (number w32) number_4_holds) (λ n.
+    pair_holds (sync_value k) _ (ranged_holds _ _ value value_holds) (λ v.
+    pair_holds (cells f.shared) _ (cells_hold f.shared) (λ r. cells_hold f.shared))))))
+row_holds f T.Postlog = named_holds _ (fields_of T.Postlog) numbered (λ x. refl) postlog_back numbered_holds
+row_holds f T.End = named_holds _ (fields_of T.End) _ (λ x. refl) end_back (
+    pair_holds end_status _ (one_of_holds (out_of F.Status) status_code statuses byte byte_holds) (λ s.
+    pair_holds (number w32) _ number_4_holds (λ n.
+    pair_holds (cells f.shared) _ (cells_hold f.shared) (λ r. cells_hold f.shared))))
 
 -- a row is lawful for the entries of its tag alone
 row_tag : (f : Facts) (t : Tag) (y : Entry) → (row f t).Lawful y → tag_of y ≡ t
@@ -183,16 +165,13 @@ row_tag f T.End (entry.End s n r w) l = refl
 -- ---- entries, logs, the whole
 
 entry_holds : (f : Facts) → Holds (an_entry f)
-entry_holds f = tagged_holds tag tag_of (row f) (row_tag f) tag_holds (row_holds f)
+entry_holds f = next_inverts tag.read (λ t. (row f t).read) tag.bytes (λ t. (row f t).bytes) tag.Lawful (λ t. (row f t).Lawful) tag_of tag_holds (row_holds f) (row_tag f)
 
 log_holds : (f : Facts) → Holds (log f)
-log_holds f = listed_holds number_4 (an_entry f) number_4_holds (entry_holds f)
+log_holds f = listed_holds (number w32) (an_entry f) number_4_holds (entry_holds f)
 
 logs_hold : (f : Facts) → Holds (logs f)
 logs_hold f = listed_holds (process_count f) (log f) (ranged_holds _ _ byte byte_holds) (log_holds f)
 
-pub back_holds : (v : ℕ) (f : Facts) → Holds (back v f)
-back_holds v f = only_holds _ _ (logs f) (logs_hold f)
-
 pub recording_holds : (f : Facts) → Holds (recording f)
-recording_holds f = pair_holds front (λ h. back h.1.0 f) front_holds (λ h. back_holds h.1.0 f)
+recording_holds f = pair_holds _ (λ h. logs f) (ranged_holds _ _ front front_holds) (λ h. logs_hold f)

@@ -1,8 +1,9 @@
 -- Each recording has one spelling, and each spelling is of one recording.
-use Rattle.std.proofs.Common.{◌≡◌, ◌≢◌, ℕ, ◌+◌, ◌≤◌, List, length, Ok, Err, refl, ap, sym, ◌∙◌, subst}
-use Rattle.ppd_ast.specs.declared.limits.TheConstants.{MOST_RECORDING_BYTES}
+use Rattle.std.specs.Prelude.{nat_eq}
+use Rattle.std.proofs.Common.{◌≡◌, ◌≢◌, ℕ, ◌+◌, List, [], length, true, Ok, refl, ap, sym, ◌∙◌, subst, arith, true≢false}
+use Rattle.std.proofs.lemmas.List.{append-nil}
 use Rattle.ppd_ast.specs.declared.program.Program.{Program}
-use Rattle.ppd_check.specs.Read.{IsRead}
+use Rattle.ppd_check.specs.Read.{IsRead, IsRefused}
 use Rattle.ppd_check.proofs.Excluded.{program_unique, read_or_refused}
 use Rattle.ppd_entry.specs.declared.entry.Entry.{Entry}
 use Rattle.ppd_entry.specs.declared.entry.Logs.{Logs}
@@ -10,17 +11,19 @@ use Rattle.ppd_codec.specs.declared.bad.BadBytes.{BadBytes}
 use Rattle.ppd_codec.specs.declared.bad.BadBytes.TheVariants as bad
 use Rattle.ppd_codec.specs.declared.recording.Header.{Header}
 use Rattle.ppd_codec.specs.declared.recording.Recording.{Recording}
-use Rattle.ppd_codec.specs.Format.{Front, front, recording}
+use Rattle.ppd_codec.specs.Form.{Form}
+use Rattle.ppd_codec.specs.Format.{Front, front, logs, recording}
 use Rattle.ppd_codec.specs.Laws.{NoRecordingIsBad, OneReading, OneSpelling}
 use Rattle.ppd_codec.specs.Reader.{Got}
-use Rattle.ppd_codec.specs.Recordings.{IsDecoded, IsJudged, IsRecordingOf, Judged, all_of, facts_of, front_of, spelled, version_of}
+use Rattle.ppd_codec.specs.Recordings.{ComesToSource, IsBad, IsDecoded, IsRecordingOf, facts_of, front_of, spelled}
+use Rattle.ppd_codec.specs.Recordings.IsBad.{by_front, by_length, by_logs, by_source, by_version}
 use Rattle.ppd_codec.proofs.Inverts.{got, ok_is}
 use Rattle.ppd_codec.proofs.Parts.{front_holds, recording_holds}
-use Rattle.ppd_codec.proofs.Answered.{all_there, reading}
+use Rattle.ppd_codec.proofs.Answered.{none_bad, whole_read}
 
 -- the three as the fields of the form
 abbrev fields_of : Program → List ℕ → Header → Logs → Front × List (List Entry)
-fields_of p s h logs = (front_of (version_of p.chans) h s, logs.lists)
+fields_of p s h logs = (front_of (facts_of p).version h s, logs.lists)
 
 pub one_spelling : OneSpelling
 one_spelling s h l x y a b =
@@ -28,16 +31,19 @@ one_spelling s h l x y a b =
 
 -- what stands before the logs, as it is read
 front_in : (s : List ℕ) (h : Header) (l : Logs) (x : List ℕ) → (a : IsRecordingOf s h l x)
-    → (rest : List ℕ) × (front.read 0 x ≡ Ok (got (front_of (version_of a.program.chans) h s) (0 + length (front.bytes (front_of (version_of a.program.chans) h s))) rest))
+    → (rest : List ℕ) × (front.read 0 x ≡ Ok (got (front_of (facts_of a.program).version h s) (0 + length (front.bytes (front_of (facts_of a.program).version h s))) rest))
 front_in s h l x a =
-    let f : Front = front_of (version_of a.program.chans) h s in
+    let f : Front = front_of (facts_of a.program).version h s in
     let more : List ℕ = (recording (facts_of a.program)).bytes (fields_of a.program s h l) in
-    (_, ap (λ (bs : List ℕ). front.read 0 bs) a.spelling ∙ front_holds.there f a.lawful.fields.0 0 _)
+    (_, ap (λ (bs : List ℕ). front.read 0 bs) a.spelling ∙ front_holds.there f a.lawful.fields.0.0 0 _)
 
-whole_in : (s : List ℕ) (h : Header) (l : Logs) (x : List ℕ) → (a : IsRecordingOf s h l x) → all_of (recording (facts_of a.program)).read x ≡ Ok (fields_of a.program s h l)
+-- the whole, as it is read
+whole_in : (s : List ℕ) (h : Header) (l : Logs) (x : List ℕ) → (a : IsRecordingOf s h l x)
+    → (recording (facts_of a.program)).read 0 x ≡ Ok (got (fields_of a.program s h l) (0 + length ((recording (facts_of a.program)).bytes (fields_of a.program s h l))) [])
 whole_in s h l x a =
-    ap (λ (bs : List ℕ). all_of (recording (facts_of a.program)).read bs) a.spelling
-    ∙ all_there (recording (facts_of a.program)) (recording_holds (facts_of a.program)) (fields_of a.program s h l) a.lawful.fields a.lawful.short
+    let f : Form (Front × List (List Entry)) = recording (facts_of a.program) in
+    let fields = fields_of a.program s h l in
+    ap (λ (bs : List ℕ). f.read 0 bs) (a.spelling ∙ sym (append-nil (f.bytes fields))) ∙ (recording_holds (facts_of a.program)).there fields a.lawful.fields 0 []
 
 abbrev header_in : Front → Header
 header_in f = record { policy = record { leaf = f.1.1.1.0; loops = f.1.1.1.1.0 }; budget = f.1.1.0 }
@@ -49,30 +55,42 @@ pub one_reading : OneReading
 one_reading s t h k l m x a b =
     let r = front_in s h l x a in
     let q = front_in t k m x b in
-    let fronts : front_of (version_of a.program.chans) h s ≡ front_of (version_of b.program.chans) k t =
+    let fronts : front_of (facts_of a.program).version h s ≡ front_of (facts_of b.program).version k t =
     ap (λ (g : Got Front). g.value) (ok_is (front.read 0 x) _ _ r.1 q.1) in
     let sources : s ≡ t = ap source_in fronts in
     let headers : h ≡ k = ap header_in fronts in
     let programs : a.program ≡ b.program = program_unique t a.program b.program (subst (λ (z : List ℕ). IsRead z a.program) sources a.lawful.accepted) b.lawful.accepted in
-    let one : all_of (recording (facts_of b.program)).read x ≡ Ok (fields_of a.program s h l) =
-    ap (λ (p : Program). all_of (recording (facts_of p)).read x) (sym programs) ∙ whole_in s h l x a in
-    let fields : fields_of a.program s h l ≡ fields_of b.program t k m = ok_is (all_of (recording (facts_of b.program)).read x) _ _ one (whole_in t k m x b) in
+    let one : (recording (facts_of b.program)).read 0 x ≡ Ok (got (fields_of a.program s h l) (0 + length ((recording (facts_of a.program)).bytes (fields_of a.program s h l))) []) =
+    ap (λ (p : Program). (recording (facts_of p)).read 0 x) (sym programs) ∙ whole_in s h l x a in
+    let fields : fields_of a.program s h l ≡ fields_of b.program t k m = ap (λ (g : Got (Front × List (List Entry))). g.value) (ok_is ((recording (facts_of b.program)).read 0 x) _ _ one (whole_in t k m x b)) in
     let lists : l.lists ≡ m.lists = ap (λ (p : Front × List (List Entry)). p.1) fields in
     (sources, headers, ap (λ (ls : List (List Entry)). record { lists = ls }) lists)
 
 pub no_recording_is_bad : NoRecordingIsBad
-no_recording_is_bad s h l x e a b =
-    let r = front_in s h l x a in
-    let short : length x ≤ MOST_RECORDING_BYTES = subst (λ (bs : List ℕ). length bs ≤ MOST_RECORDING_BYTES) (sym a.spelling) a.lawful.short in
-    by b.judged (b.by_source s (record { short = short; got = _; reads = r.1; source_is = refl })) b.refused
+no_recording_is_bad s h l x e a b = by e b
   where
-    by : (j : Judged) → IsJudged s j → all_of (reading j) x ≡ Err e → ⊥
-    by (Ok p) is n =
-        let same : p ≡ a.program = program_unique s p a.program is a.lawful.accepted in
-        let one : all_of (reading (Ok a.program)) x ≡ Err e = subst (λ (q : Program). all_of (reading (Ok q)) x ≡ Err e) same n in
-        let two : all_of (reading (Ok a.program)) x ≡ Ok (fields_of a.program s h l) = whole_in s h l x a in
-        cc
-    by (Err error) is n = is.1 (read_or_refused s a.program error a.lawful.accepted is.0)
+    read_is : front.read 0 x ≡ Ok (got (front_of (facts_of a.program).version h s) (0 + length (front.bytes (front_of (facts_of a.program).version h s))) (front_in s h l x a).0)
+    read_is = (front_in s h l x a).1
+
+    source_is : (g : Got Front) (t : List ℕ) → ComesToSource x g t → t ≡ s
+    source_is g t c = sym c.source_is ∙ ap (λ (z : Got Front). source_in z.value) (ok_is (front.read 0 x) _ _ c.reads read_is)
+
+    program_is : (g : Got Front) (t : List ℕ) (p : Program) → ComesToSource x g t → IsRead t p → p ≡ a.program
+    program_is g t p c is = program_unique s p a.program (subst (λ (z : List ℕ). IsRead z p) (source_is g t c) is) a.lawful.accepted
+
+    version_is : (g : Got Front) (t : List ℕ) (p : Program) → ComesToSource x g t → IsRead t p → nat_eq g.value.1.0 (facts_of p).version ≡ true
+    version_is g t p c is =
+        ap (λ (z : Got Front). nat_eq z.value.1.0 (facts_of p).version) (ok_is (front.read 0 x) _ _ c.reads read_is)
+        ∙ ap (λ (q : Program). nat_eq (facts_of a.program).version (facts_of q).version) (program_is g t p c is) ∙ a.lawful.fields.0.1
+
+    by : (y : BadBytes) → IsBad x y → ⊥
+    by _ (by_length lt) = let long : length x ≡ length (spelled a.program s h l) = ap length a.spelling in omega (arith, lt, long, a.lawful.short)
+    by _ (by_front y le f) = let r = read_is in cc
+    by _ (by_source g t y c is m) = m (read_or_refused s a.program y a.lawful.accepted (subst (λ (z : List ℕ). IsRefused z y) (source_is g t c) is))
+    by _ (by_version g t p c is v) = true≢false (sym (version_is g t p c is) ∙ v)
+    by _ (by_logs g t p y c is v n) =
+        let whole : (recording (facts_of p)).read 0 x ≡ Ok _ = ap (λ (q : Program). (recording (facts_of q)).read 0 x) (program_is g t p c is) ∙ whole_in s h l x a in
+        none_bad g.value ((logs (facts_of p)).read g.at g.rest) _ _ y (sym (whole_read (facts_of p) x g.value g.at g.rest c.reads v) ∙ whole) n
 
 -- what is decoded of the recording of three are these three
 pub same_three : (s : List ℕ) (h : Header) (l : Logs) (x : List ℕ) (r : Recording) → IsRecordingOf s h l x → IsDecoded x r → (s ≡ r.source) × (h ≡ r.header) × (l ≡ r.logs)

@@ -1,11 +1,11 @@
 -- The form of a part of a recording, from which three things follow: which values are lawful, how each is spelled, and
 -- how bytes are read. A form is built of fields by the words below.
-use Rattle.std.specs.Prelude.{◌≡◌, ℕ, ◌<◌, ◌^◌, nat_eq, ℤ, Bool, true, List, [], ◌∷◌, ◌++◌, length, get_or, Option, Some, None, IsSomeAnd, if◌then◌else◌, ⊤, FitsSigned}
-use Rattle.std.specs.Int.{cast_signed, cast_unsigned, w16, w32, w64, to_be_bytes, from_be_bytes}
+use Rattle.std.specs.Prelude.{◌≡◌, ℕ, ◌<◌, ◌*◌, ◌^◌, nat_eq, ℤ, Bool, true, List, [], ◌∷◌, ◌++◌, length, get_or, Option, Some, None, IsSomeAnd, if◌then◌else◌, ⊤, FitsSigned}
+use Rattle.std.specs.Int.{Width, cast_signed, cast_unsigned, byte_len, w64, to_be_bytes, from_be_bytes}
 use Rattle.std.specs.List.{AllByRecursion, find, flat_map}
 use Rattle.std.specs.Option.{option_map_or}
 use Rattle.ppd_codec.specs.declared.bad.BadBytes.{BadBytes}
-use Rattle.ppd_codec.specs.Reader.{Reader, both, checked, done, field, next, refuse, several}
+use Rattle.ppd_codec.specs.Reader.{Reader, checked, done, field, next, several}
 
 pub record Form (A : Type 0) : Type 1 where
   pub Lawful : A → Type 0
@@ -17,11 +17,13 @@ pub record Form (A : Type 0) : Type 1 where
 abbrev pub byte : Form ℕ
 byte = record { Lawful = λ n. n < 2 ^ 8; bytes = λ n. n ∷ []; read = field 1 (λ bytes. get_or bytes 0 0) }
 
-abbrev pub number_2 : Form ℕ
-number_2 = record { Lawful = λ n. n < 2 ^ 16; bytes = to_be_bytes w16; read = field 2 (from_be_bytes w16) }
-
-abbrev pub number_4 : Form ℕ
-number_4 = record { Lawful = λ n. n < 2 ^ 32; bytes = to_be_bytes w32; read = field 4 (from_be_bytes w32) }
+-- in so many bytes
+abbrev pub number : Width → Form ℕ
+number w = record {
+  Lawful = λ n. n < 2 ^ (8 * byte_len w);
+  bytes = to_be_bytes w;
+  read = field (byte_len w) (from_be_bytes w);
+}
 
 -- in two's complement
 abbrev pub value : Form ℤ
@@ -55,7 +57,7 @@ abbrev pub pair : {A B : Type 0} → Form A → (A → Form B) → Form (A × B)
 pair f g = record {
   Lawful = λ p. f.Lawful p.0 × (g p.0).Lawful p.1;
   bytes = λ p. f.bytes p.0 ++ (g p.0).bytes p.1;
-  read = both f.read (λ x. (g x).read);
+  read = next f.read (λ x. next (g x).read (λ y. done (x, y)));
 }
 
 -- the parts by the name of the whole; `parts` gives them back
@@ -66,31 +68,7 @@ named whole parts f = record {
   read = next f.read (λ x. done (whole x));
 }
 
--- a tag, and what it announces
-abbrev pub tagged : {T A : Type 0} → Form T → (A → T) → (T → Form A) → Form A
-tagged tag tag_of row = record {
-  Lawful = λ y. tag.Lawful (tag_of y) × (row (tag_of y)).Lawful y;
-  bytes = λ y. tag.bytes (tag_of y) ++ (row (tag_of y)).bytes y;
-  read = next tag.read (λ t. (row t).read);
-}
-
--- nothing but a condition, and then the form
-abbrev pub only : {A : Type 0} → Bool → BadBytes → Form A → Form A
-only test bad f = record {
-  Lawful = λ x. (test ≡ true) × f.Lawful x;
-  bytes = f.bytes;
-  read = if test then f.read else refuse bad;
-}
-
 -- ---- lists, after their count
-
--- bytes that are one field
-abbrev pub block : Form ℕ → Form (List ℕ)
-block count = record {
-  Lawful = λ bs. count.Lawful (length bs);
-  bytes = λ bs. count.bytes (length bs) ++ bs;
-  read = next count.read (λ n. field n (λ bs. bs));
-}
 
 abbrev pub listed : {A : Type 0} → Form ℕ → Form A → Form (List A)
 listed count f = record {

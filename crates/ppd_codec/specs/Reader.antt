@@ -17,9 +17,6 @@ Reader A = ℕ → List ℕ → Result (Got A) BadBytes
 abbrev pub done : {A : Type 0} → A → Reader A
 done x at bytes = Ok (record { value = x; at = at; rest = bytes })
 
-abbrev pub refuse : {A : Type 0} → BadBytes → Reader A
-refuse e at bytes = Err e
-
 abbrev pub after : {A B : Type 0} → Result (Got A) BadBytes → (A → Reader B) → Result (Got B) BadBytes
 after (Err e) more = Err e
 after (Ok g) more = more g.value g.at g.rest
@@ -36,13 +33,9 @@ field w of at bytes =
 
 -- a field that has one of the values that mean something, refused at its own offset
 abbrev pub checked : {A B : Type 0} → (A → Option B) → (ℕ → BadBytes) → Reader A → Reader B
-checked of bad r at bytes = next r (λ x. option_map_or done (of x) (refuse (bad at))) at bytes
-
--- two, the second by the first
-abbrev pub both : {A B : Type 0} → Reader A → (A → Reader B) → Reader (A × B)
-both r s = next r (λ x. next (s x) (λ y. done (x, y)))
+checked of bad r at bytes = next r (λ x. option_map_or done (of x) (λ now rest. Err (bad at))) at bytes
 
 -- so many, each by what the one before it leaves
 abbrev pub several : {S A : Type 0} → (S → Reader A) → (A → S) → S → ℕ → Reader (List A)
 several r leaves s zero = done []
-several r leaves s (suc n) = next (both (r s) (λ x. several r leaves (leaves x) n)) (λ p. done (p.0 ∷ p.1))
+several r leaves s (suc n) = next (r s) (λ x. next (several r leaves (leaves x) n) (λ xs. done (x ∷ xs)))

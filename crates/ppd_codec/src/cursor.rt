@@ -1,6 +1,6 @@
 ghost use Rattle.std.specs.Prelude.{◌≡◌, ◌≢◌, ◌+◌, ◌<◌, ◌≤◌, ◌^◌, length, nat_eq, IfErr, IfOk, FitsSigned};
-ghost use Rattle.std.specs.Int.{w64};
-ghost use Rattle.ppd_codec.specs.Form.{byte as byte_form, number_2 as number_2_form, number_4 as number_4_form, value as value_form};
+ghost use Rattle.std.specs.Int.{w64, w16, w32};
+ghost use Rattle.ppd_codec.specs.Form.{byte as byte_form, value as value_form, number as number_form};
 ghost use Rattle.ppd_codec.specs.Reader.{field};
 
 use crate::bad::BadBytes;
@@ -91,7 +91,7 @@ impl<'a> Cursor<'a> {
     }
 
     pub fn number_2<L: Ledger>(&mut self, steps: &mut Steps<L>) -> Result<u16, BadBytes>
-        ensures read { AnswersAs number_2_form.read self.old self.new steps.old steps.new result }
+        ensures read { AnswersAs (number_form w16).read self.old self.new steps.old steps.new result }
         ensures early { IfErr result (λ e. e ≢ BadBytes.Memory) }
     {
         let bytes = self.take::<2, L>(steps)?;
@@ -99,7 +99,7 @@ impl<'a> Cursor<'a> {
     }
 
     pub fn number_4<L: Ledger>(&mut self, steps: &mut Steps<L>) -> Result<u32, BadBytes>
-        ensures read { AnswersAs number_4_form.read self.old self.new steps.old steps.new result }
+        ensures read { AnswersAs (number_form w32).read self.old self.new steps.old steps.new result }
         ensures early { IfErr result (λ e. e ≢ BadBytes.Memory) }
     {
         let bytes = self.take::<4, L>(steps)?;

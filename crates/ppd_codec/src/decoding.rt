@@ -2,8 +2,7 @@ ghost use Rattle.std.specs.Prelude.{◌≡◌, ◌≢◌, ◌+◌, ◌<◌, ◌�
 ghost use Rattle.ppd_ast.specs.Valid.{IsValid};
 ghost use Rattle.ppd_ast.specs.ValidPlan.{IsValidPlan, IsValidPolicy};
 ghost use Rattle.ppd_codec.specs.Answer.{IsDecodingOf};
-ghost use Rattle.ppd_codec.specs.Came.{AnswersAs};
-ghost use Rattle.ppd_codec.specs.Format.{back as back_form};
+ghost use Rattle.ppd_codec.specs.Format.{logs as logs_form};
 ghost use Rattle.ppd_codec.specs.Recordings.{IsMade, nothing_left, refusal as refusal_of};
 
 use crate::bad::{BadBytes, Field};
@@ -30,38 +29,21 @@ fn refusal(error: SourceError) -> BadBytes
 }
 
 impl<'a> Cursor<'a> {
-    // What stands after the source: the logs, where the version is the one that the source asks for.
-    fn back<L: Ledger>(
-        &mut self,
-        alloc: Global,
-        version: u8,
-        facts: Facts,
-        steps: &mut Steps<L>,
-    ) -> Result<Seq<Seq<Entry>>, BadBytes>
-        ensures { AnswersAs (back_form version facts).read self.old self.new steps.old steps.new result }
-    {
-        if version == facts.version {
-            return self.logs(alloc, facts, steps);
-        }
-        Err(BadBytes::Range(4, Field::Version))
-    }
-
-    // The same, after which nothing is left.
+    // The logs, after which nothing is left.
     fn last<L: Ledger>(
         &mut self,
         alloc: Global,
-        version: u8,
         facts: Facts,
         steps: &mut Steps<L>,
     ) -> Result<Seq<Seq<Entry>>, BadBytes>
         ensures ok { IfOk result
-            (λ lists. nothing_left ((back_form version facts).read self.old.at self.old.rest.now) ≡ Ok lists) }
+            (λ lists. nothing_left ((logs_form facts).read self.old.at self.old.rest.now) ≡ Ok lists) }
         ensures err { IfErr result
             (λ e. e ≢ BadBytes.Memory
-            → nothing_left ((back_form version facts).read self.old.at self.old.rest.now) ≡ Err e) }
+            → nothing_left ((logs_form facts).read self.old.at self.old.rest.now) ≡ Err e) }
         ensures cost { steps.new ≤ steps.old + length self.old.rest.now }
     {
-        let lists = self.back(alloc, version, facts, steps)?;
+        let lists = self.logs(alloc, facts, steps)?;
         if self.is_empty() {
             return Ok(lists);
         }
@@ -115,7 +97,10 @@ pub fn decode_in<L: Ledger>(
         Err(error) => return Err(refusal(error)),
     };
     let facts = facts_of(&program);
-    let lists = cursor.last(alloc, front.version, facts, steps)?;
+    if front.version != facts.version {
+        return Err(BadBytes::Range(4, Field::Version));
+    }
+    let lists = cursor.last(alloc, facts, steps)?;
     made(alloc, &front, program, lists)
 }
 

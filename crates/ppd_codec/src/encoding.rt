@@ -4,7 +4,7 @@ ghost use Rattle.ppd_ast.specs.declared.program.Program.{Program};
 ghost use Rattle.ppd_check.specs.Read.{IsRead};
 ghost use Rattle.ppd_codec.specs.declared.facts.Facts.{Facts};
 ghost use Rattle.ppd_codec.specs.Format.{front as front_form, logs as logs_form, source as source_form};
-ghost use Rattle.ppd_codec.specs.Recordings.{AreLawful, IsRecordingOf, front_of, version_of};
+ghost use Rattle.ppd_codec.specs.Recordings.{AreLawful, IsRecordingOf, front_of, facts_of};
 
 use crate::facts::facts_of;
 use crate::recording::Header;
@@ -72,7 +72,7 @@ impl Writer {
 
 // The version of the recordings of a source. An accepted source has one but for want of memory.
 fn version_for(alloc: Global, source: &[u8]) -> Result<u8, Memory>
-    ensures { IfOk result (λ version. (p : Program) × IsRead source.now p × (version ≡ version_of p.chans)) }
+    ensures { IfOk result (λ version. (p : Program) × IsRead source.now p × (version ≡ (facts_of p).version)) }
 {
     match read_source(alloc, source) {
         Ok(program) => Ok(facts_of(&program).version),

@@ -1,6 +1,6 @@
 ghost use Rattle.std.specs.Prelude.{◌≡◌, nat_eq};
 ghost use Rattle.ppd_ast.specs.Valid.{IsValid};
-ghost use Rattle.ppd_codec.specs.Recordings.{facts_of as facts_in, version_of as version_in};
+ghost use Rattle.ppd_codec.specs.Recordings.{facts_of as facts_in};
 ghost use Rattle.std.specs.List.{list_any};
 
 use ppd_ast::{Chan, Program};
@@ -22,10 +22,14 @@ fn has_rendezvous(chans: &[Chan]) -> bool
     chans.iter().any(|chan| chan.capacity == 0)
 }
 
-fn version_of(chans: &[Chan]) -> u8
-    ensures { result ≡ version_in chans.now }
+fn version_of(program: &Program) -> u8
+    ensures { result ≡ (facts_in program.now).version }
 {
-    if has_rendezvous(chans) { 2 } else { 1 }
+    if has_rendezvous(program.chans.as_slice()) {
+        2
+    } else {
+        1
+    }
 }
 
 /// The facts of a program.
@@ -34,7 +38,7 @@ pub(crate) fn facts_of(program: &Program) -> Facts
     ensures { result ≡ facts_in program.now }
 {
     Facts {
-        version: version_of(program.chans.as_slice()),
+        version: version_of(program),
         processes: (program.bodies.len() - program.functions as usize) as u8,
         shared: program.starts.len() as u32,
     }

@@ -1,5 +1,6 @@
+ghost use Rattle.std.specs.Int.{w16, w32};
 ghost use Rattle.std.specs.Prelude.{◌≡◌, ◌+◌, ◌<◌, ◌≤◌, ◌++◌, [], length, OnOk};
-ghost use Rattle.ppd_codec.specs.Form.{byte as byte_form, number_2 as number_2_form, number_4 as number_4_form, value as value_form};
+ghost use Rattle.ppd_codec.specs.Form.{byte as byte_form, value as value_form, number as number_form};
 
 use ppd_ast::{Memory, Steps};
 use std::alloc::Global;
@@ -40,14 +41,14 @@ impl Writer {
     }
 
     pub fn number_2<L: Ledger>(&mut self, number: u16, steps: &mut Steps<L>) -> Result<(), Memory>
-        ensures ok { OnOk result (self.new.out.items ≡ self.old.out.items ++ number_2_form.bytes number) }
+        ensures ok { OnOk result (self.new.out.items ≡ self.old.out.items ++ (number_form w16).bytes number) }
         ensures cost { steps.new + length self.old.out.items ≤ steps.old + length self.new.out.items }
     {
         self.put(&number.to_be_bytes(), steps)
     }
 
     pub fn number_4<L: Ledger>(&mut self, number: u32, steps: &mut Steps<L>) -> Result<(), Memory>
-        ensures ok { OnOk result (self.new.out.items ≡ self.old.out.items ++ number_4_form.bytes number) }
+        ensures ok { OnOk result (self.new.out.items ≡ self.old.out.items ++ (number_form w32).bytes number) }
         ensures cost { steps.new + length self.old.out.items ≤ steps.old + length self.new.out.items }
     {
         self.put(&number.to_be_bytes(), steps)

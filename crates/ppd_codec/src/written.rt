@@ -1,8 +1,9 @@
+ghost use Rattle.std.specs.Int.{w16};
 ghost use Rattle.std.specs.Prelude.{◌≡◌, ℕ, ◌+◌, ◌<◌, ◌≤◌, ◌^◌, ◌++◌, length, OnOk};
 ghost use Rattle.std.specs.List.{All};
 ghost use Rattle.ppd_codec.specs.Counted.{IsCounted, IsCountedLog};
 ghost use Rattle.ppd_codec.specs.declared.facts.Facts.{Facts};
-ghost use Rattle.ppd_codec.specs.Form.{byte as byte_form, number_2 as number_2_form};
+ghost use Rattle.ppd_codec.specs.Form.{byte as byte_form, number as number_form};
 ghost use Rattle.ppd_codec.specs.Format.{values as values_form, cells as cells_form, an_entry, log as log_form, logs as logs_form};
 ghost use Rattle.ppd_codec_fields.specs.Fields.{kind_code as kind_code_of, status_code as status_code_of};
 
@@ -77,7 +78,7 @@ impl Writer {
         requires { length values.now < 2 ^ 16 }
         ensures ok { OnOk result
             (self.new.out.items ≡ self.old.out.items
-            ++ (byte_form.bytes tag ++ (number_2_form.bytes number ++ values_form.bytes values.now))) }
+            ++ (byte_form.bytes tag ++ ((number_form w16).bytes number ++ values_form.bytes values.now))) }
         ensures cost { steps.new + length self.old.out.items ≤ steps.old + length self.new.out.items }
     {
         self.byte(tag, steps)?;

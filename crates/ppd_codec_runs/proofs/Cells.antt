@@ -1,22 +1,22 @@
 -- The logs of a lawful recording name cells of its program alone.
-use Rattle.std.specs.Prelude.{Option, Some, None, IfSome, ◌||◌}
-use Rattle.std.specs.List.{AllByRecursion}
-use Rattle.std.proofs.Common.{◌≡◌, ℕ, zero, suc, ◌+◌, ◌<◌, ◌≤◌, List, [], ◌∷◌, ◌++◌, length, map, get_or, Bool, true, false, refl, ap, ◌∙◌, arith, ne_eqb}
-use Rattle.std.proofs.lemmas.Bool.Decides.{nat_tests}
-use Rattle.ppd_ast.specs.declared.program.Program.{Program}
 use Rattle.ppd_ast.specs.Members.{has}
-use Rattle.ppd_codec.specs.declared.recording.Header.{Header}
+use Rattle.ppd_ast.specs.declared.program.Program.{Program}
 use Rattle.ppd_codec.specs.Form.{Along}
 use Rattle.ppd_codec.specs.Format.{an_entry, log}
-use Rattle.ppd_codec_fields.specs.Fields.{is_next}
 use Rattle.ppd_codec.specs.Recordings.{IsLawfulBy, facts_of}
+use Rattle.ppd_codec.specs.declared.recording.Header.{Header}
+use Rattle.ppd_codec_fields.specs.Fields.{is_next}
 use Rattle.ppd_entry.specs.declared.entry.Entry.{Entry}
 use Rattle.ppd_entry.specs.declared.entry.Entry.TheVariants as entry
 use Rattle.ppd_entry.specs.declared.entry.Logs.{Logs}
-use Rattle.ppd_graph.specs.declared.sets.EdgeSets.{EdgeSets}
 use Rattle.ppd_graph.specs.Graphs.{sets_at}
-use Rattle.ppd_graph.specs.LogRecord.{edge_sets_in, ended_by, found_after, no_sets, sets_from}
+use Rattle.ppd_graph.specs.LogRecord.{edge_sets, edge_sets_in, no_sets, sets_from}
+use Rattle.ppd_graph.specs.declared.sets.EdgeSets.{EdgeSets}
 use Rattle.ppd_race.specs.Races.{AreCellsThere, cells_by}
+use Rattle.std.proofs.Common.{Bool, List, [], ap, arith, false, get_or, length, map, ne_eqb, refl, suc, true, zero, ℕ, ◌++◌, ◌+◌, ◌<◌, ◌∙◌, ◌∷◌, ◌≡◌, ◌≤◌}
+use Rattle.std.proofs.lemmas.Bool.Decides.{nat_tests}
+use Rattle.std.specs.List.{AllByRecursion}
+use Rattle.std.specs.Prelude.{IfSome, None, Option, Some, ◌||◌}
 
 record AreBelow (n : ℕ) (s : EdgeSets) : Type 0 where
   pub reads : AllByRecursion (λ c. c < n) s.reads
@@ -31,34 +31,20 @@ along_below n low (c ∷ cs) h = (next_below n low c h.0, along_below n (c + 1) 
 
 -- ---- the sets of entries
 
-ended_below : (p : Program) (e : Entry) → (an_entry (facts_of p)).Lawful e → AllByRecursion (AreBelow (length p.starts)) (ended_by e)
-ended_below p (entry.Sync k o n v r w) l = (record { reads = along_below (length p.starts) 0 r l.1.1.1.1.1.0.2; writes = along_below (length p.starts) 0 w l.1.1.1.1.1.1.2 }, tt)
-ended_below p (entry.Prelog b vs) l = tt
-ended_below p (entry.Unit u vs) l = tt
-ended_below p (entry.Postlog b vs) l = tt
-ended_below p (entry.End s n r w) l = tt
-
-found_below : (p : Program) (found : Option EdgeSets) (e : Entry) → IfSome found (AreBelow (length p.starts)) → (an_entry (facts_of p)).Lawful e → IfSome (found_after found e) (AreBelow (length p.starts))
-found_below p found (entry.Sync k o n v r w) h l = tt
-found_below p found (entry.Prelog b vs) h l = h
-found_below p found (entry.Unit u vs) h l = h
-found_below p found (entry.Postlog b vs) h l = h
-found_below p None (entry.End s n r w) h l = record { reads = along_below (length p.starts) 0 r l.1.1.1.0.2; writes = along_below (length p.starts) 0 w l.1.1.1.1.2 }
-found_below p (Some x) (entry.End s n r w) h l = h
-
-all_append : {A : Type 0} (P : A → Type 0) (xs ys : List A) → AllByRecursion P xs → AllByRecursion P ys → AllByRecursion P (xs ++ ys)
-all_append P [] ys h k = k
-all_append P (x ∷ xs) ys h k = (h.0, all_append P xs ys h.1 k)
-
 none_below : (n : ℕ) → AreBelow n no_sets
 none_below n = record { reads = tt; writes = tt }
 
 sets_below : (p : Program) (found : Option EdgeSets) (es : List Entry) → IfSome found (AreBelow (length p.starts)) → AllByRecursion (an_entry (facts_of p)).Lawful es → AllByRecursion (AreBelow (length p.starts)) (sets_from found es)
 sets_below p None [] h l = (none_below (length p.starts), tt)
 sets_below p (Some x) [] h l = (h, tt)
-sets_below p found (e ∷ es) h l =
-    all_append (AreBelow (length p.starts)) (ended_by e) (sets_from (found_after found e) es) (ended_below p e l.0)
-    (sets_below p (found_after found e) es (found_below p found e h l.0) l.1)
+sets_below p found (entry.Sync k o n v r w ∷ es) h l =
+    (record { reads = along_below (length p.starts) 0 r l.0.1.1.1.1.1.0.2; writes = along_below (length p.starts) 0 w l.0.1.1.1.1.1.1.2 }, sets_below p None es tt l.1)
+sets_below p found (entry.Prelog b vs ∷ es) h l = sets_below p found es h l.1
+sets_below p found (entry.Unit u vs ∷ es) h l = sets_below p found es h l.1
+sets_below p found (entry.Postlog b vs ∷ es) h l = sets_below p found es h l.1
+sets_below p None (entry.End s n r w ∷ es) h l =
+    sets_below p (Some (edge_sets r w)) es (record { reads = along_below (length p.starts) 0 r l.0.1.1.1.0.2; writes = along_below (length p.starts) 0 w l.0.1.1.1.1.2 }) l.1
+sets_below p (Some x) (entry.End s n r w ∷ es) h l = sets_below p (Some x) es h l.1
 
 lists_below : (p : Program) (ls : List (List Entry)) → AllByRecursion (log (facts_of p)).Lawful ls → AllByRecursion (AllByRecursion (AreBelow (length p.starts))) (map (sets_from None) ls)
 lists_below p [] l = tt
@@ -83,6 +69,6 @@ by_kind n c false s h le = not_there n c s.reads h.reads le
 
 pub cells_there : (p : Program) (s : List ℕ) (h : Header) (l : Logs) → IsLawfulBy p s h l → AreCellsThere p l
 cells_there p s h l lawful = λ a c w le there.
-    let all = lists_below p l.lists lawful.fields.1.1.1 in
+    let all = lists_below p l.lists lawful.fields.1.1 in
     let own = got_of (AllByRecursion (AreBelow (length p.starts))) [] (edge_sets_in l) a.process tt all in
     by_kind (length p.starts) c w (sets_at (edge_sets_in l) a) (got_of (AreBelow (length p.starts)) no_sets (get_or (edge_sets_in l) a.process []) a.edge (none_below (length p.starts)) own) le

@@ -17,9 +17,9 @@ use Rattle.ppd_index.specs.Refusals.{first_in_lists}
 use Rattle.law_logs.proofs.Index.Found.{logs_indexed}
 use Rattle.law_logs.proofs.Recording.Whole.{logs_lawful}
 use Rattle.ppd_model.specs.Logs.{closed_logs}
-use Rattle.ppd_session.specs.Known.{known_of_logs, known_of_story}
+use Rattle.ppd_session.specs.Known.{known_of_logs, known_of_run, known_of_story}
 use Rattle.ppd_session.proofs.Honest.{known_as}
-use Rattle.ppd_codec_runs.specs.Laws.{NoRunIsRefused, RunsAreRecalled, known_by}
+use Rattle.ppd_codec_runs.specs.Laws.{NoRunIsRefused, RunsAreRecalled}
 use Rattle.ppd_codec_runs.specs.Recordings.{AreOfSomeRun, IsRefusedBy, IsRunRecorded, known_of}
 use Rattle.ppd_codec_runs.specs.Recordings.IsRefusedBy.{by_bytes, by_log, by_sync}
 use Rattle.ppd_codec_runs.proofs.Same.{IsOfThree, indexed_not, of_three}
@@ -40,7 +40,7 @@ module _ (source : List ℕ) (header : Header) (program : Program) (h bytes : Li
   valid = read_valid source program run.accepted
 
   -- what is known of it
-  recalled : (r : Recording) → IsDecoded bytes r → known_of r ≡ known_by program header h
+  recalled : (r : Recording) → IsDecoded bytes r → known_of r ≡ known_of_run program (plan_of program header.policy) header.budget h
   recalled r d =
       let s = three r d in
       ap (λ (p : Program). known_of_logs p r.plan r.header.budget r.logs) s.program_is

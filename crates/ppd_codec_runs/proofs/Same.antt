@@ -1,4 +1,5 @@
 -- Bytes are the recording of one thing at most, and are not both accepted and refused.
+use Rattle.ppd_model.proofs.Tested.{none_before_itself}
 use Rattle.std.specs.Prelude.{Option, None}
 use Rattle.std.proofs.Common.{◌≡◌, ◌≢◌, ℕ, List, refl, sym, subst, ◌∙◌, ap}
 use Rattle.std.proofs.lemmas.Option.{none-some}
@@ -74,7 +75,7 @@ graphed_not : (program : Program) (of : Logs) → AreOrdered program of → (e :
 graphed_not program of o (sync.NoObject at) other r = none-some at (sym o.numbered.objects ∙ r)
 graphed_not program of o (sync.NumberTwice at) other r = none-some at (sym o.numbered.once ∙ r.1)
 graphed_not program of o (sync.NumberMissing kind object number) other r = none-some (kind, object, number) (sym o.numbered.complete ∙ r.2)
-graphed_not program of o (sync.Cycle nodes) other r = o.acyclic r.1.first (way_before program (record_in of) r.1.first r.1.rest r.1.first r.1.way)
+graphed_not program of o (sync.Cycle nodes) other r = none_before_itself program (record_in of) o.acyclic r.1.first (way_before program (record_in of) r.1.first r.1.rest r.1.first r.1.way)
 graphed_not program of o sync.Memory other r = other refl
 
 graph_as : (bytes : List ℕ) (r q : Recording) → IsDecoded bytes r → IsDecoded bytes q → AreOrdered r.program r.logs → AreOrdered q.program q.logs

@@ -13,18 +13,15 @@ use Rattle.ppd_codec_runs.specs.Recordings.{IsAccepted, IsRefusedBy, IsRunRecord
 abbrev pub RefusedOrAccepted : Type 0
 RefusedOrAccepted = (bytes line : List ℕ) (r : Recording) → IsAccepted bytes r → IsRefusedBy bytes line → ⊥
 
--- what is known of the run by a schedule, with the plan of the header's policy and its budget
-abbrev pub known_by : Program → Header → List ℕ → Known
-known_by program header h = known_of_run program (plan_of program header.policy) header.budget h
-
 -- this is what is known of each whole run of which the bytes are the recording, and where it has no race, of each
 -- schedule that agrees with it
 abbrev pub IsKnownOfRuns : List ℕ → Known → Type 0
 IsKnownOfRuns bytes x =
     (source : List ℕ) (header : Header) (program : Program) (h : List ℕ) → IsRunRecorded source header program h bytes
-    → (x ≡ known_by program header h)
+    → (x ≡ known_of_run program (plan_of program header.policy) header.budget h)
     × (races program (plan_of program header.policy) header.budget h ≡ [] → (h' : List ℕ)
-    → Agree program (plan_of program header.policy) header.budget h h' → x ≡ known_by program header h')
+    → Agree program (plan_of program header.policy) header.budget h h'
+    → x ≡ known_of_run program (plan_of program header.policy) header.budget h')
 
 -- what is known of an accepted recording of a run is what is known of the run
 abbrev pub RunsAreRecalled : Type 0

@@ -18,8 +18,7 @@ use Rattle.ppd_index.specs.declared.refusal.BadLog.TheVariants as log
 use Rattle.law_logs.specs.Recording.Lawful.{IsWithinRange}
 use Rattle.ppd_model.specs.Logs.{closed_logs}
 use Rattle.ppd_model.specs.Schedule.{IsWhole}
-use Rattle.ppd_session.specs.Known.{Known, Seen, known_of_logs, seens}
-use Rattle.ppd_session.specs.Knowing.{IsKnownOfLogs}
+use Rattle.ppd_session.specs.Known.{Known, known_of_logs}
 use Rattle.ppd_session.specs.Pasts.{BelongTogether}
 use Rattle.ppd_text_refusals.specs.Recordings.{refused_bytes, refused_log, refused_sync}
 use Rattle.ppd_codec_runs.specs.declared.recalling.NoRecall.{NoRecall}
@@ -59,14 +58,6 @@ pub record IsAccepted (bytes : List ℕ) (r : Recording) : Type 0 where
 -- what is known of a recording
 abbrev pub known_of : Recording → Known
 known_of r = known_of_logs r.program r.plan r.header.budget r.logs
-
--- this is known of a recording
-abbrev pub IsKnownOf : Recording → Known → Type 0
-IsKnownOf r x = IsKnownOfLogs r.program r.plan r.header.budget r.logs x
-
--- what the replays of each process of a recording give
-abbrev pub seens_of : Recording → List Seen
-seens_of r = seens r.program r.plan r.header.budget r.logs
 
 -- the bytes are refused with this line: they are no recording, else its logs have no index, else they have no graph
 pub data IsRefusedBy (bytes : List ℕ) : List ℕ → Type 0 where

@@ -1,28 +1,28 @@
 -- The local variables of which a value may come from one statement to another.
-use Rattle.std.proofs.Common.{◌≡◌, ℕ, ◌+◌, ◌<◌, min, List, [], ◌∷◌, ◌++◌, Bool, true, false, Option, Some, None, length, map, refl, sym, ap, ◌∙◌, subst, arith, inl, inr, cond, append-nil}
-use Rattle.std.specs.Prelude.{IsTrue, nat_eq, nat_lt, ◌&&◌, ◌||◌, slice_get, if◌then◌else◌, option_to_list}
-use Rattle.std.specs.List.{filter, flat_map, range_with_len}
-use Rattle.std.proofs.lemmas.Bool.{cases_Bool, cases_order, cond-true, cond-false, eq-eqb, eqb-true, eqb-false, lt-ltb, ltb-true, false_from_ne_true}
+use Rattle.ppd_ast.proofs.Members.{filter_has, filter_same_in, has_filter}
+use Rattle.ppd_ast.proofs.Those.{both, those_no, those_yes}
+use Rattle.ppd_ast.proofs.ValidLaws.{slice_get_below, slice_get_there, stmt_in_body}
+use Rattle.ppd_ast.proofs.Vocabulary.{kind_of_stmt}
+use Rattle.ppd_ast.specs.Lookups.{body_numbered, body_of, kind_of}
+use Rattle.ppd_ast.specs.Members.{has, those}
 use Rattle.ppd_ast.specs.Valid.{IsValid}
 use Rattle.ppd_ast.specs.declared.program.Kind.{Kind}
 use Rattle.ppd_ast.specs.declared.program.Kind.TheVariants as K
 use Rattle.ppd_ast.specs.declared.program.Program.{Program}
 use Rattle.ppd_ast.specs.declared.program.Stmt.{Stmt}
-use Rattle.ppd_ast.proofs.ValidLaws.{slice_get_below, slice_get_there, stmt_in_body}
-use Rattle.ppd_ast.specs.Members.{has, those}
-use Rattle.ppd_ast.specs.Lookups.{kind_of, top_of, body_of_stmt, body_of, params_of, locals_of}
-use Rattle.ppd_ast.proofs.Vocabulary.{kind_of_stmt}
-use Rattle.ppd_ast.proofs.Members.{has_filter, filter_has, filter_same_in}
-use Rattle.ppd_ast.proofs.Those.{those_yes, those_no, both}
 use Rattle.ppd_cfg.specs.Flow.{next_of}
-use Rattle.ppd_cfg.specs.Lists.{first_or}
 use Rattle.ppd_cfg.specs.Reach.{closure, leads}
-use Rattle.ppd_sets.specs.Used.{callee, is_met, reads_at}
-use Rattle.ppd_deps.specs.declared.edges.StaticEdge.{StaticEdge}
-use Rattle.ppd_deps.specs.Edges.{begins, comes_to, kept_rows, locals_from}
 use Rattle.ppd_deps.proofs.Vocabulary.{local_edge}
-use Rattle.ppd_deps.specs.Named.{local_reads, local_writes, places_by}
+use Rattle.ppd_deps.specs.Edges.{begins, comes_to, kept_rows, locals_from}
+use Rattle.ppd_deps.specs.Named.{own_vars, places_by}
 use Rattle.ppd_deps.specs.Rows.{at_body, is_reader}
+use Rattle.ppd_deps.specs.declared.edges.StaticEdge.{StaticEdge}
+use Rattle.ppd_sets.specs.Used.{callee, is_met, reads_at, writes_at}
+use Rattle.std.proofs.Common.{Bool, List, Option, Some, [], ap, append-nil, arith, cond, false, inl, inr, length, map, min, refl, subst, sym, true, ℕ, ◌++◌, ◌+◌, ◌<◌, ◌∙◌, ◌∷◌, ◌≡◌}
+use Rattle.std.proofs.lemmas.Bool.{cases_Bool, cases_order, cond-false, cond-true, eq-eqb, eqb-false, eqb-true, false_from_ne_true, lt-ltb, ltb-true}
+use Rattle.std.specs.List.{filter, flat_map, range_with_len}
+use Rattle.std.specs.Option.{option_map_or}
+use Rattle.std.specs.Prelude.{IsTrue, if◌then◌else◌, nat_eq, nat_lt, option_to_list, slice_get, ◌&&◌, ◌||◌}
 
 -- ---- filters
 
@@ -44,25 +44,25 @@ has_those n test x h = both (has (those n test) x) (test x) (λ t. (has_filter t
 -- ---- the variables of one body
 
 -- of the body of t: those that t reads and to which a value comes
-own_locals : (p : Program) (s t : ℕ) → those (min (length (locals_of p (body_of p t))) 65536) (λ v. has (local_reads p t) v && comes_to p (body_of p t) s v t) ≡ locals_from p s t
+own_locals : (p : Program) (s t : ℕ) → those (min (length (body_numbered p (body_of p t)).locals) 65536) (λ v. has (own_vars p (reads_at false p) t) v && comes_to p (body_of p t) s v t) ≡ locals_from p s t
 own_locals p s t =
     let b : ℕ = body_of p t in
-    let n : ℕ = min (length (locals_of p b)) 65536 in
-    let met : ℕ → Bool = λ v. is_met (reads_at false p t) (slice_get (locals_of p b) v) in
+    let n : ℕ = min (length (body_numbered p b).locals) 65536 in
+    let met : ℕ → Bool = λ v. is_met (reads_at false p t) (slice_get (body_numbered p b).locals v) in
     let comes : ℕ → Bool = λ v. comes_to p b s v t in
     filter_same_in (λ v. has (those n met) v && comes v) (λ v. met v && comes v) (range_with_len 0 n) (λ v h. ap (λ c. c && comes v) (has_those n met v h))
     ∙ sym (filter_twice comes met (range_with_len 0 n))
 
-pub locals_are : (p : Program) (b s t : ℕ) → those (min (length (locals_of p b)) 65536) (λ v. is_reader p b v t && comes_to p b s v t) ≡ (if nat_eq (body_of p t) b then locals_from p s t else [])
+pub locals_are : (p : Program) (b s t : ℕ) → those (min (length (body_numbered p b).locals) 65536) (λ v. is_reader p b v t && comes_to p b s v t) ≡ (if nat_eq (body_of p t) b then locals_from p s t else [])
 locals_are p b s t = elim (cases_Bool (nat_eq (body_of p t) b)) [
   | inl yes' ↦
       let e : body_of p t ≡ b = eqb-true (body_of p t) b yes' in
-      subst (λ x. those (min (length (locals_of p x)) 65536) (λ v. is_reader p x v t && comes_to p x s v t) ≡ (if nat_eq (body_of p t) x then locals_from p s t else [])) e
-      (filter_same_in (λ v. is_reader p (body_of p t) v t && comes_to p (body_of p t) s v t) (λ v. has (local_reads p t) v && comes_to p (body_of p t) s v t)
-      (range_with_len 0 (min (length (locals_of p (body_of p t))) 65536)) (λ v h. ap (λ c. (c && has (local_reads p t) v) && comes_to p (body_of p t) s v t) (eq-eqb (body_of p t) (body_of p t) refl))
+      subst (λ x. those (min (length (body_numbered p x).locals) 65536) (λ v. is_reader p x v t && comes_to p x s v t) ≡ (if nat_eq (body_of p t) x then locals_from p s t else [])) e
+      (filter_same_in (λ v. is_reader p (body_of p t) v t && comes_to p (body_of p t) s v t) (λ v. has (own_vars p (reads_at false p) t) v && comes_to p (body_of p t) s v t)
+      (range_with_len 0 (min (length (body_numbered p (body_of p t)).locals) 65536)) (λ v h. ap (λ c. (c && has (own_vars p (reads_at false p) t) v) && comes_to p (body_of p t) s v t) (eq-eqb (body_of p t) (body_of p t) refl))
       ∙ own_locals p s t ∙ sym (cond-true (nat_eq (body_of p t) (body_of p t)) (locals_from p s t) [] (eq-eqb (body_of p t) (body_of p t) refl)))
   | inr no' ↦
-      filter_none (λ v. is_reader p b v t && comes_to p b s v t) (range_with_len 0 (min (length (locals_of p b)) 65536)) (λ v. ap (λ c. (c && has (local_reads p t) v) && comes_to p b s v t) no')
+      filter_none (λ v. is_reader p b v t && comes_to p b s v t) (range_with_len 0 (min (length (body_numbered p b).locals) 65536)) (λ v. ap (λ c. (c && has (own_vars p (reads_at false p) t) v) && comes_to p b s v t) no')
       ∙ sym (cond-false (nat_eq (body_of p t) b) (locals_from p s t) [] no')
 ]
 
@@ -71,7 +71,7 @@ map_if true f xs = refl
 map_if false f xs = refl
 
 -- the edges that all variables of a body bring
-pub body_edges : (p : Program) (b s t : ℕ) → map (local_edge s) (those (min (length (locals_of p b)) 65536) (λ v. is_reader p b v t && comes_to p b s v t)) ≡ at_body p b t (map (local_edge s) (locals_from p s t))
+pub body_edges : (p : Program) (b s t : ℕ) → map (local_edge s) (those (min (length (body_numbered p b).locals) 65536) (λ v. is_reader p b v t && comes_to p b s v t)) ≡ at_body p b t (map (local_edge s) (locals_from p s t))
 body_edges p b s t = ap (map (local_edge s)) (locals_are p b s t) ∙ map_if (nat_eq (body_of p t) b) (local_edge s) (locals_from p s t)
 
 map_more : (f : ℕ → StaticEdge) (xs : List ℕ) (x : ℕ) → map f (xs ++ x ∷ []) ≡ map f xs ++ f x ∷ []
@@ -119,7 +119,7 @@ body_there p t v lt =
     let at = slice_get_there p.stmts t lt in
     let b = stmt_in_body p t at.0 v at.1 in
     let below : at.0.body < length p.bodies = slice_get_below p.bodies at.0.body b.0 b.1 in
-    subst (λ n. n < length p.bodies) (sym (ap body_of_stmt at.1)) below
+    subst (λ n. n < length p.bodies) (sym (ap (λ o. option_map_or (λ (x : Stmt). x.body) o 0) at.1)) below
 
 pub all_bodies : (p : Program) (n t : ℕ) (xs : List StaticEdge) → IsValid p → n ≡ length p.bodies → t < length p.stmts → (if nat_lt (body_of p t) n then xs else []) ≡ xs
 all_bodies p n t xs v e lt = let below = body_there p t v lt in cond-true (nat_lt (body_of p t) n) xs [] (lt-ltb (body_of p t) n (omega (arith, e, below)))
@@ -128,21 +128,21 @@ all_bodies p n t xs v e lt = let below = body_there p t v lt in cond-true (nat_l
 
 none_from : (p : Program) (s t : ℕ) → ((v : ℕ) → begins p (body_of p t) s v ≡ []) → locals_from p s t ≡ []
 none_from p s t e =
-    filter_none (λ v. comes_to p (body_of p t) s v t) (local_reads p t)
-    (λ v. ap (λ starts. leads (closure (kept_rows p (body_of p t) (slice_get (locals_of p (body_of p t)) v))) starts t) (e v))
+    filter_none (λ v. comes_to p (body_of p t) s v t) (own_vars p (reads_at false p) t)
+    (λ v. ap (λ starts. leads (closure (kept_rows p (body_of p t) (slice_get (body_numbered p (body_of p t)).locals v))) starts t) (e v))
 
 -- where the paths begin, by the statement's kind
 abbrev begins_by : Program → (b s v : ℕ) → Kind → List ℕ
 begins_by p b s v k =
-    flat_map (next_of p) (filter (λ c. has (local_writes p c) v) (places_by p b s k)) ++ (if has (callee k) b && nat_lt v (params_of p b) then option_to_list (first_or (top_of p b) None) else [])
+    flat_map (next_of p) (filter (λ c. has (own_vars p (writes_at false p) c) v) (places_by p b s k)) ++ (if has (callee k) b && nat_lt v (body_numbered p b).params then option_to_list (slice_get (body_numbered p b).top 0) else [])
 
 call_none : (p : Program) (b s v f : ℕ) (args : List ℕ) (into : Option ℕ) → nat_eq f b ≡ false → begins_by p b s v (K.Call f args into) ≡ []
-call_none p b s v f args into e = ap (λ c. if (c || false) && nat_lt v (params_of p b) then option_to_list (first_or (top_of p b) None) else []) e
+call_none p b s v f args into e = ap (λ c. if (c || false) && nat_lt v (body_numbered p b).params then option_to_list (slice_get (body_numbered p b).top 0) else []) e
 
 own_none : (p : Program) (b s v : ℕ) (k : Kind) → callee k ≡ [] → places_by p b s k ≡ [] → begins_by p b s v k ≡ []
 own_none p b s v k c e =
-    ap (λ xs. flat_map (next_of p) (filter (λ c. has (local_writes p c) v) xs) ++ (if has (callee k) b && nat_lt v (params_of p b) then option_to_list (first_or (top_of p b) None) else [])) e
-    ∙ ap (λ xs. if has xs b && nat_lt v (params_of p b) then option_to_list (first_or (top_of p b) None) else []) c
+    ap (λ xs. flat_map (next_of p) (filter (λ c. has (own_vars p (writes_at false p) c) v) xs) ++ (if has (callee k) b && nat_lt v (body_numbered p b).params then option_to_list (slice_get (body_numbered p b).top 0) else [])) e
+    ∙ ap (λ xs. if has xs b && nat_lt v (body_numbered p b).params then option_to_list (slice_get (body_numbered p b).top 0) else []) c
 
 -- what a call writes is of the function's body
 pub call_edges : (p : Program) (s t f : ℕ) (args : List ℕ) (into : Option ℕ) → kind_of p s ≡ K.Call f args into → at_body p f t (map (local_edge s) (locals_from p s t)) ≡ map (local_edge s) (locals_from p s t)
@@ -174,7 +174,7 @@ own_at p s t k is own = elim (cases_Bool (nat_eq (body_of p t) (body_of p s))) [
 -- the same by the statement
 pub own_edges : (p : Program) (s t : ℕ) (x : Stmt) (k : Kind) → slice_get p.stmts s ≡ Some x → IsOwn p x.kind → at_body p x.body t (map (local_edge s) (locals_from p s t)) ≡ map (local_edge s) (locals_from p s t)
 own_edges p s t x k at own =
-    ap (λ b. at_body p b t (map (local_edge s) (locals_from p s t))) (sym (ap body_of_stmt at)) ∙ own_at p s t x.kind (ap kind_of_stmt at) own
+    ap (λ b. at_body p b t (map (local_edge s) (locals_from p s t))) (sym (ap (λ o. option_map_or (λ (x : Stmt). x.body) o 0) at)) ∙ own_at p s t x.kind (ap kind_of_stmt at) own
 
 -- so is each statement but a call and a `Return`
 pub own_by : (p : Program) (k : Kind) → ((f : ℕ) (args : List ℕ) (into : Option ℕ) → k ≡ K.Call f args into → ⊥) → ((e : Option ℕ) → k ≡ K.Return e → ⊥) → IsOwn p k
@@ -195,7 +195,7 @@ own_by p K.End c r = record { calls_none = refl; places_are = λ b s. refl }
 -- no path begins where nothing is written
 pub none_begin : (p : Program) (b s v : ℕ) → begins p b s v ≡ [] → (t : ℕ) → [] ≡ (if is_reader p b v t && comes_to p b s v t then local_edge s v ∷ [] else [])
 none_begin p b s v e t =
-    let none : comes_to p b s v t ≡ false = ap (λ starts. leads (closure (kept_rows p b (slice_get (locals_of p b) v))) starts t) e in
+    let none : comes_to p b s v t ≡ false = ap (λ starts. leads (closure (kept_rows p b (slice_get (body_numbered p b).locals v))) starts t) e in
     by (is_reader p b v t) none
   where
     by : (c : Bool) → comes_to p b s v t ≡ false → [] ≡ (if c && comes_to p b s v t then local_edge s v ∷ [] else [])

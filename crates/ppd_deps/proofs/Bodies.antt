@@ -1,43 +1,42 @@
 -- Each statement is among those of its body, and what it may read is among what its body uses.
-use Rattle.std.proofs.Common.{◌≡◌, ℕ, ◌+◌, ◌-◌, ◌<◌, ◌≤◌, min, List, [], Bool, true, Option, Some, None, length, sym, ap, ◌∙◌, subst, arith}
-use Rattle.std.specs.Prelude.{IsSomeAnd, IsTrue, slice_get, ◌&&◌}
-use Rattle.std.specs.List.{filter, flat_map, range_with_len}
-use Rattle.std.proofs.lemmas.Bool.{and_from, and_parts}
+use Rattle.ppd_ast.proofs.Members.{all_has, any_from, any_gives, filter_same_in, flat_from, flat_gives, has_first, in_bounds_has}
+use Rattle.ppd_ast.proofs.Those.{both}
+use Rattle.ppd_ast.proofs.ValidLaws.{some_and, valid_body}
 use Rattle.ppd_ast.specs.Cells.{holds}
+use Rattle.ppd_ast.specs.Lookups.{body_of}
+use Rattle.ppd_ast.specs.Members.{has, those}
 use Rattle.ppd_ast.specs.Numbered.{numbers_of}
 use Rattle.ppd_ast.specs.Order.{preorder}
 use Rattle.ppd_ast.specs.Valid.{IsValid, IsValidBody}
+use Rattle.ppd_ast.specs.declared.limits.TheConstants.{MOST_NESTING}
 use Rattle.ppd_ast.specs.declared.program.Body.{Body}
 use Rattle.ppd_ast.specs.declared.program.Program.{Program}
 use Rattle.ppd_ast.specs.declared.program.Stmt.{Stmt}
 use Rattle.ppd_ast.specs.declared.program.Var.{Var}
-use Rattle.ppd_ast.proofs.ValidLaws.{some_and, valid_body}
-use Rattle.ppd_ast.specs.Members.{has, those}
-use Rattle.ppd_ast.specs.Lookups.{body_of_stmt, body_of}
-use Rattle.ppd_ast.proofs.Members.{has_first, any_from, any_gives, in_bounds_has, flat_gives, flat_from, all_has, filter_same_in}
-use Rattle.ppd_ast.proofs.Those.{both}
-use Rattle.ppd_ast.specs.declared.limits.TheConstants.{MOST_NESTING}
 use Rattle.ppd_cfg.proofs.Following.{in_some}
 use Rattle.ppd_cfg.proofs.Rows.{length_rows, row_at}
-use Rattle.ppd_cfg.specs.Lists.{row}
 use Rattle.ppd_cfg.specs.Reach.{start}
-use Rattle.ppd_sets.proofs.Chains.{called_law}
-use Rattle.ppd_sets.proofs.InBody.{InBody, inside_in}
-use Rattle.ppd_sets.proofs.Meeting.{vars_same, shared_small}
-use Rattle.ppd_sets.specs.Gained.{HasCells}
-use Rattle.ppd_sets.specs.SetsOf.{AreSetsOf}
-use Rattle.ppd_sets.specs.Used.{called_from, is_met, reads_at, stmts_at, used_of}
-use Rattle.ppd_sets.proofs.Vocabulary.{body_reads}
-use Rattle.ppd_sets.proofs.Vocabulary.{numbers_in}
-use Rattle.ppd_sets.specs.declared.var_sets.VarSets.{VarSets}
 use Rattle.ppd_deps.proofs.Arriving.{body_there, filter_twice, has_those}
 use Rattle.ppd_deps.specs.Named.{shared_reads}
+use Rattle.ppd_sets.proofs.Chains.{called_law}
+use Rattle.ppd_sets.proofs.InBody.{InBody, inside_in}
+use Rattle.ppd_sets.proofs.Meeting.{shared_small, vars_same}
+use Rattle.ppd_sets.proofs.Vocabulary.{body_reads, numbers_in}
+use Rattle.ppd_sets.specs.Gained.{HasCells}
+use Rattle.ppd_sets.specs.SetsOf.{AreSetsOf}
+use Rattle.ppd_sets.specs.Used.{called_from, is_met, reads_at, shared_through, stmts_at}
+use Rattle.ppd_sets.specs.declared.var_sets.VarSets.{VarSets}
+use Rattle.std.proofs.Common.{Bool, List, None, Option, Some, [], ap, arith, length, min, subst, sym, true, ℕ, ◌+◌, ◌-◌, ◌<◌, ◌∙◌, ◌≡◌, ◌≤◌}
+use Rattle.std.proofs.lemmas.Bool.{and_from, and_parts}
+use Rattle.std.specs.List.{filter, flat_map, range_with_len}
+use Rattle.std.specs.Option.{option_map_or}
+use Rattle.std.specs.Prelude.{IsSomeAnd, IsTrue, get_or, slice_get, ◌&&◌}
 
 -- ---- the statements of a body
 
 named : (p : Program) (b s : ℕ) → InBody p b s → body_of p s ≡ b
 unfolding InBody
-named p b s h = ap body_of_stmt h.1 ∙ h.2
+named p b s h = ap (λ o. option_map_or (λ (x : Stmt). x.body) o 0) h.1 ∙ h.2
 
 topped : (p : Program) (b s : ℕ) (y : Stmt) → slice_get p.stmts s ≡ Some y → y.body ≡ b → InBody p b s
 unfolding InBody
@@ -63,12 +62,12 @@ stands_among p s v lt =
 -- ---- what is used
 
 pub used_long : (p : Program) (sets : VarSets) (s : ℕ) → IsValid p → AreSetsOf p sets → s < length p.stmts → body_of p s < length sets.used
-used_long p sets s v are lt = let below = body_there p s v lt in let long : length sets.used ≡ length p.bodies = ap length are.used ∙ length_rows (used_of p) 0 (length p.bodies) in omega (arith, below, long)
+used_long p sets s v are lt = let below = body_there p s v lt in let long : length sets.used ≡ length p.bodies = ap length are.used ∙ length_rows (shared_through p (reads_at true p)) 0 (length p.bodies) in omega (arith, below, long)
 
-pub used_row : (p : Program) (sets : VarSets) (s : ℕ) → IsValid p → AreSetsOf p sets → s < length p.stmts → row sets.used (body_of p s) ≡ used_of p (body_of p s)
+pub used_row : (p : Program) (sets : VarSets) (s : ℕ) → IsValid p → AreSetsOf p sets → s < length p.stmts → get_or sets.used (body_of p s) [] ≡ shared_through p (reads_at true p) (body_of p s)
 used_row p sets s v are lt =
     let e : 0 + body_of p s ≡ body_of p s = omega arith in
-    ap (λ rows. row rows (body_of p s)) are.used ∙ row_at (used_of p) 0 (length p.bodies) (body_of p s) (body_there p s v lt) ∙ ap (used_of p) e
+    ap (λ rows. get_or rows (body_of p s) []) are.used ∙ row_at (shared_through p (reads_at true p)) 0 (length p.bodies) (body_of p s) (body_there p s v lt) ∙ ap (shared_through p (reads_at true p)) e
 
 -- what the statement reads its body does
 read_in_body : (p : Program) (s c : ℕ) → IsValid p → s < length p.stmts → IsTrue (has (reads_at true p s) c) → IsTrue (has (flat_map (body_reads p) (called_from p (body_of p s))) c)
@@ -82,7 +81,7 @@ met_on xs ys None h m = m
 met_on xs ys (Some x) h m = let c = any_gives (λ c. holds c x) xs m in any_from (λ c. holds c x) ys c.0 (h c.0 c.1) c.2
 
 -- so of the variables that the body uses, those of which a cell is read are all that are read
-pub reads_of_used : (p : Program) (s : ℕ) (set used list : List ℕ) → IsValid p → s < length p.stmts → HasCells set (reads_at true p s) → used ≡ used_of p (body_of p s) → list ≡ filter (λ v. is_met set (slice_get p.shared v)) used → list ≡ shared_reads p s
+pub reads_of_used : (p : Program) (s : ℕ) (set used list : List ℕ) → IsValid p → s < length p.stmts → HasCells set (reads_at true p s) → used ≡ shared_through p (reads_at true p) (body_of p s) → list ≡ filter (λ v. is_met set (slice_get p.shared v)) used → list ≡ shared_reads p s
 reads_of_used p s set used list v lt same is e =
     let n : ℕ = min (length p.shared) 65536 in
     let body : ℕ → Bool = λ v. is_met (flat_map (body_reads p) (called_from p (body_of p s))) (slice_get p.shared v) in

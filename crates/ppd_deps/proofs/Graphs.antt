@@ -1,5 +1,5 @@
 -- From the rows to the graph.
-use Rattle.std.proofs.Common.{◌≡◌, drop, ℕ, zero, suc, ◌+◌, ◌-◌, get_or, ◌<◌, ◌≤◌, Bool, true, false, cond, take, if◌then◌else◌, List, [], ◌∷◌, ◌++◌, length, map, replicate, append-nil, sym, refl, ap, ◌∙◌, arith}
+use Rattle.std.proofs.Common.{◌≡◌, drop, ℕ, zero, suc, ◌+◌, get_or, ◌<◌, ◌≤◌, Bool, true, false, cond, take, if◌then◌else◌, List, [], ◌∷◌, ◌++◌, length, map, replicate, append-nil, sym, refl, ap, ◌∙◌, arith}
 use Rattle.std.proofs.Math.ListN.{drop_of_length-le}
 use Rattle.std.proofs.lemmas.List.{length-replicate, take_all, take_more}
 use Rattle.std.proofs.lemmas.List.Elements.{filter-append}

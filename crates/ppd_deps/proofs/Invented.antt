@@ -1,26 +1,27 @@
 -- No data edge is invented.
-use Rattle.std.proofs.Common.{◌≡◌, ℕ, zero, suc, ◌<◌, List, [], ◌∷◌, ◌++◌, Bool, true, false, Option, Some, None, length, map, get_or, refl, sym, ap, ◌∙◌, subst, arith, inl, inr, ◌⊎◌, true≢false}
-use Rattle.std.specs.Prelude.{IsTrue, nat_eq, not, slice_get, if◌then◌else◌}
-use Rattle.std.specs.List.{Contains, flat_map, range_with_len}
-use Rattle.std.proofs.lemmas.Bool.{and_parts, eqb-true}
+use Rattle.ppd_ast.proofs.Members.{has_filter, has_first, has_later}
+use Rattle.ppd_ast.specs.Lookups.{body_numbered, body_of, kind_of}
+use Rattle.ppd_ast.specs.Members.{has}
 use Rattle.ppd_ast.specs.Numbered.{is_while}
 use Rattle.ppd_ast.specs.declared.program.Program.{Program}
 use Rattle.ppd_ast.specs.declared.program.Stmt.{Stmt}
 use Rattle.ppd_ast.specs.declared.program.Var.{Var}
-use Rattle.ppd_ast.specs.Members.{has}
-use Rattle.ppd_ast.specs.Lookups.{kind_of, body_of, locals_of}
-use Rattle.ppd_ast.proofs.Members.{has_first, has_later, has_filter}
-use Rattle.ppd_cfg.specs.Flow.{next_of}
-use Rattle.ppd_cfg.specs.Reach.{Reached, start, next}
-use Rattle.ppd_cfg.proofs.Leading.{leads-tests}
-use Rattle.ppd_deps.proofs.Reaching.{row_gives}
-use Rattle.ppd_deps.specs.declared.edges.StaticEdge.{StaticEdge}
-use Rattle.ppd_deps.specs.declared.edges.StaticEdge.TheVariants.{Data, ControlEntry, Control}
-use Rattle.ppd_deps.specs.Edges.{begins, comes_to, control_into, data_into, edges_of, ends_paths, kept_rows, locals_from}
-use Rattle.ppd_deps.proofs.Vocabulary.{control_of, data_from, local_edge, outer_edge, shared_edge, shared_from}
-use Rattle.ppd_deps.specs.Laws.{IsKeptPath, NoEdgeIsInvented}
-use Rattle.ppd_deps.specs.Named.{local_reads, shared_reads, shared_writes}
 use Rattle.ppd_blocks.proofs.Paths.{not_true}
+use Rattle.ppd_cfg.proofs.Leading.{leads-tests}
+use Rattle.ppd_cfg.specs.Flow.{next_of}
+use Rattle.ppd_cfg.specs.Reach.{Reached, next, start}
+use Rattle.ppd_deps.proofs.Reaching.{row_gives}
+use Rattle.ppd_deps.proofs.Vocabulary.{control_of, data_from, local_edge, outer_edge, shared_edge, shared_from}
+use Rattle.ppd_deps.specs.Edges.{begins, comes_to, control_into, data_into, edges_of, ends_paths, kept_rows, locals_from}
+use Rattle.ppd_deps.specs.Laws.{IsKeptPath, NoEdgeIsInvented}
+use Rattle.ppd_deps.specs.Named.{own_vars, shared_reads, shared_writes}
+use Rattle.ppd_deps.specs.declared.edges.StaticEdge.{StaticEdge}
+use Rattle.ppd_deps.specs.declared.edges.StaticEdge.TheVariants.{Control, ControlEntry, Data}
+use Rattle.ppd_sets.specs.Used.{reads_at}
+use Rattle.std.proofs.Common.{Bool, List, None, Option, Some, [], ap, arith, false, get_or, inl, inr, length, map, refl, subst, suc, sym, true, true≢false, zero, ℕ, ◌++◌, ◌<◌, ◌∙◌, ◌∷◌, ◌≡◌, ◌⊎◌}
+use Rattle.std.proofs.lemmas.Bool.{and_parts, eqb-true}
+use Rattle.std.specs.List.{Contains, flat_map, range_with_len}
+use Rattle.std.specs.Prelude.{IsTrue, if◌then◌else◌, nat_eq, not, slice_get}
 
 -- ---- paths
 
@@ -142,9 +143,9 @@ pub none_invented : NoEdgeIsInvented
 none_invented = record {
   local = λ p s v t h.
       let q = from_some p t (Data s false v) refl h in
-      let parts = has_filter (λ n. comes_to p (body_of p t) s n t) (local_reads p t) v (local_from p s v t q.0 q.1) in
-      let reached = (leads-tests (kept_rows p (body_of p t) (slice_get (locals_of p (body_of p t)) v)) (begins p (body_of p t) s v) t).0 parts.1 in
-      let way : Along p (body_of p t) (slice_get (locals_of p (body_of p t)) v) (begins p (body_of p t) s v) t = along p (body_of p t) (slice_get (locals_of p (body_of p t)) v) (begins p (body_of p t) s v) t reached in
+      let parts = has_filter (λ n. comes_to p (body_of p t) s n t) (own_vars p (reads_at false p) t) v (local_from p s v t q.0 q.1) in
+      let reached = (leads-tests (kept_rows p (body_of p t) (slice_get (body_numbered p (body_of p t)).locals v)) (begins p (body_of p t) s v) t).0 parts.1 in
+      let way : Along p (body_of p t) (slice_get (body_numbered p (body_of p t)).locals v) (begins p (body_of p t) s v) t = along p (body_of p t) (slice_get (body_numbered p (body_of p t)).locals v) (begins p (body_of p t) s v) t reached in
       record { reads = parts.0; first = way.first; start = way.start_is; rest = way.rest; path = way.path };
   shared = λ p s v t h.
       let q = from_some p t (Data s true v) refl h in

@@ -8,7 +8,6 @@ use Rattle.ppd_ast.specs.declared.program.Var.{Var}
 use Rattle.ppd_ast.specs.Cells.{after}
 use Rattle.ppd_ast.specs.Valid.{IsValid}
 use Rattle.ppd_ast.proofs.ValidLaws.{valid_body}
-use Rattle.ppd_ast.specs.Lookups.{locals_of}
 use Rattle.ppd_ast.proofs.Vocabulary.{locals_of_body}
 use Rattle.ppd_ast.proofs.Vocabulary.{kind_of_stmt}
 use Rattle.ppd_sets.specs.Gained.{Gains, HasCells}
@@ -16,6 +15,7 @@ use Rattle.ppd_sets.specs.Named.{reads, writes}
 use Rattle.ppd_sets.specs.Used.{AreSmall, reads_at, vars_met, writes_at}
 use Rattle.ppd_sets.proofs.Gaining.{gains_as, gains_none}
 use Rattle.ppd_sets.proofs.Meeting.{vars_same}
+use Rattle.ppd_ast.specs.Lookups.{body_numbered}
 
 -- ---- cells
 
@@ -38,7 +38,7 @@ local_small p b (Some x) v at = λ k d h.
     let few = body.frame in
     omega (arith, within, few)
 
-pub locals_small : (p : Program) (b : ℕ) → IsValid p → AreSmall (locals_of p b)
+pub locals_small : (p : Program) (b : ℕ) → IsValid p → AreSmall (body_numbered p b).locals
 locals_small p b v = local_small p b (slice_get p.bodies b) v refl
 
 -- the variables of the right cells

@@ -1,35 +1,35 @@
 -- What the tables have for a statement, and the places where it writes.
-use Rattle.std.proofs.Common.{◌≡◌, ℕ, zero, suc, ◌+◌, ◌-◌, ◌<◌, ◌≤◌, min, List, [], ◌∷◌, ◌++◌, Bool, true, false, Option, Some, None, length, map, get_or, take, cond, Ok, Err, append-nil, append_assoc, sym, ap, ◌∙◌, subst, arith}
-use Rattle.std.specs.Prelude.{IfOk, IsTrue, Result, nat_eq, slice_get, if◌then◌else◌}
-use Rattle.std.specs.List.{filter, flat_map, range_with_len}
-use Rattle.std.proofs.lemmas.List.{get_or_default, take_more}
-use Rattle.std.proofs.lemmas.Grind.{flat_map-append}
-use Rattle.std.proofs.lemmas.List.Elements.{filter-append}
-use Rattle.std.proofs.lemmas.Option.{slice_get-get_or}
+use Rattle.ppd_ast.proofs.Members.{below_range, has_filter, has_first, has_later}
 use Rattle.ppd_ast.proofs.Ranges.{range_more}
+use Rattle.ppd_ast.proofs.Vocabulary.{kind_of_stmt}
+use Rattle.ppd_ast.specs.Lookups.{body_of, kind_of}
+use Rattle.ppd_ast.specs.Members.{AreBelow, has}
 use Rattle.ppd_ast.specs.Numbered.{is_while}
 use Rattle.ppd_ast.specs.declared.program.Body.{Body}
-use Rattle.ppd_ast.specs.declared.program.Stmt.{Stmt}
-use Rattle.ppd_deps.specs.declared.edges.StaticEdge.{StaticEdge}
-use Rattle.ppd_deps.specs.declared.edges.StaticEdge.TheVariants.{Control}
-use Rattle.ppd_deps.specs.Edges.{control_into}
-use Rattle.ppd_deps.proofs.Vocabulary.{control_of, outer_edge, processes}
 use Rattle.ppd_ast.specs.declared.program.Kind.{Kind}
 use Rattle.ppd_ast.specs.declared.program.Kind.TheVariants as K
 use Rattle.ppd_ast.specs.declared.program.Program.{Program}
-use Rattle.ppd_ast.specs.Members.{has, AreBelow}
-use Rattle.ppd_ast.specs.Lookups.{kind_of, body_of_stmt, body_of}
-use Rattle.ppd_ast.proofs.Vocabulary.{kind_of_stmt}
-use Rattle.ppd_ast.proofs.Members.{has_first, has_later, has_filter, below_range}
+use Rattle.ppd_ast.specs.declared.program.Stmt.{Stmt}
+use Rattle.ppd_blocks.proofs.Fitting.{none_below}
+use Rattle.ppd_cfg.proofs.Rows.{length_rows, row_at}
 use Rattle.ppd_cfg.specs.Flow.{next_of}
 use Rattle.ppd_deps.proofs.Arriving.{IsOwn}
-use Rattle.ppd_cfg.specs.Lists.{row}
-use Rattle.ppd_cfg.proofs.Rows.{length_rows, row_at}
-use Rattle.ppd_sets.specs.Used.{stmts_at}
-use Rattle.ppd_sets.proofs.Vocabulary.{numbers_in}
+use Rattle.ppd_deps.proofs.Vocabulary.{control_of, outer_edge, processes}
+use Rattle.ppd_deps.specs.Edges.{control_into}
+use Rattle.ppd_deps.specs.Named.{calls, own_vars, places, places_by}
+use Rattle.ppd_deps.specs.declared.edges.StaticEdge.{StaticEdge}
+use Rattle.ppd_deps.specs.declared.edges.StaticEdge.TheVariants.{Control}
 use Rattle.ppd_sets.proofs.Calling.{one_below}
-use Rattle.ppd_blocks.proofs.Fitting.{none_below}
-use Rattle.ppd_deps.specs.Named.{calls, local_writes, places, places_by}
+use Rattle.ppd_sets.proofs.Vocabulary.{numbers_in}
+use Rattle.ppd_sets.specs.Used.{stmts_at, writes_at}
+use Rattle.std.proofs.Common.{Bool, Err, List, None, Ok, Option, Some, [], ap, append-nil, append_assoc, arith, cond, false, get_or, length, map, min, subst, suc, sym, take, true, zero, ℕ, ◌++◌, ◌+◌, ◌-◌, ◌<◌, ◌∙◌, ◌∷◌, ◌≡◌, ◌≤◌}
+use Rattle.std.proofs.lemmas.Grind.{flat_map-append}
+use Rattle.std.proofs.lemmas.List.{get_or_default, take_more}
+use Rattle.std.proofs.lemmas.List.Elements.{filter-append}
+use Rattle.std.proofs.lemmas.Option.{slice_get-get_or}
+use Rattle.std.specs.List.{filter, flat_map, range_with_len}
+use Rattle.std.specs.Option.{option_map_or}
+use Rattle.std.specs.Prelude.{IfOk, IsTrue, Result, if◌then◌else◌, nat_eq, slice_get}
 
 pub table_long : (f : ℕ → List ℕ) (rows : List (List ℕ)) (n s : ℕ) → rows ≡ map f (range_with_len 0 n) → s < n → s < length rows
 table_long f rows n s is lt = let long : length rows ≡ n = ap length is ∙ length_rows f 0 n in omega (arith, long, lt)
@@ -37,7 +37,7 @@ table_long f rows n s is lt = let long : length rows ≡ n = ap length is ∙ le
 pub table_at : (f : ℕ → List ℕ) (rows : List (List ℕ)) (n s : ℕ) (r : List ℕ) → rows ≡ map f (range_with_len 0 n) → s < n → r ≡ get_or rows s r → r ≡ f s
 table_at f rows n s r is lt at =
     let e : 0 + s ≡ s = omega arith in
-    at ∙ get_or_default rows s r [] (table_long f rows n s is lt) ∙ ap (λ rs. row rs s) is ∙ row_at f 0 n s lt ∙ ap f e
+    at ∙ get_or_default rows s r [] (table_long f rows n s is lt) ∙ ap (λ rs. get_or rs s []) is ∙ row_at f 0 n s lt ∙ ap f e
 
 pub ok_as : {X E : Type 0} (r : Result X E) (a b : X) → a ≡ b → IfOk r (λ x. x ≡ a) → IfOk r (λ x. x ≡ b)
 ok_as (Ok x) a b e h = h ∙ e
@@ -92,7 +92,7 @@ calls_below p b f ids e = subst (AreBelow (length p.stmts)) (sym e) (λ x h. bod
 -- the places of a statement that writes at itself
 pub own_places : (p : Program) (b s : ℕ) (x : Stmt) (ids : List ℕ) → slice_get p.stmts s ≡ Some x → IsOwn p x.kind → ids ≡ (if nat_eq x.body b then s ∷ [] else []) → ids ≡ places p b s
 own_places p b s x ids at own e =
-    e ∙ ap (λ j. if nat_eq j b then s ∷ [] else []) (sym (ap body_of_stmt at)) ∙ sym (own.places_are b s) ∙ ap (places_by p b s) (sym (ap kind_of_stmt at))
+    e ∙ ap (λ j. if nat_eq j b then s ∷ [] else []) (sym (ap (λ o. option_map_or (λ (x : Stmt). x.body) o 0) at)) ∙ sym (own.places_are b s) ∙ ap (places_by p b s) (sym (ap kind_of_stmt at))
 
 pub places_below : (p : Program) (b s : ℕ) → s < length p.stmts → AreBelow (length p.stmts) (places p b s)
 places_below p b s lt = by_kind p b s (kind_of p s) lt
@@ -106,23 +106,23 @@ place_there p places i h lt = h (get_or places i 0) (has_get places i lt) where
   has_get (x ∷ xs) zero lt = has_first x xs
   has_get (x ∷ xs) (suc i) lt = has_later x (get_or xs i 0) xs (has_get xs i (omega arith))
 
-one_place : (p : Program) (v : ℕ) (places : List ℕ) (i : ℕ) → i < length places → flat_map (next_of p) (filter (λ c. has (local_writes p c) v) (take (i + 1) places))
-    ≡ flat_map (next_of p) (filter (λ c. has (local_writes p c) v) (take i places)) ++ flat_map (next_of p) (filter (λ c. has (local_writes p c) v) (get_or places i 0 ∷ []))
+one_place : (p : Program) (v : ℕ) (places : List ℕ) (i : ℕ) → i < length places → flat_map (next_of p) (filter (λ c. has (own_vars p (writes_at false p) c) v) (take (i + 1) places))
+    ≡ flat_map (next_of p) (filter (λ c. has (own_vars p (writes_at false p) c) v) (take i places)) ++ flat_map (next_of p) (filter (λ c. has (own_vars p (writes_at false p) c) v) (get_or places i 0 ∷ []))
 one_place p v places i lt =
-    ap (λ xs. flat_map (next_of p) (filter (λ c. has (local_writes p c) v) xs)) (take_more places i 0 lt)
-    ∙ ap (flat_map (next_of p)) (filter-append (λ c. has (local_writes p c) v) (take i places) (get_or places i 0 ∷ []))
-    ∙ flat_map-append (next_of p) (filter (λ c. has (local_writes p c) v) (take i places)) (filter (λ c. has (local_writes p c) v) (get_or places i 0 ∷ []))
+    ap (λ xs. flat_map (next_of p) (filter (λ c. has (own_vars p (writes_at false p) c) v) xs)) (take_more places i 0 lt)
+    ∙ ap (flat_map (next_of p)) (filter-append (λ c. has (own_vars p (writes_at false p) c) v) (take i places) (get_or places i 0 ∷ []))
+    ∙ flat_map-append (next_of p) (filter (λ c. has (own_vars p (writes_at false p) c) v) (take i places)) (filter (λ c. has (own_vars p (writes_at false p) c) v) (get_or places i 0 ∷ []))
 
-pub place_yes : (p : Program) (v : ℕ) (places : List ℕ) (i : ℕ) → i < length places → has (local_writes p (get_or places i 0)) v ≡ true → flat_map (next_of p) (filter (λ c. has (local_writes p c) v) (take (i + 1) places))
-    ≡ flat_map (next_of p) (filter (λ c. has (local_writes p c) v) (take i places)) ++ next_of p (get_or places i 0)
+pub place_yes : (p : Program) (v : ℕ) (places : List ℕ) (i : ℕ) → i < length places → has (own_vars p (writes_at false p) (get_or places i 0)) v ≡ true → flat_map (next_of p) (filter (λ c. has (own_vars p (writes_at false p) c) v) (take (i + 1) places))
+    ≡ flat_map (next_of p) (filter (λ c. has (own_vars p (writes_at false p) c) v) (take i places)) ++ next_of p (get_or places i 0)
 place_yes p v places i lt e =
     one_place p v places i lt
-    ∙ ap (λ b. flat_map (next_of p) (filter (λ c. has (local_writes p c) v) (take i places)) ++ flat_map (next_of p) (cond b (get_or places i 0 ∷ []) [])) e
-    ∙ ap (λ xs. flat_map (next_of p) (filter (λ c. has (local_writes p c) v) (take i places)) ++ xs) (append-nil (next_of p (get_or places i 0)))
+    ∙ ap (λ b. flat_map (next_of p) (filter (λ c. has (own_vars p (writes_at false p) c) v) (take i places)) ++ flat_map (next_of p) (cond b (get_or places i 0 ∷ []) [])) e
+    ∙ ap (λ xs. flat_map (next_of p) (filter (λ c. has (own_vars p (writes_at false p) c) v) (take i places)) ++ xs) (append-nil (next_of p (get_or places i 0)))
 
-pub place_no : (p : Program) (v : ℕ) (places : List ℕ) (i : ℕ) → i < length places → has (local_writes p (get_or places i 0)) v ≡ false → flat_map (next_of p) (filter (λ c. has (local_writes p c) v) (take (i + 1) places))
-    ≡ flat_map (next_of p) (filter (λ c. has (local_writes p c) v) (take i places))
+pub place_no : (p : Program) (v : ℕ) (places : List ℕ) (i : ℕ) → i < length places → has (own_vars p (writes_at false p) (get_or places i 0)) v ≡ false → flat_map (next_of p) (filter (λ c. has (own_vars p (writes_at false p) c) v) (take (i + 1) places))
+    ≡ flat_map (next_of p) (filter (λ c. has (own_vars p (writes_at false p) c) v) (take i places))
 place_no p v places i lt e =
     one_place p v places i lt
-    ∙ ap (λ b. flat_map (next_of p) (filter (λ c. has (local_writes p c) v) (take i places)) ++ flat_map (next_of p) (cond b (get_or places i 0 ∷ []) [])) e
-    ∙ append-nil (flat_map (next_of p) (filter (λ c. has (local_writes p c) v) (take i places)))
+    ∙ ap (λ b. flat_map (next_of p) (filter (λ c. has (own_vars p (writes_at false p) c) v) (take i places)) ++ flat_map (next_of p) (cond b (get_or places i 0 ∷ []) [])) e
+    ∙ append-nil (flat_map (next_of p) (filter (λ c. has (own_vars p (writes_at false p) c) v) (take i places)))

@@ -7,7 +7,7 @@ use Rattle.ppd_ast.specs.declared.program.Program.{Program}
 use Rattle.ppd_ast.specs.declared.program.Stmt.{Stmt}
 use Rattle.ppd_ast.specs.declared.program.Var.{Var}
 use Rattle.ppd_ast.specs.Members.{has}
-use Rattle.ppd_ast.specs.Lookups.{kind_of, body_of, params_of}
+use Rattle.ppd_ast.specs.Lookups.{kind_of, body_of, body_numbered}
 use Rattle.ppd_cfg.specs.Flow.{next_of}
 use Rattle.ppd_deps.specs.declared.edges.StaticEdge.{StaticEdge}
 use Rattle.ppd_deps.specs.declared.edges.StaticEdge.TheVariants.{Data, ControlEntry, Control}
@@ -49,4 +49,4 @@ processes p = range_with_len p.functions (length p.bodies - p.functions)
 
 -- whether statement s calls body b, of which variable v is a parameter
 abbrev pub passes : Program → (b s v : ℕ) → Bool
-passes p b s v = calls p s b && nat_lt v (params_of p b)
+passes p b s v = calls p s b && nat_lt v (body_numbered p b).params

@@ -1,21 +1,21 @@
 -- The static edges into a statement.
-use Rattle.std.specs.Prelude.{ℕ, nat_eq, nat_lt, Bool, true, false, not, is_some, ◌&&◌, List, [], ◌∷◌, ◌++◌, map, length, Option, Some, None, slice_get, if◌then◌else◌, option_to_list}
-use Rattle.std.specs.List.{filter, flat_map, range_with_len}
-use Rattle.std.specs.Option.{option_map_or, option_eq}
+use Rattle.ppd_ast.specs.Lookups.{body_numbered, body_of, kind_of}
+use Rattle.ppd_ast.specs.Members.{has}
 use Rattle.ppd_ast.specs.Numbered.{is_while}
 use Rattle.ppd_ast.specs.declared.program.Kind.{Kind}
 use Rattle.ppd_ast.specs.declared.program.Kind.TheVariants as K
 use Rattle.ppd_ast.specs.declared.program.Program.{Program}
 use Rattle.ppd_ast.specs.declared.program.Target.TheVariants as T
 use Rattle.ppd_ast.specs.declared.program.Var.{Var}
-use Rattle.ppd_ast.specs.Members.{has}
-use Rattle.ppd_ast.specs.Lookups.{kind_of, top_of, body_of, params_of, locals_of}
 use Rattle.ppd_cfg.specs.Flow.{next_of}
-use Rattle.ppd_cfg.specs.Lists.{first_or}
 use Rattle.ppd_cfg.specs.Reach.{closure, leads}
+use Rattle.ppd_deps.specs.Named.{calls, own_vars, places, shared_reads, shared_writes}
 use Rattle.ppd_deps.specs.declared.edges.StaticEdge.{StaticEdge}
-use Rattle.ppd_deps.specs.declared.edges.StaticEdge.TheVariants.{Data, ControlEntry, Control}
-use Rattle.ppd_deps.specs.Named.{calls, local_reads, local_writes, places, shared_reads, shared_writes}
+use Rattle.ppd_deps.specs.declared.edges.StaticEdge.TheVariants.{Control, ControlEntry, Data}
+use Rattle.ppd_sets.specs.Used.{reads_at, writes_at}
+use Rattle.std.specs.List.{filter, flat_map, range_with_len}
+use Rattle.std.specs.Option.{option_eq, option_map_or}
+use Rattle.std.specs.Prelude.{Bool, List, None, Option, Some, [], false, if◌then◌else◌, is_some, length, map, nat_eq, nat_lt, not, option_to_list, slice_get, true, ℕ, ◌&&◌, ◌++◌, ◌∷◌}
 
 -- ---- paths of a local variable
 
@@ -54,18 +54,19 @@ kept_rows p b x =
 -- at the entry of b, where s calls b and v is a parameter
 abbrev pub begins : Program → (b s v : ℕ) → List ℕ
 begins p b s v =
-    flat_map (next_of p) (filter (λ c. has (local_writes p c) v) (places p b s))
-    ++ (if calls p s b && nat_lt v (params_of p b) then option_to_list (first_or (top_of p b) None) else [])
+    flat_map (next_of p) (filter (λ c. has (own_vars p (writes_at false p) c) v) (places p b s))
+    ++ (if calls p s b && nat_lt v (body_numbered p b).params
+    then option_to_list (slice_get (body_numbered p b).top 0) else [])
 
 -- whether what s writes to variable v of body b may come to statement t
 abbrev pub comes_to : Program → (b s v t : ℕ) → Bool
-comes_to p b s v t = leads (closure (kept_rows p b (slice_get (locals_of p b) v))) (begins p b s v) t
+comes_to p b s v t = leads (closure (kept_rows p b (slice_get (body_numbered p b).locals v))) (begins p b s v) t
 
 -- ---- data
 
 -- the local variables of which a value may come from s to t
 abbrev pub locals_from : Program → (s t : ℕ) → List ℕ
-locals_from p s t = filter (λ v. comes_to p (body_of p t) s v t) (local_reads p t)
+locals_from p s t = filter (λ v. comes_to p (body_of p t) s v t) (own_vars p (reads_at false p) t)
 
 -- the data edges into t, by source statement, shared before local, number
 abbrev pub data_into : Program → ℕ → List StaticEdge

@@ -1,13 +1,13 @@
 -- The variables that a statement reads and writes, by their numbers.
-use Rattle.std.specs.Prelude.{ℕ, ◌-◌, nat_eq, Bool, true, false, List, [], ◌∷◌, length, if◌then◌else◌}
-use Rattle.std.specs.List.{filter, range_with_len}
+use Rattle.ppd_ast.specs.Lookups.{body_numbered, body_of, kind_of}
+use Rattle.ppd_ast.specs.Members.{has, those}
 use Rattle.ppd_ast.specs.declared.program.Kind.{Kind}
 use Rattle.ppd_ast.specs.declared.program.Kind.TheVariants as K
 use Rattle.ppd_ast.specs.declared.program.Program.{Program}
-use Rattle.ppd_ast.specs.Members.{has, those}
-use Rattle.ppd_ast.specs.Lookups.{kind_of, body_of, locals_of}
 use Rattle.ppd_cfg.specs.Reach.{closure, leads}
 use Rattle.ppd_sets.specs.Used.{call_rows, callee, reads_at, stmts_at, vars_met, writes_at}
+use Rattle.std.specs.List.{filter, range_with_len}
+use Rattle.std.specs.Prelude.{Bool, List, [], if◌then◌else◌, length, nat_eq, true, ℕ, ◌-◌, ◌∷◌}
 
 -- ---- bodies
 
@@ -23,17 +23,14 @@ running p =
 abbrev pub shared_reads : Program → ℕ → List ℕ
 shared_reads p t = vars_met p.shared (reads_at true p t)
 
--- the local variables of its body that statement t may read
-abbrev pub local_reads : Program → ℕ → List ℕ
-local_reads p t = vars_met (locals_of p (body_of p t)) (reads_at false p t)
+-- the local variables of its body of which statement s reads, or writes, a cell, as `cells` gives its cells; a call
+-- writes its receiving local
+abbrev pub own_vars : Program → (cells : ℕ → List ℕ) → ℕ → List ℕ
+own_vars p cells s = vars_met (body_numbered p (body_of p s)).locals (cells s)
 
 -- the shared variables that statement s writes, where its body runs
 abbrev pub shared_writes : Program → ℕ → List ℕ
 shared_writes p s = if has (running p) (body_of p s) then vars_met p.shared (writes_at true p s) else []
-
--- the local variables of its body that are written at statement s; at a call its receiving local
-abbrev pub local_writes : Program → ℕ → List ℕ
-local_writes p s = vars_met (locals_of p (body_of p s)) (writes_at false p s)
 
 -- whether statement s calls body b
 abbrev pub calls : Program → (s b : ℕ) → Bool

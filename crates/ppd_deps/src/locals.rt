@@ -1,18 +1,17 @@
 // The paths of a local variable's values.
-ghost use Rattle.std.specs.Prelude.{◌≡◌, ◌<◌, ◌^◌, ◌&&◌, ℕ, nat_eq, nat_lt, not, [], ◌∷◌, length, slice_get, None, IfOk, if◌then◌else◌, option_to_list};
+ghost use Rattle.std.specs.Prelude.{◌≡◌, ◌<◌, ◌^◌, ◌&&◌, ℕ, nat_eq, nat_lt, not, [], ◌∷◌, length, slice_get, None, IfOk, if◌then◌else◌, option_to_list, false};
 ghost use Rattle.std.specs.List.{filter, flat_map};
 ghost use Rattle.ppd_ast.specs.Numbered.{numbers_of};
 ghost use Rattle.ppd_ast.specs.Valid.{IsValid};
 ghost use Rattle.ppd_ast.specs.Members.{has, AreBelow};
-ghost use Rattle.ppd_ast.specs.Lookups.{kind_of, top_of, body_of, params_of, locals_of};
+ghost use Rattle.ppd_ast.specs.Lookups.{kind_of, body_of, body_numbered};
 ghost use Rattle.ppd_cfg.specs.Flow.{next_of};
-ghost use Rattle.ppd_cfg.specs.Lists.{first_or};
 ghost use Rattle.ppd_cfg.specs.Reach.{closure, leads};
 ghost use Rattle.ppd_cfg.specs.WorkList.{is_marked};
 ghost use Rattle.ppd_deps.specs.Edges.{begins, ends_paths, kept_rows, scalar_written};
-ghost use Rattle.ppd_deps.specs.Named.{calls, local_writes, places};
+ghost use Rattle.ppd_deps.specs.Named.{calls, places, own_vars};
 ghost use Rattle.ppd_deps.specs.Tables.{AreTables};
-ghost use Rattle.ppd_sets.specs.Used.{stmts_at};
+ghost use Rattle.ppd_sets.specs.Used.{stmts_at, writes_at};
 
 use crate::tables::Tables;
 use crate::vars::{does_call, locals, params};
@@ -65,7 +64,8 @@ fn is_kept(program: &Program, local: Local, stmt: u32) -> bool
     requires { stmt < length program.now.stmts }
     ensures { result
         ≡ (nat_eq (body_of program.now stmt) local.body
-        && not (ends_paths (slice_get (locals_of program.now local.body) local.var) (kind_of program.now stmt))) }
+        && not (ends_paths
+        (slice_get (body_numbered program.now local.body).locals local.var) (kind_of program.now stmt))) }
 {
     let found = &program.stmts.as_slice()[stmt as usize];
     found.body == local.body && !does_end(locals(program, local.body), local.var, &found.kind)
@@ -89,7 +89,8 @@ fn kept_row(
     requires there { stmt < length program.now.stmts }
     ensures { IfOk result
         (λ ids. ids ≡ (if nat_eq (body_of program.now stmt) local.body
-        && not (ends_paths (slice_get (locals_of program.now local.body) local.var) (kind_of program.now stmt))
+        && not (ends_paths
+        (slice_get (body_numbered program.now local.body).locals local.var) (kind_of program.now stmt))
         then next_of program.now stmt else [])) }
 {
     if is_kept(program, local, stmt) {
@@ -107,7 +108,9 @@ fn kept_rows(
     requires tables { AreTables program.now tables.now }
     requires count { length program.now.stmts < 2 ^ 32 }
     ensures { IfOk result
-        (λ rows. rows ≡ kept_rows program.now local.body (slice_get (locals_of program.now local.body) local.var)) }
+        (λ rows. rows
+        ≡ kept_rows program.now local.body
+        (slice_get (body_numbered program.now local.body).locals local.var)) }
 {
     let mut rows = Seq::new(alloc);
     for stmt in 0..program.stmts.len() {
@@ -119,7 +122,7 @@ fn kept_rows(
 
 // The first statement of the body.
 fn entry(alloc: Global, program: &Program, body: u16) -> Result<Ids, Memory>
-    ensures { IfOk result (λ ids. ids ≡ option_to_list (first_or (top_of program.now body) None)) }
+    ensures { IfOk result (λ ids. ids ≡ option_to_list (slice_get (body_numbered program.now body).top 0)) }
 {
     let mut ids = Ids::new(alloc);
     if let Some(found) = program.body(body) {
@@ -132,7 +135,9 @@ fn entry(alloc: Global, program: &Program, body: u16) -> Result<Ids, Memory>
 
 // Whether the statement calls the body, of which the variable is a parameter.
 fn does_pass(program: &Program, local: Local, stmt: u32) -> bool
-    ensures { result ≡ (calls program.now stmt local.body && nat_lt local.var (params_of program.now local.body)) }
+    ensures { result
+        ≡ (calls program.now stmt local.body
+        && nat_lt local.var (body_numbered program.now local.body).params) }
 {
     does_call(program, stmt, local.body) && local.var < params(program, local.body)
 }
@@ -149,7 +154,7 @@ fn begins_at(
     requires there { AreBelow (length program.now.stmts) places.now }
     ensures { IfOk result
         (λ ids. ids ≡ flat_map (next_of program.now)
-        (filter (λ c. has (local_writes program.now c) local.var) places.now)) }
+        (filter (λ c. has (own_vars program.now (writes_at false program.now) c) local.var) places.now)) }
 {
     let mut starts = Ids::new(alloc);
     for place in places {
@@ -253,7 +258,8 @@ pub(crate) fn arrivals(
         (λ marks. (t : ℕ)
         → is_marked marks.items t
         ≡ leads (closure
-        (kept_rows program.now local.body (slice_get (locals_of program.now local.body) local.var))) starts.now t) }
+        (kept_rows program.now local.body
+        (slice_get (body_numbered program.now local.body).locals local.var))) starts.now t) }
 {
     let rows = kept_rows(alloc, program, tables, local)?;
     let marks = reach(alloc, rows.as_slice(), starts)?;

@@ -1,11 +1,12 @@
 // What the search for static edges is given: successors, bodies that run, and what is read.
+ghost use Rattle.ppd_sets.specs.Used.{reads_at, writes_at};
 ghost use Rattle.std.specs.Prelude.{◌≡◌, ◌-◌, ◌<◌, ◌^◌, length, true, false, IfOk};
 ghost use Rattle.std.specs.List.{range_with_len};
 ghost use Rattle.ppd_ast.specs.Valid.{IsValid};
 ghost use Rattle.ppd_ast.specs.Members.{has};
 ghost use Rattle.ppd_cfg.specs.Flow.{next_of};
 ghost use Rattle.ppd_sets.specs.SetsOf.{AreSetsOf};
-ghost use Rattle.ppd_deps.specs.Named.{local_reads, local_writes, running, shared_reads};
+ghost use Rattle.ppd_deps.specs.Named.{running, shared_reads, own_vars};
 ghost use Rattle.ppd_deps.specs.Tables.{AreTables};
 
 use crate::vars::{body_at, locals, read_cells, vars_of, written_cells};
@@ -50,7 +51,7 @@ impl Tables {
     pub(crate) fn reads_local(&self, program: &Program, stmt: u32, var: u16) -> bool
         requires tables { AreTables program.now self.now }
         requires there { stmt < length program.now.stmts }
-        ensures { result ≡ has (local_reads program.now stmt) var }
+        ensures { result ≡ has (own_vars program.now (reads_at false program.now) stmt) var }
     {
         self.local.as_slice()[stmt as usize]
             .as_slice()
@@ -61,7 +62,7 @@ impl Tables {
     pub(crate) fn writes_local(&self, program: &Program, stmt: u32, var: u16) -> bool
         requires tables { AreTables program.now self.now }
         requires there { stmt < length program.now.stmts }
-        ensures { result ≡ has (local_writes program.now stmt) var }
+        ensures { result ≡ has (own_vars program.now (writes_at false program.now) stmt) var }
     {
         self.written.as_slice()[stmt as usize]
             .as_slice()
@@ -108,7 +109,7 @@ fn shared_row(alloc: Global, program: &Program, sets: &VarSets, stmt: u32) -> Re
 // The local variables of its body that a statement may read.
 fn local_row(alloc: Global, program: &Program, stmt: u32) -> Result<Cells, Memory>
     requires { IsValid program.now }
-    ensures { IfOk result (λ ids. ids ≡ local_reads program.now stmt) }
+    ensures { IfOk result (λ ids. ids ≡ own_vars program.now (reads_at false program.now) stmt) }
 {
     let cells = read_cells(program, false, stmt);
     let ids = vars_in(alloc, locals(program, body_at(program, stmt)), &cells)?;
@@ -118,7 +119,7 @@ fn local_row(alloc: Global, program: &Program, stmt: u32) -> Result<Cells, Memor
 // The local variables of its body that are written at a statement.
 fn written_row(alloc: Global, program: &Program, stmt: u32) -> Result<Cells, Memory>
     requires { IsValid program.now }
-    ensures { IfOk result (λ ids. ids ≡ local_writes program.now stmt) }
+    ensures { IfOk result (λ ids. ids ≡ own_vars program.now (writes_at false program.now) stmt) }
 {
     let cells = written_cells(program, false, stmt);
     let ids = vars_in(alloc, locals(program, body_at(program, stmt)), &cells)?;

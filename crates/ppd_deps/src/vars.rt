@@ -2,7 +2,7 @@
 ghost use Rattle.std.specs.Prelude.{◌≡◌, slice_get, IfOk};
 ghost use Rattle.std.specs.List.{filter};
 ghost use Rattle.ppd_ast.specs.Valid.{IsValid};
-ghost use Rattle.ppd_ast.specs.Lookups.{body_of, params_of, locals_of};
+ghost use Rattle.ppd_ast.specs.Lookups.{body_of, body_numbered};
 ghost use Rattle.ppd_sets.specs.Gained.{Gains, HasCells};
 ghost use Rattle.ppd_sets.specs.Used.{AreSmall, is_met, reads_at, writes_at};
 ghost use Rattle.ppd_deps.specs.Named.{calls};
@@ -21,7 +21,7 @@ pub(crate) fn body_at(program: &Program, stmt: u32) -> u16
 }
 
 pub(crate) fn locals(program: &Program, body: u16) -> &[Var]
-    ensures { result.now ≡ locals_of program.now body }
+    ensures { result.now ≡ (body_numbered program.now body).locals }
 {
     match program.body(body) {
         None => &[],
@@ -30,7 +30,7 @@ pub(crate) fn locals(program: &Program, body: u16) -> &[Var]
 }
 
 pub(crate) fn params(program: &Program, body: u16) -> u16
-    ensures { result ≡ params_of program.now body }
+    ensures { result ≡ (body_numbered program.now body).params }
 {
     match program.body(body) {
         None => 0,

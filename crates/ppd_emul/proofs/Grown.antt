@@ -5,7 +5,6 @@ use Rattle.ppd_ast.specs.declared.plan.Plan.{Plan}
 use Rattle.ppd_ast.specs.declared.program.Program.{Program}
 use Rattle.ppd_ast.specs.declared.status.Status.{Status}
 use Rattle.ppd_ast.specs.declared.status.Status.TheVariants as status
-use Rattle.ppd_ast.specs.declared.status.Trap.{Trap as TrapOf}
 use Rattle.ppd_entry.specs.Pieces.{Piece, unit, sync, nested, unfinished, postlog, finish}
 use Rattle.ppd_sem.specs.declared.proc.Answer.{Answer}
 use Rattle.ppd_sem.specs.declared.proc.Answer.TheVariants.{Go}
@@ -13,7 +12,6 @@ use Rattle.ppd_sem.specs.declared.proc.Need.{Need}
 use Rattle.ppd_sem.specs.declared.proc.Need.TheVariants.{Read, Write, Plain, Enter, Leave, Invoke, Back, P, V, Send, Offer, Done, Recv, End, Trap, Budget, Stopped}
 use Rattle.ppd_sem.specs.declared.proc.Todo.{Todo}
 use Rattle.ppd_sem.specs.Blocks.{skipped, unit_past}
-use Rattle.ppd_sem.specs.Described.{trap_of}
 use Rattle.ppd_sem.specs.Process.{need_of}
 use Rattle.ppd_model.specs.declared.flow.Item.{Item}
 use Rattle.ppd_model.specs.declared.flow.Item.TheVariants as item
@@ -24,9 +22,9 @@ use Rattle.ppd_emul_model.specs.declared.trace.EmulError.{EmulError}
 use Rattle.ppd_emul_model.specs.declared.wanted.Wanted.{Wanted}
 use Rattle.ppd_emul_model.specs.declared.wanted.Wanted.TheVariants as wanted
 use Rattle.ppd_emul_model.specs.Fits.{found_of, wanted_of, same_trap, fits}
-use Rattle.ppd_emul_model.specs.Replay.{Replaying, Turn, more, done, counted, end_here, fail, finished, goes_on, is_budget, next_piece, past_piece, received, step_with, step_without, stepped, take_unit, take_unit_if, turn, turn_at_end, turn_by_end, turn_by_wanted, unit_taken, with_call, with_event, with_item, with_write}
+use Rattle.ppd_emul_model.specs.Replay.{Replaying, Turn, more, done, counted, end_here, fail, finished, goes_on, next_piece, past_piece, received, step_with, step_without, stepped, take_unit, turn, turn_by_end, turn_by_wanted, unit_taken, with_call, with_event, with_item, with_write}
 use Rattle.ppd_emul_model.proofs.Vocabulary.{skip_nested, synchronize}
-use Rattle.ppd_emul_model.proofs.Vocabulary.{turn_at_trap, turn_within, with_event_of}
+use Rattle.ppd_emul_model.proofs.Vocabulary.{with_event_of}
 
 -- an answer's items, by the counts of steps and items before and the count of steps after
 abbrev pub Few : (steps items after : ℕ) → Result BlockTrace EmulError → Type 0
@@ -103,10 +101,10 @@ module _ (program : Program) (plan : Plan) where
   take_by u r q true few = unit_grows u (next_piece q).1 r q few
   take_by u r q false few = tt
 
-  take_grows : (u : ℕ) (r q : Replaying) → length q.items ≤ length r.items + 2 → Grows r (take_unit plan u q)
+  take_grows : (u : ℕ) (r q : Replaying) → length q.items ≤ length r.items + 2 → Grows r (take_unit plan (Some u) q)
   take_grows u r q few = take_by u r q (fits (wanted.Unit u) (found_of (next_piece q).1)) few
 
-  take_if_grows : (u : Option ℕ) (r q : Replaying) → length q.items ≤ length r.items + 2 → Grows r (take_unit_if plan u q)
+  take_if_grows : (u : Option ℕ) (r q : Replaying) → length q.items ≤ length r.items + 2 → Grows r (take_unit plan u q)
   take_if_grows None r q few = few
   take_if_grows (Some u) r q few = take_grows u r q few
 
@@ -138,7 +136,7 @@ module _ (program : Program) (plan : Plan) where
   with_grows n (finish how rest) r = last_grows 1 r (with_event program plan Go None r) (omega arith) (event_added Go None r)
 
   -- ---- a step that needs none
-  plain_grows : (n : Need) (r : Replaying) → Grows r (take_unit_if plan (unit_started n) (stepped program plan Go (with_event program plan Go None r)))
+  plain_grows : (n : Need) (r : Replaying) → Grows r (take_unit plan (unit_started n) (stepped program plan Go (with_event program plan Go None r)))
   plain_grows n r =
       take_if_grows (unit_started n) r (stepped program plan Go (with_event program plan Go None r))
       (within 1 r (with_event program plan Go None r) (omega arith) (event_added Go None r))
@@ -178,31 +176,15 @@ module _ (program : Program) (plan : Plan) where
   over_grows : (r : Replaying) → Grows r (finished r)
   over_grows r = omega arith
 
-  trap_grows : (t : TrapOf) (o : Option TrapOf) (n : Need) (r : Replaying) → Grows r (turn_at_trap program plan t o n r)
-  trap_grows t None n r = tt
-  trap_grows t (Some t') n r =
-      either_grows r (same_trap t t') (finished (counted (with_event program plan Go None r))) (fail r (wanted.End (status.Trap t')))
-      (last_grows 1 r (with_event program plan Go None r) (omega arith) (event_added Go None r)) tt
-
-  end_grows : (how : Status) (n : Need) (r : Replaying) → Grows r (turn_at_end program plan how n r)
-  end_grows status.Ended n r = tt
-  end_grows (status.Trap t) n r = trap_grows t (trap_of n) n r
-  end_grows status.Budget n r = tt
-  end_grows status.Blocked n r = either_grows r (is_some (kind_of_sync n)) (finished r) (goes_on program plan n r) (over_grows r) tt
-
-  within_grows : (how : Option Status) (n : Need) (r : Replaying) → Grows r (turn_within program plan how n r)
-  within_grows None n r = wanted_grows n (wanted_of program plan r.proc n) r
-  within_grows (Some how) n r = end_grows how n r
-
-  paid_grows : (how : Option Status) (n : Need) (r : Replaying) → Grows r (if is_budget n then fail r wanted.Fewer else turn_within program plan how n r)
-  paid_grows how n r = either_grows r (is_budget n) (fail r wanted.Fewer) (turn_within program plan how n r) tt (within_grows how n r)
-
   by_end_grows : (how : Option Status) (n : Need) (r : Replaying) → Grows r (turn_by_end program plan how n r)
   by_end_grows (Some status.Budget) n r = over_grows r
-  by_end_grows None n r = paid_grows None n r
-  by_end_grows (Some status.Ended) n r = paid_grows (Some status.Ended) n r
-  by_end_grows (Some (status.Trap t)) n r = paid_grows (Some (status.Trap t)) n r
-  by_end_grows (Some status.Blocked) n r = paid_grows (Some status.Blocked) n r
+  by_end_grows how Budget r = tt
+  by_end_grows None n r = wanted_grows n (wanted_of program plan r.proc n) r
+  by_end_grows (Some status.Blocked) n r = either_grows r (is_some (kind_of_sync n)) (finished r) (goes_on program plan n r) (over_grows r) tt
+  by_end_grows (Some (status.Trap t)) (Trap t') r =
+      either_grows r (same_trap t t') (finished (counted (with_event program plan Go None r))) (fail r (wanted.End (status.Trap t')))
+      (last_grows 1 r (with_event program plan Go None r) (omega arith) (event_added Go None r)) tt
+  by_end_grows (Some s) n r = tt
 
   pub turn_grows : (r : Replaying) → Grows r (turn program plan r)
   turn_grows r = by_end_grows (end_here r.since (next_piece r).1) (need_of program plan r.proc) r

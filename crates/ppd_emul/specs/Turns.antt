@@ -1,19 +1,16 @@
 -- What turns of a replay come to.
-use Rattle.std.specs.Prelude.{◌≡◌, true, Option, None, Result, Ok, Err, IsSomeAnd, if◌then◌else◌}
-use Rattle.std.specs.Option.{option_map_or}
 use Rattle.ppd_ast.specs.declared.plan.Plan.{Plan}
 use Rattle.ppd_ast.specs.declared.program.Program.{Program}
-use Rattle.ppd_ast.specs.declared.status.Status.{Status}
-use Rattle.ppd_entry.specs.Pieces.{Piece}
-use Rattle.ppd_sem.specs.declared.proc.Answer.TheVariants.{Go}
-use Rattle.ppd_sem.specs.declared.proc.Need.{Need}
-use Rattle.ppd_model.specs.Story.{unit_started}
+use Rattle.ppd_emul_model.specs.Fits.{fits, found_of, wanted_of}
+use Rattle.ppd_emul_model.specs.Replay.{Replayed, Replaying, Turn, stepped, take_unit, with_event, with_write}
 use Rattle.ppd_emul_model.specs.declared.trace.EmulError.{EmulError}
-use Rattle.ppd_emul_model.specs.declared.wanted.Wanted.TheVariants as wanted
-use Rattle.ppd_emul_model.specs.Fits.{found_of, fits, wanted_of}
-use Rattle.ppd_emul_model.specs.Replay.{Replaying, Replayed, Turn, fail, is_budget, stepped, take_unit_if, turn_at_end, turn_by_wanted, with_event, with_write}
 use Rattle.ppd_emul_values.specs.declared.replayer.Code.{Code}
 use Rattle.ppd_emul_values.specs.declared.replayer.Replayer.{Replayer}
+use Rattle.ppd_entry.specs.Pieces.{Piece}
+use Rattle.ppd_model.specs.Story.{unit_started}
+use Rattle.ppd_sem.specs.declared.proc.Answer.TheVariants.{Go}
+use Rattle.ppd_sem.specs.declared.proc.Need.{Need}
+use Rattle.std.specs.Prelude.{Err, IsSomeAnd, None, Ok, Result, true, ◌≡◌}
 
 -- the step needs a piece, and this is the one
 abbrev pub Meets : Code → Replayer → Need → Piece → Type 0
@@ -30,13 +27,5 @@ ended (Err e) x = record { steps = x.steps; answer = Err e }
 -- a step that is an event and needs no piece
 abbrev pub alone : Program → Plan → Need → Replaying → Turn
 alone program plan need r =
-    take_unit_if plan (unit_started need)
+    take_unit plan (unit_started need)
     (stepped program plan Go (with_write need (with_event program plan Go None r)))
-
--- a turn where the process does not stop for its budget
-abbrev pub unstopped : Program → Plan → Option Status → Need → Replaying → Turn
-unstopped program plan how need r =
-    if is_budget need then fail r wanted.Fewer
-    else
-    option_map_or (λ s. turn_at_end program plan s need r) how
-    (turn_by_wanted program plan need (wanted_of program plan r.proc need) r)

@@ -1,4 +1,4 @@
-ghost use Rattle.std.specs.Prelude.{◌≡◌, ◌+◌, ◌<◌, ◌≤◌};
+ghost use Rattle.std.specs.Prelude.{◌≡◌, ◌+◌, ◌<◌, ◌≤◌, Some};
 ghost use Rattle.law_replay.specs.Theorem.Laws.{GivesIntervals};
 ghost use Rattle.ppd_ast.specs.declared.limits.TheConstants.{MOST_CALLS};
 ghost use Rattle.ppd_ast.specs.Valid.{IsValid};
@@ -67,7 +67,7 @@ fn run_from_unit<L: Ledger, T: Ledger>(
     requires few { state.old.steps ≡ 0 }
     ensures told { IfTold result
         (ended result state.new
-        ≡ go_on (take_unit_of code.now.plan.now unit (replaying state.old))
+        ≡ go_on (take_unit_of code.now.plan.now (Some unit) (replaying state.old))
         (replay_from code.now.program.now code.now.plan.now (budget + 1))) }
     ensures ticks { steps.new + state.old.steps ≡ steps.old + state.new.steps }
     ensures turns { IfTold result (turns.new ≤ turns.old + state.new.steps + 1) }

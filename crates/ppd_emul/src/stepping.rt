@@ -2,7 +2,7 @@ ghost use Rattle.std.specs.Prelude.{◌≡◌, ◌+◌, ◌<◌, ◌≤◌, ◌^
 ghost use Rattle.ppd_emul.specs.Turns.{Meets, alone};
 ghost use Rattle.ppd_emul_values.specs.Emulated.{IfMore, IfTold, IsAtNeed, IsGoing, IsSound, IsTurn, replaying, turned};
 ghost use Rattle.ppd_emul_model.specs.Fits.{wanted_of as wanted_of_need};
-ghost use Rattle.ppd_emul_model.specs.Replay.{counted, finished, is_budget, past_piece, received as received_by, step_with as step_with_of, step_without as step_without_of, stepped, take_unit_if as take_unit_if_of, with_call, with_event, with_item};
+ghost use Rattle.ppd_emul_model.specs.Replay.{counted, finished, is_budget, past_piece, received as received_by, step_with as step_with_of, step_without as step_without_of, stepped, take_unit as take_unit_of, with_call, with_event, with_item};
 ghost use Rattle.ppd_entry.specs.Pieces.{nested as nested_piece, piece_of, unfinished};
 ghost use Rattle.ppd_model.specs.declared.flow.Item.TheVariants.{Nested};
 ghost use Rattle.ppd_model.specs.Story.{unit_started as unit_started_by};
@@ -71,7 +71,7 @@ fn take_step<L: Ledger>(
 fn take_unit_if(code: &Code, state: &mut Replayer, unit: Option<u16>) -> Result<Turned, EmulError>
     requires { IsGoing code.now state.old }
     ensures told { IfTold result
-        (turned result state.new ≡ take_unit_if_of code.now.plan.now unit (replaying state.old)) }
+        (turned result state.new ≡ take_unit_of code.now.plan.now unit (replaying state.old)) }
     ensures going { IfMore result (IsGoing code.now state.new) }
     ensures steps { state.new.steps ≡ state.old.steps }
 {
@@ -103,7 +103,7 @@ fn synchronize<L: Ledger>(
     requires next { IsAtNeed code.now state.old need }
     requires event { is_event need ≡ true }
     ensures { IsTurn code.now state.old state.new steps.old steps.new result
-        (take_unit_if_of code.now.plan.now (unit_started_by need)
+        (take_unit_of code.now.plan.now (unit_started_by need)
         (past_piece (stepped code.now.program.now code.now.plan.now (received_by need value)
         (with_event code.now.program.now code.now.plan.now (received_by need value) (Some number)
         (replaying state.old))))) }

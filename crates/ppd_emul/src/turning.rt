@@ -1,8 +1,7 @@
-ghost use Rattle.std.specs.Prelude.{◌≡◌, ◌<◌, ◌^◌, false, Err};
-ghost use Rattle.ppd_emul.specs.Turns.{unstopped};
+ghost use Rattle.std.specs.Prelude.{◌≡◌, ◌<◌, ◌^◌, false, Err, Some};
 ghost use Rattle.ppd_emul_values.specs.Emulated.{IfFailed, IsAtNeed, IsGoing, IsSound, IsTurn, replaying, turned};
 ghost use Rattle.ppd_emul_model.specs.Fits.{wanted_of as wanted_of_need};
-ghost use Rattle.ppd_emul_model.specs.Replay.{end_here as end_here_of, goes_on as goes_on_of, is_budget, turn as turn_of, turn_at_end as turn_at_end_of, turn_by_wanted as turn_by_wanted_of};
+ghost use Rattle.ppd_emul_model.specs.Replay.{end_here as end_here_of, goes_on as goes_on_of, is_budget, turn as turn_of, turn_by_end as turn_by_end_of, turn_by_wanted as turn_by_wanted_of};
 ghost use Rattle.ppd_entry.specs.Pieces.{piece_of};
 ghost use Rattle.ppd_sem.specs.Runs.{IsRunning};
 
@@ -56,7 +55,7 @@ fn goes_on(code: &Code, state: &Replayer, need: Need) -> EmulError
     }
 }
 
-/// The process ends here, after its steps: it traps, or was blocked at a synchronization.
+/// The process ends here, after its steps, and not for its budget: it traps, or was blocked at a synchronization.
 fn turn_at_end<L: Ledger>(
     code: &Code,
     state: &mut Replayer,
@@ -64,9 +63,11 @@ fn turn_at_end<L: Ledger>(
     need: Need,
     steps: &mut Steps<L>,
 ) -> Result<Turned, EmulError>
-    requires { IsAtNeed code.now state.old need }
+    requires next { IsAtNeed code.now state.old need }
+    requires paid { is_budget need ≡ false }
+    requires other { status ≡ Status.Budget → ⊥ }
     ensures { IsTurn code.now state.old state.new steps.old steps.new result
-        (turn_at_end_of code.now.program.now code.now.plan.now status need (replaying state.old)) }
+        (turn_by_end_of code.now.program.now code.now.plan.now (Some status) need (replaying state.old)) }
 {
     match status {
         Status::Blocked => {
@@ -106,8 +107,8 @@ fn end_here(since: u64, piece: Piece) -> Option<Status>
     }
 }
 
-/// A turn where a process does not stop for its budget here.
-fn turn_unstopped<L: Ledger>(
+/// The turn of a process that ended so after its steps, if it ended here.
+fn turn_by_end<L: Ledger>(
     code: &Code,
     state: &mut Replayer,
     ending: Option<Status>,
@@ -116,13 +117,16 @@ fn turn_unstopped<L: Ledger>(
 ) -> Result<Turned, EmulError>
     requires { IsAtNeed code.now state.old need }
     ensures { IsTurn code.now state.old state.new steps.old steps.new result
-        (unstopped code.now.program.now code.now.plan.now ending need (replaying state.old)) }
+        (turn_by_end_of code.now.program.now code.now.plan.now ending need (replaying state.old)) }
 {
-    match need {
-        Need::Budget => Err(fail(code.alloc, state, Wanted::Fewer)),
-        _ => match ending {
-            Some(status) => turn_at_end(code, state, status, need, steps),
-            None => turn_by_wanted(code, state, need, steps),
+    match ending {
+        Some(Status::Budget) => Ok(Turned::Done),
+        _ => match need {
+            Need::Budget => Err(fail(code.alloc, state, Wanted::Fewer)),
+            _ => match ending {
+                Some(status) => turn_at_end(code, state, status, need, steps),
+                None => turn_by_wanted(code, state, need, steps),
+            },
         },
     }
 }
@@ -142,8 +146,5 @@ pub(crate) fn turn<L: Ledger>(
     let need = look(code.program, code.plan, &state.proc);
     let (_, piece) = state.pieces.next();
     let ending = end_here(state.since, piece);
-    match ending {
-        Some(Status::Budget) => Ok(Turned::Done),
-        _ => turn_unstopped(code, state, ending, need, steps),
-    }
+    turn_by_end(code, state, ending, need, steps)
 }

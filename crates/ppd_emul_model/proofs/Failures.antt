@@ -9,7 +9,6 @@ use Rattle.ppd_ast.specs.declared.status.Status.{Status}
 use Rattle.ppd_ast.specs.declared.status.Status.TheVariants as status
 use Rattle.ppd_ast.specs.declared.status.SyncKind.{SyncKind}
 use Rattle.ppd_ast.specs.declared.status.SyncKind.TheVariants as sync_kind
-use Rattle.ppd_ast.specs.declared.status.Trap.{Trap as TrapOf}
 use Rattle.ppd_model.specs.IntervalLogs.{IntervalLog}
 use Rattle.ppd_model.specs.Pieces.{Piece, unit, sync, nested, unfinished, postlog, finish}
 use Rattle.ppd_model.specs.Entries.{same_kind}
@@ -17,7 +16,6 @@ use Rattle.ppd_sem.specs.declared.proc.Need.{Need}
 use Rattle.ppd_sem.specs.declared.proc.Need.TheVariants.{Read, Write, Plain, Enter, Leave, Invoke, Back, P, V, Send, Offer, Done, Recv, End, Trap, Budget, Stopped}
 use Rattle.ppd_sem.specs.declared.proc.Proc.{Proc}
 use Rattle.ppd_sem.specs.Blocks.{block_kind, block_unit, skipped, unit_past}
-use Rattle.ppd_sem.specs.Described.{trap_of}
 use Rattle.ppd_sem.specs.Process.{need_of}
 use Rattle.ppd_model.specs.declared.flow.Item.TheVariants as item
 use Rattle.ppd_model.specs.Story.{unit_started}
@@ -30,8 +28,7 @@ use Rattle.ppd_emul_model.specs.declared.wanted.Found.TheVariants as found
 use Rattle.ppd_emul_model.specs.declared.wanted.Wanted.{Wanted}
 use Rattle.ppd_emul_model.specs.declared.wanted.Wanted.TheVariants as wanted
 use Rattle.ppd_emul_model.specs.Fits.{found_of, wanted_of, same_trap, fits}
-use Rattle.ppd_emul_model.specs.Replay.{Replaying, Replayed, Turn, more, done, begun_replay, counted, end_here, fail, finished, go_on, goes_on, is_budget, next_piece, replay, replay_from, step_with, step_without, take_unit, take_unit_if, turn, turn_at_end, turn_by_end, turn_by_wanted, unit_taken, with_event, with_call, with_item, with_write, past_piece, received, stepped}
-use Rattle.ppd_emul_model.proofs.Vocabulary.{turn_at_trap, turn_within}
+use Rattle.ppd_emul_model.specs.Replay.{Replaying, Replayed, Turn, more, done, begun_replay, counted, end_here, fail, finished, go_on, goes_on, next_piece, replay, replay_from, step_with, step_without, take_unit, turn, turn_by_end, turn_by_wanted, unit_taken, with_event, with_call, with_item, with_write, past_piece, received, stepped}
 use Rattle.ppd_emul_model.specs.Laws.{as_found, FailuresDiffer, IsTrap}
 use Rattle.ppd_sem.specs.declared.proc.Answer.TheVariants.{Go}
 
@@ -127,12 +124,12 @@ module _ (program : Program) (plan : Plan) where
   either_clear true t u x y = x
   either_clear false t u x y = y refl
 
-  take_clear : (u : ℕ) (q : Replaying) → IsClearTurn (take_unit plan u q)
+  take_clear : (u : ℕ) (q : Replaying) → IsClearTurn (take_unit plan (Some u) q)
   take_clear u q =
       either_clear (fits (wanted.Unit u) (found_of (next_piece q).1)) (more (unit_taken plan u (next_piece q).1 q)) (fail q (wanted.Unit u)) tt
       (λ e is. unfit (wanted.Unit u) (found_of (next_piece q).1) e is)
 
-  take_if_clear : (u : Option ℕ) (q : Replaying) → IsClearTurn (take_unit_if plan u q)
+  take_if_clear : (u : Option ℕ) (q : Replaying) → IsClearTurn (take_unit plan u q)
   take_if_clear None q = tt
   take_if_clear (Some u) q = take_clear u q
 
@@ -151,7 +148,7 @@ module _ (program : Program) (plan : Plan) where
   fewer_clear r is = absurd (no_some (found_of (next_piece r).1) is)
 
   -- an event, and nothing else
-  plain_clear : (n : Need) (r : Replaying) → IsClearTurn (take_unit_if plan (unit_started n) (stepped program plan Go (with_event program plan Go None r)))
+  plain_clear : (n : Need) (r : Replaying) → IsClearTurn (take_unit plan (unit_started n) (stepped program plan Go (with_event program plan Go None r)))
   plain_clear n r = take_if_clear (unit_started n) (stepped program plan Go (with_event program plan Go None r))
 
   without_clear : (n : Need) (r : Replaying) → IsClearTurn (step_without program plan n r)
@@ -176,32 +173,15 @@ module _ (program : Program) (plan : Plan) where
   on_clear : (n : Need) (r : Replaying) (how : Status) → found_of (next_piece r).1 ≡ found.End how → IsClearTurn (goes_on program plan n r)
   on_clear n r how here = on_by n (wanted_of program plan r.proc n) r how refl here
 
-  trap_clear : (t : TrapOf) (o : Option TrapOf) (n : Need) (r : Replaying) (how : Status) → found_of (next_piece r).1 ≡ found.End how → IsClearTurn (turn_at_trap program plan t o n r)
-  trap_clear t None n r how here = on_clear n r how here
-  trap_clear t (Some t') n r how here =
-      either_clear (same_trap t t') (finished (counted (with_event program plan Go None r))) (fail r (wanted.End (status.Trap t'))) tt (λ e is. tt)
-
-  at_end_clear : (how : Status) (n : Need) (r : Replaying) → found_of (next_piece r).1 ≡ found.End how → IsClearTurn (turn_at_end program plan how n r)
-  at_end_clear status.Ended n r here = on_clear n r status.Ended here
-  at_end_clear (status.Trap t) n r here = trap_clear t (trap_of n) n r (status.Trap t) here
-  at_end_clear status.Budget n r here = on_clear n r status.Budget here
-  at_end_clear status.Blocked n r here =
-      either_clear (is_some (kind_of_sync n)) (finished r) (goes_on program plan n r) tt (λ e. on_clear n r status.Blocked here)
-
-  within_clear : (how : Option Status) (n : Need) (r : Replaying) → ((s : Status) → how ≡ Some s → found_of (next_piece r).1 ≡ found.End s) → IsClearTurn (turn_within program plan how n r)
-  within_clear None n r here = wanted_clear n (wanted_of program plan r.proc n) r refl
-  within_clear (Some s) n r here = at_end_clear s n r (here s refl)
-
-  budget_clear : (how : Option Status) (n : Need) (r : Replaying) (poor : Bool) → ((s : Status) → how ≡ Some s → found_of (next_piece r).1 ≡ found.End s) → IsClearTurn (if poor then fail r wanted.Fewer else turn_within program plan how n r)
-  budget_clear how n r true here = fewer_clear r
-  budget_clear how n r false here = within_clear how n r here
-
   by_end_clear : (how : Option Status) (n : Need) (r : Replaying) → ((s : Status) → how ≡ Some s → found_of (next_piece r).1 ≡ found.End s) → IsClearTurn (turn_by_end program plan how n r)
   by_end_clear (Some status.Budget) n r here = tt
-  by_end_clear None n r here = budget_clear None n r (is_budget n) here
-  by_end_clear (Some status.Ended) n r here = budget_clear (Some status.Ended) n r (is_budget n) here
-  by_end_clear (Some (status.Trap t)) n r here = budget_clear (Some (status.Trap t)) n r (is_budget n) here
-  by_end_clear (Some status.Blocked) n r here = budget_clear (Some status.Blocked) n r (is_budget n) here
+  by_end_clear how Budget r here = fewer_clear r
+  by_end_clear None n r here = wanted_clear n (wanted_of program plan r.proc n) r refl
+  by_end_clear (Some status.Blocked) n r here =
+      either_clear (is_some (kind_of_sync n)) (finished r) (goes_on program plan n r) tt (λ e. on_clear n r status.Blocked (here status.Blocked refl))
+  by_end_clear (Some (status.Trap t)) (Trap t') r here =
+      either_clear (same_trap t t') (finished (counted (with_event program plan Go None r))) (fail r (wanted.End (status.Trap t'))) tt (λ e is. tt)
+  by_end_clear (Some s) n r here = on_clear n r s (here s refl)
 
   end_if : (how s : Status) (ok : Bool) → (if ok then Some how else None) ≡ Some s → found.End how ≡ found.End s
   end_if how s true e = ap (λ (o : Option Status). found.End (unwrap_or o how)) e
@@ -230,7 +210,7 @@ module _ (program : Program) (plan : Plan) where
 
   replay_clear : (l : IntervalLog) (budget : ℕ) → IsClear (replay program plan l budget).answer
   replay_clear l budget =
-      go_clear (replay_from program plan (budget + 1)) (from_clear (budget + 1)) (take_unit plan (block_unit plan (block_kind plan l.block)) (begun_replay program plan l budget))
+      go_clear (replay_from program plan (budget + 1)) (from_clear (budget + 1)) (take_unit plan (Some (block_unit plan (block_kind plan l.block))) (begun_replay program plan l budget))
       (take_clear (block_unit plan (block_kind plan l.block)) (begun_replay program plan l budget))
 
   replay_differs : (l : IntervalLog) (budget n : ℕ) (w : Wanted) (f : Found) → (replay program plan l budget).answer ≡ Err (Diverged n w f) → as_found w ≡ Some f → IsTrap w

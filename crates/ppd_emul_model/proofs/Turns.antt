@@ -4,7 +4,6 @@ use Rattle.ppd_ast.specs.declared.plan.Plan.{Plan}
 use Rattle.ppd_ast.specs.declared.program.Program.{Program}
 use Rattle.ppd_ast.specs.declared.status.Status.{Status}
 use Rattle.ppd_ast.specs.declared.status.Status.TheVariants as status
-use Rattle.ppd_ast.specs.declared.status.Trap.{Trap as TrapOf}
 use Rattle.ppd_model.specs.IntervalLogs.{IntervalLog}
 use Rattle.ppd_model.specs.Pieces.{Piece, unit, sync, nested, unfinished, postlog, finish}
 use Rattle.ppd_sem.specs.declared.proc.Answer.{Answer}
@@ -14,7 +13,6 @@ use Rattle.ppd_sem.specs.declared.proc.Need.TheVariants.{Read, Write, Plain, Ent
 use Rattle.ppd_sem.specs.declared.proc.Proc.{Proc}
 use Rattle.ppd_sem.specs.declared.proc.Todo.{Todo}
 use Rattle.ppd_sem.specs.Blocks.{block_kind, block_unit, skipped, unit_past}
-use Rattle.ppd_sem.specs.Described.{trap_of}
 use Rattle.ppd_sem.specs.Process.{act, act_by_asked, act_by_need, charged, cost, head_deed, need_of}
 use Rattle.ppd_sem.proofs.NeedWords.{act_at}
 use Rattle.ppd_sem.proofs.Paid.{need-paid}
@@ -25,9 +23,9 @@ use Rattle.ppd_model.specs.Synchronizations.{kind_of_sync}
 use Rattle.ppd_emul_model.specs.declared.wanted.Wanted.{Wanted}
 use Rattle.ppd_emul_model.specs.declared.wanted.Wanted.TheVariants as wanted
 use Rattle.ppd_emul_model.specs.Fits.{found_of, wanted_of, same_trap, fits}
-use Rattle.ppd_emul_model.specs.Replay.{Replaying, Replayed, Turn, more, done, begun_replay, counted, end_here, fail, finished, go_on, goes_on, is_budget, next_piece, past_piece, received, replay, replay_from, step_with, step_without, stepped, take_unit, take_unit_if, turn, turn_at_end, turn_by_end, turn_by_wanted, unit_taken, value_in_force, with_call, with_event, with_item, with_write}
+use Rattle.ppd_emul_model.specs.Replay.{Replaying, Replayed, Turn, more, done, begun_replay, counted, end_here, fail, finished, go_on, goes_on, next_piece, past_piece, received, replay, replay_from, step_with, step_without, stepped, take_unit, turn, turn_by_end, turn_by_wanted, unit_taken, value_in_force, with_call, with_event, with_item, with_write}
 use Rattle.ppd_emul_model.proofs.Vocabulary.{skip_nested, synchronize}
-use Rattle.ppd_emul_model.proofs.Vocabulary.{turn_at_trap, turn_within, with_event_of}
+use Rattle.ppd_emul_model.proofs.Vocabulary.{with_event_of}
 use Rattle.ppd_emul_model.specs.Laws.{IsLast, IsOneStep, ReplaysAreWithinBudget, TakesOneStep, TurnsAreSteps, TurnsSuffice}
 
 module _ (program : Program) (plan : Plan) where
@@ -150,10 +148,10 @@ module _ (program : Program) (plan : Plan) where
       let within : q.proc.spent ≤ q.proc.budget = one.within in
       inl (one.steps, omega arith)
 
-  take_goes : (u : ℕ) (r q : Replaying) → IsOneStep r q → TakesOneStep r (take_unit plan u q)
+  take_goes : (u : ℕ) (r q : Replaying) → IsOneStep r q → TakesOneStep r (take_unit plan (Some u) q)
   take_goes u r q one = unit_goes u r q (fits (wanted.Unit u) (found_of (next_piece q).1)) one
 
-  take_if_goes : (u : Option ℕ) (r q : Replaying) → IsOneStep r q → TakesOneStep r (take_unit_if plan u q)
+  take_if_goes : (u : Option ℕ) (r q : Replaying) → IsOneStep r q → TakesOneStep r (take_unit plan u q)
   take_if_goes None r q one = one
   take_if_goes (Some u) r q one = take_goes u r q one
 
@@ -190,11 +188,11 @@ module _ (program : Program) (plan : Plan) where
 
   -- ---- a step that needs none
 
-  rest_goes : (n : Need) (r q : Replaying) → Same r q → need_of program plan r.proc ≡ n → n ≢ Stopped → n ≢ Budget → TakesOneStep r (take_unit_if plan (unit_started n) (stepped program plan Go q))
+  rest_goes : (n : Need) (r q : Replaying) → Same r q → need_of program plan r.proc ≡ n → n ≢ Stopped → n ≢ Budget → TakesOneStep r (take_unit plan (unit_started n) (stepped program plan Go q))
   rest_goes n r q same is x y = take_if_goes (unit_started n) r (stepped program plan Go q) (stepped_one Go n r q same is x y)
 
   -- an event, and nothing else
-  plain_goes : (n : Need) (r : Replaying) → need_of program plan r.proc ≡ n → n ≢ Stopped → n ≢ Budget → TakesOneStep r (take_unit_if plan (unit_started n) (stepped program plan Go (with_event program plan Go None r)))
+  plain_goes : (n : Need) (r : Replaying) → need_of program plan r.proc ≡ n → n ≢ Stopped → n ≢ Budget → TakesOneStep r (take_unit plan (unit_started n) (stepped program plan Go (with_event program plan Go None r)))
   plain_goes n r is x y = rest_goes n r (with_event program plan Go None r) (event_same Go None r) is x y
 
   write_same : (c : ℕ) (v : ℤ) (r q : Replaying) → Same r q → Same r (with_write (Write c v) q)
@@ -240,43 +238,16 @@ module _ (program : Program) (plan : Plan) where
       either_goes r (fits w (found_of (next_piece r).1)) (step_with program plan n (next_piece r).1 r) (fail r w)
       (with_goes n (next_piece r).1 r is (not_stopped n w r e) y) (inr refl)
 
-  traps_on : (n : Need) (t : TrapOf) → trap_of n ≡ Some t → n ≢ Stopped
-  traps_on n t e stops =
-      let none : None ≡ Some t = ap (λ (m : Need). trap_of m) (sym stops) ∙ e in
-      cc
-
-  trap_goes : (t : TrapOf) (o : Option TrapOf) (n : Need) (r : Replaying) → trap_of n ≡ o → need_of program plan r.proc ≡ n → n ≢ Budget → TakesOneStep r (turn_at_trap program plan t o n r)
-  trap_goes t None n r e is y = inr refl
-  trap_goes t (Some t') n r e is y =
-      either_goes r (same_trap t t') (finished (counted (with_event program plan Go None r))) (fail r (wanted.End (status.Trap t')))
-      (last_step n r (with_event program plan Go None r) (event_same Go None r) is (traps_on n t' e) y) (inr refl)
-
-  end_goes : (how : Status) (n : Need) (r : Replaying) → need_of program plan r.proc ≡ n → n ≢ Budget → TakesOneStep r (turn_at_end program plan how n r)
-  end_goes status.Ended n r is y = inr refl
-  end_goes (status.Trap t) n r is y = trap_goes t (trap_of n) n r refl is y
-  end_goes status.Budget n r is y = inr refl
-  end_goes status.Blocked n r is y =
-      either_goes r (is_some (kind_of_sync n)) (finished r) (goes_on program plan n r) (inr refl) (inr refl)
-
-  within_goes : (how : Option Status) (n : Need) (r : Replaying) → need_of program plan r.proc ≡ n → n ≢ Budget → TakesOneStep r (turn_within program plan how n r)
-  within_goes None n r is y = wanted_goes n (wanted_of program plan r.proc n) r refl is y
-  within_goes (Some how) n r is y = end_goes how n r is y
-
-  no_budget : (n : Need) → is_budget n ≡ false → n ≢ Budget
-  no_budget n e is =
-      let both : true ≡ false = ap (λ (m : Need). is_budget m) (sym is) ∙ e in
-      cc
-
-  budget_goes : (how : Option Status) (n : Need) (r : Replaying) (poor : Bool) → is_budget n ≡ poor → need_of program plan r.proc ≡ n → TakesOneStep r (if poor then fail r wanted.Fewer else turn_within program plan how n r)
-  budget_goes how n r true e is = inr refl
-  budget_goes how n r false e is = within_goes how n r is (no_budget n e)
-
   by_end_goes : (how : Option Status) (n : Need) (r : Replaying) → need_of program plan r.proc ≡ n → TakesOneStep r (turn_by_end program plan how n r)
   by_end_goes (Some status.Budget) n r is = inr refl
-  by_end_goes None n r is = budget_goes None n r (is_budget n) refl is
-  by_end_goes (Some status.Ended) n r is = budget_goes (Some status.Ended) n r (is_budget n) refl is
-  by_end_goes (Some (status.Trap t)) n r is = budget_goes (Some (status.Trap t)) n r (is_budget n) refl is
-  by_end_goes (Some status.Blocked) n r is = budget_goes (Some status.Blocked) n r (is_budget n) refl is
+  by_end_goes how Budget r is = inr refl
+  by_end_goes None n r is = wanted_goes n (wanted_of program plan r.proc n) r refl is (λ e. cc)
+  by_end_goes (Some status.Blocked) n r is =
+      either_goes r (is_some (kind_of_sync n)) (finished r) (goes_on program plan n r) (inr refl) (inr refl)
+  by_end_goes (Some (status.Trap t)) (Trap t') r is =
+      either_goes r (same_trap t t') (finished (counted (with_event program plan Go None r))) (fail r (wanted.End (status.Trap t')))
+      (last_step (Trap t') r (with_event program plan Go None r) (event_same Go None r) is (λ e. cc) (λ e. cc)) (inr refl)
+  by_end_goes (Some s) n r is = inr refl
 
   turn_goes : (r : Replaying) → TakesOneStep r (turn program plan r)
   turn_goes r = by_end_goes (end_here r.since (next_piece r).1) (need_of program plan r.proc) r refl

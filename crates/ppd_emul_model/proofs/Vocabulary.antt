@@ -1,24 +1,19 @@
 -- What the proofs speak of: the parts of the definitions, each by a name of its own.
-use Rattle.std.specs.Prelude.{Option, option_map, ℕ, List, slice_get, None, if◌then◌else◌, ℤ, true, Some}
-use Rattle.std.specs.Option.{option_map_or}
-use Rattle.ppd_model.specs.Marks.{Mark}
-use Rattle.ppd_emul_model.specs.declared.wanted.Wanted.{Wanted}
-use Rattle.ppd_emul_model.specs.declared.wanted.Wanted.TheVariants as wanted
 use Rattle.ppd_ast.specs.declared.plan.Plan.{Plan}
 use Rattle.ppd_ast.specs.declared.program.Program.{Program}
-use Rattle.ppd_ast.specs.declared.status.Status.{Status}
-use Rattle.ppd_ast.specs.declared.status.Trap.{Trap as TrapOf}
-use Rattle.ppd_sem.specs.declared.proc.Answer.{Answer}
-use Rattle.ppd_sem.specs.declared.proc.Answer.TheVariants.{Go}
-use Rattle.ppd_sem.specs.declared.proc.Need.{Need}
-use Rattle.ppd_sem.specs.declared.proc.Todo.{Todo}
-use Rattle.ppd_sem.specs.Described.{described}
-use Rattle.ppd_emul_model.specs.Fits.{wanted_of, same_trap}
-use Rattle.ppd_emul_model.specs.Replay.{Replaying, Turn, counted, fail, finished, goes_on, turn_at_end, turn_by_wanted, with_event, with_item, past_piece, received, stepped, take_unit, take_unit_if, with_call}
-use Rattle.ppd_ast.specs.declared.status.Status.TheVariants as status
+use Rattle.ppd_emul_model.specs.Replay.{Replaying, Turn, counted, past_piece, received, stepped, take_unit, with_call, with_event, with_item}
+use Rattle.ppd_emul_model.specs.declared.wanted.Wanted.{Wanted}
+use Rattle.ppd_emul_model.specs.declared.wanted.Wanted.TheVariants as wanted
+use Rattle.ppd_model.specs.Marks.{Mark}
+use Rattle.ppd_model.specs.Story.{unit_started}
 use Rattle.ppd_model.specs.declared.flow.Item.TheVariants as item
 use Rattle.ppd_sem.specs.Blocks.{skipped, unit_past}
-use Rattle.ppd_model.specs.Story.{unit_started}
+use Rattle.ppd_sem.specs.Described.{described}
+use Rattle.ppd_sem.specs.declared.proc.Answer.{Answer}
+use Rattle.ppd_sem.specs.declared.proc.Need.{Need}
+use Rattle.ppd_sem.specs.declared.proc.Todo.{Todo}
+use Rattle.std.specs.Option.{option_map_or}
+use Rattle.std.specs.Prelude.{List, Option, Some, option_map, slice_get, true, ℕ, ℤ}
 
 -- the postlog of the block that the step leaves, if it leaves one
 abbrev pub postlog_wanted : Option Mark → Option Wanted
@@ -30,31 +25,16 @@ with_event_of program plan a number todo r =
     option_map_or (λ t. with_item (item.Own (record (described program plan r.proc t a) { number = number })) r)
     (slice_get todo 0) r
 
--- the process traps here, after its steps: its next step traps so
-abbrev pub turn_at_trap : Program → Plan → TrapOf → Option TrapOf → Need → Replaying → Turn
-turn_at_trap program plan t o need r =
-    option_map_or
-    (λ t'.
-    if same_trap t t' then finished (counted (with_event program plan Go None r))
-    else fail r (wanted.End (status.Trap t')))
-    o (goes_on program plan need r)
-
--- a turn that the budget allows
-abbrev pub turn_within : Program → Plan → Option Status → Need → Replaying → Turn
-turn_within program plan how need r =
-    option_map_or (λ s. turn_at_end program plan s need r) how
-    (turn_by_wanted program plan need (wanted_of program plan r.proc need) r)
-
 -- a synchronization, with its number and the value of its piece
 abbrev pub synchronize : Program → Plan → Need → ℕ → ℤ → Replaying → Turn
 synchronize program plan need number value r =
     let a = received need value in
-    take_unit_if plan (unit_started need)
+    take_unit plan (unit_started need)
     (past_piece (stepped program plan a (with_event program plan a (Some number) r)))
 
 -- a nested interval that was left: its postlog is applied in its place, and the unit after it starts
 abbrev pub skip_nested : Program → Plan → Need → ℕ → ℕ → List ℤ → Replaying → Turn
 skip_nested program plan need k b values r =
     let after = with_item (item.Nested k b values true) (with_call program plan need r) in
-    take_unit plan (unit_past plan r.proc.todo need)
+    take_unit plan (Some (unit_past plan r.proc.todo need))
     (past_piece (counted (record after { proc = skipped program plan values r.proc })))

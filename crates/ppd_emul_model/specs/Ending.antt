@@ -1,5 +1,5 @@
 -- A replay ends by a turn of its own, and never for want of turns.
-use Rattle.std.specs.Prelude.{◌≡◌, ℕ, ◌+◌, ◌<◌, ◌≤◌}
+use Rattle.std.specs.Prelude.{◌≡◌, ℕ, ◌+◌, ◌<◌, ◌≤◌, Some}
 use Rattle.ppd_ast.specs.declared.plan.Plan.{Plan}
 use Rattle.ppd_ast.specs.declared.program.Program.{Program}
 use Rattle.ppd_model.specs.IntervalLogs.{IntervalLog}
@@ -24,4 +24,4 @@ TurnsEnd = (program : Program) (plan : Plan) (turns : ℕ) (r : Replaying) → r
 -- so a replay is over with its first unit, or ends by a turn
 abbrev pub ReplaysEndByTurns : Type 0
 ReplaysEndByTurns = (program : Program) (plan : Plan) (l : IntervalLog) (budget : ℕ)
-    → IsOverBy program plan (take_unit plan (block_unit plan (block_kind plan l.block)) (begun_replay program plan l budget)) (replay program plan l budget)
+    → IsOverBy program plan (take_unit plan (Some (block_unit plan (block_kind plan l.block))) (begun_replay program plan l budget)) (replay program plan l budget)

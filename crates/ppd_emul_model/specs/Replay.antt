@@ -1,30 +1,30 @@
 -- The replay of an interval: steps of a process state at its block, which take the pieces of its log in order.
-use Rattle.std.specs.Prelude.{ℕ, zero, suc, ◌+◌, nat_eq, ℤ, pos, Bool, true, false, List, [], ◌∷◌, ◌++◌, zip, drop, get_or, slice_get, Option, Some, None, is_some, unwrap_or, Result, Ok, Err, if◌then◌else◌}
-use Rattle.std.specs.Option.{option_map_or}
 use Rattle.ppd_ast.specs.declared.plan.Plan.{Plan}
 use Rattle.ppd_ast.specs.declared.program.Program.{Program}
 use Rattle.ppd_ast.specs.declared.status.Status.{Status}
 use Rattle.ppd_ast.specs.declared.status.Status.TheVariants as status
-use Rattle.ppd_model.specs.IntervalLogs.{IntervalLog}
-use Rattle.ppd_model.specs.Pieces.{Piece, unit, sync, nested, unfinished, finish}
-use Rattle.ppd_sem.specs.declared.proc.Answer.{Answer}
-use Rattle.ppd_sem.specs.declared.proc.Answer.TheVariants.{Value, Go}
-use Rattle.ppd_sem.specs.declared.proc.Need.{Need}
-use Rattle.ppd_sem.specs.declared.proc.Need.TheVariants.{Read, Write, Invoke, Recv, Budget, Stopped}
-use Rattle.ppd_sem.specs.declared.proc.Proc.{Proc}
-use Rattle.ppd_sem.specs.Blocks.{at_block, block_kind, block_unit, skipped, unit_past}
-use Rattle.ppd_sem.specs.Described.{described, trap_of}
-use Rattle.ppd_sem.specs.Process.{act, need_of}
-use Rattle.ppd_model.specs.declared.flow.Item.{Item}
-use Rattle.ppd_model.specs.declared.flow.Item.TheVariants as item
-use Rattle.ppd_model.specs.Story.{cells_of_unit, unit_started}
-use Rattle.ppd_model.specs.Synchronizations.{kind_of_sync}
-use Rattle.ppd_emul_model.specs.Fits.{found_of, wanted_of, same_trap, fits}
+use Rattle.ppd_emul_model.specs.Fits.{fits, found_of, same_trap, wanted_of}
 use Rattle.ppd_emul_model.specs.declared.trace.BlockTrace.{BlockTrace}
 use Rattle.ppd_emul_model.specs.declared.trace.EmulError.{EmulError}
 use Rattle.ppd_emul_model.specs.declared.trace.EmulError.TheVariants.{Diverged}
 use Rattle.ppd_emul_model.specs.declared.wanted.Wanted.{Wanted}
 use Rattle.ppd_emul_model.specs.declared.wanted.Wanted.TheVariants as wanted
+use Rattle.ppd_model.specs.IntervalLogs.{IntervalLog}
+use Rattle.ppd_model.specs.Pieces.{Piece, finish, nested, sync, unfinished, unit}
+use Rattle.ppd_model.specs.Story.{unit_started}
+use Rattle.ppd_model.specs.Synchronizations.{kind_of_sync}
+use Rattle.ppd_model.specs.declared.flow.Item.{Item}
+use Rattle.ppd_model.specs.declared.flow.Item.TheVariants as item
+use Rattle.ppd_sem.specs.Blocks.{at_block, block_kind, block_unit, skipped, unit_past}
+use Rattle.ppd_sem.specs.Described.{described}
+use Rattle.ppd_sem.specs.Process.{act, need_of}
+use Rattle.ppd_sem.specs.declared.proc.Answer.{Answer}
+use Rattle.ppd_sem.specs.declared.proc.Answer.TheVariants.{Go, Value}
+use Rattle.ppd_sem.specs.declared.proc.Need.{Need}
+use Rattle.ppd_sem.specs.declared.proc.Need.TheVariants.{Budget, Invoke, Read, Recv, Stopped, Trap, Write}
+use Rattle.ppd_sem.specs.declared.proc.Proc.{Proc}
+use Rattle.std.specs.Option.{option_map_or}
+use Rattle.std.specs.Prelude.{Bool, Err, List, None, Ok, Option, Result, Some, [], drop, false, get_or, if◌then◌else◌, is_some, nat_eq, pos, slice_get, suc, true, unwrap_or, zero, zip, ℕ, ℤ, ◌++◌, ◌+◌, ◌∷◌}
 
 -- a replay on its way: the process state; the shared values in force, with an own write before the
 -- values of the last unit; the pieces that are left, each with the number of its entry; the steps
@@ -68,19 +68,15 @@ past_piece r = record r { pieces = drop 1 r.pieces; since = 0 }
 -- the start of a unit sets the values in force
 abbrev pub unit_taken : Plan → ℕ → Piece → Replaying → Replaying
 unit_taken plan u (unit v values) r =
-    record (past_piece r) { in_force = zip (cells_of_unit (slice_get plan.units u)) values }
+    record (past_piece r) { in_force = zip (option_map_or (λ u. u.cells) (slice_get plan.units u) []) values }
 unit_taken plan u piece r = r
 
--- unit u starts: the next piece has to be that
-abbrev pub take_unit : Plan → ℕ → Replaying → Turn
-take_unit plan u r =
+-- a unit starts, if one does: the next piece has to be that
+abbrev pub take_unit : Plan → Option ℕ → Replaying → Turn
+take_unit plan None r = more r
+take_unit plan (Some u) r =
     if fits (wanted.Unit u) (found_of (next_piece r).1) then more (unit_taken plan u (next_piece r).1 r)
     else fail r (wanted.Unit u)
-
--- the same where a unit starts at all
-abbrev pub take_unit_if : Plan → Option ℕ → Replaying → Turn
-take_unit_if plan None r = more r
-take_unit_if plan (Some u) r = take_unit plan u r
 
 -- ---- steps
 
@@ -130,11 +126,11 @@ with_call program plan need r = r
 abbrev pub step_with : Program → Plan → Need → Piece → Replaying → Turn
 step_with program plan need (sync kind object number value) r =
     let a = received need value in
-    take_unit_if plan (unit_started need)
+    take_unit plan (unit_started need)
     (past_piece (stepped program plan a (with_event program plan a (Some number) r)))
 step_with program plan need (nested k b values) r =
     let after = with_item (item.Nested k b values true) (with_call program plan need r) in
-    take_unit plan (unit_past plan r.proc.todo need)
+    take_unit plan (Some (unit_past plan r.proc.todo need))
     (past_piece (counted (record after { proc = skipped program plan values r.proc })))
 step_with program plan need (unfinished k b) r =
     finished (counted (with_item (item.Nested k b [] false) (with_call program plan need r)))
@@ -147,7 +143,7 @@ abbrev pub step_without : Program → Plan → Need → Replaying → Turn
 step_without program plan (Read c) r = more (stepped program plan (Value (value_in_force r.in_force c)) r)
 step_without program plan Stopped r = fail r wanted.Fewer
 step_without program plan need r =
-    take_unit_if plan (unit_started need)
+    take_unit plan (unit_started need)
     (stepped program plan Go (with_write need (with_event program plan Go None r)))
 
 -- ---- one turn
@@ -162,36 +158,29 @@ turn_by_wanted program plan need (Some w) r =
 abbrev pub goes_on : Program → Plan → Need → Replaying → Turn
 goes_on program plan need r = fail r (unwrap_or (wanted_of program plan r.proc need) wanted.Fewer)
 
--- the process ends here, after its steps: it was blocked at a synchronization, or it traps, as its next step does
-abbrev pub turn_at_end : Program → Plan → Status → Need → Replaying → Turn
-turn_at_end program plan status.Blocked need r =
-    if is_some (kind_of_sync need) then finished r else goes_on program plan need r
-turn_at_end program plan (status.Trap t) need r =
-    option_map_or
-    (λ t'.
-    if same_trap t t' then finished (counted (with_event program plan Go None r))
-    else fail r (wanted.End (status.Trap t')))
-    (trap_of need) (goes_on program plan need r)
-turn_at_end program plan s need r = goes_on program plan need r
-
 -- how the process ended, where the piece is its end and these steps are those before it
 abbrev pub end_here : ℕ → Piece → Option Status
 end_here since (finish s rest) = if nat_eq since rest then Some s else None
 end_here since piece = None
 
+-- the turn of a process that ended so after its steps, if it ended here. A stop for the budget ends the replay whatever
+-- comes next, and else the budget may not be exceeded; a process that was blocked, or that trapped, ends it where its
+-- next step is a synchronization, or traps so
+abbrev pub turn_by_end : Program → Plan → Option Status → Need → Replaying → Turn
+turn_by_end program plan (Some status.Budget) need r = finished r
+turn_by_end program plan how Budget r = fail r wanted.Fewer
+turn_by_end program plan None need r = turn_by_wanted program plan need (wanted_of program plan r.proc need) r
+turn_by_end program plan (Some status.Blocked) need r =
+    if is_some (kind_of_sync need) then finished r else goes_on program plan need r
+turn_by_end program plan (Some (status.Trap t)) (Trap t') r =
+    if same_trap t t' then finished (counted (with_event program plan Go None r))
+    else fail r (wanted.End (status.Trap t'))
+turn_by_end program plan (Some s) need r = goes_on program plan need r
+
 -- the step costs more than is left
 abbrev pub is_budget : Need → Bool
 is_budget Budget = true
 is_budget need = false
-
--- a stop for the budget ends the replay whatever comes next; else the budget may not be exceeded
-abbrev pub turn_by_end : Program → Plan → Option Status → Need → Replaying → Turn
-turn_by_end program plan (Some status.Budget) need r = finished r
-turn_by_end program plan how need r =
-    if is_budget need then fail r wanted.Fewer
-    else
-    option_map_or (λ s. turn_at_end program plan s need r) how
-    (turn_by_wanted program plan need (wanted_of program plan r.proc need) r)
 
 -- one turn takes one step, or ends the replay
 abbrev pub turn : Program → Plan → Replaying → Turn
@@ -225,5 +214,5 @@ begun_replay program plan l budget = record {
 -- block's own start
 abbrev pub replay : Program → Plan → IntervalLog → ℕ → Replayed
 replay program plan l budget =
-    go_on (take_unit plan (block_unit plan (block_kind plan l.block)) (begun_replay program plan l budget))
+    go_on (take_unit plan (Some (block_unit plan (block_kind plan l.block))) (begun_replay program plan l budget))
     (replay_from program plan (budget + 1))

@@ -1,5 +1,5 @@
 -- What the parts of a replay answer.
-use Rattle.std.specs.Prelude.{◌≡◌, ℕ, ◌+◌, ◌<◌, ◌≤◌, ◌^◌, ℤ, List, Result, Ok, Err, ⊤}
+use Rattle.std.specs.Prelude.{◌≡◌, ℕ, ◌+◌, ◌<◌, ◌≤◌, ◌^◌, ℤ, List, Result, Ok, Err, ⊤, Some}
 use Rattle.ppd_ast.specs.declared.plan.Plan.{Plan}
 use Rattle.ppd_ast.specs.declared.program.Program.{Program}
 use Rattle.ppd_sem.specs.Blocks.{skipped, unit_past}
@@ -80,5 +80,5 @@ pub record IsTurn (code : Code) (old new : Replayer) (before after : ℕ) (r : R
 -- a nested interval whose item stands is gone past
 abbrev pub skipped_over : Program → Plan → Need → List ℤ → Replaying → Turn
 skipped_over program plan need values r =
-    take_unit plan (unit_past plan r.proc.todo need)
+    take_unit plan (Some (unit_past plan r.proc.todo need))
     (past_piece (counted (record r { proc = skipped program plan values r.proc })))

@@ -1,4 +1,4 @@
-ghost use Rattle.std.specs.Prelude.{◌≡◌};
+ghost use Rattle.std.specs.Prelude.{◌≡◌, Some};
 ghost use Rattle.ppd_emul_model.specs.Replay.{take_unit as take_unit_of};
 ghost use Rattle.ppd_emul_values.specs.Emulated.{IfMore, IfTold, IsGoing, replaying, turned};
 
@@ -12,7 +12,7 @@ use ppd_index::unit_cells;
 pub fn take_unit(code: &Code, state: &mut Replayer, unit: u16) -> Result<Turned, EmulError>
     requires { IsGoing code.now state.old }
     ensures told { IfTold result
-        (turned result state.new ≡ take_unit_of code.now.plan.now unit (replaying state.old)) }
+        (turned result state.new ≡ take_unit_of code.now.plan.now (Some unit) (replaying state.old)) }
     ensures going { IfMore result (IsGoing code.now state.new) }
     ensures steps { state.new.steps ≡ state.old.steps }
 {

@@ -1,5 +1,5 @@
 -- What the proofs speak of: the parts of the definitions, each by a name of its own.
-use Rattle.std.specs.Prelude.{ℕ, ◌+◌, [], ◌∷◌, ◌++◌, Option, option_map}
+use Rattle.std.specs.Prelude.{ℕ, [], ◌∷◌, ◌++◌, Option, option_map}
 use Rattle.ppd_entry.specs.Pieces.{Piece}
 use Rattle.ppd_entry.specs.IntervalLogs.{Indexed, IntervalLog}
 

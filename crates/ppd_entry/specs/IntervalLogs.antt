@@ -1,9 +1,10 @@
 -- The log of each interval of a process, from the process's entries.
-use Rattle.std.specs.Prelude.{ℕ, zero, suc, ◌+◌, ℤ, List, [], ◌∷◌, ◌++◌, drop, fold, length, get_or, slice_get, Option, if◌then◌else◌, option_map}
+use Rattle.std.specs.Prelude.{ℕ, ◌+◌, ℤ, List, [], ◌∷◌, ◌++◌, drop, fold, length, get_or, slice_get, Option, if◌then◌else◌, option_map}
 use Rattle.ppd_sem.specs.Blocks.{block_kind, is_function}
 use Rattle.ppd_sem.specs.Plan.{Plan}
 use Rattle.ppd_entry.specs.declared.entry.Entry.{Entry}
 use Rattle.ppd_entry.specs.declared.entry.Entry.TheVariants as entry
+use Rattle.ppd_entry.specs.Changed.{change}
 use Rattle.ppd_entry.specs.Pieces.{Piece, unit, sync, nested, unfinished, postlog, finish}
 
 -- what is known of an interval without any other: its block, the values of its prelog, how many
@@ -22,8 +23,8 @@ pub record Indexed : Type 0 where
 
 -- the intervals so far, the numbers of those that are running with the innermost first, and the
 -- number of the next entry
-pub record Indexing : Type 0 where
-  pub intervals : List Indexed
+pub record Indexing (A : Type 0) : Type 0 where
+  pub intervals : List A
   pub running : List ℕ
   pub entry : ℕ
 
@@ -34,21 +35,16 @@ abbrev pub interval_at : List Indexed → ℕ → Indexed
 interval_at intervals k =
     get_or intervals k (record { first = 0; log = record { block = 0; values = []; depth = 0; pieces = [] } })
 
--- interval k of these with one more piece, of the entry of this number
-abbrev pub add_piece_at : ℕ → Piece → ℕ → List Indexed → List Indexed
-add_piece_at n piece k [] = []
-add_piece_at n piece zero (i ∷ is) = record i { log = record i.log { pieces = i.log.pieces ++ (n, piece) ∷ [] } } ∷ is
-add_piece_at n piece (suc k) (i ∷ is) = i ∷ add_piece_at n piece k is
-
--- the same for the first of the running intervals, if one runs
+-- the first of the running intervals, if one runs, has one more piece, of the entry of this number
 abbrev pub add_piece : ℕ → Piece → List ℕ → List Indexed → List Indexed
 add_piece n piece [] intervals = intervals
-add_piece n piece (k ∷ ks) intervals = add_piece_at n piece k intervals
+add_piece n piece (k ∷ ks) intervals =
+    change (λ (i : Indexed). record i { log = record i.log { pieces = i.log.pieces ++ (n, piece) ∷ [] } }) k intervals
 
 -- ---- one entry
 
 -- the innermost interval has the entry as a piece of its own
-abbrev pub inner : Indexing → Piece → List Indexed
+abbrev pub inner : Indexing Indexed → Piece → List Indexed
 inner x piece = add_piece x.entry piece x.running x.intervals
 
 -- how many intervals of functions the running ones are
@@ -57,7 +53,7 @@ depth_of [] intervals = 0
 depth_of (k ∷ ks) intervals = (interval_at intervals k).log.depth
 
 -- an interval that begins inside the running ones
-abbrev pub new_interval : Plan → Indexing → ℕ → List ℤ → Indexed
+abbrev pub new_interval : Plan → Indexing Indexed → ℕ → List ℤ → Indexed
 new_interval plan x b values = record {
   first = x.entry;
   log = record {
@@ -69,7 +65,7 @@ new_interval plan x b values = record {
 }
 
 -- the innermost interval is left: its postlog is its last piece, and it is a piece of the one round it
-abbrev pub left_interval : Indexing → List ℕ → List ℤ → List Indexed
+abbrev pub left_interval : Indexing Indexed → List ℕ → List ℤ → List Indexed
 left_interval x [] values = x.intervals
 left_interval x (k ∷ ks) values =
     let i = interval_at x.intervals k in
@@ -82,25 +78,28 @@ left_open (k ∷ ks) intervals =
     let i = interval_at intervals k in
     left_open ks (add_piece i.first (unfinished k i.log.block) ks intervals)
 
--- what an entry adds
-abbrev pub index_by : Plan → Indexing → Entry → Indexing
-index_by plan x (entry.Prelog b values) =
-    record x { intervals = x.intervals ++ new_interval plan x b values ∷ []; running = length x.intervals ∷ x.running }
-index_by plan x (entry.Unit u values) = record x { intervals = inner x (unit u values) }
-index_by plan x (entry.Sync kind object number value reads writes) =
-    record x { intervals = inner x (sync kind object number value) }
-index_by plan x (entry.Postlog b values) = record x { intervals = left_interval x x.running values; running = drop 1 x.running }
-index_by plan x (entry.End status rest reads writes) =
-    record x { intervals = left_open x.running (inner x (finish status rest)) }
-
 -- one more entry
-abbrev pub index_step : Plan → Indexing → Entry → Indexing
-index_step plan x e = record (index_by plan x e) { entry = x.entry + 1 }
+abbrev pub index_step : Plan → Indexing Indexed → Entry → Indexing Indexed
+index_step plan x e =
+    let after : Indexing Indexed = elim e [
+      | entry.Prelog b values ↦ record x {
+        intervals = x.intervals ++ new_interval plan x b values ∷ [];
+        running = length x.intervals ∷ x.running;
+      }
+      | entry.Unit u values ↦ record x { intervals = inner x (unit u values) }
+      | entry.Sync kind object number value reads writes ↦
+          record x { intervals = inner x (sync kind object number value) }
+      | entry.Postlog b values ↦
+          record x { intervals = left_interval x x.running values; running = drop 1 x.running }
+      | entry.End status rest reads writes ↦
+          record x { intervals = left_open x.running (inner x (finish status rest)) }
+    ] in
+    record after { entry = x.entry + 1 }
 
 -- ---- all entries of a process
 
 -- before the first entry
-abbrev pub begun_indexing : Indexing
+abbrev pub begun_indexing : {A : Type 0} → Indexing A
 begun_indexing = record { intervals = []; running = []; entry = 0 }
 
 -- the intervals of a process in the order of their prelogs

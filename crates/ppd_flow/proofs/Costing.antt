@@ -1,6 +1,7 @@
 -- What the counter rose by, in the own steps of the run's intervals.
 use Rattle.std.proofs.Common.{◌≡◌, ℕ, ◌+◌, ◌≤◌, ℤ, List, [], ◌∷◌, Option, Some, None, Result, Ok, refl, ap, sym, ◌∙◌, subst, arith, get_or}
-use Rattle.std.specs.Prelude.{slice_get}
+use Rattle.ppd_flow_past.specs.declared.flow_error.FlowError.TheVariants.{NoEvent}
+use Rattle.std.specs.Prelude.{slice_get, ok_or}
 use Rattle.std.proofs.lemmas.List.Sums.{sum_by-cons}
 use Rattle.ppd_ast.specs.Valid.{IsValid}
 use Rattle.ppd_ast.specs.declared.plan.Plan.{Plan}
@@ -26,7 +27,7 @@ use Rattle.law_flow_own.specs.Assembled.{EdgesAreFound, HasOwnParts}
 use Rattle.law_flow_own.specs.SharedEdges.{all_seen}
 use Rattle.ppd_flow_shared.specs.SharedCells.{IsLastFound, seens_in}
 use Rattle.ppd_flow.specs.Answers.{IsEdges}
-use Rattle.ppd_flow.specs.Runs.{CostsEdges, CostsLast, IsOfRun, edges_or_none, splits_in, story_in}
+use Rattle.ppd_flow.specs.Runs.{CostsEdges, CostsLast, IsOfRun, splits_in, story_in}
 use Rattle.ppd_flow.proofs.OfRuns.{at_each_log, gives_edges, is_seen, seens_are}
 use Rattle.ppd_flow_past.proofs.Found.{at_most_own}
 
@@ -67,7 +68,7 @@ costs_last law little past c n m res v f policy h answer r lt is =
     let rose = g.2 in
     omega (arith, total, le, rose)
 
-edges_there : (o : Option (List FlowEdge)) (es : List FlowEdge) → Ok es ≡ edges_or_none o → o ≡ Some es
+edges_there : (o : Option (List FlowEdge)) (es : List FlowEdge) → Ok es ≡ ok_or o NoEvent → o ≡ Some es
 edges_there None es e = cc
 edges_there (Some ds) es e = cc
 

@@ -1,40 +1,39 @@
 -- The processes of which intervals are replayed for the edges of an item: where those of them are kept, nothing is
 -- replayed.
-use Rattle.std.specs.Prelude.{⊤, option_to_list, slice_get}
-use Rattle.std.proofs.Common.{◌≡◌, ℕ, suc, ◌+◌, ◌<◌, ◌≤◌, List, [], ◌∷◌, ◌++◌, Option, Some, None, Result, Ok, Err, refl, ap, sym, ◌∙◌, subst, arith, drop, length, get_or, drop-cons, add-one}
-use Rattle.std.proofs.lemmas.List.{append-nil, append_assoc, drop_all, map-append}
-use Rattle.std.proofs.lemmas.Option.{slice_get_past}
 use Rattle.ppd_ast.specs.declared.plan.Plan.{Plan}
 use Rattle.ppd_ast.specs.declared.program.Program.{Program}
-use Rattle.ppd_entry.specs.Entries.{entries_at}
+use Rattle.ppd_flow.specs.Far.{RoseWithin, far_in, far_of_item, far_of_pair, far_of_reads, far_of_reads_at, far_of_spot, far_of_sync, process_of}
+use Rattle.ppd_flow_local.specs.declared.search.Place.{Place}
+use Rattle.ppd_flow_local.specs.declared.search.Search.{Search}
+use Rattle.ppd_flow_model.specs.Control.{control_replays}
+use Rattle.ppd_flow_model.specs.Ends.{end_interval, end_item}
+use Rattle.ppd_flow_model.specs.Found.{edges_replays, if_found, item_replays, read_edge, read_edges, read_replays, reads_replays, sync_replays}
+use Rattle.ppd_flow_model.specs.Seen.{Seen}
+use Rattle.ppd_flow_model.specs.Shared.{Missing, edge_of_place, greatest_before, of_process, pair_of, place_replays, seen_at, start_replays, unless_found}
+use Rattle.ppd_flow_model.specs.Walk.{walk, walk_replays}
+use Rattle.ppd_flow_model.specs.declared.walked.Walked.{Walked}
+use Rattle.ppd_flow_model.specs.declared.walked.Walked.TheVariants.{Found, Passed, Stopped}
+use Rattle.ppd_flow_past.proofs.Found.{costs}
+use Rattle.ppd_flow_past.proofs.Keeping.{AreFree}
+use Rattle.ppd_flow_past.specs.ByReplays.{IsFoundBy, cost, steps_to_replay}
+use Rattle.ppd_flow_past.specs.declared.flow_error.FlowError.{FlowError}
+use Rattle.ppd_flow_past.specs.declared.past.Past.{Past}
+use Rattle.ppd_flow_shared.proofs.SharedFound.{seen_there}
+use Rattle.ppd_flow_shared.specs.SharedCells.{edge_unless_found, seens_in}
 use Rattle.ppd_graph.specs.declared.paired.Paired.{Paired}
-use Rattle.ppd_graph.specs.declared.paired.Paired.TheVariants.{Nothing, Initial, Node}
-use Rattle.ppd_sem.specs.declared.event.Access.{Access}
-use Rattle.ppd_sem.specs.declared.event.Event.{Event}
-use Rattle.ppd_sem.specs.declared.event.Spot.{Spot}
-use Rattle.ppd_sem.specs.declared.event.Spot.TheVariants.{Local, Shared}
+use Rattle.ppd_graph.specs.declared.paired.Paired.TheVariants.{Initial, Node, Nothing}
 use Rattle.ppd_model.specs.declared.flow.FlowEdge.{FlowEdge}
 use Rattle.ppd_model.specs.declared.flow.Item.{Item}
 use Rattle.ppd_model.specs.declared.flow.Item.TheVariants as item
 use Rattle.ppd_model.specs.declared.graph.EdgeId.{EdgeId}
-use Rattle.ppd_flow_model.specs.declared.walked.Walked.{Walked}
-use Rattle.ppd_flow_model.specs.declared.walked.Walked.TheVariants.{Stopped, Passed, Found}
-use Rattle.ppd_flow_model.specs.Control.{control_replays}
-use Rattle.ppd_flow_model.specs.Ends.{end_interval, end_item}
-use Rattle.ppd_flow_model.specs.Found.{edges_replays, if_found, item_replays, read_edge, read_edges, read_replays, reads_replays, sync_replays}
-use Rattle.ppd_flow_model.specs.Seen.{Seen, items_at}
-use Rattle.ppd_flow_model.specs.Shared.{Missing, edge_of_place, greatest_before, of_process, pair_of, place_replays, seen_at, start_replays, unless_found}
-use Rattle.ppd_flow_model.specs.Walk.{walk, walk_replays}
-use Rattle.ppd_flow_past.specs.declared.flow_error.FlowError.{FlowError}
-use Rattle.ppd_flow_past.specs.declared.past.Past.{Past}
-use Rattle.ppd_flow_past.specs.ByReplays.{IsFoundBy, cost, steps_to_replay}
-use Rattle.ppd_flow_past.proofs.Found.{costs}
-use Rattle.ppd_flow_past.proofs.Keeping.{AreFree}
-use Rattle.ppd_flow_shared.specs.SharedCells.{edge_unless_found, seens_in}
-use Rattle.ppd_flow_local.specs.declared.search.Place.{Place}
-use Rattle.ppd_flow_local.specs.declared.search.Search.{Search}
-use Rattle.ppd_flow.specs.Far.{RoseWithin, far_in, far_of_item, far_of_pair, far_of_reads, far_of_reads_at, far_of_spot, far_of_sync, process_of}
-use Rattle.ppd_flow_shared.proofs.SharedFound.{seen_there}
+use Rattle.ppd_sem.specs.declared.event.Access.{Access}
+use Rattle.ppd_sem.specs.declared.event.Event.{Event}
+use Rattle.ppd_sem.specs.declared.event.Spot.{Spot}
+use Rattle.ppd_sem.specs.declared.event.Spot.TheVariants.{Local, Shared}
+use Rattle.std.proofs.Common.{Err, List, None, Ok, Option, Result, Some, [], add-one, ap, arith, drop, drop-cons, get_or, length, refl, subst, suc, sym, ℕ, ◌++◌, ◌+◌, ◌<◌, ◌∙◌, ◌∷◌, ◌≡◌, ◌≤◌}
+use Rattle.std.proofs.lemmas.List.{append-nil, append_assoc, drop_all, map-append}
+use Rattle.std.proofs.lemmas.Option.{slice_get_past}
+use Rattle.std.specs.Prelude.{option_to_list, slice_get, ⊤}
 
 -- ---- the counter
 
@@ -94,7 +93,7 @@ module _ (s : Search) (place : Place) (reads : List Access) (i : ℕ) (found : L
 
 -- ---- an item, where the items of its interval are these
 
-module _ (past : Past) (p k j : ℕ) (items : List Item) (are : items_at (seen_at (seens_in past) p) k ≡ items) where
+module _ (past : Past) (p k j : ℕ) (items : List Item) (are : get_or (seen_at (seens_in past) p).items k [] ≡ items) where
   pub far_there : (o : Option Item) → slice_get items j ≡ o
       → far_in past p k j ≡ far_of_item past.program.now past.logs.now (seens_in past) p k j o
   far_there o e =
@@ -142,9 +141,9 @@ module _ (past : Past) where
     -- the intervals that are replayed for where a cell was written in this edge
     abbrev replayed_for : ℕ → EdgeId → List ℕ
     replayed_for c a =
-        end_interval (entries_at past.logs.now a.process) a.edge
-        ∷ walk_replays (seen_at xs a.process) c (end_interval (entries_at past.logs.now a.process) a.edge)
-        (end_item (entries_at past.logs.now a.process) (seen_at xs a.process) a.edge)
+        end_interval (get_or past.logs.now.lists a.process []) a.edge
+        ∷ walk_replays (seen_at xs a.process) c (end_interval (get_or past.logs.now.lists a.process []) a.edge)
+        (end_item (get_or past.logs.now.lists a.process []) (seen_at xs a.process) a.edge)
 
     edge_free : (c : ℕ) (w : Walked) (o : Option EdgeId) → AreFreeOf past (process_of (edge_unless_found w o))
         → AreFree past (unless_found w (start_replays past.logs.now xs c o))
@@ -192,4 +191,4 @@ module _ (past : Past) where
     -- so nothing is replayed for the edges of an item
     pub edges_free : AreFreeOf past (far_in past p k j)
         → AreFree past (edges_replays past.program.now past.plan.now past.logs.now xs p k j)
-    edges_free h = (own k, item_free (slice_get (items_at (seen_at xs p) k) j) h)
+    edges_free h = (own k, item_free (slice_get (get_or (seen_at xs p).items k []) j) h)

@@ -12,7 +12,7 @@ use Rattle.ppd_flow_past.specs.SeenBy.{items_in}
 use Rattle.ppd_flow_past.proofs.Found.{found_err, found_given, found_then}
 use Rattle.ppd_flow_local.specs.Asked.{IsAsked}
 use Rattle.ppd_flow_model.specs.Found.{edges_if, item_edges, item_replays}
-use Rattle.ppd_flow_model.specs.Seen.{Seen, items_at}
+use Rattle.ppd_flow_model.specs.Seen.{Seen}
 use Rattle.ppd_flow_model.specs.Shared.{seen_at}
 use Rattle.ppd_flow_shared.specs.SharedCells.{answer_of, seens_in}
 use Rattle.ppd_flow.specs.Answers.{IsEdges, answer_if}
@@ -47,16 +47,16 @@ module _ (past : Past) (p k j n m : ℕ) where
   answer_for o = answer_if (edges_if past.program.now past.plan.now past.logs.now (seens_in past) p k j o)
 
   abbrev there : Option Item
-  there = slice_get (items_at (seen_at (seens_in past) p) k) j
+  there = slice_get (get_or (seen_at (seens_in past) p).items k []) j
 
   moved : (o : Option Item) (r : Result (List FlowEdge) FlowError) (l : ℕ) → there ≡ o
       → IsFoundBy past ((p, k) ∷ replays_of o) (answer_for o) n l r → IsEdges past p k j n l r
   moved o r l e f = subst (λ (z : Option Item). IsFoundBy past ((p, k) ∷ replays_of z) (answer_for z) n l r) (sym e) f
 
   module _ (items : List Item) (got : IsFoundBy past ((p, k) ∷ []) (Ok (items_in past p k)) n m (Ok items)) where
-    pub items_are : items_at (seen_at (seens_in past) p) k ≡ items
+    pub items_are : get_or (seen_at (seens_in past) p).items k [] ≡ items
     items_are =
-        ap (λ (x : Seen). items_at x k) (sym (same_seen past p))
+        ap (λ (x : Seen). get_or x.items k []) (sym (same_seen past p))
         ∙ ap (λ (r : Result (List Item) FlowError). items_or (items_in past p k) r) got.1
 
     pub no_item : length items ≤ j → IsEdges past p k j n m (Err NoEvent)
@@ -80,8 +80,8 @@ module _ (past : Past) (p k j n m : ℕ) where
   -- ---- the items are given
 
   module _ (items : List Item) (given : AreReplayed past p k items) where
-    given_are : items_at (seen_at (seens_in past) p) k ≡ items
-    given_are = ap (λ (x : Seen). items_at x k) (sym (same_seen past p)) ∙ sym given.1
+    given_are : get_or (seen_at (seens_in past) p).items k [] ≡ items
+    given_are = ap (λ (x : Seen). get_or x.items k []) (sym (same_seen past p)) ∙ sym given.1
 
     pub no_item_given : length items ≤ j → IsEdges past p k j n (n + steps_to_replay past p k) (Err NoEvent)
     no_item_given h =

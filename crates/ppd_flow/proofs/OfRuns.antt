@@ -1,6 +1,6 @@
 -- What is seen by replays of a whole run without a race is what its processes are in their intervals.
 use Rattle.std.proofs.Common.{◌≡◌, ℕ, zero, suc, ◌+◌, List, [], ◌∷◌, Option, Some, None, Result, Ok, Err, refl, ap, sym, ◌∙◌, subst, get_or, map}
-use Rattle.std.specs.Prelude.{ℤ, option_map, slice_get}
+use Rattle.std.specs.Prelude.{ℤ, option_map, slice_get, ok_or}
 use Rattle.ppd_ast.specs.Valid.{IsValid}
 use Rattle.ppd_ast.specs.declared.plan.Plan.{Plan}
 use Rattle.ppd_ast.specs.declared.plan.Policy.{Policy}
@@ -33,7 +33,7 @@ use Rattle.law_flow_own.specs.Assembled.{EdgesAreFound, HasOwnParts}
 use Rattle.law_flow_own.specs.SharedEdges.{LastWritesAreFound, all_seen}
 use Rattle.ppd_flow_shared.specs.SharedCells.{IsMemoryOr, answer_of, seens_in}
 use Rattle.ppd_flow.specs.Answers.{IsEdges, answer_if}
-use Rattle.ppd_flow.specs.Runs.{AnswersAreOfRuns, GivesEdges, GivesLast, IsOfRun, edges_or_none, splits_in, story_in}
+use Rattle.ppd_flow.specs.Runs.{AnswersAreOfRuns, GivesEdges, GivesLast, IsOfRun, splits_in, story_in}
 
 -- ---- processes one after another
 
@@ -108,7 +108,7 @@ module _ (law : ReplaysAreSeen) (past : Past) (policy : Policy) (h : List ℕ) (
       clash a b = cc (a, b)
   answered ms a b n m (Err Memory) e f = tt
 
-if_there : (o : Option (List FlowEdge)) → answer_if (option_map (λ es. Ok es) o) ≡ edges_or_none o
+if_there : (o : Option (List FlowEdge)) → answer_if (option_map (λ es. Ok es) o) ≡ ok_or o NoEvent
 if_there None = refl
 if_there (Some es) = refl
 
@@ -130,7 +130,7 @@ answers_of_runs law found past policy h p k j before after x res v r f at own =
     ∙ ap (λ (xs : List Seen). found_edges past.program.now past.plan.now (closed_logs past.program.now past.plan.now past.budget h) xs p k j) (seens_are law past policy h v r) in
     let is = found past.program.now past.plan.now past.budget h r.whole.last v r.whole.runs r.no_race p k j x at own in
     answered law past policy h v r (edges_replays past.program.now past.plan.now past.logs.now (seens_in past) p k j) (answer_if (found_edges past.program.now past.plan.now past.logs.now (seens_in past) p k j))
-    (edges_or_none (edges past.program.now past.plan.now past.budget (story_in past h) p k j)) before after res
+    (ok_or (edges past.program.now past.plan.now past.budget (story_in past h) p k j) NoEvent) before after res
     (ap (λ (z : Option (Result (List FlowEdge) Missing)). answer_if z) (logs ∙ is) ∙ if_there (edges past.program.now past.plan.now past.budget (story_in past h) p k j)) f
 
 -- under the plan of any policy

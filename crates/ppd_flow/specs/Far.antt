@@ -1,5 +1,5 @@
 -- The processes, but for its own, of which intervals are replayed for the edges of an item.
-use Rattle.std.specs.Prelude.{◌≡◌, ℕ, ◌+◌, List, [], ◌∷◌, ◌++◌, slice_get, Option, Some, None}
+use Rattle.std.specs.Prelude.{◌≡◌, ℕ, ◌+◌, List, [], ◌∷◌, ◌++◌, slice_get, Option, Some, None, get_or}
 use Rattle.ppd_ast.specs.declared.program.Program.{Program}
 use Rattle.ppd_entry.specs.declared.entry.Logs.{Logs}
 use Rattle.ppd_graph.specs.declared.paired.Paired.{Paired}
@@ -11,7 +11,7 @@ use Rattle.ppd_sem.specs.declared.event.Spot.TheVariants.{Local, Shared}
 use Rattle.ppd_model.specs.declared.flow.Item.{Item}
 use Rattle.ppd_model.specs.declared.flow.Item.TheVariants as item
 use Rattle.ppd_model.specs.declared.graph.EdgeId.{EdgeId}
-use Rattle.ppd_flow_model.specs.Seen.{Seen, items_at}
+use Rattle.ppd_flow_model.specs.Seen.{Seen}
 use Rattle.ppd_flow_model.specs.Shared.{edge_of_place, greatest_before, of_process, pair_of, seen_at}
 use Rattle.ppd_flow_model.specs.Walk.{walk}
 use Rattle.ppd_flow_past.specs.declared.past.Past.{Past}
@@ -60,7 +60,7 @@ far_of_item program logs xs p k j t = []
 abbrev pub far_in : Past → (p k j : ℕ) → List ℕ
 far_in past p k j =
     far_of_item past.program.now past.logs.now (seens_in past) p k j
-    (slice_get (items_at (seen_at (seens_in past) p) k) j)
+    (slice_get (get_or (seen_at (seens_in past) p).items k []) j)
 
 -- the counter rose by the own steps of intervals of process p alone
 abbrev pub RoseWithin : Past → (p before after : ℕ) → Type 0

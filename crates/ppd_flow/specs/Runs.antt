@@ -1,5 +1,5 @@
 -- What the answers are of what is kept of a whole run without a race.
-use Rattle.std.specs.Prelude.{◌≡◌, ℕ, ◌+◌, ◌*◌, ◌<◌, ◌≤◌, ℤ, List, [], length, slice_get, Option, Some, None, Result, Ok, Err}
+use Rattle.std.specs.Prelude.{◌≡◌, ℕ, ◌+◌, ◌*◌, ◌<◌, ◌≤◌, ℤ, List, [], length, slice_get, Some, Result, Ok, ok_or}
 use Rattle.ppd_ast.specs.declared.plan.Policy.{Policy}
 use Rattle.ppd_ast.specs.Valid.{IsValid}
 use Rattle.ppd_blocks.specs.Blocks.{plan_of}
@@ -42,17 +42,12 @@ GivesLast past c result =
     (policy : Policy) (h : List ℕ) → IsOfRun past policy h → c < length past.program.now.starts
     → IsMemoryOr (Ok (last past.program.now past.plan.now past.budget (story_in past h) c)) result
 
--- the edges of an item that is there
-abbrev pub edges_or_none : Option (List FlowEdge) → Result (List FlowEdge) FlowError
-edges_or_none None = Err NoEvent
-edges_or_none (Some es) = Ok es
-
 -- the edges of an item of a process in the run are answered, or that there is no such item, or want of memory
 abbrev pub GivesEdges : Past → (p k j : ℕ) → Result (List FlowEdge) FlowError → Type 0
 GivesEdges past p k j result =
     (policy : Policy) (h : List ℕ) (x : Split) → IsOfRun past policy h
     → slice_get (splits_in past h) p ≡ Some x
-    → IsMemoryOr (edges_or_none (edges past.program.now past.plan.now past.budget (story_in past h) p k j)) result
+    → IsMemoryOr (ok_or (edges past.program.now past.plan.now past.budget (story_in past h) p k j) NoEvent) result
 
 -- where n edges are answered for an item of a process in the run, the counter rose by at most 2 (n + 1) times the own
 -- steps of the intervals near to the item
@@ -80,4 +75,4 @@ AnswersAreOfRuns =
     → IsValid past.program.now → IsOfRun past policy h → IsEdges past p k j before after result
     → slice_get (splits_in past h) p ≡ Some x
     → HasOwnParts past.program.now past.plan.now (splits_in past h) x p k j
-    → IsMemoryOr (edges_or_none (edges past.program.now past.plan.now past.budget (story_in past h) p k j)) result
+    → IsMemoryOr (ok_or (edges past.program.now past.plan.now past.budget (story_in past h) p k j) NoEvent) result

@@ -1,11 +1,11 @@
 -- One loop after another is looked into.
 use Rattle.std.proofs.Common.{◌≡◌, ℕ, ◌+◌, List, [], ◌∷◌, drop, Result, Ok, Err, Option, Some, None, sym, subst}
-use Rattle.std.specs.Prelude.{slice_get}
+use Rattle.std.specs.Prelude.{slice_get, get_or}
 use Rattle.ppd_model.specs.declared.flow.Origin.{Origin}
 use Rattle.ppd_model.proofs.Lists.{left_from}
 use Rattle.ppd_flow_tables.specs.FlowError.{FlowError}
 use Rattle.ppd_flow_model.specs.Locals.{in_loops, loop_replays, scan, writer_at, writer_replays}
-use Rattle.ppd_flow_model.specs.Seen.{items_at, unless}
+use Rattle.ppd_flow_model.specs.Seen.{unless}
 use Rattle.ppd_flow_model.specs.declared.writer.Writer.{Writer}
 use Rattle.ppd_flow_local.specs.declared.search.Search.{Search}
 use Rattle.ppd_flow_local.specs.Searches.{IsFound, plan_in, program_in, seen}
@@ -19,7 +19,7 @@ module _ (s : Search) (c : ℕ) where
   found_in ms = in_loops (program_in s) (plan_in s) (seen s) s.process c ms
 
   abbrev pub writer_in : ℕ → Writer
-  writer_in m = (scan (program_in s) (plan_in s) 0 c (items_at (seen s) m)).writer
+  writer_in m = (scan (program_in s) (plan_in s) 0 c (get_or (seen s).items m [])).writer
 
   abbrev pub write_in : ℕ → Option Origin
   write_in m = writer_at (seen s) s.process m (writer_in m)

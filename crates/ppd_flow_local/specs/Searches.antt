@@ -1,5 +1,5 @@
 -- What the searches within one process answer.
-use Rattle.std.specs.Prelude.{◌≡◌, ℕ, ◌+◌, ◌<◌, ◌≤◌, ◌++◌, ℤ, List, length, Option, Result, Ok}
+use Rattle.std.specs.Prelude.{◌≡◌, ℕ, ◌+◌, ◌<◌, ◌≤◌, ◌++◌, ℤ, List, length, Option, Result, Ok, get_or, []}
 use Rattle.ppd_ast.specs.declared.plan.Plan.{Plan}
 use Rattle.ppd_ast.specs.declared.program.Program.{Program}
 use Rattle.ppd_sem.specs.declared.event.Spot.TheVariants.{Local}
@@ -9,7 +9,7 @@ use Rattle.std.specs.Option.{option_or}
 use Rattle.ppd_flow_model.specs.declared.writer.Writer.{Writer}
 use Rattle.ppd_flow_model.specs.Control.{control_origin, control_replays}
 use Rattle.ppd_flow_model.specs.Locals.{in_loops, local_origin, local_replays, loop_replays, writer_at, writer_replays}
-use Rattle.ppd_flow_model.specs.Seen.{Seen, items_at, unless}
+use Rattle.ppd_flow_model.specs.Seen.{Seen, unless}
 use Rattle.ppd_flow_model.specs.Shared.{of_process}
 use Rattle.ppd_flow_edges.specs.Joined.{left_at}
 use Rattle.ppd_flow_tables.specs.FlowError.{FlowError}
@@ -40,7 +40,7 @@ IsFound s ms x before after result = IsFoundBy s.past.now (of_process s.process 
 
 -- the items are those of the interval, and the place is before one of them or after the last
 pub record IsPlace (s : Search) (place : Place) : Type 0 where
-  pub items_are : place.items.now ≡ items_at (seen s) place.interval
+  pub items_are : place.items.now ≡ get_or (seen s).items place.interval []
   pub within : place.item ≤ length place.items.now
 
 -- and it is before one of them

@@ -1,6 +1,6 @@
-ghost use Rattle.std.specs.Prelude.{◌≡◌, [], IfOk, slice_get, take};
+ghost use Rattle.std.specs.Prelude.{◌≡◌, [], IfOk, slice_get, take, option_and_then};
 ghost use Rattle.ppd_ast.specs.declared.plan.BlockKind.TheVariants as block;
-ghost use Rattle.ppd_ast.specs.Lookups.{kind_of, parent_if};
+ghost use Rattle.ppd_ast.specs.Lookups.{kind_of};
 ghost use Rattle.ppd_flow_local.specs.Searches.{IsControlFound, IsFound, IsPlace, IsSearch, plan_in, program_in, seen};
 ghost use Rattle.std.specs.Option.{option_or};
 ghost use Rattle.ppd_flow_model.specs.Control.{call_or_entry as call_or_entry_of, call_replays, control_above as control_above_of, control_above_replays, control_in as control_in_of, last_test as last_test_among, leaf_call_at, test_of_run as test_of_run_by, test_round as test_round_by};
@@ -63,7 +63,8 @@ impl<'a> Search<'a> {
         requires place { IsPlace self.now place.now }
         ensures { IfOk result (λ origin. origin
             ≡ test_round_by (program_in self.now) (plan_in self.now) self.now.process place.now.interval frame
-            (take place.now.item place.now.items.now) (parent_if (slice_get (program_in self.now).stmts stmt))) }
+            (take place.now.item place.now.items.now)
+            (option_and_then (λ x. x.parent) (slice_get (program_in self.now).stmts stmt))) }
     {
         let Some(outer) = self.past.program.parent_of(stmt) else {
             return Ok(None);

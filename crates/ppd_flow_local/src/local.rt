@@ -1,8 +1,8 @@
-ghost use Rattle.std.specs.Prelude.{◌≡◌, ◌<◌, ◌∷◌, length, reverse, slice_get, Some, IfOk};
+ghost use Rattle.std.specs.Prelude.{◌≡◌, ◌<◌, ◌∷◌, length, reverse, slice_get, Some, IfOk, get_or, []};
 ghost use Rattle.ppd_flow_local.specs.Scans.{scanned as scan_by};
 ghost use Rattle.ppd_flow_local.specs.Searches.{IsFound, IsLocalFound, IsPlace, IsSearch, plan_in, program_in, seen, written_in, written_replays};
 ghost use Rattle.ppd_flow_model.specs.Locals.{above_replays, in_loops as in_loops_of, local_above as local_above_of, local_in as local_in_of, local_in_replays, local_outside as local_outside_of, loop_replays, outer_frame as outer_frame_of, outside_replays, parameter as parameter_of, parameter_replays, scan as scan_of, writer_at as writer_in, writer_replays};
-ghost use Rattle.ppd_flow_model.specs.Seen.{items_at, kind_at, outer_of as outer_at, outer_place as outer_place_of};
+ghost use Rattle.ppd_flow_model.specs.Seen.{kind_at, outer_of as outer_at, outer_place as outer_place_of};
 
 use crate::scan::{LocalCell, Scan, has_cell};
 use crate::search::{Place, Search};
@@ -34,7 +34,7 @@ impl<'a> Search<'a> {
     /// The writer of a cell of an interval's own activation among all its items.
     fn last_writer(&self, interval: u32, items: &[Item], cell: u16) -> Result<Writer, Memory>
         requires past { IsSearch self.now }
-        requires items { items.now ≡ items_at (seen self.now) interval }
+        requires items { items.now ≡ get_or (seen self.now).items interval [] }
         ensures { IfOk result (λ writer. writer
             ≡ (scan_of (program_in self.now) (plan_in self.now) 0 cell items.now).writer) }
     {
@@ -72,7 +72,7 @@ impl<'a> Search<'a> {
         steps: &mut Steps<L>,
     ) -> Result<Option<Origin>, FlowError>
         requires { IsSearch self.now }
-        ensures { let items = items_at (seen self.now) interval in
+        ensures { let items = get_or (seen self.now).items interval [] in
             let writer = (scan_of (program_in self.now) (plan_in self.now) 0 cell items).writer in
             IsFound self.now (interval ∷ writer_replays writer)
             (writer_in (seen self.now) self.now.process interval writer) steps.old steps.new result }

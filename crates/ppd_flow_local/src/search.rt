@@ -1,9 +1,9 @@
-ghost use Rattle.std.specs.Prelude.{◌≡◌, ◌≤◌, ◌∷◌, [], length, option_copied, take, IfOk, IfSome};
+ghost use Rattle.std.specs.Prelude.{◌≡◌, ◌≤◌, ◌∷◌, [], length, option_copied, take, IfOk, IfSome, get_or};
 ghost use Rattle.ppd_flow_local.specs.Searches.{IsFound, IsPlace, IsSearch, plan_in, program_in, seen};
 ghost use Rattle.ppd_model.specs.declared.flow.Origin.TheVariants as origin;
 ghost use Rattle.ppd_flow_model.specs.Locals.{leaf_at as leaf_among};
 ghost use Rattle.ppd_flow_model.specs.Own.{frame_at as frame_at_place};
-ghost use Rattle.ppd_flow_model.specs.Seen.{call_of as call_at, items_at, kind_at, last_item as last_item_at, outer_of as outer_at, place_of as place_among};
+ghost use Rattle.ppd_flow_model.specs.Seen.{call_of as call_at, kind_at, last_item as last_item_at, outer_of as outer_at, place_of as place_among};
 ghost use Rattle.ppd_flow_tables.specs.Tabled.{IsOfInterval};
 
 use crate::leaf::leaf_at;
@@ -58,7 +58,7 @@ impl<'a> Search<'a> {
     /// The place of an interval among these items, those of the one round it, and 0 where it is none of them.
     pub(crate) fn place_of(&self, outer: u32, items: &[Item], interval: u32) -> usize
         requires past { IsSearch self.now }
-        requires items { items.now ≡ items_at (seen self.now) outer }
+        requires items { items.now ≡ get_or (seen self.now).items outer [] }
         ensures place { result ≡ place_among interval items.now }
         ensures within { result ≤ length items.now }
     {
@@ -124,7 +124,7 @@ impl<'a> Search<'a> {
         steps: &mut Steps<L>,
     ) -> Result<Items<'a>, FlowError>
         requires { IsSearch self.now }
-        ensures { IsFound self.now (interval ∷ []) (items_at (seen self.now) interval) steps.old steps.new result }
+        ensures { IsFound self.now (interval ∷ []) (get_or (seen self.now).items interval []) steps.old steps.new result }
     {
         interval_items(self.alloc, self.past, self.process, interval, steps)
     }

@@ -1,24 +1,24 @@
 -- The control parent of a statement at a place in an interval, and the intervals that are replayed to find it.
 -- The items of the interval itself are there; no list of replays names it.
-use Rattle.std.specs.Prelude.{ℕ, ◌+◌, nat_eq, not, ◌&&◌, List, [], ◌∷◌, fold, take, slice_get, Option, Some, None, is_some, option_map, unwrap_or, if◌then◌else◌}
+use Rattle.ppd_ast.specs.Lookups.{kind_of}
 use Rattle.ppd_ast.specs.declared.plan.BlockKind.{BlockKind}
 use Rattle.ppd_ast.specs.declared.plan.BlockKind.TheVariants as block
 use Rattle.ppd_ast.specs.declared.plan.Plan.{Plan}
 use Rattle.ppd_ast.specs.declared.program.Kind.{Kind}
 use Rattle.ppd_ast.specs.declared.program.Kind.TheVariants as kind
 use Rattle.ppd_ast.specs.declared.program.Program.{Program}
-use Rattle.ppd_ast.specs.Lookups.{kind_of, parent_if}
-use Rattle.ppd_sem.specs.declared.event.Event.{Event}
+use Rattle.ppd_flow_model.specs.Locals.{begins_leaf, frame_in, leaf_at}
+use Rattle.ppd_flow_model.specs.Seen.{Seen, call_of, kind_at, outer_of, outer_place, unless}
+use Rattle.ppd_flow_model.specs.declared.last_test.LastTest.{LastTest}
+use Rattle.ppd_flow_model.specs.declared.leaf_call.LeafCall.{LeafCall}
+use Rattle.ppd_model.specs.FullTrace.{is_passed}
 use Rattle.ppd_model.specs.declared.flow.Item.{Item}
 use Rattle.ppd_model.specs.declared.flow.Item.TheVariants as item
 use Rattle.ppd_model.specs.declared.flow.Origin.{Origin}
 use Rattle.ppd_model.specs.declared.flow.Origin.TheVariants as origin
-use Rattle.ppd_model.specs.FullTrace.{is_passed}
+use Rattle.ppd_sem.specs.declared.event.Event.{Event}
 use Rattle.std.specs.Option.{option_or}
-use Rattle.ppd_flow_model.specs.declared.last_test.LastTest.{LastTest}
-use Rattle.ppd_flow_model.specs.declared.leaf_call.LeafCall.{LeafCall}
-use Rattle.ppd_flow_model.specs.Locals.{begins_leaf, frame_in, leaf_at}
-use Rattle.ppd_flow_model.specs.Seen.{Seen, call_of, items_at, kind_at, outer_of, outer_place, unless}
+use Rattle.std.specs.Prelude.{List, None, Option, Some, [], fold, get_or, if◌then◌else◌, is_some, nat_eq, not, option_and_then, option_map, slice_get, take, unwrap_or, ℕ, ◌&&◌, ◌+◌, ◌∷◌}
 
 -- ---- the latest test among the first items of an interval
 
@@ -69,13 +69,14 @@ leaf_call_at p k leaf = option_map (λ call. origin.Item p k call.item) leaf
 abbrev pub control_among : Program → Plan → ℕ → ℕ → ℕ → List Item → Option LeafCall → Option Origin
 control_among program plan p k s items leaf =
     option_or (test_of_run p k (kind_of program s) (last_test program plan (frame_in leaf) s items))
-    (option_or (test_round program plan p k (frame_in leaf) items (parent_if (slice_get program.stmts s)))
+    (option_or (test_round program plan p k (frame_in leaf) items
+    (option_and_then (λ x. x.parent) (slice_get program.stmts s)))
     (leaf_call_at p k leaf))
 
 -- the parent of statement s in interval k before place j
 abbrev pub control_in : Program → Plan → Seen → ℕ → ℕ → ℕ → ℕ → Option Origin
 control_in program plan x p k j s =
-    let items = take j (items_at x k) in
+    let items = take j (get_or x.items k []) in
     control_among program plan p k s items (leaf_at program plan items)
 
 -- ---- outside it

@@ -1,5 +1,5 @@
 -- The internal edge in which an item lies, and the place at which an internal edge ends, by the process's entries.
-use Rattle.std.specs.Prelude.{ℕ, zero, suc, ◌+◌, ◌-◌, nat_eq, nat_le, nat_lt, Bool, true, false, ◌&&◌, List, [], ◌∷◌, length, take, slice_get, sum_by, filter_map, unwrap_or, Option, Some, None, is_some, if◌then◌else◌}
+use Rattle.std.specs.Prelude.{ℕ, zero, suc, ◌+◌, ◌-◌, nat_eq, nat_le, nat_lt, Bool, true, false, ◌&&◌, List, [], ◌∷◌, length, take, slice_get, sum_by, filter_map, unwrap_or, Option, Some, None, is_some, if◌then◌else◌, get_or}
 use Rattle.std.specs.Option.{option_map_or}
 use Rattle.ppd_graph.specs.Entry.{Entry}
 use Rattle.ppd_graph.specs.Entry.TheVariants as entry
@@ -7,7 +7,7 @@ use Rattle.ppd_model.specs.declared.flow.Item.{Item}
 use Rattle.ppd_model.specs.declared.flow.Item.TheVariants as item
 use Rattle.ppd_model.specs.Extents.{Extent, extents}
 use Rattle.ppd_model.specs.RecordedSets.{sync_in}
-use Rattle.ppd_flow_model.specs.Seen.{Seen, items_at}
+use Rattle.ppd_flow_model.specs.Seen.{Seen}
 
 -- ---- the edge of a place
 
@@ -31,7 +31,7 @@ first_edge entries k = option_map_or (λ x. syncs_before entries x.prelog) (slic
 
 -- the internal edge in which place j of interval k lies: how many synchronizations the process did before it
 abbrev pub edge_at : List Entry → Seen → ℕ → ℕ → ℕ
-edge_at entries x k j = first_edge entries k + sum_by (syncs_of_item entries) (take j (items_at x k))
+edge_at entries x k j = first_edge entries k + sum_by (syncs_of_item entries) (take j (get_or x.items k []))
 
 -- ---- the end of an edge
 
@@ -54,10 +54,6 @@ innermost_from n m k [] = m
 innermost_from n m k (x ∷ xs) =
     innermost_from n (if nat_lt x.prelog n && nat_le n (unwrap_or x.last 0) then k else m) (k + 1) xs
 
--- the innermost interval at entry n, and interval 0 where the entry stands in none
-abbrev pub innermost_at : List Entry → ℕ → ℕ
-innermost_at entries n = innermost_from n 0 0 (extents entries)
-
 abbrev pub is_sync_item : Item → Bool
 is_sync_item (item.Own e) = is_some e.number
 is_sync_item (item.Nested m b values closed) = false
@@ -71,10 +67,10 @@ sync_item entries i n (t ∷ ts) =
 
 -- the interval in which edge i ends: of a last edge the innermost one that was not left, or interval 0
 abbrev pub end_interval : List Entry → ℕ → ℕ
-end_interval entries i = innermost_at entries (ending i entries)
+end_interval entries i = innermost_from (ending i entries) 0 0 (extents entries)
 
 -- and the place there: the item that is its synchronization; of a last edge the place after all items
 abbrev pub end_item : List Entry → Seen → ℕ → ℕ
 end_item entries x i =
     let k = end_interval entries i in
-    sync_item entries i (first_edge entries k) (items_at x k)
+    sync_item entries i (first_edge entries k) (get_or x.items k [])

@@ -1,5 +1,5 @@
 -- The flowback edges of an item, all of them in order, and the intervals that are replayed to find them.
-use Rattle.std.specs.Prelude.{ℕ, List, [], ◌∷◌, ◌++◌, slice_get, Option, Some, None, Result, Ok, Err}
+use Rattle.std.specs.Prelude.{ℕ, List, [], ◌∷◌, ◌++◌, slice_get, Option, Some, None, Result, Ok, Err, get_or}
 use Rattle.ppd_ast.specs.declared.plan.Plan.{Plan}
 use Rattle.ppd_ast.specs.declared.program.Program.{Program}
 use Rattle.ppd_graph.specs.Logs.{Logs}
@@ -17,7 +17,6 @@ use Rattle.ppd_model.specs.FlowbackEdges.{bare_edge}
 use Rattle.ppd_flow_model.specs.Control.{control_origin, control_replays}
 use Rattle.ppd_flow_model.specs.Locals.{local_origin, local_replays}
 use Rattle.ppd_flow_model.specs.Own.{edges_of_nested, nested_replays, read_from}
-use Rattle.ppd_flow_model.specs.Seen.{items_at}
 use Rattle.ppd_flow_model.specs.Shared.{Missing, of_process, pair_origin, pair_replays, seen_at, shared_origin, shared_replays}
 use Rattle.ppd_flow_model.specs.Seen.{Seen}
 
@@ -85,7 +84,7 @@ edges_if program plan logs xs p k j (Some t) = Some (item_edges program plan log
 -- the edges of item j of interval k of process p, in order, and None where there is no such item
 abbrev pub found_edges : Program → Plan → Logs → List Seen → ℕ → ℕ → ℕ → Option (Result (List FlowEdge) Missing)
 found_edges program plan logs xs p k j =
-    edges_if program plan logs xs p k j (slice_get (items_at (seen_at xs p) k) j)
+    edges_if program plan logs xs p k j (slice_get (get_or (seen_at xs p).items k []) j)
 
 -- ---- the intervals that are replayed, in order, each by its process and its number
 
@@ -129,4 +128,4 @@ item_replays program plan logs xs p k j (Some (item.Nested m b values closed)) =
 -- for the edges of item j of interval k of process p: the interval itself first
 abbrev pub edges_replays : Program → Plan → Logs → List Seen → ℕ → ℕ → ℕ → List (ℕ × ℕ)
 edges_replays program plan logs xs p k j =
-    (p, k) ∷ item_replays program plan logs xs p k j (slice_get (items_at (seen_at xs p) k) j)
+    (p, k) ∷ item_replays program plan logs xs p k j (slice_get (get_or (seen_at xs p).items k []) j)

@@ -26,7 +26,7 @@ use Rattle.ppd_model.specs.Synchronizations.{is_number}
 use Rattle.ppd_flow_model.specs.declared.leaf_call.LeafCall.{LeafCall}
 use Rattle.ppd_flow_model.specs.declared.writer.Writer.{Writer}
 use Rattle.ppd_flow_model.specs.declared.writer.Writer.TheVariants.{Before, Fresh, At, Of}
-use Rattle.ppd_flow_model.specs.Seen.{Seen, call_of, items_at, kind_at, last_item, outer_of, outer_place, unless}
+use Rattle.ppd_flow_model.specs.Seen.{Seen, call_of, kind_at, last_item, outer_of, outer_place, unless}
 
 -- ---- activations without an interval of their own
 
@@ -124,7 +124,7 @@ leaf_at program plan items = (scan program plan 0 0 items).leaf
 -- the frame of interval m in the interval directly round it
 abbrev pub outer_frame : Program → Plan → Seen → ℕ → ℕ
 outer_frame program plan x m =
-    frame_in (leaf_at program plan (take (outer_place x m) (items_at x (outer_of x m))))
+    frame_in (leaf_at program plan (take (outer_place x m) (get_or x.items (outer_of x m) [])))
 
 -- ---- within an interval and its loops
 
@@ -139,12 +139,12 @@ writer_at x p m (Of k) = Some (last_item x p k)
 abbrev pub in_loops : Program → Plan → Seen → ℕ → ℕ → List ℕ → Option Origin
 in_loops program plan x p c [] = None
 in_loops program plan x p c (m ∷ ms) =
-    option_or (writer_at x p m (scan program plan 0 c (items_at x m)).writer) (in_loops program plan x p c ms)
+    option_or (writer_at x p m (scan program plan 0 c (get_or x.items m [])).writer) (in_loops program plan x p c ms)
 
 -- the last write in interval k before place j
 abbrev pub local_in : Program → Plan → Seen → ℕ → ℕ → ℕ → ℕ → ℕ → Option Origin
 local_in program plan x p k j frame c =
-    let s = scan program plan frame c (take j (items_at x k)) in
+    let s = scan program plan frame c (take j (get_or x.items k [])) in
     option_or (in_loops program plan x p c s.loops) (writer_at x p k s.writer)
 
 -- ---- outside it
@@ -183,13 +183,13 @@ writer_replays w = []
 abbrev pub loop_replays : Program → Plan → Seen → ℕ → ℕ → List ℕ → List ℕ
 loop_replays program plan x p c [] = []
 loop_replays program plan x p c (m ∷ ms) =
-    let w = (scan program plan 0 c (items_at x m)).writer in
+    let w = (scan program plan 0 c (get_or x.items m [])).writer in
     m ∷ writer_replays w ++ unless (writer_at x p m w) (loop_replays program plan x p c ms)
 
 -- for the last write in interval k before place j
 abbrev pub local_in_replays : Program → Plan → Seen → ℕ → ℕ → ℕ → ℕ → ℕ → List ℕ
 local_in_replays program plan x p k j frame c =
-    let s = scan program plan frame c (take j (items_at x k)) in
+    let s = scan program plan frame c (take j (get_or x.items k [])) in
     loop_replays program plan x p c s.loops
     ++ unless (in_loops program plan x p c s.loops) (writer_replays s.writer)
 

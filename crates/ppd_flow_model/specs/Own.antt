@@ -1,6 +1,6 @@
 -- The edge of a read from its origin, and the edges of an item that is an interval inside, whose origins are found
 -- within its process.
-use Rattle.std.specs.Prelude.{ℕ, ◌+◌, ◌-◌, ℤ, List, [], ◌∷◌, ◌++◌, take, Some, None}
+use Rattle.std.specs.Prelude.{ℕ, ◌+◌, ◌-◌, ℤ, List, [], ◌∷◌, ◌++◌, take, Some, None, get_or}
 use Rattle.ppd_ast.specs.declared.plan.BlockKind.{BlockKind}
 use Rattle.ppd_ast.specs.declared.plan.BlockKind.TheVariants as block
 use Rattle.ppd_ast.specs.declared.plan.Plan.{Plan}
@@ -15,7 +15,7 @@ use Rattle.ppd_model.specs.declared.flow.Origin.TheVariants as origin
 use Rattle.ppd_model.specs.FlowbackEdges.{bare_edge}
 use Rattle.ppd_flow_model.specs.Control.{control_origin, control_replays}
 use Rattle.ppd_flow_model.specs.Locals.{frame_in, leaf_at, local_origin, local_replays}
-use Rattle.ppd_flow_model.specs.Seen.{Seen, items_at, last_item}
+use Rattle.ppd_flow_model.specs.Seen.{Seen, last_item}
 
 -- ---- of a read
 
@@ -27,7 +27,7 @@ read_from a from = record { kind = Read; spot = Some a.spot; value = Some a.valu
 
 -- the frame of place j in interval k
 abbrev pub frame_at : Program → Plan → Seen → ℕ → ℕ → ℕ
-frame_at program plan x k j = frame_in (leaf_at program plan (take j (items_at x k)))
+frame_at program plan x k j = frame_in (leaf_at program plan (take j (get_or x.items k [])))
 
 -- one for each local cell of a loop's postlog: the last write before the loop's end
 abbrev pub left_edges : Program → Plan → Seen → ℕ → ℕ → ℕ → ℕ → List ℕ → List ℤ → List FlowEdge

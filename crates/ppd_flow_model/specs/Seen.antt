@@ -24,17 +24,9 @@ seen_of x = record {
   rounds = map (λ i. i.round) x.spans;
 }
 
--- the items of interval m
-abbrev pub items_at : Seen → ℕ → List Item
-items_at x m = get_or x.items m []
-
 -- what the block of interval m is the code of
 abbrev pub kind_at : Plan → Seen → ℕ → BlockKind
 kind_at plan x m = block_kind plan (get_or x.blocks m 0)
-
--- the intervals round interval m, the innermost first
-abbrev pub round_at : Seen → ℕ → List ℕ
-round_at x m = get_or x.rounds m []
 
 -- the first of these intervals, and interval m where there is none
 abbrev pub first_or : ℕ → List ℕ → ℕ
@@ -43,7 +35,7 @@ first_or m (k ∷ ks) = k
 
 -- the interval directly round interval m, and m itself where there is none
 abbrev pub outer_of : Seen → ℕ → ℕ
-outer_of x m = first_or m (round_at x m)
+outer_of x m = first_or m (get_or x.rounds m [])
 
 -- the item is interval m
 abbrev pub is_item_of : ℕ → Item → Bool
@@ -56,7 +48,7 @@ place_of m items = unwrap_or (position (is_item_of m) items) 0
 
 -- the place of interval m in the interval directly round it
 abbrev pub outer_place : Seen → ℕ → ℕ
-outer_place x m = place_of m (items_at x (outer_of x m))
+outer_place x m = place_of m (get_or x.items (outer_of x m) [])
 
 -- the call that began interval m, one of a function: it stands straight before the interval
 abbrev pub call_of : Seen → ℕ → ℕ → Origin
@@ -64,7 +56,7 @@ call_of x p m = origin.Item p (outer_of x m) (outer_place x m - 1)
 
 -- the last item of interval m
 abbrev pub last_item : Seen → ℕ → ℕ → Origin
-last_item x p m = origin.Item p m (length (items_at x m) - 1)
+last_item x p m = origin.Item p m (length (get_or x.items m []) - 1)
 
 -- ---- what is replayed
 

@@ -4,7 +4,6 @@ use Rattle.std.specs.Prelude.{ℕ, ◌+◌, ℤ, pos, Bool, List, [], ◌∷◌,
 use Rattle.ppd_ast.specs.declared.program.Program.{Program}
 use Rattle.ppd_ast.specs.Members.{has}
 use Rattle.ppd_graph.specs.Logs.{Logs}
-use Rattle.ppd_graph.specs.Entries.{entries_at}
 use Rattle.ppd_graph.specs.declared.paired.Paired.{Paired}
 use Rattle.ppd_graph.specs.declared.paired.Paired.TheVariants.{Nothing, Initial, Node}
 use Rattle.ppd_graph.specs.declared.sets.EdgeSets.{EdgeSets}
@@ -78,12 +77,12 @@ pub record Missing : Type 0 where
 -- the entry that ends the edge is such a one
 abbrev pub missing : Logs → ℕ → EdgeId → Missing
 missing logs c a =
-    record { process = a.process; entry = ending a.edge (entries_at logs a.process); cell = c }
+    record { process = a.process; entry = ending a.edge (get_or logs.lists a.process []); cell = c }
 
 -- the walk for the cell from the end of an edge
 abbrev pub walk_in : Logs → List Seen → ℕ → EdgeId → Walked
 walk_in logs xs c a =
-    let entries = entries_at logs a.process in
+    let entries = get_or logs.lists a.process [] in
     let x = seen_at xs a.process in
     walk x c (end_interval entries a.edge) (end_item entries x a.edge)
 
@@ -115,7 +114,7 @@ own_or p w otherwise = otherwise
 
 -- the internal edge of a place of process p
 abbrev pub edge_of_place : Logs → List Seen → ℕ → ℕ → ℕ → EdgeId
-edge_of_place logs xs p k j = edge p (edge_at (entries_at logs p) (seen_at xs p) k j)
+edge_of_place logs xs p k j = edge p (edge_at (get_or logs.lists p []) (seen_at xs p) k j)
 
 -- where shared cell c was written that is read at place j of interval k of process p
 abbrev pub shared_origin : Program → Logs → List Seen → ℕ → ℕ → ℕ → ℕ → Result Origin Missing
@@ -132,14 +131,14 @@ found_last program logs xs c = written_or_start program logs xs c (greatest_writ
 -- what leads to the synchronization at a place of process p, by the numbers in the record: it ends its edge
 abbrev pub pair_of : Program → Logs → List Seen → ℕ → ℕ → ℕ → Paired
 pair_of program logs xs p k j =
-    pair_at (pairs_of program (record_in logs)) (node p (edge_at (entries_at logs p) (seen_at xs p) k j))
+    pair_at (pairs_of program (record_in logs)) (node p (edge_at (get_or logs.lists p []) (seen_at xs p) k j))
 
 -- where a pair is an item: where the edge that it ends does
 abbrev pub pair_place : Logs → List Seen → Paired → Option Origin
 pair_place logs xs Nothing = None
 pair_place logs xs Initial = Some origin.Initial
 pair_place logs xs (Node a) =
-    let entries = entries_at logs a.process in
+    let entries = get_or logs.lists a.process [] in
     Some (origin.Item a.process (end_interval entries a.sync) (end_item entries (seen_at xs a.process) a.sync))
 
 -- the pair of the synchronization at place j of interval k of process p, if it has one
@@ -155,7 +154,7 @@ of_process p ks = map (λ k. (p, k)) ks
 -- for the last write in an edge: the interval in which it ends, and those of the walk from there
 abbrev pub written_replays : Logs → List Seen → ℕ → EdgeId → List (ℕ × ℕ)
 written_replays logs xs c a =
-    let entries = entries_at logs a.process in
+    let entries = get_or logs.lists a.process [] in
     let x = seen_at xs a.process in
     let k = end_interval entries a.edge in
     of_process a.process (k ∷ walk_replays x c k (end_item entries x a.edge))
@@ -183,7 +182,7 @@ last_replays program logs xs c = start_replays logs xs c (greatest_writing progr
 
 -- for the place of a pair: the interval in which its edge ends
 abbrev pub place_replays : Logs → Paired → List (ℕ × ℕ)
-place_replays logs (Node a) = (a.process, end_interval (entries_at logs a.process) a.sync) ∷ []
+place_replays logs (Node a) = (a.process, end_interval (get_or logs.lists a.process []) a.sync) ∷ []
 place_replays logs pair = []
 
 -- for a pair

@@ -1,6 +1,6 @@
 -- The walk back over one internal edge of a process to the last write of a shared cell, and the intervals
 -- that are replayed on the way. The items of the interval where it begins are there; no list names it.
-use Rattle.std.specs.Prelude.{ℕ, zero, suc, ◌+◌, nat_eq, ℤ, Bool, false, List, [], ◌∷◌, ◌++◌, take, length, Option, Some, None, is_some, if◌then◌else◌}
+use Rattle.std.specs.Prelude.{ℕ, zero, suc, ◌+◌, nat_eq, ℤ, Bool, false, List, [], ◌∷◌, ◌++◌, take, length, Option, Some, None, is_some, if◌then◌else◌, get_or}
 use Rattle.ppd_sem.specs.declared.event.Access.{Access}
 use Rattle.ppd_sem.specs.declared.event.Event.{Event}
 use Rattle.ppd_sem.specs.declared.event.Spot.{Spot}
@@ -9,7 +9,7 @@ use Rattle.ppd_model.specs.declared.flow.Item.{Item}
 use Rattle.ppd_model.specs.declared.flow.Item.TheVariants as item
 use Rattle.ppd_flow_model.specs.declared.walked.Walked.{Walked}
 use Rattle.ppd_flow_model.specs.declared.walked.Walked.TheVariants.{Stopped, Passed, Found}
-use Rattle.ppd_flow_model.specs.Seen.{Seen, items_at, place_of, round_at}
+use Rattle.ppd_flow_model.specs.Seen.{Seen, place_of}
 
 -- ---- one event
 
@@ -58,14 +58,14 @@ back_over inner c k ((i, item.Nested m b values closed) ∷ rest) = onward (inne
 -- over a whole interval; intervals inside it have larger numbers, so that no more than all stand in one another
 abbrev pub back : ℕ → Seen → ℕ → ℕ → Walked
 back zero x c m = Passed
-back (suc n) x c m = back_over (back n x c) c m (backwards 0 (items_at x m) [])
+back (suc n) x c m = back_over (back n x c) c m (backwards 0 (get_or x.items m []) [])
 
 -- over interval k from before place j, and on from before its place in each of the intervals round it
 abbrev pub walk_out : (ℕ → Walked) → Seen → ℕ → ℕ → ℕ → List ℕ → Walked
-walk_out inner x c k j [] = back_over inner c k (back_from j (items_at x k))
+walk_out inner x c k j [] = back_over inner c k (back_from j (get_or x.items k []))
 walk_out inner x c k j (m ∷ ms) =
-    onward (back_over inner c k (back_from j (items_at x k)))
-    (walk_out inner x c m (place_of k (items_at x m)) ms)
+    onward (back_over inner c k (back_from j (get_or x.items k [])))
+    (walk_out inner x c m (place_of k (get_or x.items m [])) ms)
 
 -- a whole interval of the process
 abbrev pub inside : Seen → ℕ → ℕ → Walked
@@ -73,7 +73,7 @@ inside x c m = back (length x.items) x c m
 
 -- the last write of shared cell c in the internal edge of place j of interval k, before that place
 abbrev pub walk : Seen → ℕ → ℕ → ℕ → Walked
-walk x c k j = walk_out (inside x c) x c k j (round_at x k)
+walk x c k j = walk_out (inside x c) x c k j (get_or x.rounds k [])
 
 -- ---- the intervals that are replayed, in order
 
@@ -94,15 +94,15 @@ over_replays inner touched c k ((i, item.Nested m b values closed) ∷ rest) =
 abbrev pub back_replays : ℕ → Seen → ℕ → ℕ → List ℕ
 back_replays zero x c m = []
 back_replays (suc n) x c m =
-    m ∷ over_replays (back n x c) (back_replays n x c) c m (backwards 0 (items_at x m) [])
+    m ∷ over_replays (back n x c) (back_replays n x c) c m (backwards 0 (get_or x.items m []) [])
 
 -- over interval k, which is there, from before place j, and on through the intervals round it
 abbrev pub out_replays : (ℕ → Walked) → (ℕ → List ℕ) → Seen → ℕ → ℕ → ℕ → List ℕ → List ℕ
-out_replays inner touched x c k j [] = over_replays inner touched c k (back_from j (items_at x k))
+out_replays inner touched x c k j [] = over_replays inner touched c k (back_from j (get_or x.items k []))
 out_replays inner touched x c k j (m ∷ ms) =
-    over_replays inner touched c k (back_from j (items_at x k))
-    ++ if_passed (back_over inner c k (back_from j (items_at x k)))
-    (m ∷ out_replays inner touched x c m (place_of k (items_at x m)) ms)
+    over_replays inner touched c k (back_from j (get_or x.items k []))
+    ++ if_passed (back_over inner c k (back_from j (get_or x.items k [])))
+    (m ∷ out_replays inner touched x c m (place_of k (get_or x.items m [])) ms)
 
 -- a whole interval of the process
 abbrev pub inside_replays : Seen → ℕ → ℕ → List ℕ
@@ -110,4 +110,4 @@ inside_replays x c m = back_replays (length x.items) x c m
 
 -- for the last write of shared cell c in the internal edge of place j of interval k, before that place
 abbrev pub walk_replays : Seen → ℕ → ℕ → ℕ → List ℕ
-walk_replays x c k j = out_replays (inside x c) (inside_replays x c) x c k j (round_at x k)
+walk_replays x c k j = out_replays (inside x c) (inside_replays x c) x c k j (get_or x.rounds k [])

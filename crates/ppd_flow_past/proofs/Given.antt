@@ -1,4 +1,5 @@
 -- What the replay of one interval gives of a past.
+use Rattle.std.specs.Result.{result_err, result_unwrap_or}
 use Rattle.std.proofs.Common.{◌≡◌, ℕ, zero, suc, ◌≤◌, List, [], ◌∷◌, Option, Some, None, Ok, Err, refl, ap, sym, ◌∙◌, arith, length, map, get_or}
 use Rattle.std.specs.Prelude.{slice_get}
 use Rattle.std.proofs.lemmas.List.{length-map}
@@ -12,7 +13,6 @@ use Rattle.ppd_emul.specs.Replay.{Replayed, replay}
 use Rattle.ppd_entry.specs.declared.entry.Entry.{Entry}
 use Rattle.ppd_entry.specs.IntervalLogs.{Indexed, IntervalLog, indexed, interval_log}
 use Rattle.ppd_entry.proofs.Vocabulary.{log_in}
-use Rattle.ppd_entry.specs.Entries.{entries_at}
 use Rattle.ppd_emul.specs.Row.{Row}
 use Rattle.ppd_emul.specs.Indexes.{AreIntervals, IsIndexOf, rows_at}
 use Rattle.ppd_emul.specs.Tables.{indexed_of}
@@ -20,7 +20,7 @@ use Rattle.ppd_model.specs.Bounds.{AreEach}
 use Rattle.ppd_model.specs.declared.flow.Item.{Item}
 use Rattle.ppd_flow_past.specs.declared.past.Past.{Past}
 use Rattle.ppd_flow_past.specs.ByReplays.{AreReplayed}
-use Rattle.ppd_flow_past.specs.SeenBy.{failed_in, failure_by, items_by, items_in, seen_in, steps_in, steps_of}
+use Rattle.ppd_flow_past.specs.SeenBy.{failed_in, items_in, seen_in, steps_in, steps_of, told_by}
 use Rattle.ppd_emul.specs.Laws.{replay_of}
 use Rattle.ppd_flow_past.proofs.SeenWords.{failure_of}
 
@@ -52,7 +52,7 @@ no_log plan (rows ∷ tables) (es ∷ lists) (suc p) k h le = no_log plan tables
 
 module _ (past : Past) (p k : ℕ) where
   abbrev entries : List Entry
-  entries = entries_at past.cut.now p
+  entries = get_or past.cut.now.lists p []
 
   abbrev replayed : IntervalLog → Replayed
   replayed log = replay past.program.now past.plan.now log past.budget
@@ -65,7 +65,7 @@ module _ (past : Past) (p k : ℕ) where
     pub none_items : AreReplayed past p k []
     none_items = (
       ap (λ o. failure_of (in_past o)) none,
-      sym (none_at (λ log. items_by (replayed log).answer)
+      sym (none_at (λ log. result_unwrap_or (told_by (replayed log).answer) [])
           (indexed past.plan.now entries) k none),
     )
 
@@ -80,7 +80,7 @@ module _ (past : Past) (p k : ℕ) where
   pub beyond : length (seen_in past p).items ≤ k → interval_log past.plan.now entries k ≡ None
   beyond le =
       let count : length (seen_in past p).items ≡ length (indexed past.plan.now entries) =
-      length-map (indexed past.plan.now entries) (λ (i : Indexed). items_by (replayed i.log).answer) in
+      length-map (indexed past.plan.now entries) (λ (i : Indexed). result_unwrap_or (told_by (replayed i.log).answer) []) in
       let far : length (indexed past.plan.now entries) ≤ k = omega arith in
       ap log_in (slice_get_past (indexed past.plan.now entries) k far)
 
@@ -88,13 +88,13 @@ module _ (past : Past) (p k : ℕ) where
     pub given_items : (trace : BlockTrace) → Ok trace ≡ (replayed log).answer → AreReplayed past p k trace.items
     given_items trace answer =
         let items : items_in past p k ≡ trace.items =
-        found_at (λ l. items_by (replayed l).answer) (indexed past.plan.now entries) k log is
-        ∙ ap items_by (sym answer) in
-        (ap (λ o. failure_of (in_past o)) is ∙ ap failure_by (sym answer), sym items)
+        found_at (λ l. result_unwrap_or (told_by (replayed l).answer) []) (indexed past.plan.now entries) k log is
+        ∙ ap (λ r. result_unwrap_or (told_by r) []) (sym answer) in
+        (ap (λ o. failure_of (in_past o)) is ∙ ap (λ r. result_err (told_by r)) (sym answer), sym items)
 
     pub given_steps : steps_in past p k ≡ (replayed log).steps
     given_steps = ap (λ o. steps_of (in_past o)) is
 
     pub given_failure : (n : ℕ) (w : Wanted) (f : Found) → Err (Diverged n w f) ≡ (replayed log).answer
         → failed_in past p k ≡ Some n
-    given_failure n w f answer = ap (λ o. failure_of (in_past o)) is ∙ ap failure_by (sym answer)
+    given_failure n w f answer = ap (λ o. failure_of (in_past o)) is ∙ ap (λ r. result_err (told_by r)) (sym answer)

@@ -1,4 +1,5 @@
 -- The block of an interval and the one round it, as the index of a past has them.
+use Rattle.std.specs.Result.{result_unwrap_or}
 use Rattle.std.proofs.Common.{◌≡◌, ℕ, zero, suc, List, [], ◌∷◌, Option, Some, None, refl, ap, sym, ◌∙◌, map, get_or, length}
 use Rattle.std.specs.Prelude.{option_map, slice_get, unwrap_or}
 use Rattle.std.proofs.lemmas.List.{length-map}
@@ -7,16 +8,15 @@ use Rattle.ppd_ast.specs.declared.plan.Plan.{Plan}
 use Rattle.ppd_entry.specs.declared.entry.Entry.{Entry}
 use Rattle.ppd_entry.specs.IntervalLogs.{Indexed, indexed}
 use Rattle.ppd_entry.specs.declared.entry.Logs.{Logs}
-use Rattle.ppd_entry.specs.Entries.{entries_at}
 use Rattle.ppd_emul.specs.Replay.{replay}
 use Rattle.ppd_emul.specs.Interval.{Interval}
 use Rattle.ppd_emul.specs.Row.{Row}
 use Rattle.ppd_emul.specs.Indexes.{AreIntervals, IsIndexOf, interval_of, rows_at}
 use Rattle.ppd_emul.specs.Tables.{extent_of, indexed_of}
 use Rattle.ppd_model.specs.Bounds.{AreEach}
-use Rattle.ppd_model.specs.Extents.{Extent, extents, first_of}
+use Rattle.ppd_model.specs.Extents.{Extent, extents}
 use Rattle.ppd_flow_past.specs.declared.past.Past.{Past}
-use Rattle.ppd_flow_past.specs.SeenBy.{items_by, seen_in}
+use Rattle.ppd_flow_past.specs.SeenBy.{seen_in, told_by}
 use Rattle.ppd_flow_past.proofs.Parents.{first_round}
 
 pub rows_are : (plan : Plan) (tables : List (List Row)) (lists : List (List Entry)) (p : ℕ)
@@ -48,7 +48,7 @@ parent_by (Some r) = refl
 
 -- the extents of an index's logs
 module _ (plan : Plan) (logs : Logs) (tables : List (List Row)) (p k : ℕ) (h : IsIndexOf plan logs tables) where
-  pub extent_at : slice_get (extents (entries_at logs p)) k ≡ option_map extent_of (slice_get (rows_at tables p) k)
+  pub extent_at : slice_get (extents (get_or logs.lists p [])) k ≡ option_map extent_of (slice_get (rows_at tables p) k)
   extent_at =
       ap (λ (xs : List Extent). slice_get xs k) (sym (rows_are plan tables logs.lists p h))
       ∙ slice_get-map extent_of (rows_at tables p) k
@@ -58,7 +58,7 @@ module _ (past : Past) (p k : ℕ) (h : IsIndexOf past.plan.now past.cut.now pas
   rows = rows_at past.cut_index.now.tables p
 
   abbrev all : List Extent
-  all = extents (entries_at past.cut.now p)
+  all = extents (get_or past.cut.now.lists p [])
 
   pub block_is : (o : Option Interval) → o ≡ option_map interval_of (slice_get rows k)
       → block_or o ≡ get_or (seen_in past p).blocks k 0
@@ -69,18 +69,17 @@ module _ (past : Past) (p k : ℕ) (h : IsIndexOf past.plan.now past.cut.now pas
       ∙ unwrap_or-slice_get (map (λ (z : Extent). z.block) all) k 0
 
   pub outer_is : (o : Option Interval) → o ≡ option_map interval_of (slice_get rows k)
-      → parent_or o ≡ first_of (get_or (seen_in past p).rounds k [])
+      → parent_or o ≡ slice_get (get_or (seen_in past p).rounds k []) 0
   outer_is o e =
       ap parent_or e ∙ sym (parent_by (slice_get rows k))
       ∙ ap (λ x. unwrap_or (option_map (λ (z : Extent). z.parent) x) None) (sym (extent_at past.plan.now past.cut.now past.cut_index.now.tables p k h))
       ∙ ap (λ x. unwrap_or x None) (sym (slice_get-map (λ (z : Extent). z.parent) all k))
-      ∙ sym (first_round (entries_at past.cut.now p) k)
+      ∙ sym (first_round (get_or past.cut.now.lists p []) k)
 
   -- as many as have items
   pub count_is : length rows ≡ length (seen_in past p).items
   count_is = sym (as_many past.plan.now past.cut_index.now.tables past.cut.now.lists p h)
-      ∙ sym (length-map (indexed past.plan.now (entries_at past.cut.now p)) (λ (i : Indexed). items_by
-      (replay past.program.now past.plan.now i.log past.budget).answer))
+      ∙ sym (length-map (indexed past.plan.now (get_or past.cut.now.lists p [])) (λ (i : Indexed). result_unwrap_or (told_by (replay past.program.now past.plan.now i.log past.budget).answer) []))
     where
       as_many : (plan : Plan) (tables : List (List Row)) (lists : List (List Entry)) (q : ℕ)
           → AreEach (AreIntervals plan) tables lists

@@ -5,7 +5,7 @@ use Rattle.std.proofs.lemmas.List.{get_or_append_left, get_or_at, length-append,
 use Rattle.std.proofs.lemmas.Option.{none-some, same_Some, slice_get_past, unwrap_or-slice_get}
 use Rattle.ppd_entry.specs.declared.entry.Entry.{Entry}
 use Rattle.ppd_entry.specs.declared.entry.Entry.TheVariants as entry
-use Rattle.ppd_model.specs.Extents.{Extending, Extent, extend, extents, first_of}
+use Rattle.ppd_model.specs.Extents.{Extent, extend, extents, Indexing}
 use Rattle.ppd_model.proofs.ExtentWords.{begun_extents, ended_by, left_by}
 use Rattle.ppd_model.specs.World.{change}
 use Rattle.ppd_model.proofs.Items.{rest_below, AreBelow}
@@ -65,7 +65,7 @@ more_below : (n : ℕ) (ks : List ℕ) → AreBelow n ks → AreBelow (suc n) ks
 more_below n [] h = tt
 more_below n (k ∷ ks) h = let lt : k < n = h.0 in (omega arith, more_below n ks h.1)
 
-first_below : (n : ℕ) (ks : List ℕ) → AreBelow n ks → IsBelow n (first_of ks)
+first_below : (n : ℕ) (ks : List ℕ) → AreBelow n ks → IsBelow n (slice_get ks 0)
 first_below n [] h = tt
 first_below n (k ∷ ks) h = h.0
 
@@ -77,9 +77,9 @@ earlier_more n (q ∷ ps) p h b = (h.0, earlier_more (suc n) ps p h.1 (subst (λ
 abbrev parents_in : List Extent → List (Option ℕ)
 parents_in xs = map (λ (x : Extent). x.parent) xs
 
-record IsSound (x : Extending) : Type 0 where
-  running : AreBelow (length (parents_in x.extents)) x.running
-  earlier : AreEarlier 0 (parents_in x.extents)
+record IsSound (x : Indexing Extent) : Type 0 where
+  running : AreBelow (length (parents_in x.intervals)) x.running
+  earlier : AreEarlier 0 (parents_in x.intervals)
 
 quiet : (f : Extent → Extent) → ((x : Extent) → (f x).parent ≡ x.parent) → (k : ℕ) (xs : List Extent)
     → parents_in (change f k xs) ≡ parents_in xs
@@ -96,35 +96,35 @@ quiet_ended j [] xs = refl
 quiet_ended j (k ∷ ks) xs = quiet_ended j ks (change (λ x. record x { last = Some j }) k xs)
     ∙ quiet (λ x. record x { last = Some j }) (λ x. refl) k xs
 
-sound_step : (x : Extending) (e : Entry) → IsSound x → IsSound (extend x e)
+sound_step : (x : Indexing Extent) (e : Entry) → IsSound x → IsSound (extend x e)
 sound_step x (entry.Prelog b values) h =
-    let ps = parents_in x.extents in
-    let whole : parents_in (extend x (entry.Prelog b values)).extents
-    ≡ ps ++ first_of x.running ∷ [] = map-append (λ (z : Extent). z.parent) x.extents _ in
-    let count : length (ps ++ first_of x.running ∷ [])
-    ≡ suc (length ps) = omega (arith, length-append ps (first_of x.running ∷ [])) in
-    let long : length x.extents ≡ length ps = sym (length-map x.extents (λ (z : Extent). z.parent)) in
-    let own : length x.extents < suc (length ps) = omega arith in
-    let below : AreBelow (suc (length ps)) (length x.extents ∷ x.running) = (
+    let ps = parents_in x.intervals in
+    let whole : parents_in (extend x (entry.Prelog b values)).intervals
+    ≡ ps ++ slice_get x.running 0 ∷ [] = map-append (λ (z : Extent). z.parent) x.intervals _ in
+    let count : length (ps ++ slice_get x.running 0 ∷ [])
+    ≡ suc (length ps) = omega (arith, length-append ps (slice_get x.running 0 ∷ [])) in
+    let long : length x.intervals ≡ length ps = sym (length-map x.intervals (λ (z : Extent). z.parent)) in
+    let own : length x.intervals < suc (length ps) = omega arith in
+    let below : AreBelow (suc (length ps)) (length x.intervals ∷ x.running) = (
       own,
       more_below
           (length ps) x.running h.running,
     ) in
-    let parent : IsBelow (0 + length ps) (first_of x.running) = subst (λ l. IsBelow l (first_of x.running))
+    let parent : IsBelow (0 + length ps) (slice_get x.running 0) = subst (λ l. IsBelow l (slice_get x.running 0))
     (omega arith) (first_below (length ps) x.running h.running) in
     record {
-      running = subst (λ qs. AreBelow (length qs) (length x.extents ∷ x.running)) (sym whole) (subst
-          (λ l. AreBelow l (length x.extents ∷ x.running)) (sym count) below);
-      earlier = subst (AreEarlier 0) (sym whole) (earlier_more 0 ps (first_of x.running) h.earlier parent);
+      running = subst (λ qs. AreBelow (length qs) (length x.intervals ∷ x.running)) (sym whole) (subst
+          (λ l. AreBelow l (length x.intervals ∷ x.running)) (sym count) below);
+      earlier = subst (AreEarlier 0) (sym whole) (earlier_more 0 ps (slice_get x.running 0) h.earlier parent);
     }
 sound_step x (entry.Postlog b values) h =
-    let same = quiet_left x.entry x.running x.extents in
+    let same = quiet_left x.entry x.running x.intervals in
     record {
       running = subst (λ ps. AreBelow (length ps) (drop 1 x.running)) (sym same) (rest_below _ x.running h.running);
       earlier = subst (AreEarlier 0) (sym same) h.earlier;
     }
 sound_step x (entry.End status rest reads writes) h =
-    let same = quiet_ended x.entry x.running x.extents in
+    let same = quiet_ended x.entry x.running x.intervals in
     record {
       running = subst (λ ps. AreBelow (length ps) x.running) (sym same) h.running;
       earlier = subst (AreEarlier 0) (sym same) h.earlier;
@@ -132,7 +132,7 @@ sound_step x (entry.End status rest reads writes) h =
 sound_step x (entry.Unit u values) h = record { running = h.running; earlier = h.earlier }
 sound_step x (entry.Sync kind object number value reads writes) h = record { running = h.running; earlier = h.earlier }
 
-sound_fold : (x : Extending) (es : List Entry) → IsSound x → IsSound (fold extend x es)
+sound_fold : (x : Indexing Extent) (es : List Entry) → IsSound x → IsSound (fold extend x es)
 sound_fold x [] h = h
 sound_fold x (e ∷ es) h = sound_fold (extend x e) es (sound_step x e h)
 
@@ -162,7 +162,7 @@ parent_below n (p ∷ ps) zero m h e =
     let below : m < n = subst (IsBelow n) (same_Some p (Some m) e) h.0 in omega arith
 parent_below n (p ∷ ps) (suc k) m h e = let below : m < suc n + k = parent_below (suc n) ps k m h.1 e in omega arith
 
-first_by : (rounds : Rounds) (p : Option ℕ) → first_of (round_by rounds p) ≡ p
+first_by : (rounds : Rounds) (p : Option ℕ) → slice_get (round_by rounds p) 0 ≡ p
 first_by rounds None = refl
 first_by rounds (Some m) = refl
 
@@ -185,34 +185,34 @@ module _ (entries : List Entry) where
       past_end (x ∷ xs) (suc i) f = let le : length xs ≤ i = past_end xs i f in omega arith
 
   -- the parent of an interval is the first of those round it
-  pub first_round : (k : ℕ) → first_of (get_or rounds k [])
+  pub first_round : (k : ℕ) → slice_get (get_or rounds k []) 0
       ≡ unwrap_or (slice_get (parents_in (extents entries)) k) None
   first_round k = by (slice_get (parents_in (extents entries)) k) refl
     where
       by : (o : Option (Option ℕ)) → slice_get (parents_in (extents entries)) k ≡ o
-          → first_of (get_or rounds k []) ≡ unwrap_or o None
-      by None e = ap first_of (none_round k e)
-      by (Some p) e = ap first_of (round_at_parent entries k p e) ∙ first_by rounds p
+          → slice_get (get_or rounds k []) 0 ≡ unwrap_or o None
+      by None e = ap (λ ks. slice_get ks 0) (none_round k e)
+      by (Some p) e = ap (λ ks. slice_get ks 0) (round_at_parent entries k p e) ∙ first_by rounds p
 
   -- round an interval are the one directly round it, and those round that one
-  pub round_goes_on : (k : ℕ) → get_or rounds k [] ≡ round_by rounds (first_of (get_or rounds k []))
+  pub round_goes_on : (k : ℕ) → get_or rounds k [] ≡ round_by rounds (slice_get (get_or rounds k []) 0)
   round_goes_on k = by (slice_get (parents_in (extents entries)) k) refl
     where
       by : (o : Option (Option ℕ)) → slice_get (parents_in (extents entries)) k ≡ o
-          → get_or rounds k [] ≡ round_by rounds (first_of (get_or rounds k []))
-      by None e = none_round k e ∙ ap (λ r. round_by rounds (first_of r)) (sym (none_round k e))
+          → get_or rounds k [] ≡ round_by rounds (slice_get (get_or rounds k []) 0)
+      by None e = none_round k e ∙ ap (λ r. round_by rounds (slice_get r 0)) (sym (none_round k e))
       by (Some p) e =
           round_at_parent entries k p e
-          ∙ ap (round_by rounds) (sym (first_by rounds p) ∙ ap first_of (sym (round_at_parent entries k p e)))
+          ∙ ap (round_by rounds) (sym (first_by rounds p) ∙ ap (λ ks. slice_get ks 0) (sym (round_at_parent entries k p e)))
 
   -- and that one has a smaller number
-  pub round_is_before : (k m : ℕ) → first_of (get_or rounds k []) ≡ Some m → m < k
+  pub round_is_before : (k m : ℕ) → slice_get (get_or rounds k []) 0 ≡ Some m → m < k
   round_is_before k m e = by (slice_get (parents_in (extents entries)) k) refl
     where
       by : (o : Option (Option ℕ)) → slice_get (parents_in (extents entries)) k ≡ o → m < k
-      by None f = absurd (none-some m (ap first_of (sym (none_round k f)) ∙ e))
+      by None f = absurd (none-some m (ap (λ ks. slice_get ks 0) (sym (none_round k f)) ∙ e))
       by (Some p) f =
-          let same : p ≡ Some m = sym (first_by rounds p) ∙ ap first_of (sym (round_at_parent entries k p f)) ∙ e in
+          let same : p ≡ Some m = sym (first_by rounds p) ∙ ap (λ ks. slice_get ks 0) (sym (round_at_parent entries k p f)) ∙ e in
           let below : m < 0 + k = parent_below 0 (parents_in (extents entries)) k m (parents_earlier entries) (f
           ∙ ap (λ o. Some o) same) in
           omega arith

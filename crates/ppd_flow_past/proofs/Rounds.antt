@@ -16,7 +16,6 @@ use Rattle.ppd_sem.proofs.TableWords.{or_zero}
 use Rattle.ppd_model.specs.declared.trace.EventId.{EventId}
 use Rattle.ppd_model.specs.declared.tracing.Story.{Story}
 use Rattle.ppd_model.specs.declared.tracing.Taken.{Taken}
-use Rattle.ppd_model.specs.Extents.{first_of}
 use Rattle.ppd_model.specs.FullTrace.{Tag, begun_tracing, me_in, top_tags}
 use Rattle.ppd_model.specs.Intervals.{own, Span, Split, begin_span, begun_split, change_first, control_by, innermost, left_by, split_of, split_step, with_own, with_part, with_step}
 use Rattle.ppd_model.proofs.IntervalWords.{begin_if, end_if}
@@ -31,7 +30,7 @@ abbrev rounds_in : List Span → Rounds
 rounds_in spans = map (λ (i : Span). i.round) spans
 
 abbrev parents_of : Rounds → List (Option ℕ)
-parents_of rounds = map first_of rounds
+parents_of rounds = map (λ ks. slice_get ks 0) rounds
 
 -- of each of these intervals those round it are the ones after it
 abbrev IsChain : Rounds → List ℕ → Type 0
@@ -51,7 +50,7 @@ chain_rest : (rounds : Rounds) (ks : List ℕ) → IsChain rounds ks → IsChain
 chain_rest rounds [] h = tt
 chain_rest rounds (k ∷ ks) h = h.1
 
-round_is : (rounds : Rounds) (ks : List ℕ) → IsChain rounds ks → round_by rounds (first_of ks) ≡ ks
+round_is : (rounds : Rounds) (ks : List ℕ) → IsChain rounds ks → round_by rounds (slice_get ks 0) ≡ ks
 round_is rounds [] h = refl
 round_is rounds (k ∷ ks) h = ap (λ r. k ∷ r) (get_or_from_slice_get rounds k ks [] h.0)
 
@@ -60,9 +59,9 @@ nested_more : (rounds : Rounds) (running : List ℕ) → IsNested rounds running
 nested_more rounds running h = record {
   chain = (last_at rounds running, chain_more rounds running running h.chain);
   rounds_are =
-      ap rounds_by (map-append first_of rounds (running ∷ []))
-      ∙ fold-append (λ rs p. rs ++ round_by rs p ∷ []) [] (parents_of rounds) (first_of running ∷ [])
-      ∙ ap (λ rs. rs ++ round_by rs (first_of running) ∷ []) h.rounds_are
+      ap rounds_by (map-append (λ ks. slice_get ks 0) rounds (running ∷ []))
+      ∙ fold-append (λ rs p. rs ++ round_by rs p ∷ []) [] (parents_of rounds) (slice_get running 0 ∷ [])
+      ∙ ap (λ rs. rs ++ round_by rs (slice_get running 0) ∷ []) h.rounds_are
       ∙ ap (λ r. rounds ++ r ∷ []) (round_is rounds running h.chain);
 }
 
@@ -145,7 +144,7 @@ module _ (program : Program) (plan : Plan) (s : Story) (p : ℕ) where
 
   -- after any steps of the process
   pub rounds_of_split : (budget : ℕ) (ts : List Taken)
-      → rounds_by (map (λ (i : Span). first_of i.round) (split_of program plan budget s p ts).spans)
+      → rounds_by (map (λ (i : Span). slice_get i.round 0) (split_of program plan budget s p ts).spans)
       ≡ map (λ (i : Span). i.round) (split_of program plan budget s p ts).spans
   rounds_of_split budget ts =
       let x : Split = split_of program plan budget s p ts in
@@ -166,6 +165,6 @@ module _ (program : Program) (plan : Plan) (s : Story) (p : ℕ) where
       begun = of_begin (or_zero (block_of plan (block.Process (program.functions + p)))) 0 None before
           (record { chain = tt; rounds_are = refl })
 
-      twice : (spans : List Span) → parents_of (rounds_in spans) ≡ map (λ (i : Span). first_of i.round) spans
+      twice : (spans : List Span) → parents_of (rounds_in spans) ≡ map (λ (i : Span). slice_get i.round 0) spans
       twice [] = refl
-      twice (i ∷ is) = ap (λ ps. first_of i.round ∷ ps) (twice is)
+      twice (i ∷ is) = ap (λ ps. slice_get i.round 0 ∷ ps) (twice is)

@@ -1,4 +1,5 @@
 -- Of the logs of a run without a race the replays give the intervals of each process.
+use Rattle.std.specs.Result.{result_unwrap_or}
 use Rattle.std.proofs.Common.{◌≡◌, ℕ, zero, suc, ◌+◌, List, [], ◌∷◌, Option, Some, None, refl, ap, ap₂, sym, subst, ◌∙◌, arith, map, get_or}
 use Rattle.std.specs.Prelude.{option_map, slice_get}
 use Rattle.std.proofs.lemmas.Option.{get_or_from_slice_get, none-some, slice_get-map}
@@ -15,19 +16,19 @@ use Rattle.ppd_model.specs.declared.flow.Item.{Item}
 use Rattle.ppd_model.specs.declared.state.Logging.{Logging}
 use Rattle.ppd_model.specs.declared.tracing.Story.{Story}
 use Rattle.ppd_model.specs.Bounds.{AreEach}
-use Rattle.ppd_model.specs.Extents.{Extent, IsSameInterval, extents, first_of}
+use Rattle.ppd_model.specs.Extents.{Extent, IsSameInterval, extents}
 use Rattle.ppd_model.specs.Intervals.{Span, Split, items_of, split_of, splits}
 use Rattle.ppd_model.proofs.IntervalWords.{splits_from}
 use Rattle.ppd_model.specs.Logs.{closed_log, closed_logs}
 use Rattle.ppd_model.proofs.LogWords.{logs_from}
 use Rattle.ppd_model.specs.Races.{races}
 use Rattle.ppd_model.specs.Schedule.{IsWhole}
-use Rattle.ppd_model.specs.Story.{Moment, own_steps, steps_of as steps_of_moments, story, told}
+use Rattle.ppd_model.specs.Story.{Moment, steps_of as steps_of_moments, story, told}
 use Rattle.ppd_model.proofs.Items.{split_found}
 use Rattle.ppd_model.proofs.LoggedSpans.{intervals_of_logs}
 use Rattle.ppd_model.proofs.OneHistory.{map-map}
 use Rattle.ppd_flow_past.specs.Honest.{IsSeen, ReplaysAreSeen}
-use Rattle.ppd_flow_past.specs.SeenBy.{items_by, rounds_by, steps_of}
+use Rattle.ppd_flow_past.specs.SeenBy.{rounds_by, steps_of, told_by}
 use Rattle.ppd_flow_past.proofs.Lists.{same_lists}
 use Rattle.ppd_flow_past.proofs.Rounds.{rounds_of_split}
 use Rattle.ppd_emul.specs.Laws.{modelled_in, modelled_of, replay_of}
@@ -59,11 +60,11 @@ module _ (program : Program) (plan : Plan) (budget : ℕ) (is : List Indexed) (x
       slice_get-map by_log is k ∙ sym (as_replayed program plan budget (slice_get is k))
       ∙ same k ∙ as_modelled x (slice_get x.spans k) ∙ sym (slice_get-map (replayed x) x.spans k))
 
-  items_same : map (λ i. items_by (by_log i).answer) is ≡ map (items_of x) x.spans
+  items_same : map (λ i. result_unwrap_or (told_by (by_log i).answer) []) is ≡ map (items_of x) x.spans
   items_same =
-      sym (map-map (λ (r : Replayed). items_by r.answer) by_log is)
-      ∙ ap (map (λ (r : Replayed). items_by r.answer)) replays_same
-      ∙ map-map (λ (r : Replayed). items_by r.answer) (replayed x) x.spans
+      sym (map-map (λ (r : Replayed). result_unwrap_or (told_by r.answer) []) by_log is)
+      ∙ ap (map (λ (r : Replayed). result_unwrap_or (told_by r.answer) [])) replays_same
+      ∙ map-map (λ (r : Replayed). result_unwrap_or (told_by r.answer) []) (replayed x) x.spans
 
 no_failure : (x : Split) (o : Option Span) → failure_of (modelled_of x o) ≡ None
 no_failure x None = refl
@@ -83,7 +84,7 @@ same_blocks (i ∷ ss) [] h = absurd h
 same_blocks (i ∷ ss) (z ∷ xs) h = ap₂ (λ b bs. b ∷ bs) (sym h.0.block) (same_blocks ss xs h.1)
 
 same_parents : (ss : List Span) (xs : List Extent) → AreEach IsSameInterval ss xs
-    → map (λ (z : Extent). z.parent) xs ≡ map (λ (i : Span). first_of i.round) ss
+    → map (λ (z : Extent). z.parent) xs ≡ map (λ (i : Span). slice_get i.round 0) ss
 same_parents [] [] h = refl
 same_parents [] (z ∷ xs) h = absurd h
 same_parents (i ∷ ss) [] h = absurd h
@@ -101,16 +102,16 @@ module _ (program : Program) (plan : Plan) (budget : ℕ) (s : Story) where
 
 rounds_same : (program : Program) (plan : Plan) (budget : ℕ) (h : List ℕ) (p : ℕ) (x : Split)
     → slice_get (splits program plan budget (story program plan budget h)) p ≡ Some x
-    → rounds_by (map (λ (i : Span). first_of i.round) x.spans) ≡ map (λ (i : Span). i.round) x.spans
+    → rounds_by (map (λ (i : Span). slice_get i.round 0) x.spans) ≡ map (λ (i : Span). i.round) x.spans
 rounds_same program plan budget h p x e =
     let s : Story = story program plan budget h in
     let z : 0 + p ≡ p = omega arith in
-    let is : split_of program plan budget s p (own_steps s p) ≡ x =
-    ap (λ k. split_of program plan budget s k (own_steps s p)) (sym z)
+    let is : split_of program plan budget s p (get_or s.steps p []) ≡ x =
+    ap (λ k. split_of program plan budget s k (get_or s.steps p [])) (sym z)
     ∙ split_found program plan budget s 0 s.steps p x e in
-    subst (λ (y : Split). rounds_by (map (λ (i : Span). first_of i.round) y.spans)
+    subst (λ (y : Split). rounds_by (map (λ (i : Span). slice_get i.round 0) y.spans)
     ≡ map (λ (i : Span). i.round) y.spans) is
-    (rounds_of_split program plan s p budget (own_steps s p))
+    (rounds_of_split program plan s p budget (get_or s.steps p []))
 
 abbrev seen : List (List Item) → List ℕ → List (List ℕ) → Seen
 seen items blocks rounds = record { items = items; blocks = blocks; rounds = rounds }

@@ -1,10 +1,9 @@
 -- Answers that are found by replays of intervals: what they are, when they fail, and what they cost.
-use Rattle.std.specs.Prelude.{◌≡◌, ℕ, ◌+◌, List, [], ◌∷◌, sum_by, Option, Some, None, Result, Ok, Err, ⊤}
+use Rattle.std.specs.Prelude.{◌≡◌, ℕ, ◌+◌, List, [], ◌∷◌, sum_by, Option, Some, None, Result, Ok, Err, ⊤, get_or}
 use Rattle.ppd_ast.specs.declared.plan.Plan.{Plan}
 use Rattle.ppd_ast.specs.declared.program.Program.{Program}
 use Rattle.ppd_entry.specs.declared.entry.At.{At}
 use Rattle.ppd_entry.specs.declared.entry.Logs.{Logs}
-use Rattle.ppd_entry.specs.Entries.{entries_at}
 use Rattle.ppd_model.specs.declared.flow.Item.{Item}
 use Rattle.ppd_flow_past.specs.declared.flow_error.FlowError.{FlowError}
 use Rattle.ppd_flow_past.specs.declared.flow_error.FlowError.TheVariants.{Diverged, NoEvent, Sets, Memory}
@@ -21,7 +20,7 @@ failure_or p (Some n) rest = Some (record { process = p; entry = n })
 abbrev pub first_failed : Program → Plan → ℕ → Logs → List (ℕ × ℕ) → Option At
 first_failed program plan budget logs [] = None
 first_failed program plan budget logs (m ∷ ms) =
-    failure_or m.0 (failed_at program plan budget (entries_at logs m.0) m.1)
+    failure_or m.0 (failed_at program plan budget (get_or logs.lists m.0 []) m.1)
     (first_failed program plan budget logs ms)
 
 -- of a past

@@ -1,21 +1,19 @@
 -- What belongs together in what is kept of a run.
-use Rattle.std.specs.Prelude.{◌≡◌, ℕ, List, [], get_or, slice_get, Option, Some, None}
 use Rattle.ppd_ast.specs.Valid.{IsValid}
 use Rattle.ppd_ast.specs.ValidPlan.{IsValidPlan}
 use Rattle.ppd_ast.specs.declared.plan.Plan.{Plan}
 use Rattle.ppd_ast.specs.declared.program.Program.{Program}
-use Rattle.ppd_entry.specs.declared.entry.Logs.{Logs}
-use Rattle.ppd_entry.specs.Entries.{entries_at}
-use Rattle.ppd_race.specs.SyncGraph.{SyncGraph}
-use Rattle.ppd_race.specs.Graphs.{IsGraphOf}
-use Rattle.ppd_emul.specs.LogIndex.{LogIndex}
 use Rattle.ppd_emul.specs.Fitting.{AreFittingLogs}
 use Rattle.ppd_emul.specs.Indexes.{IsIndexOf}
-use Rattle.ppd_flow_model.specs.Seen.{items_at}
-use Rattle.ppd_flow_past.specs.declared.past.Past.{Past}
+use Rattle.ppd_emul.specs.LogIndex.{LogIndex}
+use Rattle.ppd_entry.specs.declared.entry.Logs.{Logs}
 use Rattle.ppd_flow_past.specs.SeenBy.{failed_at, seen_by}
+use Rattle.ppd_flow_past.specs.declared.past.Past.{Past}
 use Rattle.ppd_model.specs.declared.flow.Item.{Item}
+use Rattle.ppd_race.specs.Graphs.{IsGraphOf}
 use Rattle.ppd_race.specs.Races.{AreCellsThere}
+use Rattle.ppd_race.specs.SyncGraph.{SyncGraph}
+use Rattle.std.specs.Prelude.{List, None, Option, Some, [], get_or, slice_get, ℕ, ◌≡◌}
 
 -- the items that are kept of interval k of process p, if they are
 abbrev pub items_kept : List (List (List Item)) → (p k : ℕ) → Option (List Item)
@@ -25,8 +23,8 @@ items_kept kept p k = slice_get (get_or kept p []) k
 abbrev pub AreKept : Program → Plan → ℕ → Logs → List (List (List Item)) → Type 0
 AreKept program plan budget logs kept =
     (p k : ℕ) (items : List Item) → items_kept kept p k ≡ Some items
-    → (failed_at program plan budget (entries_at logs p) k ≡ None)
-    × (items ≡ items_at (seen_by program plan budget (entries_at logs p)) k)
+    → (failed_at program plan budget (get_or logs.lists p []) k ≡ None)
+    × (items ≡ get_or (seen_by program plan budget (get_or logs.lists p [])).items k [])
 
 -- a program and a plan that are valid, logs that name cells of the program, with their index and their graph, the logs
 -- that are replayed with their index, which accepted them, and the items that are kept of their replays

@@ -1,9 +1,8 @@
-ghost use Rattle.std.specs.Prelude.{◌≡◌, ◌&&◌, IfOk, nat_le, nat_lt, slice_get, if◌then◌else◌};
-ghost use Rattle.ppd_entry.specs.Entries.{entries_at};
+ghost use Rattle.std.specs.Prelude.{◌≡◌, ◌&&◌, IfOk, nat_le, nat_lt, slice_get, if◌then◌else◌, get_or, []};
 ghost use Rattle.ppd_flow_past.specs.Edges.Found.{stands_there};
 ghost use Rattle.ppd_model.specs.Extents.{extents};
 ghost use Rattle.ppd_flow_past.specs.Pasts.{IsPast};
-ghost use Rattle.ppd_flow_model.specs.Ends.{end_interval as end_interval_of, ending as ending_in, ends_edge as ends_an_edge, first_edge as first_edge_of, innermost_at as innermost_in, is_sync_item as is_sync_there, sync_item as sync_item_in};
+ghost use Rattle.ppd_flow_model.specs.Ends.{end_interval as end_interval_of, ending as ending_in, ends_edge as ends_an_edge, first_edge as first_edge_of, is_sync_item as is_sync_there, sync_item as sync_item_in, innermost_from};
 
 use crate::past::Past;
 use crate::places::{first_edge, sum_of, syncs_of_item};
@@ -46,7 +45,7 @@ fn stands_between(first: u32, last: u32, n: usize) -> bool
 /// Whether entry `n` stands in the interval, if that is there.
 fn stands_in(past: &Past, process: u8, interval: u32, n: usize) -> bool
     requires { IsPast past.now }
-    ensures { result ≡ stands_there n (slice_get (extents (entries_at past.now.logs.now process)) interval) }
+    ensures { result ≡ stands_there n (slice_get (extents (get_or past.now.logs.now.lists process [])) interval) }
 {
     match past.index.interval(process, interval) {
         Some(found) => stands_between(found.first, found.last, n),
@@ -63,7 +62,7 @@ fn chosen(test: bool, first: u32, otherwise: u32) -> u32
 /// The innermost interval of a process at an entry, and interval 0 where the entry stands in none.
 fn innermost_at(past: &Past, process: u8, n: usize) -> u32
     requires { IsPast past.now }
-    ensures { result ≡ innermost_in (entries_at past.now.logs.now process) n }
+    ensures { result ≡ innermost_from n 0 0 (extents (get_or past.now.logs.now.lists process [])) }
 {
     let mut innermost = 0;
     for interval in 0..past.index.count(process) {
@@ -76,7 +75,7 @@ fn innermost_at(past: &Past, process: u8, n: usize) -> u32
 /// last edge the innermost that was not left, or interval 0.
 pub fn end_interval(past: &Past, process: u8, edge: u32) -> u32
     requires { IsPast past.now }
-    ensures { result ≡ end_interval_of (entries_at past.now.logs.now process) edge }
+    ensures { result ≡ end_interval_of (get_or past.now.logs.now.lists process []) edge }
 {
     innermost_at(past, process, ending(edge, entries_of(past.logs, process)))
 }
@@ -103,8 +102,8 @@ pub fn sync_item(
 ) -> Result<usize, Memory>
     requires { IsPast past.now }
     ensures { IfOk result (λ place. place
-        ≡ sync_item_in (entries_at past.now.logs.now process) edge
-        (first_edge_of (entries_at past.now.logs.now process) interval) items.now) }
+        ≡ sync_item_in (get_or past.now.logs.now.lists process []) edge
+        (first_edge_of (get_or past.now.logs.now.lists process []) interval) items.now) }
 {
     let mut current = first_edge(past, process, interval);
     for (place, item) in items.iter().enumerate() {

@@ -1,8 +1,6 @@
-ghost use Rattle.std.specs.Prelude.{◌≡◌, get_or, length};
-ghost use Rattle.ppd_model.specs.Extents.{first_of};
+ghost use Rattle.std.specs.Prelude.{◌≡◌, get_or, length, slice_get, []};
 ghost use Rattle.ppd_flow_past.specs.Pasts.{IsPast};
 ghost use Rattle.ppd_flow_past.specs.SeenBy.{seen_in};
-ghost use Rattle.ppd_flow_model.specs.Seen.{round_at};
 
 use crate::past::Past;
 
@@ -20,7 +18,7 @@ pub fn block_of(past: &Past, process: u8, interval: u32) -> u16
 /// The interval directly round an interval of a process, if there is one.
 pub fn outer_of(past: &Past, process: u8, interval: u32) -> Option<u32>
     requires { IsPast past.now }
-    ensures { result ≡ first_of (round_at (seen_in past.now process) interval) }
+    ensures { result ≡ slice_get (get_or (seen_in past.now process).rounds interval []) 0 }
 {
     match past.cut_index.interval(process, interval) {
         Some(found) => found.parent,

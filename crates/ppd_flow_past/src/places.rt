@@ -1,5 +1,4 @@
-ghost use Rattle.std.specs.Prelude.{◌≡◌, ◌+◌, IfOk, sum_by};
-ghost use Rattle.ppd_entry.specs.Entries.{entries_at};
+ghost use Rattle.std.specs.Prelude.{◌≡◌, ◌+◌, IfOk, sum_by, get_or, []};
 ghost use Rattle.ppd_flow_past.specs.Pasts.{IsPast};
 ghost use Rattle.ppd_flow_model.specs.Ends.{first_edge as first_edge_of, syncs_inside as syncs_inside_of, syncs_of_item as syncs_of};
 ghost use Rattle.ppd_model.specs.Extents.{extents};
@@ -14,7 +13,7 @@ use ppd_model::Item;
 /// The edge in which an interval begins.
 pub(crate) fn first_edge(past: &Past, process: u8, interval: u32) -> usize
     requires { IsPast past.now }
-    ensures { result ≡ first_edge_of (entries_at past.now.logs.now process) interval }
+    ensures { result ≡ first_edge_of (get_or past.now.logs.now.lists process []) interval }
 {
     match past.index.interval(process, interval) {
         Some(found) => syncs_before(entries_of(past.logs, process), found.first),
@@ -26,8 +25,8 @@ pub(crate) fn first_edge(past: &Past, process: u8, interval: u32) -> usize
 fn syncs_inside(past: &Past, process: u8, interval: u32) -> usize
     requires { IsPast past.now }
     ensures { result
-        ≡ syncs_inside_of (entries_at past.now.logs.now process)
-        (slice_get (extents (entries_at past.now.logs.now process)) interval) }
+        ≡ syncs_inside_of (get_or past.now.logs.now.lists process [])
+        (slice_get (extents (get_or past.now.logs.now.lists process [])) interval) }
 {
     match past.index.interval(process, interval) {
         Some(found) => syncs_between(entries_of(past.logs, process), found.first, found.last),
@@ -38,7 +37,7 @@ fn syncs_inside(past: &Past, process: u8, interval: u32) -> usize
 /// How many synchronizations an item has.
 pub(crate) fn syncs_of_item(past: &Past, process: u8, item: &Item) -> usize
     requires { IsPast past.now }
-    ensures { result ≡ syncs_of (entries_at past.now.logs.now process) item.now }
+    ensures { result ≡ syncs_of (get_or past.now.logs.now.lists process []) item.now }
 {
     match item {
         Item::Own(event) => { if event.number.is_some() { 1 } else { 0 } }
@@ -61,8 +60,8 @@ pub(crate) fn sum_of(a: usize, b: usize) -> Result<usize, Memory>
 pub fn edge_at(past: &Past, process: u8, interval: u32, before: &[Item]) -> Result<u32, Memory>
     requires { IsPast past.now }
     ensures { IfOk result (λ edge. edge
-        ≡ first_edge_of (entries_at past.now.logs.now process) interval
-        + sum_by (syncs_of (entries_at past.now.logs.now process)) before.now) }
+        ≡ first_edge_of (get_or past.now.logs.now.lists process []) interval
+        + sum_by (syncs_of (get_or past.now.logs.now.lists process [])) before.now) }
 {
     let mut edge = first_edge(past, process, interval);
     for item in before {

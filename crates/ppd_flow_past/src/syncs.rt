@@ -1,5 +1,4 @@
-ghost use Rattle.std.specs.Prelude.{◌≡◌, ◌-◌, count_by, drop, filter_map, is_some, length, take};
-ghost use Rattle.ppd_entry.specs.Entries.{entries_at};
+ghost use Rattle.std.specs.Prelude.{◌≡◌, ◌-◌, count_by, drop, filter_map, is_some, length, take, get_or, []};
 ghost use Rattle.ppd_flow_model.specs.Ends.{syncs_before as syncs_before_in};
 ghost use Rattle.ppd_model.specs.RecordedSets.{sync_in};
 
@@ -7,7 +6,7 @@ use ppd_entry::{Entry, Logs};
 
 /// The entries of a process, and none past the processes.
 pub fn entries_of(logs: &Logs, process: u8) -> &[Entry]
-    ensures { result.now ≡ entries_at logs.now process }
+    ensures { result.now ≡ get_or logs.now.lists process [] }
 {
     match logs.lists.as_slice().get(process as usize) {
         Some(entries) => entries.as_slice(),

@@ -1,9 +1,8 @@
 -- The last write of a cell, from the items of the interval in which its edge ends.
-use Rattle.std.specs.Prelude.{option_map}
+use Rattle.std.specs.Prelude.{option_map, get_or, []}
 use Rattle.std.proofs.Common.{◌≡◌, ℕ, ◌+◌, ℤ, List, Option, Some, None, Result, ap, sym, subst, ◌∙◌}
 use Rattle.std.proofs.lemmas.Option.{none-some, same_Some}
 use Rattle.ppd_entry.specs.declared.entry.Entry.{Entry}
-use Rattle.ppd_entry.specs.Entries.{entries_at}
 use Rattle.ppd_model.specs.declared.flow.Item.{Item}
 use Rattle.ppd_model.specs.declared.flow.Origin.{Origin}
 use Rattle.ppd_model.specs.declared.graph.EdgeId.{EdgeId}
@@ -18,7 +17,7 @@ use Rattle.ppd_flow_shared.proofs.SharedFound.{Before, written_from_items}
 
 module _ (past : Past) (c : ℕ) where
   abbrev entries : LastEdge → List Entry
-  entries l = entries_at past.logs.now l.edge.process
+  entries l = get_or past.logs.now.lists l.edge.process []
 
   -- the last write in this edge, which is there, is found, but for the steps of the interval in which the edge ends
   abbrev IsFrom : Option EdgeId → LastEdge → (n o : ℕ) → Result (ℤ × Origin) FlowError → Type 0

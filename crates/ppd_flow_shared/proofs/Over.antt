@@ -1,6 +1,6 @@
 -- The walk over the items of an interval, the last of them first.
 use Rattle.std.proofs.Common.{◌≡◌, ℕ, zero, suc, ◌+◌, ℤ, Bool, true, false, List, [], ◌∷◌, ◌++◌, Option, Some, None, refl, ap, ap₂, sym, ◌∙◌, arith, take, if◌then◌else◌}
-use Rattle.std.specs.Prelude.{is_some, slice_get}
+use Rattle.std.specs.Prelude.{is_some, slice_get, get_or}
 use Rattle.std.proofs.lemmas.List.{append-nil}
 use Rattle.std.proofs.lemmas.Option.{none-some, same_Some}
 use Rattle.ppd_model.specs.declared.flow.Item.{Item}
@@ -8,7 +8,7 @@ use Rattle.ppd_model.specs.declared.flow.Item.TheVariants as item
 use Rattle.ppd_sem.specs.declared.event.Event.{Event}
 use Rattle.ppd_flow_model.specs.declared.walked.Walked.{Walked}
 use Rattle.ppd_flow_model.specs.declared.walked.Walked.TheVariants.{Stopped, Passed, Found}
-use Rattle.ppd_flow_model.specs.Seen.{Seen, items_at, place_of}
+use Rattle.ppd_flow_model.specs.Seen.{Seen, place_of}
 use Rattle.ppd_flow_model.specs.Walk.{back, back_from, back_over, back_replays, backwards, found_or, if_passed, inside, inside_replays, onward, out_replays, over_event, over_replays, value_to, walk_out}
 use Rattle.ppd_flow_shared.specs.Items.{at_item, before_inner, before_inner_replays, item_replays, out_of, out_of_replays}
 
@@ -78,24 +78,24 @@ module _ (x : Seen) (c : ℕ) where
   -- a walk from a place is one over the items before it and then one outward
   pub walk_parts : (k j : ℕ) (ms : List ℕ)
       → walk_out (inside x c) x c k j ms
-      ≡ onward (back_over (inside x c) c k (back_from j (items_at x k))) (out_of x c k ms)
-  walk_parts k j [] = sym (onward_passed (back_over (inside x c) c k (back_from j (items_at x k))))
+      ≡ onward (back_over (inside x c) c k (back_from j (get_or x.items k []))) (out_of x c k ms)
+  walk_parts k j [] = sym (onward_passed (back_over (inside x c) c k (back_from j (get_or x.items k []))))
   walk_parts k j (m ∷ ms) = refl
 
   pub replays_parts : (k j : ℕ) (ms : List ℕ)
       → out_replays (inside x c) (inside_replays x c) x c k j ms
-      ≡ over_replays (inside x c) (inside_replays x c) c k (back_from j (items_at x k))
-      ++ if_passed (back_over (inside x c) c k (back_from j (items_at x k))) (out_of_replays x c k ms)
+      ≡ over_replays (inside x c) (inside_replays x c) c k (back_from j (get_or x.items k []))
+      ++ if_passed (back_over (inside x c) c k (back_from j (get_or x.items k []))) (out_of_replays x c k ms)
   replays_parts k j [] =
-      sym (ap (λ ks. over_replays (inside x c) (inside_replays x c) c k (back_from j (items_at x k)) ++ ks)
-      (if_passed_none (back_over (inside x c) c k (back_from j (items_at x k)))) ∙ append-nil _)
+      sym (ap (λ ks. over_replays (inside x c) (inside_replays x c) c k (back_from j (get_or x.items k [])) ++ ks)
+      (if_passed_none (back_over (inside x c) c k (back_from j (get_or x.items k [])))) ∙ append-nil _)
   replays_parts k j (m ∷ ms) = refl
 
   -- outward from an interval: over the one round it, and then outward from that one
   pub out_parts : (k m : ℕ) (ms : List ℕ) → out_of x c k (m ∷ ms) ≡ onward (before_inner x c m k) (out_of x c m ms)
-  out_parts k m ms = walk_parts m (place_of k (items_at x m)) ms
+  out_parts k m ms = walk_parts m (place_of k (get_or x.items m [])) ms
 
   pub out_replays_parts : (k m : ℕ) (ms : List ℕ)
       → out_of_replays x c k (m ∷ ms)
       ≡ before_inner_replays x c m k ++ if_passed (before_inner x c m k) (out_of_replays x c m ms)
-  out_replays_parts k m ms = ap (λ ks. m ∷ ks) (replays_parts m (place_of k (items_at x m)) ms)
+  out_replays_parts k m ms = ap (λ ks. m ∷ ks) (replays_parts m (place_of k (get_or x.items m [])) ms)

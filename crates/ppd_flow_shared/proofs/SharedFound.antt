@@ -2,7 +2,6 @@
 use Rattle.std.proofs.Common.{◌≡◌, ℕ, zero, suc, ◌+◌, ℤ, List, [], ◌∷◌, ◌++◌, Option, None, Result, Ok, Err, refl, ap, sym, ◌∙◌, subst, get_or, map}
 use Rattle.std.proofs.lemmas.List.{append-nil}
 use Rattle.ppd_entry.specs.declared.entry.Entry.{Entry}
-use Rattle.ppd_entry.specs.Entries.{entries_at}
 use Rattle.ppd_model.specs.declared.flow.Origin.{Origin}
 use Rattle.ppd_model.specs.declared.flow.Origin.TheVariants as origin
 use Rattle.ppd_model.specs.declared.graph.EdgeId.{EdgeId}
@@ -51,7 +50,7 @@ module _ (past : Past) where
 
   module _ (e : EdgeId) where
     abbrev entries : List Entry
-    entries = entries_at past.logs.now e.process
+    entries = get_or past.logs.now.lists e.process []
 
     abbrev k : ℕ
     k = end_interval entries e.edge

@@ -1,27 +1,25 @@
 -- The steps of a walk, by what the replays on its way answer.
-use Rattle.std.proofs.Common.{◌≡◌, ℕ, suc, ◌+◌, ◌-◌, ◌<◌, true, false, List, [], ◌∷◌, ◌++◌, Some, None, Result, Ok, Err, ap, sym, subst, ◌∙◌, arith, length, take}
-use Rattle.std.specs.Prelude.{get_or, slice_get}
-use Rattle.std.specs.Option.{option_map_or}
-use Rattle.std.proofs.lemmas.List.{take_all}
-use Rattle.ppd_entry.specs.Entries.{entries_at}
-use Rattle.ppd_model.specs.declared.flow.Item.{Item}
-use Rattle.ppd_model.specs.Extents.{first_of}
-use Rattle.ppd_flow_tables.specs.FlowError.{FlowError}
-use Rattle.ppd_flow_tables.specs.Past.{Past}
-use Rattle.ppd_flow_tables.specs.ByReplays.{IsFoundBy}
-use Rattle.ppd_flow_tables.specs.SeenBy.{items_in, seen_in}
-use Rattle.ppd_flow_tables.proofs.Found.{found_err, found_none, found_then}
-use Rattle.ppd_flow_tables.specs.Stops.{ArePassed}
-use Rattle.ppd_flow_tables.proofs.Parents.{round_goes_on, round_is_before}
-use Rattle.ppd_flow_model.specs.declared.walked.Walked.{Walked}
-use Rattle.ppd_flow_model.specs.declared.walked.Walked.TheVariants.{Passed}
-use Rattle.ppd_flow_model.specs.Seen.{Seen, items_at, place_of, round_at}
+use Rattle.ppd_flow_model.specs.Seen.{Seen, place_of}
 use Rattle.ppd_flow_model.specs.Shared.{of_process}
 use Rattle.ppd_flow_model.specs.Walk.{back, back_from, back_replays, backwards, if_passed, onward, walk, walk_replays}
-use Rattle.ppd_flow_shared.specs.SharedCells.{IsWalked}
-use Rattle.ppd_flow_shared.specs.Items.{at_item, before_inner, before_inner_replays, is_passed, item_replays, out_of, out_of_replays}
+use Rattle.ppd_flow_model.specs.declared.walked.Walked.{Walked}
+use Rattle.ppd_flow_model.specs.declared.walked.Walked.TheVariants.{Passed}
 use Rattle.ppd_flow_shared.proofs.Leads.{Leads, lead_ended, lead_failed, lead_on}
 use Rattle.ppd_flow_shared.proofs.Over.{one_more, one_over, one_replays, out_parts, out_replays_parts, over, replays, replays_parts, walk_parts}
+use Rattle.ppd_flow_shared.specs.Items.{at_item, before_inner, before_inner_replays, is_passed, item_replays, out_of, out_of_replays}
+use Rattle.ppd_flow_shared.specs.SharedCells.{IsWalked}
+use Rattle.ppd_flow_tables.proofs.Found.{found_err, found_none, found_then}
+use Rattle.ppd_flow_tables.proofs.Parents.{round_goes_on, round_is_before}
+use Rattle.ppd_flow_tables.specs.ByReplays.{IsFoundBy}
+use Rattle.ppd_flow_tables.specs.FlowError.{FlowError}
+use Rattle.ppd_flow_tables.specs.Past.{Past}
+use Rattle.ppd_flow_tables.specs.SeenBy.{items_in, seen_in}
+use Rattle.ppd_flow_tables.specs.Stops.{ArePassed}
+use Rattle.ppd_model.specs.declared.flow.Item.{Item}
+use Rattle.std.proofs.Common.{Err, List, None, Ok, Result, Some, [], ap, arith, false, length, subst, suc, sym, take, true, ℕ, ◌++◌, ◌+◌, ◌-◌, ◌<◌, ◌∙◌, ◌∷◌, ◌≡◌}
+use Rattle.std.proofs.lemmas.List.{take_all}
+use Rattle.std.specs.Option.{option_map_or}
+use Rattle.std.specs.Prelude.{get_or, slice_get}
 
 abbrev items_or : Result (List Item) FlowError → List Item
 items_or (Ok xs) = xs
@@ -33,7 +31,7 @@ module _ (past : Past) (p c : ℕ) where
 
   pub items_are : (m : ℕ) (items : List Item) (n o : ℕ)
       → IsFoundBy past ((p, m) ∷ []) (Ok (items_in past p m)) n o (Ok items)
-      → items_at x m ≡ items
+      → get_or x.items m [] ≡ items
   items_are m items n o f = ap items_or f.1
 
   -- ---- a whole interval
@@ -44,7 +42,7 @@ module _ (past : Past) (p c : ℕ) where
       (backwards 0 items []))) o q r
       → IsFoundBy past (of_process p (back_replays (suc d) x c m)) (Ok (back (suc d) x c m)) n q r
   whole_next d m items n o q r f g =
-      found_then past ((p, m) ∷ []) (of_process p (replays x d c m (backwards 0 (items_at x m) [])))
+      found_then past ((p, m) ∷ []) (of_process p (replays x d c m (backwards 0 (get_or x.items m []) [])))
       (Ok (items_in past p m)) (Ok (back (suc d) x c m)) items n o q r f
       (subst (λ ts. IsFoundBy past (of_process p (replays x d c m (backwards 0 ts []))) (Ok (over x d c m
       (backwards 0 ts []))) o q r)
@@ -69,7 +67,7 @@ module _ (past : Past) (p c : ℕ) where
       let is : depth ≡ suc (depth - 1) = omega (arith, some) in
       subst (λ d. IsFoundBy {A = Walked} past (of_process p (back_replays d x c m)) (Ok (back d x c m)) n o (Err e))
       (sym is)
-      (found_err past ((p, m) ∷ []) (of_process p (replays x (depth - 1) c m (backwards 0 (items_at x m) [])))
+      (found_err past ((p, m) ∷ []) (of_process p (replays x (depth - 1) c m (backwards 0 (get_or x.items m []) [])))
       (items_in past p m) (Ok (back (suc (depth - 1)) x c m)) n o e f)
 
   -- ---- the items of an interval
@@ -140,66 +138,66 @@ module _ (past : Past) (p c : ℕ) where
       (backwards 0 first []))) o q r
       → IsFoundBy past (of_process p (before_inner_replays x c m k)) (Ok (before_inner x c m k)) n q r
   before_ok depth m k at items first n o q r deep place front f g =
-      let is : items_at x m ≡ items = items_are m items n o f in
-      let firsts : first ≡ take (place_of k (items_at x m)) (items_at x m) =
+      let is : get_or x.items m [] ≡ items = items_are m items n o f in
+      let firsts : first ≡ take (place_of k (get_or x.items m [])) (get_or x.items m []) =
       front ∙ ap (λ j. take j items) place ∙ ap (λ ts. take (place_of k ts) ts) (sym is) in
       found_then past ((p, m) ∷ []) (of_process p (replays x (length x.items) c m (back_from (place_of k
-      (items_at x m)) (items_at x m))))
+      (get_or x.items m [])) (get_or x.items m []))))
       (Ok (items_in past p m)) (Ok (before_inner x c m k)) items n o q r f
       (subst (λ ts. IsFoundBy past (of_process p (replays x (length x.items) c m (backwards 0 ts []))) (Ok (over x
       (length x.items) c m (backwards 0 ts []))) o q r) firsts
       (subst (λ d. IsFoundBy past (of_process p (replays x d c m (backwards 0 first []))) (Ok (over x d c m
       (backwards 0 first []))) o q r) deep g))
 
-  pub outer_below : (k m : ℕ) → Some m ≡ first_of (round_at x k) → m < k
-  outer_below k m e = round_is_before (entries_at past.cut.now p) k m (sym e)
+  pub outer_below : (k m : ℕ) → Some m ≡ slice_get (get_or x.rounds k []) 0 → m < k
+  outer_below k m e = round_is_before (get_or past.cut.now.lists p []) k m (sym e)
 
-  round_next : (k m : ℕ) → Some m ≡ first_of (round_at x k) → round_at x k ≡ m ∷ round_at x m
-  round_next k m e = round_goes_on (entries_at past.cut.now p) k ∙ ap (λ o. option_map_or (λ m. m ∷ get_or x.rounds m []) o []) (sym e)
+  round_next : (k m : ℕ) → Some m ≡ slice_get (get_or x.rounds k []) 0 → get_or x.rounds k [] ≡ m ∷ get_or x.rounds m []
+  round_next k m e = round_goes_on (get_or past.cut.now.lists p []) k ∙ ap (λ o. option_map_or (λ m. m ∷ get_or x.rounds m []) o []) (sym e)
 
-  round_none : (k : ℕ) → None ≡ first_of (round_at x k) → round_at x k ≡ []
-  round_none k e = round_goes_on (entries_at past.cut.now p) k ∙ ap (λ o. option_map_or (λ m. m ∷ get_or x.rounds m []) o []) (sym e)
+  round_none : (k : ℕ) → None ≡ slice_get (get_or x.rounds k []) 0 → get_or x.rounds k [] ≡ []
+  round_none k e = round_goes_on (get_or past.cut.now.lists p []) k ∙ ap (λ o. option_map_or (λ m. m ∷ get_or x.rounds m []) o []) (sym e)
 
   module _ (ms : List ℕ) (v : Walked) (before : ℕ) where
     abbrev Out : ℕ → ℕ → Type 0
-    Out k s = Leads past p ms v before (out_of_replays x c k (round_at x k)) (out_of x c k (round_at x k)) s
+    Out k s = Leads past p ms v before (out_of_replays x c k (get_or x.rounds k [])) (out_of x c k (get_or x.rounds k [])) s
 
-    module _ (k s m : ℕ) (leads : Out k s) (outer : Some m ≡ first_of (round_at x k)) where
+    module _ (k s m : ℕ) (leads : Out k s) (outer : Some m ≡ slice_get (get_or x.rounds k []) 0) where
       out_parted : Leads past p ms v before
-          (before_inner_replays x c m k ++ if_passed (before_inner x c m k) (out_of_replays x c m (round_at x m)))
-          (onward (before_inner x c m k) (out_of x c m (round_at x m))) s
+          (before_inner_replays x c m k ++ if_passed (before_inner x c m k) (out_of_replays x c m (get_or x.rounds m [])))
+          (onward (before_inner x c m k) (out_of x c m (get_or x.rounds m []))) s
       out_parted after r g =
           leads after r
-          (subst (λ js. IsFoundBy past (of_process p js) (Ok (out_of x c k (round_at x k))) s after r)
-          (sym (ap (out_of_replays x c k) (round_next k m outer) ∙ out_replays_parts x c k m (round_at x m)))
+          (subst (λ js. IsFoundBy past (of_process p js) (Ok (out_of x c k (get_or x.rounds k []))) s after r)
+          (sym (ap (out_of_replays x c k) (round_next k m outer) ∙ out_replays_parts x c k m (get_or x.rounds m [])))
           (subst (λ u. IsFoundBy past (of_process p (before_inner_replays x c m k ++ if_passed
-          (before_inner x c m k) (out_of_replays x c m (round_at x m)))) (Ok u) s after r)
-          (sym (ap (out_of x c k) (round_next k m outer) ∙ out_parts x c k m (round_at x m))) g))
+          (before_inner x c m k) (out_of_replays x c m (get_or x.rounds m [])))) (Ok u) s after r)
+          (sym (ap (out_of x c k) (round_next k m outer) ∙ out_parts x c k m (get_or x.rounds m []))) g))
 
       pub out_failed : (o : ℕ) (e : FlowError)
           → IsFoundBy {A = Walked} past (of_process p (before_inner_replays x c m k)) (Ok
           (before_inner x c m k)) s o (Err e)
           → IsFoundBy {A = Walked} past (of_process p ms) (Ok v) before o (Err e)
       out_failed o e f =
-          lead_failed past p (before_inner_replays x c m k) (out_of_replays x c m (round_at x m))
+          lead_failed past p (before_inner_replays x c m k) (out_of_replays x c m (get_or x.rounds m []))
           (before_inner x c m k)
-          (out_of x c m (round_at x m)) s o ms v before out_parted e f
+          (out_of x c m (get_or x.rounds m [])) s o ms v before out_parted e f
 
       pub out_ended : (o : ℕ) (u : Walked) → is_passed u ≡ false
           → IsFoundBy past (of_process p (before_inner_replays x c m k)) (Ok (before_inner x c m k)) s o (Ok u)
           → IsFoundBy past (of_process p ms) (Ok v) before o (Ok u)
       out_ended o u not f =
-          lead_ended past p (before_inner_replays x c m k) (out_of_replays x c m (round_at x m)) (before_inner x c m k)
-          (out_of x c m (round_at x m)) s o ms v before out_parted u not f
+          lead_ended past p (before_inner_replays x c m k) (out_of_replays x c m (get_or x.rounds m [])) (before_inner x c m k)
+          (out_of x c m (get_or x.rounds m [])) s o ms v before out_parted u not f
 
       pub out_passed : (o : ℕ) (u : Walked) → is_passed u ≡ true
           → IsFoundBy past (of_process p (before_inner_replays x c m k)) (Ok (before_inner x c m k)) s o (Ok u)
           → Out m o
       out_passed o u so f =
-          lead_on past p (before_inner_replays x c m k) (out_of_replays x c m (round_at x m)) (before_inner x c m k)
-          (out_of x c m (round_at x m)) s o ms v before out_parted u so f
+          lead_on past p (before_inner_replays x c m k) (out_of_replays x c m (get_or x.rounds m [])) (before_inner x c m k)
+          (out_of x c m (get_or x.rounds m [])) s o ms v before out_parted u so f
 
-    pub out_done : (k s : ℕ) → None ≡ first_of (round_at x k) → Out k s
+    pub out_done : (k s : ℕ) → None ≡ slice_get (get_or x.rounds k []) 0 → Out k s
         → IsFoundBy past (of_process p ms) (Ok v) before s (Ok Passed)
     out_done k s none leads =
         (subst (λ ks. Leads past p ms v before (out_of_replays x c k ks) (out_of x c k ks) s)
@@ -208,14 +206,14 @@ module _ (past : Past) (p c : ℕ) where
   -- ---- a walk from a place
 
   module _ (k j depth : ℕ) (items first : List Item) (deep : depth ≡ length x.items) (is : items
-      ≡ items_at x k) (front : first ≡ take j items) (n : ℕ) where
+      ≡ get_or x.items k []) (front : first ≡ take j items) (n : ℕ) where
     abbrev here : List ℕ
-    here = replays x (length x.items) c k (back_from j (items_at x k))
+    here = replays x (length x.items) c k (back_from j (get_or x.items k []))
 
     abbrev found : Walked
-    found = over x (length x.items) c k (back_from j (items_at x k))
+    found = over x (length x.items) c k (back_from j (get_or x.items k []))
 
-    firsts : first ≡ take j (items_at x k)
+    firsts : first ≡ take j (get_or x.items k [])
     firsts = front ∙ ap (take j) is
 
     at_first : (o : ℕ) (r : Result Walked FlowError)
@@ -229,20 +227,20 @@ module _ (past : Past) (p c : ℕ) where
         (backwards 0 first []))) n o r) deep f)
 
     all_of_it : Leads past p (walk_replays x c k j) (walk x c k j) n
-        (here ++ if_passed found (out_of_replays x c k (round_at x k))) (onward found (out_of x c k (round_at x k))) n
+        (here ++ if_passed found (out_of_replays x c k (get_or x.rounds k []))) (onward found (out_of x c k (get_or x.rounds k []))) n
     all_of_it after r g =
         subst (λ js. IsFoundBy past (of_process p js) (Ok (walk x c k j)) n after r) (sym (replays_parts x c k j
-        (round_at x k)))
-        (subst (λ u. IsFoundBy past (of_process p (here ++ if_passed found (out_of_replays x c k (round_at x k))))
+        (get_or x.rounds k [])))
+        (subst (λ u. IsFoundBy past (of_process p (here ++ if_passed found (out_of_replays x c k (get_or x.rounds k []))))
         (Ok u) n after r)
-        (sym (walk_parts x c k j (round_at x k))) g)
+        (sym (walk_parts x c k j (get_or x.rounds k []))) g)
 
     pub walk_failed : (o : ℕ) (e : FlowError)
         → IsFoundBy {A = Walked} past (of_process p (replays x depth c k (backwards 0 first []))) (Ok
         (over x depth c k (backwards 0 first []))) n o (Err e)
         → IsWalked past p c k j n o (Err e)
     walk_failed o e f =
-        lead_failed past p here (out_of_replays x c k (round_at x k)) found (out_of x c k (round_at x k)) n o
+        lead_failed past p here (out_of_replays x c k (get_or x.rounds k [])) found (out_of x c k (get_or x.rounds k [])) n o
         (walk_replays x c k j) (walk x c k j) n all_of_it e (at_first o (Err e) f)
 
     pub walk_ended : (o : ℕ) (u : Walked) → is_passed u ≡ false
@@ -250,14 +248,14 @@ module _ (past : Past) (p c : ℕ) where
         (backwards 0 first []))) n o (Ok u)
         → IsWalked past p c k j n o (Ok u)
     walk_ended o u not f =
-        lead_ended past p here (out_of_replays x c k (round_at x k)) found (out_of x c k (round_at x k)) n o
+        lead_ended past p here (out_of_replays x c k (get_or x.rounds k [])) found (out_of x c k (get_or x.rounds k [])) n o
         (walk_replays x c k j) (walk x c k j) n all_of_it u not (at_first o (Ok u) f)
 
     pub walk_outward : (o q : ℕ) (u : Walked) (r : Result Walked FlowError) → is_passed u ≡ true
         → IsFoundBy past (of_process p (replays x depth c k (backwards 0 first []))) (Ok (over x depth c k
         (backwards 0 first []))) n o (Ok u)
-        → IsFoundBy past (of_process p (out_of_replays x c k (round_at x k))) (Ok (out_of x c k (round_at x k))) o q r
+        → IsFoundBy past (of_process p (out_of_replays x c k (get_or x.rounds k []))) (Ok (out_of x c k (get_or x.rounds k []))) o q r
         → IsWalked past p c k j n q r
     walk_outward o q u r so f g =
-        (lead_on past p here (out_of_replays x c k (round_at x k)) found (out_of x c k (round_at x k)) n o
+        (lead_on past p here (out_of_replays x c k (get_or x.rounds k [])) found (out_of x c k (get_or x.rounds k [])) n o
         (walk_replays x c k j) (walk x c k j) n all_of_it u so (at_first o (Ok u) f)) q r g

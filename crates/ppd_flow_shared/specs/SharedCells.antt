@@ -1,6 +1,5 @@
 -- What the search for where a shared cell was written answers.
-use Rattle.std.specs.Prelude.{◌≡◌, ℕ, ℤ, List, [], ◌∷◌, map, Option, Some, None, option_map, Result, Ok, Err, ⊤}
-use Rattle.ppd_entry.specs.Entries.{entries_at}
+use Rattle.std.specs.Prelude.{◌≡◌, ℕ, ℤ, List, [], ◌∷◌, map, Option, Some, None, option_map, Result, Ok, Err, ⊤, get_or}
 use Rattle.ppd_model.specs.declared.flow.Item.{Item}
 use Rattle.ppd_model.specs.declared.flow.Origin.{Origin}
 use Rattle.ppd_model.specs.declared.flow.Origin.TheVariants as origin
@@ -44,7 +43,7 @@ edge_unless_found w best = best
 -- where an edge of a past ends
 abbrev pub edge_end_of : Past → EdgeId → EdgeEnd
 edge_end_of past e =
-    let entries = entries_at past.logs.now e.process in
+    let entries = get_or past.logs.now.lists e.process [] in
     record {
       interval = end_interval entries e.edge;
       items = items_in past e.process (end_interval entries e.edge);
@@ -60,12 +59,12 @@ node_origin past a =
 -- it is found by the replay of the interval in which its edge ends
 abbrev pub IsNodeFound : Past → NodeId → (before after : ℕ) → Result Origin FlowError → Type 0
 IsNodeFound past a before after result =
-    IsFoundBy past ((a.process, end_interval (entries_at past.logs.now a.process) a.sync) ∷ []) (Ok
+    IsFoundBy past ((a.process, end_interval (get_or past.logs.now.lists a.process []) a.sync) ∷ []) (Ok
     (node_origin past a)) before after result
 
 -- the interval in which this edge ends
 abbrev pub with_end : Past → EdgeId → LastEdge
-with_end past e = record { edge = e; interval = end_interval (entries_at past.logs.now e.process) e.edge }
+with_end past e = record { edge = e; interval = end_interval (get_or past.logs.now.lists e.process []) e.edge }
 
 -- the edge with the last write of cell c, if there is one
 abbrev pub last_edge : Past → ℕ → Option LastEdge

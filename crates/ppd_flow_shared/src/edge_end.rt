@@ -1,5 +1,4 @@
-ghost use Rattle.std.specs.Prelude.{[], ◌∷◌, Ok};
-ghost use Rattle.ppd_entry.specs.Entries.{entries_at};
+ghost use Rattle.std.specs.Prelude.{[], ◌∷◌, Ok, get_or};
 ghost use Rattle.ppd_flow_tables.specs.ByReplays.{IsFoundBy};
 ghost use Rattle.ppd_flow_model.specs.Ends.{end_interval as end_interval_of};
 ghost use Rattle.ppd_flow_shared.specs.SharedCells.{edge_end_of};
@@ -30,7 +29,7 @@ pub(crate) fn edge_end<'a, L: Ledger>(
 ) -> Result<EdgeEnd<'a>, FlowError>
     requires { IsTabled past.now tables.now }
     ensures { IsFoundBy past.now
-        ((edge.process, end_interval_of (entries_at past.now.logs.now edge.process) edge.edge) ∷ [])
+        ((edge.process, end_interval_of (get_or past.now.logs.now.lists edge.process []) edge.edge) ∷ [])
         (Ok (edge_end_of past.now edge)) steps.old steps.new result }
 {
     let interval = end_interval(past, tables, edge);

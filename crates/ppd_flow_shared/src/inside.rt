@@ -1,6 +1,5 @@
-ghost use Rattle.std.specs.Prelude.{◌≡◌, Ok};
+ghost use Rattle.std.specs.Prelude.{◌≡◌, Ok, get_or, []};
 ghost use Rattle.ppd_flow_tables.specs.ByReplays.{IsFoundBy};
-ghost use Rattle.ppd_flow_model.specs.Seen.{items_at};
 ghost use Rattle.ppd_flow_model.specs.Shared.{of_process};
 ghost use Rattle.ppd_flow_model.specs.Walk.{back, back_from, back_over, back_replays, over_replays};
 ghost use Rattle.ppd_flow_shared.specs.Items.{at_item, is_passed as is_start, item_replays, seen_for};
@@ -33,7 +32,7 @@ pub(crate) fn over_items<L: Ledger>(
     steps: &mut Steps<L>,
 ) -> Result<Walked, FlowError>
     requires past { IsTabled search.now.past.now search.now.tables }
-    requires items { items.now ≡ items_at (seen_for search.now) interval }
+    requires items { items.now ≡ get_or (seen_for search.now).items interval [] }
     ensures { IsFoundBy search.now.past.now
         (of_process search.now.process
         (over_replays (back depth (seen_for search.now) search.now.cell)

@@ -1,6 +1,5 @@
-ghost use Rattle.std.specs.Prelude.{◌≡◌, Ok};
+ghost use Rattle.std.specs.Prelude.{◌≡◌, Ok, get_or, []};
 ghost use Rattle.ppd_flow_tables.specs.ByReplays.{IsFoundBy};
-ghost use Rattle.ppd_flow_model.specs.Seen.{items_at, round_at};
 ghost use Rattle.ppd_flow_model.specs.Shared.{of_process};
 ghost use Rattle.ppd_flow_shared.specs.SharedCells.{IsWalked};
 ghost use Rattle.ppd_flow_shared.specs.Items.{before_inner, before_inner_replays, out_of, out_of_replays, seen_for};
@@ -43,8 +42,8 @@ fn outward<L: Ledger>(
     requires { IsTabled search.now.past.now search.now.tables }
     ensures { IsFoundBy search.now.past.now
         (of_process search.now.process (out_of_replays (seen_for search.now) search.now.cell interval
-        (round_at (seen_for search.now) interval)))
-        (Ok (out_of (seen_for search.now) search.now.cell interval (round_at (seen_for search.now) interval)))
+        (get_or (seen_for search.now).rounds interval [])))
+        (Ok (out_of (seen_for search.now) search.now.cell interval (get_or (seen_for search.now).rounds interval [])))
         steps.old steps.new result }
 {
     let mut inner = interval;
@@ -75,7 +74,7 @@ impl<'a> CellSearch<'a> {
         steps: &mut Steps<L>,
     ) -> Result<Walked, FlowError>
         requires past { IsTabled self.now.past.now self.now.tables }
-        requires items { items.now ≡ items_at (seen_for self.now) interval }
+        requires items { items.now ≡ get_or (seen_for self.now).items interval [] }
         ensures { IsWalked self.now.past.now self.now.process self.now.cell interval place steps.old steps.new result }
     {
         let depth = count_of(self.past, self.process);

@@ -1,7 +1,6 @@
-ghost use Rattle.std.specs.Prelude.{◌≡◌, IfOk, Ok};
+ghost use Rattle.std.specs.Prelude.{◌≡◌, IfOk, Ok, get_or, []};
 ghost use Rattle.ppd_flow_tables.specs.ByReplays.{IsFoundBy};
 ghost use Rattle.ppd_flow_tables.specs.Pasts.{IsPast};
-ghost use Rattle.ppd_flow_model.specs.Seen.{items_at};
 ghost use Rattle.ppd_flow_model.specs.Shared.{edge_of_place, greatest_before as greatest_before_of, of_process, origin_in, shared_origin as shared_origin_of, shared_replays, start_replays, written_or_start as written_or_start_of};
 ghost use Rattle.ppd_flow_model.specs.Walk.{walk as walk_from, walk_replays};
 ghost use Rattle.ppd_flow_shared.specs.Items.{seen_for};
@@ -26,7 +25,7 @@ impl<'a> CellSearch<'a> {
         place: usize,
     ) -> Result<Option<EdgeId>, Memory>
         requires past { IsTabled self.now.past.now self.now.tables }
-        requires items { items.now ≡ items_at (seen_for self.now) interval }
+        requires items { items.now ≡ get_or (seen_for self.now).items interval [] }
         ensures { IfOk result (λ best. best
             ≡ greatest_before_of self.now.past.now.program.now self.now.past.now.logs.now
             (edge_of_place self.now.past.now.logs.now (seens_in self.now.past.now) self.now.process interval place)
@@ -61,7 +60,7 @@ impl<'a> CellSearch<'a> {
         steps: &mut Steps<L>,
     ) -> Result<Option<EdgeId>, FlowError>
         requires past { IsTabled self.now.past.now self.now.tables }
-        requires items { items.now ≡ items_at (seen_for self.now) interval }
+        requires items { items.now ≡ get_or (seen_for self.now).items interval [] }
         ensures { IsFoundBy self.now.past.now
             (of_process self.now.process (walk_replays (seen_for self.now) self.now.cell interval place))
             (Ok (edge_unless_found (walk_from (seen_for self.now) self.now.cell interval place)
@@ -89,7 +88,7 @@ impl<'a> CellSearch<'a> {
         steps: &mut Steps<L>,
     ) -> Result<Origin, FlowError>
         requires past { IsTabled self.now.past.now self.now.tables }
-        requires items { items.now ≡ items_at (seen_for self.now) interval }
+        requires items { items.now ≡ get_or (seen_for self.now).items interval [] }
         ensures { IsFoundBy self.now.past.now
             (start_replays self.now.past.now.logs.now (seens_in self.now.past.now) self.now.cell
             (greatest_before_of self.now.past.now.program.now self.now.past.now.logs.now
@@ -124,7 +123,7 @@ impl<'a> CellSearch<'a> {
         steps: &mut Steps<L>,
     ) -> Result<Origin, FlowError>
         requires past { IsTabled self.now.past.now self.now.tables }
-        requires items { items.now ≡ items_at (seen_for self.now) interval }
+        requires items { items.now ≡ get_or (seen_for self.now).items interval [] }
         ensures { IsFoundBy self.now.past.now
             (shared_replays self.now.past.now.program.now self.now.past.now.logs.now (seens_in self.now.past.now)
             self.now.process interval place self.now.cell)

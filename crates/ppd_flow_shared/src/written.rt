@@ -1,7 +1,6 @@
-ghost use Rattle.std.specs.Prelude.{◌≡◌, get_or, pos};
+ghost use Rattle.std.specs.Prelude.{◌≡◌, get_or, pos, []};
 ghost use Rattle.ppd_flow_tables.specs.ByReplays.{IsFoundBy};
 ghost use Rattle.ppd_model.specs.HappenedBefore.{edge as edge_of};
-ghost use Rattle.ppd_flow_model.specs.Seen.{items_at};
 ghost use Rattle.ppd_flow_model.specs.Shared.{of_process, start_replays, written_at, written_in as written_in_edge, written_or_start as written_or_start_of, written_replays};
 ghost use Rattle.ppd_flow_model.specs.Walk.{walk as walk_from, walk_replays};
 ghost use Rattle.ppd_flow_shared.specs.Items.{seen_for};
@@ -60,7 +59,7 @@ pub(crate) fn written_before<L: Ledger>(
     steps: &mut Steps<L>,
 ) -> Result<(i64, Origin), FlowError>
     requires past { IsTabled search.now.past.now search.now.tables }
-    requires items { items.now ≡ items_at (seen_for search.now) interval }
+    requires items { items.now ≡ get_or (seen_for search.now).items interval [] }
     ensures { IsFoundBy search.now.past.now
         (of_process search.now.process (walk_replays (seen_for search.now) search.now.cell interval place))
         (answer_of (written_at search.now.past.now.logs.now search.now.cell (edge_of search.now.process edge)

@@ -1,11 +1,12 @@
 -- What is looked up in the tables.
 use Rattle.std.proofs.Common.{◌≡◌, ℕ, ◌+◌, ◌<◌, ◌≤◌, Bool, false, ◌&&◌, List, [], ◌∷◌, ◌++◌, Option, ap, ap₂, sym, ◌∙◌, arith, get_or, length, take}
+use Rattle.ppd_model.specs.Extents.{extents}
 use Rattle.std.specs.Prelude.{nat_eq, slice_get, sum_by, unwrap_or}
 use Rattle.std.proofs.lemmas.List.{take_all, take_more}
 use Rattle.std.proofs.lemmas.List.Sums.{sum_by_push}
 use Rattle.ppd_entry.specs.declared.entry.Entry.{Entry}
 use Rattle.ppd_model.specs.declared.flow.Item.{Item}
-use Rattle.ppd_flow_model.specs.Ends.{ending, ends_edge, first_edge, innermost_at, is_sync_item, sync_item, syncs_before, syncs_of_item}
+use Rattle.ppd_flow_model.specs.Ends.{ending, ends_edge, first_edge, is_sync_item, sync_item, syncs_before, syncs_of_item, innermost_from}
 use Rattle.ppd_flow_model.specs.Seen.{place_of}
 use Rattle.ppd_flow_tables.specs.declared.edge_table.EdgeTable.{EdgeTable}
 use Rattle.ppd_flow_tables.specs.declared.marks.Mark.{Mark}
@@ -31,7 +32,7 @@ module _ (entries : List Entry) (t : EdgeTable) (h : IsEdgeTable entries t) wher
       (first_where (ends_there entries) t.ends.keys (length entries) i h.ends h.few (none_ends i) o found))
 
   pub innermost_found : (i n : ℕ) → n ≡ ending i entries
-      → get_or t.innermost n 0 ≡ innermost_at entries (ending i entries)
+      → get_or t.innermost n 0 ≡ innermost_from (ending i entries) 0 0 (extents entries)
   innermost_found i n e =
       ap (λ m. get_or t.innermost m 0) e ∙ h.innermost (ending i entries) (ending_within i entries)
 

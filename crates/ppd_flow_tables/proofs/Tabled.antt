@@ -5,7 +5,6 @@ use Rattle.std.specs.Prelude.{IfSome, ◌&&◌, nat_eq, slice_get, slice_set, if
 use Rattle.std.proofs.lemmas.Bool.{eqb-true}
 use Rattle.std.proofs.lemmas.Option.{none-some, same_Some}
 use Rattle.ppd_flow_past.specs.declared.past.Past.{Past}
-use Rattle.ppd_entry.specs.Entries.{entries_at}
 use Rattle.ppd_flow_tables.specs.declared.edge_table.EdgeTable.{EdgeTable}
 use Rattle.ppd_flow_tables.specs.Tables.{IsEdgeTable, IsPlaceTable}
 use Rattle.ppd_flow_past.specs.Keeping.{AreFirstItems, AreKeptOf}
@@ -102,13 +101,13 @@ block_is past (Kept ts w) p k b all e = block_of_process past p k (get_or ts.now
 
 edges_of_process : (past : Past) (p : ℕ) (o : Option ProcessTables)
     → ((t : ProcessTables) → o ≡ Some t → AreOfProcess past p t)
-    → (b : EdgeTable) → edges_of o ≡ Some b → IsEdgeTable (entries_at past.logs.now p) b
+    → (b : EdgeTable) → edges_of o ≡ Some b → IsEdgeTable (get_or past.logs.now.lists p []) b
 edges_of_process past p None all b e = absurd (none-some b e)
 edges_of_process past p (Some t) all b e =
-    subst (λ (u : EdgeTable). IsEdgeTable (entries_at past.logs.now p) u) (same_Some t.edges b e) (all t refl).0
+    subst (λ (u : EdgeTable). IsEdgeTable (get_or past.logs.now.lists p []) u) (same_Some t.edges b e) (all t refl).0
 
 pub edges_are : (past : Past) (ts : Tables) (p : ℕ) (b : EdgeTable) → AreTablesOf past ts → edges_in ts p ≡ Some b
-    → IsEdgeTable (entries_at past.logs.now p) b
+    → IsEdgeTable (get_or past.logs.now.lists p []) b
 edges_are past Nothing p b all e = absurd (none-some b e)
 edges_are past (Block q m t) p b all e = absurd (none-some b e)
 edges_are past (Kept ts w) p b all e = edges_of_process past p (get_or ts.now p None) (all.0 p) b e
@@ -122,9 +121,9 @@ writing_is past (Kept ts v) w all e =
 
 pub places_at : (past : Past) (ts : Tables) (p k : ℕ) (b : BlockTables) (items : List Item) → AreTablesOf past ts
     → Some b ≡ block_in ts p k → items ≡ items_in past p k
-    → IsPlaceTable (entries_at past.logs.now p) k items b.places
+    → IsPlaceTable (get_or past.logs.now.lists p []) k items b.places
 places_at past ts p k b items all e is =
-    subst (λ (xs : List Item). IsPlaceTable (entries_at past.logs.now p) k xs b.places) (sym is)
+    subst (λ (xs : List Item). IsPlaceTable (get_or past.logs.now.lists p []) k xs b.places) (sym is)
     (block_is past ts p k b all (sym e)).1
 
 pub block_if : (past : Past) (ts : Tables) (p k : ℕ) (o : Option BlockTables) → AreTablesOf past ts

@@ -1,6 +1,5 @@
 -- What the tables that are at hand have to do with a past.
 use Rattle.std.specs.Prelude.{◌≡◌, ℕ, nat_eq, ◌&&◌, List, [], get_or, slice_get, Option, Some, None, if◌then◌else◌, ⊤}
-use Rattle.ppd_entry.specs.Entries.{entries_at}
 use Rattle.ppd_flow_local_tables.specs.Tables.{IsTableOf}
 use Rattle.ppd_flow_past.specs.declared.past.Past.{Past}
 use Rattle.ppd_flow_past.specs.Pasts.{IsPast}
@@ -49,7 +48,7 @@ writing_in (Kept ts w) = Some w.now
 abbrev pub IsOfInterval : Past → (p k : ℕ) → BlockTables → Type 0
 IsOfInterval past p k t =
     IsTableOf past.program.now past.plan.now (items_in past p k) t.locals
-    × IsPlaceTable (entries_at past.logs.now p) k (items_in past p k) t.places
+    × IsPlaceTable (get_or past.logs.now.lists p []) k (items_in past p k) t.places
 
 -- those of its first intervals
 abbrev pub AreOfFirst : Past → ℕ → List BlockTables → Type 0
@@ -57,7 +56,7 @@ AreOfFirst past p ts = (k : ℕ) (t : BlockTables) → slice_get ts k ≡ Some t
 
 -- those of process p
 abbrev pub AreOfProcess : Past → ℕ → ProcessTables → Type 0
-AreOfProcess past p t = IsEdgeTable (entries_at past.logs.now p) t.edges × AreOfFirst past p t.blocks
+AreOfProcess past p t = IsEdgeTable (get_or past.logs.now.lists p []) t.edges × AreOfFirst past p t.blocks
 
 -- whatever is there are the tables of the process of that number
 abbrev pub AreOfProcesses : Past → List (Option ProcessTables) → Type 0

@@ -4,7 +4,7 @@ use Rattle.ppd_ast.specs.Members.{has}
 use Rattle.ppd_entry.specs.declared.entry.Entry.{Entry}
 use Rattle.ppd_model.specs.declared.flow.Item.{Item}
 use Rattle.ppd_model.specs.Extents.{extents}
-use Rattle.ppd_flow_model.specs.Ends.{ends_edge, first_edge, innermost_at, is_sync_item, syncs_before, syncs_inside, syncs_of_item}
+use Rattle.ppd_flow_model.specs.Ends.{ends_edge, first_edge, is_sync_item, syncs_before, syncs_inside, syncs_of_item, innermost_from}
 use Rattle.ppd_flow_model.specs.Seen.{is_item_of}
 use Rattle.ppd_flow_tables.specs.declared.edge_table.EdgeTable.{EdgeTable}
 use Rattle.ppd_flow_tables.specs.declared.marks.Mark.{Mark}
@@ -35,7 +35,7 @@ pub record IsEdgeTable (entries : List Entry) (t : EdgeTable) : Type 0 where
   pub count : t.count ≡ length entries
   pub few : length entries < 2 ^ 32
   pub ends : AreWhere (ends_there entries) t.ends.keys
-  pub innermost : (n : ℕ) → n ≤ length entries → get_or t.innermost n 0 ≡ innermost_at entries n
+  pub innermost : (n : ℕ) → n ≤ length entries → get_or t.innermost n 0 ≡ innermost_from n 0 0 (extents entries)
 
 -- ---- the items of an interval
 

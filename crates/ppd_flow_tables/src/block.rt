@@ -1,5 +1,4 @@
-ghost use Rattle.std.specs.Prelude.{◌≡◌, IfOk};
-ghost use Rattle.ppd_entry.specs.Entries.{entries_at};
+ghost use Rattle.std.specs.Prelude.{◌≡◌, IfOk, get_or, []};
 ghost use Rattle.ppd_flow_past.specs.Pasts.{IsPast};
 ghost use Rattle.ppd_flow_past.specs.SeenBy.{items_in};
 ghost use Rattle.ppd_flow_tables.specs.Tables.{IsEdgeTable};
@@ -32,7 +31,7 @@ impl BlockTables {
         items: &[Item],
     ) -> Result<BlockTables, Memory>
         requires past { IsPast past.now }
-        requires edges { IsEdgeTable (entries_at past.now.logs.now process) edges.now }
+        requires edges { IsEdgeTable (get_or past.now.logs.now.lists process []) edges.now }
         requires items { items.now ≡ items_in past.now process interval }
         ensures { IfOk result (IsOfInterval past.now process interval) }
     {

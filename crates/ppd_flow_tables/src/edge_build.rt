@@ -1,5 +1,4 @@
-ghost use Rattle.std.specs.Prelude.{◌<◌, ◌^◌, IfOk, length};
-ghost use Rattle.ppd_entry.specs.Entries.{entries_at};
+ghost use Rattle.std.specs.Prelude.{◌<◌, ◌^◌, IfOk, length, get_or, []};
 ghost use Rattle.ppd_flow_past.specs.Pasts.{IsPast};
 ghost use Rattle.ppd_flow_tables.specs.Counts.{AreCounts};
 ghost use Rattle.ppd_flow_tables.specs.Tables.{IsEdgeTable};
@@ -15,9 +14,9 @@ use std::alloc::Global;
 /// The table of a process, by the counts of synchronizations before its entries.
 fn table_of(alloc: Global, past: &Past, process: u8, counts: &[u32]) -> Result<EdgeTable, Memory>
     requires past { IsPast past.now }
-    requires few { length (entries_at past.now.logs.now process) < 2 ^ 32 }
-    requires counts { AreCounts (entries_at past.now.logs.now process) counts.now }
-    ensures { IfOk result (IsEdgeTable (entries_at past.now.logs.now process)) }
+    requires few { length (get_or past.now.logs.now.lists process []) < 2 ^ 32 }
+    requires counts { AreCounts (get_or past.now.logs.now.lists process []) counts.now }
+    ensures { IfOk result (IsEdgeTable (get_or past.now.logs.now.lists process [])) }
 {
     let entries = entries_of(past.logs, process);
     let count = entries.len() as u32;
@@ -38,7 +37,7 @@ impl EdgeTable {
     /// entries have no 32-bit numbers.
     pub fn new(alloc: Global, past: &Past, process: u8) -> Result<EdgeTable, Memory>
         requires { IsPast past.now }
-        ensures { IfOk result (IsEdgeTable (entries_at past.now.logs.now process)) }
+        ensures { IfOk result (IsEdgeTable (get_or past.now.logs.now.lists process [])) }
     {
         let entries = entries_of(past.logs, process);
         number(entries.len())?;

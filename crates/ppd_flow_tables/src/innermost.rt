@@ -1,7 +1,6 @@
 // The innermost interval of a process at each of its entries.
-ghost use Rattle.std.specs.Prelude.{◌≡◌, ◌+◌, ◌≤◌, ◌<◌, ◌&&◌, ◌^◌, ℕ, IfOk, get_or, length, nat_le, nat_lt, replicate, slice_get, if◌then◌else◌};
-ghost use Rattle.ppd_entry.specs.Entries.{entries_at};
-ghost use Rattle.ppd_flow_model.specs.Ends.{innermost_at};
+ghost use Rattle.std.specs.Prelude.{◌≡◌, ◌+◌, ◌≤◌, ◌<◌, ◌&&◌, ◌^◌, ℕ, IfOk, get_or, length, nat_le, nat_lt, replicate, slice_get, if◌then◌else◌, []};
+ghost use Rattle.ppd_flow_model.specs.Ends.{innermost_from};
 ghost use Rattle.ppd_flow_past.specs.Edges.Found.{stands_there};
 ghost use Rattle.ppd_flow_past.specs.Pasts.{IsPast};
 ghost use Rattle.ppd_model.specs.Extents.{extents};
@@ -32,7 +31,7 @@ fn paint_interval(innermost: &mut Ids, past: &Past, process: u8, interval: u32)
     requires { IsPast past.now }
     ensures long { length innermost.new ≡ length innermost.old }
     ensures is { (n : ℕ) → n < length innermost.old → get_or innermost.new n 0
-        ≡ (if stands_there n (slice_get (extents (entries_at past.now.logs.now process)) interval) then interval
+        ≡ (if stands_there n (slice_get (extents (get_or past.now.logs.now.lists process [])) interval) then interval
         else get_or innermost.old n 0) }
 {
     match past.index.interval(process, interval) {
@@ -50,7 +49,7 @@ pub(crate) fn innermost_of(
 ) -> Result<Ids, Memory>
     requires { IsPast past.now }
     ensures { IfOk result (λ innermost. (n : ℕ) → n ≤ count → get_or innermost n 0
-        ≡ innermost_at (entries_at past.now.logs.now process) n) }
+        ≡ innermost_from n 0 0 (extents (get_or past.now.logs.now.lists process []))) }
 {
     let mut innermost = zeros(alloc, count as usize + 1)?;
     for interval in 0..past.index.count(process) {

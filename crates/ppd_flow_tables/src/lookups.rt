@@ -1,6 +1,5 @@
 // Look-ups in a past: by tables where they are at hand, else over items and entries.
-ghost use Rattle.std.specs.Prelude.{◌≡◌, IfOk, position, take};
-ghost use Rattle.ppd_entry.specs.Entries.{entries_at};
+ghost use Rattle.std.specs.Prelude.{◌≡◌, IfOk, position, take, get_or, []};
 ghost use Rattle.ppd_flow_model.specs.Ends.{end_interval as end_interval_of, first_edge as first_edge_of, sync_item as sync_item_in};
 ghost use Rattle.ppd_flow_model.specs.Seen.{is_item_of, place_of as place_among};
 ghost use Rattle.ppd_flow_model.specs.Shared.{greatest_before as greatest_before_of};
@@ -64,7 +63,7 @@ fn last_before(place: usize) -> Option<usize>
 /// innermost that was not left, or interval 0.
 pub fn end_interval(past: &Past, tables: &Tables, edge: EdgeId) -> u32
     requires { IsTabled past.now tables.now }
-    ensures { result ≡ end_interval_of (entries_at past.now.logs.now edge.process) edge.edge }
+    ensures { result ≡ end_interval_of (get_or past.now.logs.now.lists edge.process []) edge.edge }
 {
     match tables.edges(edge.process) {
         Some(table) => table.end_interval(edge.edge),
@@ -85,8 +84,8 @@ pub fn sync_item(
     requires tabled { IsTabled past.now tables.now }
     requires items { items.now ≡ items_in past.now edge.process interval }
     ensures { IfOk result (λ place. place
-        ≡ sync_item_in (entries_at past.now.logs.now edge.process) edge.edge
-        (first_edge_of (entries_at past.now.logs.now edge.process) interval) items.now) }
+        ≡ sync_item_in (get_or past.now.logs.now.lists edge.process []) edge.edge
+        (first_edge_of (get_or past.now.logs.now.lists edge.process []) interval) items.now) }
 {
     match tables.block(edge.process, interval) {
         Some(tables) => Ok(tables.places.sync_item(edge.edge)),
@@ -107,7 +106,7 @@ pub fn edge_at(
     requires tabled { IsTabled past.now tables.now }
     requires items { items.now ≡ items_in past.now process interval }
     ensures { IfOk result
-        (λ edge. edge ≡ edge_of (entries_at past.now.logs.now process) interval items.now place) }
+        (λ edge. edge ≡ edge_of (get_or past.now.logs.now.lists process []) interval items.now place) }
 {
     match tables.block(process, interval) {
         Some(tables) => Ok(tables.places.edge_at(place)),

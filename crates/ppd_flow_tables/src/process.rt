@@ -1,5 +1,4 @@
-ghost use Rattle.std.specs.Prelude.{◌≡◌, IfOk};
-ghost use Rattle.ppd_entry.specs.Entries.{entries_at};
+ghost use Rattle.std.specs.Prelude.{◌≡◌, IfOk, get_or, []};
 ghost use Rattle.ppd_flow_past.specs.Keeping.{AreFirstItems};
 ghost use Rattle.ppd_flow_past.specs.Pasts.{IsPast};
 ghost use Rattle.ppd_flow_tables.specs.Tables.{IsEdgeTable};
@@ -28,7 +27,7 @@ fn block_tables(
     rows: &[Seq<Item>],
 ) -> Result<Seq<BlockTables>, Memory>
     requires past { IsPast past.now }
-    requires edges { IsEdgeTable (entries_at past.now.logs.now process) edges.now }
+    requires edges { IsEdgeTable (get_or past.now.logs.now.lists process []) edges.now }
     requires rows { AreFirstItems past.now process rows.now }
     ensures { IfOk result (AreOfFirst past.now process) }
 {

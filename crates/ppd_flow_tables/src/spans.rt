@@ -1,6 +1,5 @@
 // In which edge each interval of a process begins, and how many synchronizations it has.
-ghost use Rattle.std.specs.Prelude.{◌≡◌, ℕ, IfOk, List, get_or, slice_get};
-ghost use Rattle.ppd_entry.specs.Entries.{entries_at};
+ghost use Rattle.std.specs.Prelude.{◌≡◌, ℕ, IfOk, List, get_or, slice_get, []};
 ghost use Rattle.ppd_entry.specs.declared.entry.Entry.{Entry};
 ghost use Rattle.ppd_flow_model.specs.Ends.{first_edge as first_edge_of, syncs_before, syncs_inside as syncs_inside_of};
 ghost use Rattle.ppd_flow_past.specs.Pasts.{IsPast};
@@ -34,8 +33,8 @@ fn count_at(counts: &[u32], n: u32) -> u32
 
 fn first_edge(past: &Past, process: u8, interval: u32, counts: &[u32]) -> u32
     requires past { IsPast past.now }
-    requires counts { AreCounts (entries_at past.now.logs.now process) counts.now }
-    ensures { result ≡ first_edge_of (entries_at past.now.logs.now process) interval }
+    requires counts { AreCounts (get_or past.now.logs.now.lists process []) counts.now }
+    ensures { result ≡ first_edge_of (get_or past.now.logs.now.lists process []) interval }
 {
     match past.index.interval(process, interval) {
         Some(found) => count_at(counts, found.first),
@@ -45,10 +44,10 @@ fn first_edge(past: &Past, process: u8, interval: u32, counts: &[u32]) -> u32
 
 fn syncs_inside(past: &Past, process: u8, interval: u32, counts: &[u32]) -> u32
     requires past { IsPast past.now }
-    requires counts { AreCounts (entries_at past.now.logs.now process) counts.now }
+    requires counts { AreCounts (get_or past.now.logs.now.lists process []) counts.now }
     ensures { result
-        ≡ syncs_inside_of (entries_at past.now.logs.now process)
-        (slice_get (extents (entries_at past.now.logs.now process)) interval) }
+        ≡ syncs_inside_of (get_or past.now.logs.now.lists process [])
+        (slice_get (extents (get_or past.now.logs.now.lists process [])) interval) }
 {
     match past.index.interval(process, interval) {
         Some(found) => {
@@ -61,9 +60,9 @@ fn syncs_inside(past: &Past, process: u8, interval: u32, counts: &[u32]) -> u32
 /// The edge in which each interval begins.
 fn first_edges(alloc: Global, past: &Past, process: u8, counts: &[u32]) -> Result<Ids, Memory>
     requires past { IsPast past.now }
-    requires counts { AreCounts (entries_at past.now.logs.now process) counts.now }
+    requires counts { AreCounts (get_or past.now.logs.now.lists process []) counts.now }
     ensures { IfOk result (λ first. (k : ℕ) → get_or first k 0
-        ≡ first_edge_of (entries_at past.now.logs.now process) k) }
+        ≡ first_edge_of (get_or past.now.logs.now.lists process []) k) }
 {
     let mut first = Seq::new(alloc);
     for interval in 0..past.index.count(process) {
@@ -75,10 +74,10 @@ fn first_edges(alloc: Global, past: &Past, process: u8, counts: &[u32]) -> Resul
 /// How many synchronizations each interval has, with those of the intervals inside it.
 fn inner_syncs(alloc: Global, past: &Past, process: u8, counts: &[u32]) -> Result<Ids, Memory>
     requires past { IsPast past.now }
-    requires counts { AreCounts (entries_at past.now.logs.now process) counts.now }
+    requires counts { AreCounts (get_or past.now.logs.now.lists process []) counts.now }
     ensures { IfOk result (λ inside. (k : ℕ) → get_or inside k 0
-        ≡ syncs_inside_of (entries_at past.now.logs.now process)
-        (slice_get (extents (entries_at past.now.logs.now process)) k)) }
+        ≡ syncs_inside_of (get_or past.now.logs.now.lists process [])
+        (slice_get (extents (get_or past.now.logs.now.lists process [])) k)) }
 {
     let mut inside = Seq::new(alloc);
     for interval in 0..past.index.count(process) {
@@ -94,12 +93,12 @@ pub(crate) fn spans_of(
     counts: &[u32],
 ) -> Result<Spans, Memory>
     requires past { IsPast past.now }
-    requires counts { AreCounts (entries_at past.now.logs.now process) counts.now }
+    requires counts { AreCounts (get_or past.now.logs.now.lists process []) counts.now }
     ensures first { IfOk result (λ spans. (k : ℕ) → get_or spans.first k 0
-        ≡ first_edge_of (entries_at past.now.logs.now process) k) }
+        ≡ first_edge_of (get_or past.now.logs.now.lists process []) k) }
     ensures inside { IfOk result (λ spans. (k : ℕ) → get_or spans.inside k 0
-        ≡ syncs_inside_of (entries_at past.now.logs.now process)
-        (slice_get (extents (entries_at past.now.logs.now process)) k)) }
+        ≡ syncs_inside_of (get_or past.now.logs.now.lists process [])
+        (slice_get (extents (get_or past.now.logs.now.lists process [])) k)) }
 {
     let first = first_edges(alloc, past, process, counts)?;
     let inside = inner_syncs(alloc, past, process, counts)?;

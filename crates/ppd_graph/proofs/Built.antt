@@ -1,31 +1,29 @@
 -- What is put together is the graph of the logs.
-use Rattle.std.proofs.Common.{◌≡◌, ℕ, zero, suc, ◌+◌, ◌^◌, ◌<◌, ◌≤◌, List, [], ◌∷◌, ◌++◌, Option, None, Bool, true, refl, ap, sym, subst, ◌∙◌, arith, length, map, get_or, filter_map}
-use Rattle.std.specs.Prelude.{IsTrue}
-use Rattle.std.specs.List.{cons_option}
 use Rattle.ppd_ast.specs.declared.program.Program.{Program}
 use Rattle.ppd_entry.specs.declared.entry.Entry.{Entry}
 use Rattle.ppd_entry.specs.declared.entry.Entry.TheVariants as entry
 use Rattle.ppd_entry.specs.declared.entry.Logs.{Logs}
-use Rattle.ppd_model.specs.declared.graph.NodeId.{NodeId}
-use Rattle.ppd_model.specs.HappenedBefore.{own_syncs}
-use Rattle.ppd_model.specs.Synchronizations.{Sync}
-use Rattle.ppd_graph.specs.declared.paired.Paired.{Paired}
-use Rattle.ppd_graph.specs.declared.refusal.BadSync.TheVariants.{Cycle}
-use Rattle.ppd_graph.specs.declared.sets.EdgeSets.{EdgeSets}
-use Rattle.ppd_graph.specs.Cycles.{AllWait, IsCycle, IsRoundsCycle}
-use Rattle.ppd_graph.specs.Graphs.{IsGraphOf}
-use Rattle.ppd_model.specs.RecordedSets.{record_in, sync_in}
-use Rattle.ppd_model.proofs.Lists.{get_or_map}
-use Rattle.ppd_graph.specs.LogRecord.{AreFew, ended_by, found_after, sets_from, edge_sets_in}
-use Rattle.ppd_graph.specs.Partners.{pairs_of, partner_of}
-use Rattle.ppd_graph.specs.Refusals.{AreNumbered, AreOrdered, IsRefused, placed}
-use Rattle.ppd_graph.specs.Times.{ArePartners, AreTimed, HasAll, IsReady, own_pairs, own_times}
 use Rattle.ppd_graph.proofs.Closing.{rounds_are_cycles}
+use Rattle.ppd_graph.proofs.Counted.{kept_few}
 use Rattle.ppd_graph.proofs.Leads.{length_mapped, partners_found, row_mapped}
 use Rattle.ppd_graph.proofs.Once.{once}
 use Rattle.ppd_graph.proofs.Order.{counts_rise, none_before_itself, order}
 use Rattle.ppd_graph.proofs.Timed.{own_below}
-use Rattle.ppd_graph.proofs.Counted.{kept_few}
+use Rattle.ppd_graph.specs.Cycles.{AllWait, IsCycle, IsRoundsCycle}
+use Rattle.ppd_graph.specs.Graphs.{IsGraphOf}
+use Rattle.ppd_graph.specs.LogRecord.{AreFew, edge_sets, edge_sets_in, sets_from}
+use Rattle.ppd_graph.specs.Partners.{pairs_of, partner_of}
+use Rattle.ppd_graph.specs.Refusals.{AreNumbered, AreOrdered, IsRefused, placed}
+use Rattle.ppd_graph.specs.Times.{ArePartners, AreTimed, HasAll, IsReady, own_pairs, own_times}
+use Rattle.ppd_graph.specs.declared.paired.Paired.{Paired}
+use Rattle.ppd_graph.specs.declared.refusal.BadSync.TheVariants.{Cycle}
+use Rattle.ppd_graph.specs.declared.sets.EdgeSets.{EdgeSets}
+use Rattle.ppd_model.proofs.Lists.{get_or_map}
+use Rattle.ppd_model.proofs.Tested.{none_is_before_itself}
+use Rattle.ppd_model.specs.RecordedSets.{record_in, sync_in}
+use Rattle.ppd_model.specs.declared.graph.NodeId.{NodeId}
+use Rattle.std.proofs.Common.{Bool, List, None, Option, [], ap, arith, filter_map, get_or, length, map, refl, subst, suc, sym, true, zero, ℕ, ◌+◌, ◌<◌, ◌^◌, ◌∙◌, ◌∷◌, ◌≡◌, ◌≤◌}
+use Rattle.std.specs.Prelude.{IsTrue, Some, unwrap_or}
 
 -- ---- lengths
 
@@ -36,28 +34,24 @@ at_there f (row ∷ rows) (suc q) lt = at_there f rows q (omega (arith, lt))
 
 pub sets_count : (found : Option EdgeSets) (es : List Entry) → length (sets_from found es) ≡ length (filter_map sync_in es) + 1
 sets_count found [] = refl
-sets_count found (e ∷ es) = by e (sets_count (found_after found e) es)
-  where
-    by : (e : Entry) → length (sets_from (found_after found e) es) ≡ length (filter_map sync_in es) + 1
-        → length (ended_by e ++ sets_from (found_after found e) es) ≡ length (cons_option (sync_in e) (filter_map sync_in es)) + 1
-    by (entry.Sync kind object number value reads writes) h = omega (arith, h)
-    by (entry.Prelog block values) h = h
-    by (entry.Unit unit values) h = h
-    by (entry.Postlog block values) h = h
-    by (entry.End status rest reads writes) h = h
+sets_count found (entry.Sync kind object number value reads writes ∷ es) = let h = sets_count None es in omega (arith, h)
+sets_count found (entry.Prelog block values ∷ es) = sets_count found es
+sets_count found (entry.Unit unit values ∷ es) = sets_count found es
+sets_count found (entry.Postlog block values ∷ es) = sets_count found es
+sets_count found (entry.End status rest reads writes ∷ es) = sets_count (Some (unwrap_or found (edge_sets reads writes))) es
 
 module _ (logs : Logs) where
-  own_syncs_are : (q : ℕ) → own_syncs (record_in logs) q ≡ filter_map sync_in (get_or logs.lists q [])
+  own_syncs_are : (q : ℕ) → get_or (record_in logs) q [] ≡ filter_map sync_in (get_or logs.lists q [])
   own_syncs_are q = get_or_map (filter_map sync_in) logs.lists q refl
 
-  pub syncs_few : AreFew logs.lists → (q : ℕ) → length (own_syncs (record_in logs) q) + 1 < 2 ^ 32
+  pub syncs_few : AreFew logs.lists → (q : ℕ) → length (get_or (record_in logs) q []) + 1 < 2 ^ 32
   syncs_few few q =
       let same = ap length (own_syncs_are q) in
       let less = kept_few sync_in (get_or logs.lists q []) in
       let small = few q in
       omega (arith, same, less, small)
 
-  edges_there : (q j : ℕ) → j < length (get_or (edge_sets_in logs) q []) → (q < length logs.lists) × (j ≤ length (own_syncs (record_in logs) q))
+  edges_there : (q j : ℕ) → j < length (get_or (edge_sets_in logs) q []) → (q < length logs.lists) × (j ≤ length (get_or (record_in logs) q []))
   edges_there q j lt =
       let inside : q < length logs.lists = subst (λ n. q < n) (length_mapped (sets_from None) logs.lists) (own_below (edge_sets_in logs) q j lt) in
       let count = ap length (at_there (sets_from None) logs.lists q inside) ∙ sets_count None (get_or logs.lists q []) in
@@ -73,14 +67,14 @@ module _ (logs : Logs) where
           let last : n < length (get_or (edge_sets_in logs) q []) = omega (arith, e) in
           let there = edges_there q n last in
           let small = syncs_few few q in
-          let le : n ≤ length (own_syncs (record_in logs) q) = there.1 in
+          let le : n ≤ length (get_or (record_in logs) q []) = there.1 in
           omega (arith, le, small)
 
 module _ (program : Program) (logs : Logs) (pairs : List (List Paired)) (are : pairs ≡ pairs_of program (record_in logs)) where
-  own_same : (q : ℕ) → length (own_pairs pairs q) ≡ length (own_syncs (record_in logs) q)
+  own_same : (q : ℕ) → length (own_pairs pairs q) ≡ length (get_or (record_in logs) q [])
   own_same q =
       ap (λ rows. length (own_pairs rows q)) are ∙ ap length (row_mapped (partner_of program (record_in logs)) (record_in logs) q)
-      ∙ length_mapped (partner_of program (record_in logs)) (own_syncs (record_in logs) q)
+      ∙ length_mapped (partner_of program (record_in logs)) (get_or (record_in logs) q [])
 
   pub pairs_few : AreFew logs.lists → (q : ℕ) → length (own_pairs pairs q) + 1 < 2 ^ 32
   pairs_few few q = let small = syncs_few logs few q in let same = own_same q in omega (arith, small, same)
@@ -106,7 +100,8 @@ module _ (program : Program) (logs : Logs) (pairs : List (List Paired)) (are : p
       pub ordered : ((q : ℕ) → HasAll pairs times q) → AreOrdered program logs
       ordered all = record {
         numbered = numbered;
-        acyclic = none_before_itself program (record_in logs) pairs partners times (timed program (record_in logs) partners) all;
+        acyclic = none_is_before_itself program (record_in logs)
+            (none_before_itself program (record_in logs) pairs partners times (timed program (record_in logs) partners) all);
       }
 
       pub graph_is : ((q : ℕ) → HasAll pairs times q) → AreFew logs.lists → (edges : List (List EdgeSets)) → edges ≡ edge_sets_in logs → IsGraphOf program logs (record { edges = edges; times = times; pairs = pairs })

@@ -1,7 +1,6 @@
 -- The sets of the edges of a process, as its closed log records them, are those of the run.
-use Rattle.std.proofs.Common.{◌≡◌, ℕ, ◌<◌, List, [], ◌∷◌, ◌++◌, None, true, false, refl, ap, ◌∙◌, arith, length, map, get_or, filter_map, true≢false, ◌||◌}
-use Rattle.std.specs.Prelude.{slice_get}
-use Rattle.std.specs.List.{cons_option, list_any, range_with_len}
+use Rattle.std.proofs.Common.{◌≡◌, ℕ, ◌<◌, List, [], ◌∷◌, ◌++◌, None, true, false, refl, ap, ◌∙◌, length, map, get_or, filter_map, true≢false}
+use Rattle.std.specs.List.{list_any, range_with_len}
 use Rattle.std.proofs.lemmas.Option.{slice_get-get_or}
 use Rattle.ppd_ast.specs.Valid.{IsValid}
 use Rattle.ppd_ast.specs.declared.plan.Plan.{Plan}
@@ -18,7 +17,7 @@ use Rattle.ppd_model.specs.declared.tracing.Story.{Story}
 use Rattle.ppd_model.proofs.RecordedSets.{record_sets}
 use Rattle.ppd_model.proofs.OneHistory.{map-map}
 use Rattle.ppd_graph.specs.declared.sets.EdgeSets.{EdgeSets}
-use Rattle.ppd_graph.specs.LogRecord.{edge_sets, edge_sets_in, ended_by, found_after, sets_from}
+use Rattle.ppd_graph.specs.LogRecord.{edge_sets, edge_sets_in, sets_from}
 use Rattle.ppd_graph.proofs.Built.{at_there}
 
 ended : List ℕ × List ℕ → EdgeSets
@@ -27,16 +26,11 @@ ended t = edge_sets t.0 t.1
 closed_sets : (before : List Entry) (status : Status) (rest : ℕ) (r w : List ℕ) → list_any is_end before ≡ false → sets_from None (before ++ entry.End status rest r w ∷ []) ≡ map ended (filter_map sets_at_sync before) ++ edge_sets r w ∷ []
 unfolding ended
 closed_sets [] status rest r w h = refl
-closed_sets (e ∷ es) status rest r w h = by e h (closed_sets es status rest r w)
-  where
-    by : (e : Entry) → (is_end e || list_any is_end es) ≡ false
-        → (list_any is_end es ≡ false → sets_from None (es ++ entry.End status rest r w ∷ []) ≡ map ended (filter_map sets_at_sync es) ++ edge_sets r w ∷ [])
-        → ended_by e ++ sets_from (found_after None e) (es ++ entry.End status rest r w ∷ []) ≡ map ended (cons_option (sets_at_sync e) (filter_map sets_at_sync es)) ++ edge_sets r w ∷ []
-    by (entry.Sync kind object number value reads writes) k later = ap (λ x. edge_sets reads writes ∷ x) (later k)
-    by (entry.Prelog block values) k later = later k
-    by (entry.Unit unit values) k later = later k
-    by (entry.Postlog block values) k later = later k
-    by (entry.End status' rest' reads writes) k later = absurd (true≢false k)
+closed_sets (entry.Sync kind object number value reads writes ∷ es) status rest r w h = ap (λ x. edge_sets reads writes ∷ x) (closed_sets es status rest r w h)
+closed_sets (entry.Prelog block values ∷ es) status rest r w h = closed_sets es status rest r w h
+closed_sets (entry.Unit unit values ∷ es) status rest r w h = closed_sets es status rest r w h
+closed_sets (entry.Postlog block values ∷ es) status rest r w h = closed_sets es status rest r w h
+closed_sets (entry.End status' rest' reads writes ∷ es) status rest r w h = absurd (true≢false h)
 
 -- the sets of an edge in the run
 unfoldable pub run_sets : Story → ℕ → ℕ → EdgeSets

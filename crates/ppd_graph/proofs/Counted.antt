@@ -8,6 +8,7 @@ use Rattle.std.proofs.lemmas.Nat.{mul-le}
 use Rattle.std.proofs.lemmas.List.{drop_more, length-append, length-map, append_assoc}
 use Rattle.ppd_ast.specs.declared.program.Program.{Program}
 use Rattle.ppd_entry.specs.declared.entry.Entry.{Entry}
+use Rattle.ppd_entry.specs.declared.entry.Entry.TheVariants as entry
 use Rattle.ppd_entry.specs.declared.entry.Logs.{Logs}
 use Rattle.ppd_model.specs.RecordedSets.{record_in, sync_in}
 use Rattle.ppd_model.specs.Synchronizations.{Sync}
@@ -15,9 +16,8 @@ use Rattle.ppd_ast.specs.declared.limits.TheConstants.{MOST_NAMED}
 use Rattle.ppd_graph.specs.declared.paired.Paired.{Paired}
 use Rattle.ppd_graph.specs.declared.placed.Placed.{Placed}
 use Rattle.ppd_graph.specs.Partners.{pairs_of, partner_of}
-use Rattle.ppd_graph.specs.Refusals.{place, placed_from}
+use Rattle.ppd_graph.specs.Refusals.{placed_from}
 use Rattle.ppd_graph.proofs.Vocabulary.{placed_lists}
-use Rattle.ppd_graph.proofs.Vocabulary.{count_on}
 use Rattle.ppd_graph.specs.Spending.{entries_in, graph_cost, list_cost, pairing_cost, pass_cost, times_cost}
 use Rattle.ppd_graph.proofs.Vocabulary.{untimed}
 
@@ -92,11 +92,11 @@ mapped_twice g f xs i d now new all lt h e =
 
 placed_few : (p e i : ℕ) (xs : List Entry) → length (placed_from p e i xs) ≤ length xs
 placed_few p e i [] = omega arith
-placed_few p e i (x ∷ xs) = by (sync_in x) (λ k. placed_few p (e + 1) k xs)
-  where
-    by : (s : Option Sync) → ((k : ℕ) → length (placed_from p (e + 1) k xs) ≤ length xs) → length (place p e i s ++ placed_from p (e + 1) (count_on i s) xs) ≤ length (x ∷ xs)
-    by None f = let rest = f i in omega (arith, rest)
-    by (Some s) f = let rest = f (i + 1) in omega (arith, rest)
+placed_few p e i (entry.Sync kind object number value reads writes ∷ xs) = let rest = placed_few p (e + 1) (i + 1) xs in omega (arith, rest)
+placed_few p e i (entry.Prelog block values ∷ xs) = let rest = placed_few p (e + 1) i xs in omega (arith, rest)
+placed_few p e i (entry.Unit unit values ∷ xs) = let rest = placed_few p (e + 1) i xs in omega (arith, rest)
+placed_few p e i (entry.Postlog block values ∷ xs) = let rest = placed_few p (e + 1) i xs in omega (arith, rest)
+placed_few p e i (entry.End status rest reads writes ∷ xs) = let few = placed_few p (e + 1) i xs in omega (arith, few)
 
 placed_all : (p : ℕ) (lists : List (List Entry)) → length (placed_lists p lists) ≤ sum_by length lists
 placed_all p [] = omega arith

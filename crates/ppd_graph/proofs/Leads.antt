@@ -1,23 +1,22 @@
 -- The partners found by numbers are those that lead to each.
-use Rattle.std.proofs.Common.{◌≡◌, ℕ, zero, suc, ◌+◌, ◌-◌, ◌≤◌, List, [], ◌∷◌, Option, Some, None, Bool, true, false, refl, ap, sym, subst, ◌∙◌, arith, length, map, get_or, true≢false, eq-eqb, eqb-true, leb-true, le-leb, ◌&&◌}
-use Rattle.std.specs.Prelude.{IsTrue, is_some, nat_eq, nat_le, slice_get, if◌then◌else◌, unwrap_or}
-use Rattle.std.proofs.lemmas.Bool.{and_from, and_parts}
-use Rattle.ppd_entry.specs.Entries.{same_kind}
 use Rattle.ppd_ast.specs.declared.program.Program.{Program}
 use Rattle.ppd_ast.specs.declared.status.SyncKind.{SyncKind}
-use Rattle.ppd_ast.specs.declared.status.SyncKind.TheVariants.{P, V, Send, Recv, Done}
-use Rattle.ppd_model.specs.declared.graph.NodeId.{NodeId}
-use Rattle.std.specs.Option.{option_or as or_else}
-use Rattle.ppd_model.specs.HappenedBefore.{node, own_syncs, sync_at}
-use Rattle.ppd_model.specs.Numbers.{sync}
-use Rattle.ppd_model.specs.Synchronizations.{Sync, is_number, leads, leads_at, led_to}
-use Rattle.ppd_model.specs.Tables.{capacity_of}
-use Rattle.ppd_model.proofs.SameSyncs.{same_is, same_self}
-use Rattle.ppd_graph.specs.declared.paired.Paired.TheVariants.{Nothing}
+use Rattle.ppd_ast.specs.declared.status.SyncKind.TheVariants.{Done, P, Recv, Send, V}
 use Rattle.ppd_graph.specs.Partners.{IsOnce, PartnersAreFound, found, found_from, found_in_row, paired_by, pairs_of, partner_of, wanted}
-use Rattle.ppd_graph_partners.specs.Wanted.{wanted_by}
-use Rattle.ppd_model.specs.SameSyncs.{same_sync}
 use Rattle.ppd_graph.specs.Times.{ArePartners, node_of, pair_at}
+use Rattle.ppd_graph.specs.declared.paired.Paired.TheVariants.{Nothing}
+use Rattle.ppd_graph_partners.specs.Wanted.{wanted_by}
+use Rattle.ppd_model.proofs.SameSyncs.{same_is, same_self}
+use Rattle.ppd_model.specs.HappenedBefore.{node, sync_at}
+use Rattle.ppd_model.specs.Numbers.{sync}
+use Rattle.ppd_model.specs.SameSyncs.{same_sync}
+use Rattle.ppd_model.specs.Synchronizations.{Sync, is_number, leads_at, led_to}
+use Rattle.ppd_model.specs.Tables.{capacity_of}
+use Rattle.ppd_model.specs.declared.graph.NodeId.{NodeId}
+use Rattle.std.proofs.Common.{Bool, List, None, Option, Some, [], ap, arith, eq-eqb, eqb-true, false, get_or, le-leb, leb-true, length, map, refl, subst, suc, sym, true, true≢false, zero, ℕ, ◌+◌, ◌-◌, ◌∙◌, ◌∷◌, ◌≡◌, ◌≤◌}
+use Rattle.std.proofs.lemmas.Bool.{and_from, and_parts}
+use Rattle.std.specs.Option.{option_or as or_else}
+use Rattle.std.specs.Prelude.{IsTrue, if◌then◌else◌, is_some, nat_eq, nat_le, slice_get, unwrap_or}
 
 pub some_is : {A : Type 0} (x y : A) → Some x ≡ Some y → x ≡ y
 some_is x y e = ap (λ o. unwrap_or o x) e
@@ -40,7 +39,7 @@ led_wanted (suc c) Recv Send o n n' h =
 led_wanted zero k k' o n n' h = absurd (true≢false (sym h))
 led_wanted (suc c) k k' o n n' h = absurd (true≢false (sym h))
 
-leads_wanted : (program : Program) (k k' : SyncKind) (o o' n n' : ℕ) → IsTrue (leads program (sync k o n) (sync k' o' n')) → wanted program (sync k' o' n') ≡ Some (sync k o n)
+leads_wanted : (program : Program) (k k' : SyncKind) (o o' n n' : ℕ) → IsTrue (leads_at program (Some (sync k o n)) (Some (sync k' o' n'))) → wanted program (sync k' o' n') ≡ Some (sync k o n)
 leads_wanted program k k' o o' n n' h =
     let b = and_parts (nat_eq o o') (is_number (led_to (capacity_of program o) k k' n) n') h in
     ap (λ x. wanted_by (capacity_of program x) k' x n') (sym (eqb-true o o' b.0)) ∙ led_wanted (capacity_of program o) k k' o n n' b.1
@@ -67,7 +66,7 @@ wanted_led zero Send o zero s e = absurd (none_some s e)
 wanted_led zero Send o (suc n) s e = subst (LeadsBy zero Send o (suc n)) (some_is (sync Done o n) s e) (refl, eq-eqb (n + 1) (suc n) (omega arith))
 wanted_led (suc c) Send o n s e = freed c o n s (nat_le (suc c) n) refl e
 
-wanted_leads : (program : Program) (s : Sync) (k : SyncKind) (o n : ℕ) → wanted program (sync k o n) ≡ Some s → IsTrue (leads program s (sync k o n))
+wanted_leads : (program : Program) (s : Sync) (k : SyncKind) (o n : ℕ) → wanted program (sync k o n) ≡ Some s → IsTrue (leads_at program (Some s) (Some (sync k o n)))
 unfolding LeadsBy
 wanted_leads program s k o n e =
     let l = wanted_led (capacity_of program o) k o n s e in
@@ -170,12 +169,12 @@ module _ (program : Program) (syncs : List (List Sync)) (once : IsOnce syncs) wh
   pair_there : (b : NodeId) (s : Sync) → sync_at syncs b ≡ Some s → node_of (pair_at (pairs_of program syncs) b) ≡ found syncs (wanted program s)
   pair_there b s e =
       ap (λ row. node_of (get_or row b.sync Nothing)) (row_mapped (partner_of program syncs) syncs b.process)
-      ∙ ap node_of (at_mapped (partner_of program syncs) Nothing (own_syncs syncs b.process) b.sync s e) ∙ node_of_paired s.kind (found syncs (wanted program s))
+      ∙ ap node_of (at_mapped (partner_of program syncs) Nothing (get_or syncs b.process []) b.sync s e) ∙ node_of_paired s.kind (found syncs (wanted program s))
 
   pair_none : (b : NodeId) → sync_at syncs b ≡ None → node_of (pair_at (pairs_of program syncs) b) ≡ None
   pair_none b e =
       ap (λ row. node_of (get_or row b.sync Nothing)) (row_mapped (partner_of program syncs) syncs b.process)
-      ∙ ap node_of (past_mapped (partner_of program syncs) Nothing (own_syncs syncs b.process) b.sync e)
+      ∙ ap node_of (past_mapped (partner_of program syncs) Nothing (get_or syncs b.process []) b.sync e)
 
   to : (a b : NodeId) (x y : Option Sync) → sync_at syncs a ≡ x → sync_at syncs b ≡ y → IsTrue (leads_at program x y) → node_of (pair_at (pairs_of program syncs) b) ≡ Some a
   to a b (Some x) (Some y) e f h = pair_there b y f ∙ ap (found syncs) (leads_wanted program x.kind y.kind x.object y.object x.number y.number h) ∙ once_found syncs x a once e
@@ -193,7 +192,7 @@ module _ (program : Program) (syncs : List (List Sync)) (once : IsOnce syncs) wh
   pub partners : ArePartners program syncs (pairs_of program syncs)
   partners = record {
     processes = length_mapped (map (partner_of program syncs)) syncs;
-    counts = λ q. ap length (row_mapped (partner_of program syncs) syncs q) ∙ length_mapped (partner_of program syncs) (own_syncs syncs q);
+    counts = λ q. ap length (row_mapped (partner_of program syncs) syncs q) ∙ length_mapped (partner_of program syncs) (get_or syncs q []);
     leads = λ a b. (to a b (sync_at syncs a) (sync_at syncs b) refl refl, from a b (sync_at syncs b) refl);
   }
 

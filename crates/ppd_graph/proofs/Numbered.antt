@@ -16,7 +16,7 @@ use Rattle.ppd_graph.specs.declared.greatest.Greatest.{Greatest}
 use Rattle.ppd_graph.specs.declared.missing.Objects.TheVariants.{Semaphores, Channels}
 use Rattle.ppd_graph.specs.declared.placed.Placed.{Placed}
 use Rattle.ppd_graph.specs.ByNumber.{AllGreatest, greatest_kept}
-use Rattle.ppd_graph.specs.Refusals.{Missing, Numbered, absent, first_missing, missing, missing_of_chan, missing_of_places, missing_of_sem, numbers_of, of_kind, start_of, sync_placed}
+use Rattle.ppd_graph.specs.Refusals.{Missing, absent, first_missing, missing, missing_of_places, numbers_of, object_misses, of_kind, start_of, sync_placed}
 use Rattle.ppd_graph.proofs.Vocabulary.{chan_misses, sem_misses}
 use Rattle.ppd_graph.proofs.Vocabulary.{greatest}
 use Rattle.ppd_graph.proofs.Vocabulary.{numbered_in}
@@ -86,11 +86,14 @@ none_of_kind : (kind : SyncKind) (o : ℕ) (x : Option ℕ) → of_kind kind o x
 none_of_kind kind o None e = refl
 none_of_kind kind o (Some n) e = absurd (cc e)
 
-abbrev numbered : List ℕ → ℕ → Numbered
-numbered xs n = record { is_there = has xs; greatest = n }
-
-sem_within : (o start a b : ℕ) (taken given : List ℕ) → missing_of_sem o start (numbered taken a) (numbered given b) ≡ None → a + (b - start) ≤ length taken + length given
-sem_within o start a b taken given e =
+sem_within : (program : Program) (syncs : List Sync) (o : ℕ) → object_misses Semaphores program (numbered_in syncs) o ≡ None
+    → greatest 0 (numbers_of P o syncs) + (greatest 0 (numbers_of V o syncs) - start_of program o) ≤ length (numbers_of P o syncs) + length (numbers_of V o syncs)
+sem_within program syncs o e =
+    let start : ℕ = start_of program o in
+    let taken : List ℕ = numbers_of P o syncs in
+    let given : List ℕ = numbers_of V o syncs in
+    let a : ℕ = greatest 0 taken in
+    let b : ℕ = greatest 0 given in
     let rest = or_second (of_kind P o (absent 0 a (has taken))) _ e in
     let one = absent_within 0 a taken (none_of_kind P o (absent 0 a (has taken)) (or_first (of_kind P o (absent 0 a (has taken))) _ e)) in
     let two = absent_within start (max start b) given (none_of_kind V o (absent start (max start b) (has given)) (or_first (of_kind V o (absent start (max start b) (has given))) _ rest)) in
@@ -100,22 +103,30 @@ done_of : ℕ → ℕ → ℕ
 done_of zero d = d
 done_of (suc c) d = 0
 
-places_within : (c o s r d : ℕ) (done : List ℕ) → missing_of_places c o s r (numbered done d) ≡ None → done_of c d ≤ length done
+places_within : (c o s r : ℕ) (syncs : List Sync) → missing_of_places c o s r (numbered_in syncs Done o) ≡ None → done_of c (greatest 0 (numbers_of Done o syncs)) ≤ length (numbers_of Done o syncs)
 unfolding done_of
-places_within zero o s r d done e =
+places_within zero o s r syncs e =
+    let done : List ℕ = numbers_of Done o syncs in
+    let d : ℕ = greatest 0 done in
     let rest = or_second (of_kind Recv o _) _ e in
     let one = absent_within 0 d done (none_of_kind Done o (absent 0 d (has done)) (or_first (of_kind Done o (absent 0 d (has done))) _ rest)) in
     omega (arith, one)
-places_within (suc c) o s r d done e = omega arith
+places_within (suc c) o s r syncs e = omega arith
 
-chan_within : (o c s r d : ℕ) (sent received done : List ℕ) → missing_of_chan o c (numbered sent s) (numbered received r) (numbered done d) ≡ None → s + r + done_of c d ≤ length sent + length received + length done
-chan_within o c s r d sent received done e =
+chan_within : (program : Program) (syncs : List Sync) (o : ℕ) → object_misses Channels program (numbered_in syncs) o ≡ None
+    → greatest 0 (numbers_of Send o syncs) + greatest 0 (numbers_of Recv o syncs) + done_of (capacity_of program o) (greatest 0 (numbers_of Done o syncs))
+    ≤ length (numbers_of Send o syncs) + length (numbers_of Recv o syncs) + length (numbers_of Done o syncs)
+chan_within program syncs o e =
+    let sent : List ℕ = numbers_of Send o syncs in
+    let received : List ℕ = numbers_of Recv o syncs in
+    let s : ℕ = greatest 0 sent in
+    let r : ℕ = greatest 0 received in
     let second = or_second (of_kind Send o (absent 0 s (has sent))) _ e in
     let third = or_second (of_kind Send o _) _ second in
     let last = or_second (of_kind Recv o (absent 0 r (has received))) _ third in
     let one = absent_within 0 s sent (none_of_kind Send o (absent 0 s (has sent)) (or_first (of_kind Send o (absent 0 s (has sent))) _ e)) in
     let two = absent_within 0 r received (none_of_kind Recv o (absent 0 r (has received)) (or_first (of_kind Recv o (absent 0 r (has received))) _ third)) in
-    let three = places_within c o s r d done last in
+    let three = places_within (capacity_of program o) o s r syncs last in
     omega (arith, one, two, three)
 
 none_first : (f : ℕ → Option Missing) (n a : ℕ) → first_missing f (range_with_len a n) ≡ None → (o : ℕ) → a ≤ o → o < a + n → f o ≡ None
@@ -235,14 +246,14 @@ missing_within program g placed great none =
     let sems : first_missing (sem_misses program (numbered_in syncs)) (range_with_len 0 (length program.sems)) ≡ None = or_first _ _ none in
     let chans : first_missing (chan_misses program (numbered_in syncs)) (range_with_len 0 (length program.chans)) ≡ None = or_second (first_missing (sem_misses program (numbered_in syncs)) (range_with_len 0 (length program.sems))) _ none in
     let sem = sum_each (object_cost Semaphores program g) (λ o. 1 + (length (numbers P o) + length (numbers V o))) (length program.sems) (λ o lt.
-    let here = sem_within o (start_of program o) (greatest 0 (numbers P o)) (greatest 0 (numbers V o)) (numbers P o) (numbers V o) (none_first (sem_misses program (numbered_in syncs)) (length program.sems) 0 sems o (omega arith) (omega (arith, lt))) in
+    let here = sem_within program syncs o (none_first (sem_misses program (numbered_in syncs)) (length program.sems) 0 sems o (omega arith) (omega (arith, lt))) in
     let a = great P o in
     let b = great V o in
     omega (arith, here, a, b)) in
     let sem' = sum_ones (λ o. length (numbers P o) + length (numbers V o)) (length program.sems) in
     let sem'' = sum_both P (λ o. length (numbers P o) + length (numbers V o)) (λ o. length (numbers P o)) (λ o. length (numbers V o)) (length program.sems) (λ o. refl) in
     let chan = sum_each (object_cost Channels program g) (λ o. 1 + ((length (numbers Send o) + length (numbers Recv o)) + length (numbers Done o))) (length program.chans) (λ o lt.
-    let here = chan_within o (capacity_of program o) (greatest 0 (numbers Send o)) (greatest 0 (numbers Recv o)) (greatest 0 (numbers Done o)) (numbers Send o) (numbers Recv o) (numbers Done o)
+    let here = chan_within program syncs o
     (none_first (chan_misses program (numbered_in syncs)) (length program.chans) 0 chans o (omega arith) (omega (arith, lt))) in
     let a = great Send o in
     let b = great Recv o in

@@ -6,6 +6,7 @@ use Rattle.ppd_ast.specs.declared.program.Program.{Program}
 use Rattle.ppd_ast.specs.declared.status.SyncKind.{SyncKind}
 use Rattle.ppd_ast.specs.Members.{has}
 use Rattle.ppd_entry.specs.declared.entry.Entry.{Entry}
+use Rattle.ppd_entry.specs.declared.entry.Entry.TheVariants as entry
 use Rattle.ppd_entry.specs.declared.entry.Logs.{Logs}
 use Rattle.ppd_entry.specs.Entries.{same_kind}
 use Rattle.ppd_model.specs.declared.graph.NodeId.{NodeId}
@@ -19,9 +20,9 @@ use Rattle.ppd_graph.specs.declared.placed.Placed.{Placed}
 use Rattle.ppd_graph.specs.ByNumber.{AllGreatest, KeepsAll, node_among, node_wanted, numbered_kept, partner_kept}
 use Rattle.ppd_model.specs.RecordedSets.{record_in, sync_in}
 use Rattle.ppd_graph.specs.Partners.{found, found_from, found_in_row, paired_by, pairs_of, partner_of, wanted}
-use Rattle.ppd_graph.specs.Refusals.{Numbered, missing, missing_by, numbers_of, place, placed, placed_from, sync_placed}
+use Rattle.ppd_graph.specs.Refusals.{Numbered, missing, missing_by, numbers_of, placed, placed_from, sync_placed}
 use Rattle.ppd_graph.proofs.Vocabulary.{placed_lists}
-use Rattle.ppd_graph.proofs.Vocabulary.{count_on, numbered_in}
+use Rattle.ppd_graph.proofs.Vocabulary.{numbered_in}
 use Rattle.ppd_model.specs.SameSyncs.{same_sync}
 
 -- ---- where the first stands
@@ -32,12 +33,13 @@ first_or false x r later a e = e
 
 among_row : (s : Sync) (p e i : ℕ) (xs : List Entry) (rest : List Placed) → node_among s (placed_from p e i xs ++ rest) ≡ or_else (found_in_row s p i (filter_map sync_in xs)) (node_among s rest)
 among_row s p e i [] rest = refl
-among_row s p e i (x ∷ xs) rest = by (sync_in x) (among_row s p (e + 1) (count_on i (sync_in x)) xs rest)
-  where
-    by : (o : Option Sync) → node_among s (placed_from p (e + 1) (count_on i o) xs ++ rest) ≡ or_else (found_in_row s p (count_on i o) (filter_map sync_in xs)) (node_among s rest)
-        → node_among s ((place p e i o ++ placed_from p (e + 1) (count_on i o) xs) ++ rest) ≡ or_else (found_in_row s p i (cons_option o (filter_map sync_in xs))) (node_among s rest)
-    by None h = h
-    by (Some y) h = first_or (same_sync y s) (node_among s (placed_from p (e + 1) (i + 1) xs ++ rest)) (found_in_row s p (i + 1) (filter_map sync_in xs)) (node_among s rest) (node p i) h
+among_row s p e i (entry.Sync kind object number value reads writes ∷ xs) rest =
+    first_or (same_sync (sync kind object number) s) (node_among s (placed_from p (e + 1) (i + 1) xs ++ rest)) (found_in_row s p (i + 1) (filter_map sync_in xs)) (node_among s rest) (node p i)
+    (among_row s p (e + 1) (i + 1) xs rest)
+among_row s p e i (entry.Prelog block values ∷ xs) rest = among_row s p (e + 1) i xs rest
+among_row s p e i (entry.Unit unit values ∷ xs) rest = among_row s p (e + 1) i xs rest
+among_row s p e i (entry.Postlog block values ∷ xs) rest = among_row s p (e + 1) i xs rest
+among_row s p e i (entry.End status left reads writes ∷ xs) rest = among_row s p (e + 1) i xs rest
 
 pub among_found : (s : Sync) (p : ℕ) (lists : List (List Entry)) → node_among s (placed_lists p lists) ≡ found_from s p (map (filter_map sync_in) lists)
 among_found s p [] = refl

@@ -8,7 +8,6 @@ use Rattle.ppd_ast.specs.declared.status.SyncKind.TheVariants.{P, V, Send, Recv,
 use Rattle.ppd_entry.specs.declared.entry.Entry.{Entry}
 use Rattle.ppd_entry.specs.declared.entry.Entry.TheVariants as entry
 use Rattle.ppd_entry.specs.declared.entry.Logs.{Logs}
-use Rattle.ppd_entry.specs.Entries.{at_entry}
 use Rattle.ppd_graph.specs.Refusals.{missing, placed, sync_placed, twice_after, without_object}
 
 objects : List Sem → List Chan → Program
@@ -29,15 +28,15 @@ unit = entry.Unit 0 []
 logs_of : List (List Entry) → Logs
 logs_of lists = record { lists = lists }
 
-twice : twice_after (objects (starting 0 ∷ []) []) [] (placed (logs_of ((unit ∷ done V 0 1 ∷ []) ∷ (unit ∷ unit ∷ done V 0 1 ∷ []) ∷ []))) ≡ Some (at_entry 1 2)
+twice : twice_after (objects (starting 0 ∷ []) []) [] (placed (logs_of ((unit ∷ done V 0 1 ∷ []) ∷ (unit ∷ unit ∷ done V 0 1 ∷ []) ∷ []))) ≡ Some (record { process = 1; entry = 2 })
 unfolding objects starting done unit logs_of
 twice = refl
 
-from_start : twice_after (objects (starting 2 ∷ []) []) [] (placed (logs_of ((done V 0 3 ∷ done V 0 2 ∷ []) ∷ []))) ≡ Some (at_entry 0 1)
+from_start : twice_after (objects (starting 2 ∷ []) []) [] (placed (logs_of ((done V 0 3 ∷ done V 0 2 ∷ []) ∷ []))) ≡ Some (record { process = 0; entry = 1 })
 unfolding objects starting done logs_of
 from_start = refl
 
-no_object : without_object (objects (starting 2 ∷ []) []) (placed (logs_of ((done V 0 3 ∷ done Send 0 1 ∷ []) ∷ []))) ≡ Some (at_entry 0 1)
+no_object : without_object (objects (starting 2 ∷ []) []) (placed (logs_of ((done V 0 3 ∷ done Send 0 1 ∷ []) ∷ []))) ≡ Some (record { process = 0; entry = 1 })
 unfolding objects starting done logs_of
 no_object = refl
 
@@ -101,6 +100,6 @@ none_missing_of_offers : missing (objects [] (holding 0 ∷ [])) (map sync_place
 unfolding objects holding done logs_of
 none_missing_of_offers = refl
 
-completion_of_places : without_object (objects [] (holding 1 ∷ [])) (placed (logs_of ((done Send 0 1 ∷ done Done 0 1 ∷ []) ∷ []))) ≡ Some (at_entry 0 1)
+completion_of_places : without_object (objects [] (holding 1 ∷ [])) (placed (logs_of ((done Send 0 1 ∷ done Done 0 1 ∷ []) ∷ []))) ≡ Some (record { process = 0; entry = 1 })
 unfolding objects holding done logs_of
 completion_of_places = refl

@@ -6,7 +6,7 @@ use Rattle.std.proofs.lemmas.Bool.{and_from, and_parts, cases_eq, cases_lt, cond
 use Rattle.ppd_ast.specs.declared.program.Program.{Program}
 use Rattle.ppd_model.specs.declared.graph.NodeId.{NodeId}
 use Rattle.ppd_model.specs.Synchronizations.{Sync, leads_at}
-use Rattle.ppd_model.specs.HappenedBefore.{Before, direct, is_direct, node, own_syncs, sync_at, through}
+use Rattle.ppd_model.specs.HappenedBefore.{Before, direct, is_direct, node, sync_at, through}
 use Rattle.ppd_model.proofs.OrderWords.{is_next}
 use Rattle.ppd_model.specs.World.{change}
 use Rattle.ppd_model.proofs.Changes.{length-change}
@@ -94,15 +94,15 @@ module _ (program : Program) (syncs : List (List Sync)) where
       let r = last_step m b k in
       (r.0, inr (further a m r.0 h r.1), r.2)
 
-  pub next_direct : (q j : ℕ) → suc j < length (own_syncs syncs q) → IsTrue (is_direct program syncs (node q j) (node q (suc j)))
+  pub next_direct : (q j : ℕ) → suc j < length (get_or syncs q []) → IsTrue (is_direct program syncs (node q j) (node q (suc j)))
   next_direct q j h =
       or_left (is_next syncs (node q j) (node q (suc j))) (leads_at program (sync_at syncs (node q j)) (sync_at syncs (node q (suc j))))
-      (and_from (nat_eq q q && nat_eq (j + 1) (suc j)) (is_some (slice_get (own_syncs syncs q) (suc j)))
+      (and_from (nat_eq q q && nat_eq (j + 1) (suc j)) (is_some (slice_get (get_or syncs q []) (suc j)))
       (and_from (nat_eq q q) (nat_eq (j + 1) (suc j)) (eq-eqb q q refl) (eq-eqb (j + 1) (suc j) (omega arith)))
-      (there_at (own_syncs syncs q) (suc j) h))
+      (there_at (get_or syncs q []) (suc j) h))
 
   -- the synchronizations of one process in their order
-  pub own_order : (q i j : ℕ) → i < j → j < length (own_syncs syncs q) → Before program syncs (node q i) (node q j)
+  pub own_order : (q i j : ℕ) → i < j → j < length (get_or syncs q []) → Before program syncs (node q i) (node q j)
   own_order q i zero lt h = absurd (omega arith)
   own_order q i (suc j) lt h = elim (cases_lt i j) [
     | inl less ↦ through (own_order q i j less (omega (arith, h))) (direct (next_direct q j h))
@@ -125,7 +125,7 @@ module _ (program : Program) (syncs : List (List Sync)) where
       j : ℕ
       j = length (own_times times q)
 
-      in_syncs : length (own_times times q) < length (own_syncs syncs q)
+      in_syncs : length (own_times times q) < length (get_or syncs q [])
       in_syncs = subst (λ n. length (own_times times q) < n) (partners.counts q) r.there
 
       there : q < length times
@@ -298,15 +298,15 @@ module _ (program : Program) (syncs : List (List Sync)) where
             (counts_other p i d lt)
       ]
 
-      within_after : (p : ℕ) → length (own_times after p) ≤ length (own_syncs syncs p)
+      within_after : (p : ℕ) → length (own_times after p) ≤ length (get_or syncs p [])
       within_after p = elim (cases_eq p q) [
         | inl e ↦
             let now : length (own_times after p) ≡ length (own_times after q) = ap (λ x. length (own_times after x)) e in
-            let long : length (own_syncs syncs p) ≡ length (own_syncs syncs q) = ap (λ x. length (own_syncs syncs x)) e in
+            let long : length (get_or syncs p []) ≡ length (get_or syncs q []) = ap (λ x. length (get_or syncs x [])) e in
             let more = count_after in
             let left = in_syncs in
             omega (arith, now, long, more, left)
-        | inr d ↦ subst (λ row. length row ≤ length (own_syncs syncs p)) (sym (own_other p d)) (o.within p)
+        | inr d ↦ subst (λ row. length row ≤ length (get_or syncs p [])) (sym (own_other p d)) (o.within p)
       ]
 
       pub timed_more : IsTimed program syncs (with_time q (next_time pairs times q) times)
@@ -335,7 +335,7 @@ module _ (program : Program) (syncs : List (List Sync)) where
 pub timed_none : (pairs : List (List Paired)) → AreTimed pairs (replicate (length pairs) (no_items (List ℕ)))
 timed_none pairs program syncs partners = record {
   processes = length_replicated (length pairs) (no_items (List ℕ)) ∙ partners.processes;
-  within = λ q. subst (λ row. length row ≤ length (own_syncs syncs q)) (sym (none_at {A = List ℕ} (length pairs) q)) (omega arith);
+  within = λ q. subst (λ row. length row ≤ length (get_or syncs q [])) (sym (none_at {A = List ℕ} (length pairs) q)) (omega arith);
   closed = λ a b h done. absurd (no_one b done);
   acyclic = λ a done h. no_one a done;
   counts = λ a done p i lt. absurd (no_one a done);

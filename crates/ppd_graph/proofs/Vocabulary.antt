@@ -1,26 +1,24 @@
 -- What the proofs speak of: counts that go down, the last runs of a round, and parts of the definitions.
-use Rattle.std.specs.Prelude.{ℕ, ◌+◌, ◌-◌, List, [], ◌∷◌, length, Bool, ◌||◌, Option, Some, None, if◌then◌else◌, ◌++◌, zero, suc, not, nat_eq, ◌&&◌, is_some, max, fold, ◌≡◌, ◌⊎◌, ◌<◌, ◌≤◌}
-use Rattle.std.specs.List.{AllByRecursion}
-use Rattle.std.specs.Option.{option_map_or}
-use Rattle.ppd_ast.specs.declared.program.Program.{Program}
-use Rattle.ppd_ast.specs.Members.{has}
 use Rattle.ppd_ast.specs.Counting.{one_if}
-use Rattle.ppd_entry.specs.declared.entry.At.{At}
-use Rattle.ppd_model.specs.Synchronizations.{Sync}
-use Rattle.ppd_model.specs.SameSyncs.{same_sync}
-use Rattle.ppd_model.specs.declared.graph.NodeId.{NodeId}
-use Rattle.ppd_graph.specs.declared.placed.Placed.{Placed}
-use Rattle.ppd_graph.specs.Refusals.{is_from_start, sync_placed, Numbered, numbers_of, Missing, object_misses, placed_from}
-use Rattle.ppd_graph.specs.declared.paired.Paired.{Paired}
-use Rattle.ppd_graph.specs.Times.{next_of}
-use Rattle.ppd_graph.specs.Cycles.{stretch, is_same}
+use Rattle.ppd_ast.specs.Members.{has}
+use Rattle.ppd_ast.specs.declared.program.Program.{Program}
 use Rattle.ppd_ast.specs.declared.program.Sem.{Sem}
 use Rattle.ppd_ast.specs.declared.status.SyncKind.{SyncKind}
 use Rattle.ppd_entry.specs.Entries.{same_kind}
-use Rattle.ppd_model.specs.Numbers.{sync}
-use Rattle.ppd_graph.specs.declared.missing.Objects.TheVariants.{Semaphores, Channels}
+use Rattle.ppd_entry.specs.declared.entry.At.{At}
 use Rattle.ppd_entry.specs.declared.entry.Entry.{Entry}
-use Rattle.ppd_ast.specs.Numbered.{each_from}
+use Rattle.ppd_graph.specs.Cycles.{is_same, stretch}
+use Rattle.ppd_graph.specs.Refusals.{Missing, Numbered, is_from_start, numbers_of, object_misses, placed_from, sync_placed}
+use Rattle.ppd_graph.specs.Times.{next_of}
+use Rattle.ppd_graph.specs.declared.missing.Objects.TheVariants.{Channels, Semaphores}
+use Rattle.ppd_graph.specs.declared.paired.Paired.{Paired}
+use Rattle.ppd_graph.specs.declared.placed.Placed.{Placed}
+use Rattle.ppd_model.specs.SameSyncs.{same_sync}
+use Rattle.ppd_model.specs.Synchronizations.{Sync}
+use Rattle.ppd_model.specs.declared.graph.NodeId.{NodeId}
+use Rattle.std.specs.List.{AllByRecursion, enumerate_from, flat_map}
+use Rattle.std.specs.Option.{option_map_or}
+use Rattle.std.specs.Prelude.{Bool, List, None, Option, Some, [], fold, if◌then◌else◌, is_some, length, max, nat_eq, not, suc, zero, ℕ, ◌&&◌, ◌++◌, ◌+◌, ◌-◌, ◌<◌, ◌||◌, ◌∷◌, ◌≡◌, ◌≤◌, ◌⊎◌}
 
 -- how many have no time yet
 abbrev pub untimed : {A B : Type 0} → List (List A) → List (List B) → ℕ
@@ -89,4 +87,4 @@ chan_misses program numbered o = object_misses Channels program numbered o
 
 -- those of the processes from number p on
 abbrev pub placed_lists : ℕ → List (List Entry) → List Placed
-placed_lists p lists = each_from (λ q. placed_from q 0 0) p lists
+placed_lists p lists = flat_map (λ e. placed_from e.0 0 0 e.1) (enumerate_from p lists)

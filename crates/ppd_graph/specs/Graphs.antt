@@ -3,7 +3,7 @@ use Rattle.std.specs.Prelude.{◌≡◌, ◌↔◌, ℕ, zero, suc, ◌^◌, ◌
 use Rattle.ppd_ast.specs.declared.program.Program.{Program}
 use Rattle.ppd_entry.specs.declared.entry.Logs.{Logs}
 use Rattle.ppd_model.specs.declared.graph.EdgeId.{EdgeId}
-use Rattle.ppd_model.specs.HappenedBefore.{Before, EdgeBefore, node, own_syncs}
+use Rattle.ppd_model.specs.HappenedBefore.{Before, EdgeBefore, node}
 use Rattle.ppd_graph.specs.declared.sync_graph.SyncGraph.{SyncGraph}
 use Rattle.ppd_graph.specs.declared.sets.EdgeSets.{EdgeSets}
 use Rattle.ppd_model.specs.RecordedSets.{record_in}
@@ -66,5 +66,5 @@ TimesOrderEdges =
     (program : Program) (syncs : List (List Sync)) (pairs : List (List Paired)) (times : List (List (List ℕ)))
     → ArePartners program syncs pairs → AreTimed pairs times → ((q : ℕ) → HasAll pairs times q)
     → ((a : NodeId) → Before program syncs a a → ⊥)
-    × ((a b : EdgeId) → a.process < length syncs → b.edge ≤ length (own_syncs syncs b.process)
+    × ((a b : EdgeId) → a.process < length syncs → b.edge ≤ length (get_or syncs b.process [])
     → IsTrue (before_by times a b) ↔ EdgeBefore program syncs a b)

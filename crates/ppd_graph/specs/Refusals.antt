@@ -1,30 +1,28 @@
 -- Why logs have no graph, the first reason in order.
-use Rattle.std.specs.Prelude.{◌≡◌, ℕ, zero, suc, ◌+◌, ◌-◌, max, nat_eq, nat_lt, nat_le, Bool, not, ◌&&◌, ◌||◌, List, [], ◌∷◌, ◌++◌, map, find, filter_map, length, slice_get, Option, Some, None, ⊤, if◌then◌else◌, is_some, fold}
-use Rattle.std.specs.List.{list_any, range_with_len}
-use Rattle.std.specs.Option.{option_map_or}
+use Rattle.ppd_ast.specs.Members.{has}
 use Rattle.ppd_ast.specs.declared.program.Program.{Program}
 use Rattle.ppd_ast.specs.declared.status.SyncKind.{SyncKind}
-use Rattle.ppd_ast.specs.declared.status.SyncKind.TheVariants.{P, V, Send, Recv, Done}
-use Rattle.ppd_ast.specs.Numbered.{each_from}
-use Rattle.ppd_ast.specs.Members.{has}
+use Rattle.ppd_ast.specs.declared.status.SyncKind.TheVariants.{Done, P, Recv, Send, V}
+use Rattle.ppd_entry.specs.Entries.{same_kind}
 use Rattle.ppd_entry.specs.declared.entry.At.{At}
 use Rattle.ppd_entry.specs.declared.entry.Entry.{Entry}
 use Rattle.ppd_entry.specs.declared.entry.Logs.{Logs}
-use Rattle.ppd_entry.specs.Entries.{same_kind, at_entry}
-use Rattle.ppd_model.specs.declared.graph.NodeId.{NodeId}
-use Rattle.std.specs.Option.{option_or as or_else}
-use Rattle.ppd_model.specs.HappenedBefore.{Before, node}
+use Rattle.ppd_graph.specs.Cycles.{IsCycle}
+use Rattle.ppd_graph.specs.declared.missing.Objects.{Objects}
+use Rattle.ppd_graph.specs.declared.missing.Objects.TheVariants.{Channels, Semaphores}
+use Rattle.ppd_graph.specs.declared.placed.Placed.{Placed}
+use Rattle.ppd_graph.specs.declared.refusal.BadSync.{BadSync}
+use Rattle.ppd_graph.specs.declared.refusal.BadSync.TheVariants.{Cycle, Memory, NoObject, NumberMissing, NumberTwice}
+use Rattle.ppd_model.specs.HappenedBefore.{is_before, node}
 use Rattle.ppd_model.specs.Numbers.{sync}
+use Rattle.ppd_model.specs.RecordedSets.{record_in, sync_in}
 use Rattle.ppd_model.specs.SameSyncs.{same_sync}
 use Rattle.ppd_model.specs.Synchronizations.{Sync}
 use Rattle.ppd_model.specs.Tables.{capacity_of}
-use Rattle.ppd_graph.specs.declared.missing.Objects.{Objects}
-use Rattle.ppd_graph.specs.declared.missing.Objects.TheVariants.{Semaphores, Channels}
-use Rattle.ppd_graph.specs.declared.placed.Placed.{Placed}
-use Rattle.ppd_graph.specs.declared.refusal.BadSync.{BadSync}
-use Rattle.ppd_graph.specs.declared.refusal.BadSync.TheVariants.{NumberTwice, NumberMissing, Cycle, NoObject, Memory}
-use Rattle.ppd_graph.specs.Cycles.{IsCycle}
-use Rattle.ppd_model.specs.RecordedSets.{record_in, sync_in}
+use Rattle.ppd_model.specs.declared.graph.NodeId.{NodeId}
+use Rattle.std.specs.List.{enumerate_from, flat_map, list_any, range_with_len}
+use Rattle.std.specs.Option.{option_map_or, option_or as or_else}
+use Rattle.std.specs.Prelude.{Bool, List, None, Option, Some, [], false, filter_map, find, fold, if◌then◌else◌, is_some, length, map, max, nat_eq, nat_le, nat_lt, not, option_map, option_to_list, slice_get, suc, zero, ℕ, ⊤, ◌&&◌, ◌++◌, ◌+◌, ◌-◌, ◌||◌, ◌∷◌, ◌≡◌}
 
 -- ---- the synchronizations with their places
 
@@ -32,21 +30,24 @@ use Rattle.ppd_model.specs.RecordedSets.{record_in, sync_in}
 abbrev pub sync_placed : Placed → Sync
 sync_placed x = sync x.kind x.object x.number
 
--- the synchronization that an entry is, if it is one, as number i of process p
-abbrev pub place : ℕ → ℕ → ℕ → Option Sync → List Placed
-place p e i None = []
-place p e i (Some s) =
-    record { at = at_entry p e; node = node p i; kind = s.kind; object = s.object; number = s.number } ∷ []
-
 -- those among the entries of process p from entry e and synchronization i on
 abbrev pub placed_from : ℕ → ℕ → ℕ → List Entry → List Placed
 placed_from p e i [] = []
 placed_from p e i (x ∷ xs) =
-    place p e i (sync_in x) ++ placed_from p (e + 1) (if is_some (sync_in x) then i + 1 else i) xs
+    option_to_list (option_map
+    (λ s. record {
+      at = record { process = p; entry = e };
+      node = node p i;
+      kind = s.kind;
+      object = s.object;
+      number = s.number;
+    })
+    (sync_in x))
+    ++ placed_from p (e + 1) (if is_some (sync_in x) then i + 1 else i) xs
 
 -- all synchronizations of logs, in order of process and entry
 abbrev pub placed : Logs → List Placed
-placed logs = each_from (λ p. placed_from p 0 0) 0 logs.lists
+placed logs = flat_map (λ e. placed_from e.0 0 0 e.1) (enumerate_from 0 logs.lists)
 
 -- ---- no object
 
@@ -99,45 +100,20 @@ abbrev pub of_kind : SyncKind → ℕ → Option ℕ → Option Missing
 of_kind kind object None = None
 of_kind kind object (Some n) = Some (kind, object, n)
 
-abbrev pub number_if : Bool → ℕ → Option ℕ
-number_if b n = if b then Some n else None
-
 -- the synchronizations of one kind and object: which numbers are there, and the greatest of them
 pub record Numbered : Type 0 where
   pub is_there : ℕ → Bool
   pub greatest : ℕ
 
--- of a semaphore with this initial value, and these taken and given; the initial value counts as given
-abbrev pub missing_of_sem : ℕ → ℕ → Numbered → Numbered → Option Missing
-missing_of_sem o start taken given =
-    let a = taken.greatest in
-    let b = max start given.greatest in
-    or_else (of_kind P o (absent 0 a taken.is_there))
-    (or_else (of_kind V o (absent start b given.is_there))
-    (of_kind V o (number_if (nat_lt b a) (b + 1))))
-
--- of a channel of capacity 0: what a send waits for is the completion before it
-abbrev pub missing_of_handover : ℕ → ℕ → ℕ → Numbered → Option Missing
-missing_of_handover o s r completed =
-    let d = completed.greatest in
-    or_else (of_kind Recv o (number_if (nat_lt r d) (r + 1)))
-    (or_else (of_kind Done o (absent 0 d completed.is_there))
-    (of_kind Done o (number_if (nat_lt (d + 1) s) (d + 1))))
-
--- of a channel with this capacity: what a send finds no place without
+-- of a channel with this capacity: what a send finds no place without; of one without places, what it waits for is the
+-- completion before it
 abbrev pub missing_of_places : ℕ → ℕ → ℕ → ℕ → Numbered → Option Missing
-missing_of_places zero o s r completed = missing_of_handover o s r completed
-missing_of_places (suc c) o s r completed = of_kind Recv o (number_if (nat_lt (r + suc c) s) (r + 1))
-
--- of a channel with this capacity, and these sent, received and completed
-abbrev pub missing_of_chan : ℕ → ℕ → Numbered → Numbered → Numbered → Option Missing
-missing_of_chan o capacity sent received completed =
-    let s = sent.greatest in
-    let r = received.greatest in
-    or_else (of_kind Send o (absent 0 s sent.is_there))
-    (or_else (of_kind Send o (number_if (nat_lt s r) (s + 1)))
-    (or_else (of_kind Recv o (absent 0 r received.is_there))
-    (missing_of_places capacity o s r completed)))
+missing_of_places zero o s r completed =
+    let d = completed.greatest in
+    or_else (of_kind Recv o (if nat_lt r d then Some (r + 1) else None))
+    (or_else (of_kind Done o (absent 0 d completed.is_there))
+    (of_kind Done o (if nat_lt (d + 1) s then Some (d + 1) else None)))
+missing_of_places (suc c) o s r completed = of_kind Recv o (if nat_lt (r + suc c) s then Some (r + 1) else None)
 
 -- the first of these objects at which something is missing
 abbrev pub first_missing : (ℕ → Option Missing) → List ℕ → Option Missing
@@ -149,11 +125,23 @@ abbrev pub object_count : Objects → Program → ℕ
 object_count Semaphores program = length program.sems
 object_count Channels program = length program.chans
 
--- what is missing of one of them
+-- what is missing of one of them, by the first that is: of a semaphore, whose initial value counts as given, what was
+-- taken, what was given, and what the greatest taken waited for; of a channel what was sent, also for the greatest
+-- received, what was received, and what a send finds no place without
 abbrev pub object_misses : Objects → Program → (SyncKind → ℕ → Numbered) → ℕ → Option Missing
-object_misses Semaphores program numbered o = missing_of_sem o (start_of program o) (numbered P o) (numbered V o)
+object_misses Semaphores program numbered o =
+    let a = (numbered P o).greatest in
+    let b = max (start_of program o) (numbered V o).greatest in
+    or_else (of_kind P o (absent 0 a (numbered P o).is_there))
+    (or_else (of_kind V o (absent (start_of program o) b (numbered V o).is_there))
+    (of_kind V o (if nat_lt b a then Some (b + 1) else None)))
 object_misses Channels program numbered o =
-    missing_of_chan o (capacity_of program o) (numbered Send o) (numbered Recv o) (numbered Done o)
+    let s = (numbered Send o).greatest in
+    let r = (numbered Recv o).greatest in
+    or_else (of_kind Send o (absent 0 s (numbered Send o).is_there))
+    (or_else (of_kind Send o (if nat_lt s r then Some (s + 1) else None))
+    (or_else (of_kind Recv o (absent 0 r (numbered Recv o).is_there))
+    (missing_of_places (capacity_of program o) o s r (numbered Done o))))
 
 -- the first missing synchronization, semaphores before channels
 abbrev pub missing_by : Program → (SyncKind → ℕ → Numbered) → Option Missing
@@ -196,4 +184,4 @@ IsRefused program logs e = IsRefusedFor program (placed logs) e
 -- the logs have a graph: the tests pass, and nothing happens before itself
 pub record AreOrdered (program : Program) (logs : Logs) : Type 0 where
   pub numbered : AreNumbered program (placed logs)
-  pub acyclic : (a : NodeId) → Before program (record_in logs) a a → ⊥
+  pub acyclic : (a : NodeId) → is_before program (record_in logs) a a ≡ false

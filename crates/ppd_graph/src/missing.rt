@@ -2,7 +2,7 @@ ghost use Rattle.std.specs.Prelude.{◌≡◌, ◌≤◌, ◌+◌, ◌-◌, leng
 ghost use Rattle.std.specs.List.{range_with_len};
 ghost use Rattle.ppd_graph.specs.ByNumber.{greatest_kept, node_kept, numbered_kept};
 ghost use Rattle.ppd_graph.specs.Spending.{chan_numbers, done_numbers, missing_cost, object_numbers, objects_cost, sem_numbers};
-ghost use Rattle.ppd_graph.specs.Refusals.{absent as absent_by, first_missing, missing_by, missing_of_chan as missing_of_channel, missing_of_handover as missing_of_offers, missing_of_places as missing_of_room, missing_of_sem as missing_of_semaphore, object_count, object_misses, start_of as start_in_program};
+ghost use Rattle.ppd_graph.specs.Refusals.{absent as absent_by, first_missing, missing_by, missing_of_places as missing_of_room, object_count, object_misses};
 ghost use Rattle.ppd_model.specs.Tables.{capacity_of as capacity_in_program};
 
 use crate::by_number::{ByNumber, start_of};
@@ -69,9 +69,8 @@ impl<'a> Numbers<'a> {
         ensures taken { IfNone result
             (steps.new ≡ steps.old + sem_numbers self.now.program.now self.now.greatest.now sem) }
         ensures value { result
-            ≡ missing_of_semaphore sem (start_in_program self.now.program.now sem)
-            (numbered_kept self.now.nodes.now self.now.greatest.now SyncKind.P sem)
-            (numbered_kept self.now.nodes.now self.now.greatest.now SyncKind.V sem) }
+            ≡ object_misses Objects.Semaphores self.now.program.now
+            (numbered_kept self.now.nodes.now self.now.greatest.now) sem }
     {
         let start = start_of(self.program, sem);
         let taken = self.greatest.of(SyncKind::P, sem);
@@ -99,7 +98,7 @@ impl<'a> Numbers<'a> {
         ensures cost { steps.new ≤ steps.old + greatest_kept self.now.greatest.now SyncKind.Done chan }
         ensures taken { IfNone result (steps.new ≡ steps.old + greatest_kept self.now.greatest.now SyncKind.Done chan) }
         ensures value { result
-            ≡ missing_of_offers chan sent received
+            ≡ missing_of_room 0 chan sent received
             (numbered_kept self.now.nodes.now self.now.greatest.now SyncKind.Done chan) }
     {
         let completed = self.greatest.of(SyncKind::Done, chan);
@@ -147,10 +146,8 @@ impl<'a> Numbers<'a> {
         ensures taken { IfNone result
             (steps.new ≡ steps.old + chan_numbers self.now.program.now self.now.greatest.now chan) }
         ensures value { result
-            ≡ missing_of_channel chan (capacity_in_program self.now.program.now chan)
-            (numbered_kept self.now.nodes.now self.now.greatest.now SyncKind.Send chan)
-            (numbered_kept self.now.nodes.now self.now.greatest.now SyncKind.Recv chan)
-            (numbered_kept self.now.nodes.now self.now.greatest.now SyncKind.Done chan) }
+            ≡ object_misses Objects.Channels self.now.program.now
+            (numbered_kept self.now.nodes.now self.now.greatest.now) chan }
     {
         let sent = self.greatest.of(SyncKind::Send, chan);
         let received = self.greatest.of(SyncKind::Recv, chan);

@@ -1,10 +1,10 @@
-ghost use Rattle.std.specs.Prelude.{◌≡◌, ◌<◌, ◌≤◌, ◌+◌, ◌^◌, ◌++◌, [], is_some, length, IfOk, OnOk, if◌then◌else◌};
-ghost use Rattle.ppd_ast.specs.Numbered.{each_from};
+ghost use Rattle.std.specs.Prelude.{◌≡◌, ◌<◌, ◌≤◌, ◌+◌, ◌^◌, ◌++◌, ◌∷◌, List, [], is_some, length, IfOk, OnOk, if◌then◌else◌};
 ghost use Rattle.ppd_graph.specs.LogRecord.{AreFew};
 ghost use Rattle.ppd_model.specs.RecordedSets.{sync_in};
-ghost use Rattle.std.specs.List.{sum_by};
+ghost use Rattle.std.specs.List.{sum_by, flat_map, enumerate_from};
 ghost use Rattle.ppd_graph.specs.Spending.{list_cost};
-ghost use Rattle.ppd_graph.specs.Refusals.{place, placed_from};
+ghost use Rattle.ppd_entry.specs.declared.entry.Entry.{Entry as EntryOf};
+ghost use Rattle.ppd_graph.specs.Refusals.{placed_from};
 
 use ppd_ast::limits::MOST_NAMED;
 use ppd_ast::{Memory, Seq, Steps, SyncKind};
@@ -32,7 +32,9 @@ fn place_one(
     entry: &Entry,
 ) -> Result<u32, Memory>
     requires { sync + 1 < 2 ^ 32 }
-    ensures placed { IfOk result (λ now. placed.new ≡ placed.old ++ place process index sync (sync_in entry.now)) }
+    ensures placed { IfOk result (λ now. (rest : List EntryOf)
+        → placed.new ++ placed_from process (index + 1) now rest
+        ≡ placed.old ++ placed_from process index sync (entry.now ∷ rest)) }
     ensures next { IfOk result (λ now. now ≡ (if is_some (sync_in entry.now) then sync + 1 else sync)) }
 {
     match entry {
@@ -85,7 +87,8 @@ pub(crate) fn all_placed<L: Ledger>(
 ) -> Result<Seq<Placed>, Memory>
     requires processes { length lists.now ≤ MOST_NAMED }
     requires few { AreFew lists.now }
-    ensures placed { IfOk result (λ placed. placed ≡ each_from (λ p. placed_from p 0 0) 0 lists.now) }
+    ensures placed { IfOk result
+        (λ placed. placed ≡ flat_map (λ e. placed_from e.0 0 0 e.1) (enumerate_from 0 lists.now)) }
     ensures cost { steps.new ≤ steps.old + sum_by list_cost lists.now }
     ensures taken { OnOk result (steps.new ≡ steps.old + sum_by list_cost lists.now) }
 {

@@ -1,7 +1,8 @@
-ghost use Rattle.std.specs.Prelude.{◌≡◌, ◌++◌, [], None, IfOk, OnOk, ◌≤◌, ◌+◌, length, map, unwrap_or};
+ghost use Rattle.std.specs.Prelude.{◌≡◌, ◌++◌, ◌∷◌, List, None, IfOk, OnOk, ◌≤◌, ◌+◌, length, map, unwrap_or};
 ghost use Rattle.std.specs.List.{sum_by};
 ghost use Rattle.ppd_graph.specs.Spending.{list_cost};
-ghost use Rattle.ppd_graph.specs.LogRecord.{edge_sets, ended_by, found_after, no_sets, sets_from};
+ghost use Rattle.ppd_entry.specs.declared.entry.Entry.{Entry as EntryOf};
+ghost use Rattle.ppd_graph.specs.LogRecord.{edge_sets, no_sets, sets_from};
 
 use ppd_ast::{Cells, Memory, Seq, Steps};
 use ppd_entry::{Boxed, BoxedCells, Entry};
@@ -51,8 +52,8 @@ fn take_entry(
     found: Option<EdgeSets>,
     entry: &Entry,
 ) -> Result<Option<EdgeSets>, Memory>
-    ensures edges { IfOk result (λ now. edges.new ≡ edges.old ++ ended_by entry.now) }
-    ensures found { IfOk result (λ now. now ≡ found_after found entry.now) }
+    ensures { IfOk result (λ now. (rest : List EntryOf)
+        → edges.new ++ sets_from now rest ≡ edges.old ++ sets_from found (entry.now ∷ rest)) }
 {
     match entry {
         Entry::Sync { reads, writes, .. } => {

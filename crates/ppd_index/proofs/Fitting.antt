@@ -1,22 +1,22 @@
 -- The interval logs of a log without refusals fit the plan.
-use Rattle.std.proofs.Common.{◌≡◌, ℕ, zero, suc, ◌+◌, ◌≤◌, ◌<◌, Bool, true, false, List, [], ◌∷◌, ◌++◌, Option, Some, None, refl, sym, subst, arith, true≢false}
-use Rattle.std.specs.Prelude.{ℤ, fold, nat_eq, slice_get, ⊤, ◌||◌, if◌then◌else◌}
-use Rattle.std.proofs.lemmas.Bool.{eqb-true}
-use Rattle.ppd_ast.specs.declared.plan.Plan.{Plan}
 use Rattle.ppd_ast.specs.declared.limits.TheConstants.{MOST_CALLS}
+use Rattle.ppd_ast.specs.declared.plan.Plan.{Plan}
+use Rattle.ppd_entry.proofs.Vocabulary.{log_in, with_piece}
+use Rattle.ppd_entry.specs.Changed.{change}
+use Rattle.ppd_entry.specs.Entries.{is_end}
+use Rattle.ppd_entry.specs.IntervalLogs.{Indexed, Indexing, IntervalLog, add_piece, begun_indexing, depth_of, index_step, indexed, inner, interval_at, interval_log, left_interval, left_open, new_interval}
+use Rattle.ppd_entry.specs.Pieces.{Piece, finish, nested, postlog, sync, unfinished, unit}
 use Rattle.ppd_entry.specs.declared.entry.Entry.{Entry}
 use Rattle.ppd_entry.specs.declared.entry.Entry.TheVariants as entry
-use Rattle.ppd_entry.specs.IntervalLogs.{IntervalLog, Indexed, Indexing, add_piece, add_piece_at, begun_indexing, depth_of, index_step, indexed, inner, interval_at, left_interval, left_open, new_interval, interval_log}
-use Rattle.ppd_entry.proofs.Vocabulary.{log_in}
-use Rattle.ppd_entry.specs.Pieces.{Piece, finish, nested, postlog, sync, unfinished, unit}
-use Rattle.ppd_entry.specs.Entries.{is_end}
-use Rattle.ppd_sem.specs.Blocks.{block_kind, is_function}
-use Rattle.std.specs.Option.{option_or as or_else}
+use Rattle.ppd_index.proofs.Passed.{HasPassed, passed, room}
+use Rattle.ppd_index.proofs.Vocabulary.{fits_postlog, innermost_of, is_same}
 use Rattle.ppd_index.specs.Fitting.{AreFittingPieces, IsFittingLog, fits_piece}
-use Rattle.ppd_index.specs.Refusals.{bad, fault_of, first_from, refusal, standing}
-use Rattle.ppd_index.proofs.Vocabulary.{fits_postlog}
-use Rattle.ppd_index.proofs.Vocabulary.{innermost_of, is_same}
-use Rattle.ppd_index.proofs.Passed.{HasPassed, mapped_none, passed, room}
+use Rattle.ppd_index.specs.Refusals.{first_from, refusal, standing}
+use Rattle.ppd_sem.specs.Blocks.{block_kind, is_function}
+use Rattle.std.proofs.Common.{Bool, List, None, Option, Some, [], arith, false, refl, subst, suc, sym, true, zero, ℕ, ◌++◌, ◌+◌, ◌<◌, ◌∷◌, ◌≡◌, ◌≤◌}
+use Rattle.std.proofs.lemmas.Bool.{eqb-true}
+use Rattle.std.specs.Option.{option_or as or_else}
+use Rattle.std.specs.Prelude.{fold, if◌then◌else◌, nat_eq, slice_get, ℤ, ⊤, ◌||◌}
 
 -- each of these intervals' logs fits
 abbrev pub EachFits : Plan → List Indexed → Type 0
@@ -31,7 +31,7 @@ each_more : (plan : Plan) (is : List Indexed) (i : Indexed) → EachFits plan is
 each_more plan [] i h f = (f, tt)
 each_more plan (j ∷ is) i h f = (h.0, each_more plan is i h.1 f)
 
-add_at : (plan : Plan) (n : ℕ) (p : Piece) (k : ℕ) (is : List Indexed) → EachFits plan is → fits_piece plan (interval_at is k).log.block p ≡ true → EachFits plan (add_piece_at n p k is)
+add_at : (plan : Plan) (n : ℕ) (p : Piece) (k : ℕ) (is : List Indexed) → EachFits plan is → fits_piece plan (interval_at is k).log.block p ≡ true → EachFits plan (change (with_piece n p) k is)
 add_at plan n p k [] h f = tt
 add_at plan n p zero (i ∷ is) h f = (record { values = h.0.values; depth = h.0.depth; pieces = pieces_more plan i.log.block n p i.log.pieces h.0.pieces f }, h.1)
 add_at plan n p (suc k) (i ∷ is) h f = (h.0, add_at plan n p k is h.1 f)
@@ -63,7 +63,7 @@ depth_more false d h r = omega (arith, h)
 same_block : (b c : ℕ) → nat_eq c b ≡ true → b ≡ c
 same_block b c h = sym (eqb-true c b h)
 
-left_fits : (plan : Plan) (x : Indexing) (b : ℕ) (ks : List ℕ) (values : List ℤ) → x.running ≡ ks → EachFits plan x.intervals → is_same b (innermost_of ks x.intervals) ≡ true → fits_postlog (slice_get plan.blocks b) values ≡ true → EachFits plan (left_interval x ks values)
+left_fits : (plan : Plan) (x : Indexing Indexed) (b : ℕ) (ks : List ℕ) (values : List ℤ) → x.running ≡ ks → EachFits plan x.intervals → is_same b (innermost_of ks x.intervals) ≡ true → fits_postlog (slice_get plan.blocks b) values ≡ true → EachFits plan (left_interval x ks values)
 left_fits plan x b [] values is h s f = h
 left_fits plan x b (k ∷ ks) values is h s f =
     let i = interval_at x.intervals k in
@@ -72,11 +72,7 @@ left_fits plan x b (k ∷ ks) values is h s f =
     let own' : EachFits plan (inner x (postlog values)) = subst (λ rs. EachFits plan (add_piece x.entry (postlog values) rs x.intervals)) (sym is) own in
     add plan i.first (nested k i.log.block values) ks (inner x (postlog values)) own' (λ c. fits)
 
-later : (b : Bool) (e f : Bool) → (if b then false else e) ≡ true → e ≡ true
-later true e f h = absurd (true≢false (sym h))
-later false e f h = h
-
-fits_step : (plan : Plan) (body : ℕ) (x : Indexing) (ended : Bool) (e : Entry) → EachFits plan x.intervals → HasPassed plan body (standing x ended) e → EachFits plan (index_step plan x e).intervals
+fits_step : (plan : Plan) (body : ℕ) (x : Indexing Indexed) (ended : Bool) (e : Entry) → EachFits plan x.intervals → HasPassed plan body (standing x ended) e → EachFits plan (index_step plan x e).intervals
 fits_step plan body x ended (entry.Prelog b values) h w = each_more plan x.intervals (new_interval plan x b values) h (record {
   values = w.fitting;
   depth = depth_more (is_function (block_kind plan b)) (depth_of x.running x.intervals) (depth_within plan x.running x.intervals h) (room plan body (standing x ended) b values w.paired);
@@ -84,18 +80,18 @@ fits_step plan body x ended (entry.Prelog b values) h w = each_more plan x.inter
 })
 fits_step plan body x ended (entry.Unit u values) h w = add plan x.entry (unit u values) x.running x.intervals h (λ b. w.fitting)
 fits_step plan body x ended (entry.Sync kind object number value reads writes) h w = add plan x.entry (sync kind object number value) x.running x.intervals h (λ b. refl)
-fits_step plan body x ended (entry.Postlog b values) h w = left_fits plan x b x.running values refl h (later (nat_eq x.entry 0) (is_same b (innermost_of x.running x.intervals)) false w.paired) w.fitting
+fits_step plan body x ended (entry.Postlog b values) h w = left_fits plan x b x.running values refl h w.paired w.fitting
 fits_step plan body x ended (entry.End how rest reads writes) h w = open_fits plan x.running (inner x (finish how rest)) (add plan x.entry (finish how rest) x.running x.intervals h (λ b. refl))
 
 pub or_none : {A : Type 0} (a b : Option A) → or_else a b ≡ None → (a ≡ None) × (b ≡ None)
 or_none None b h = (refl, h)
 or_none (Some a) b h = absurd (cc h)
 
-fits_fold : (plan : Plan) (body p : ℕ) (es : List Entry) (x : Indexing) (ended : Bool) → EachFits plan x.intervals → first_from plan body p x ended es ≡ None → EachFits plan (fold (index_step plan) x es).intervals
+fits_fold : (plan : Plan) (body p : ℕ) (es : List Entry) (x : Indexing Indexed) (ended : Bool) → EachFits plan x.intervals → first_from plan body p x ended es ≡ None → EachFits plan (fold (index_step plan) x es).intervals
 fits_fold plan body p [] x ended h none = h
 fits_fold plan body p (e ∷ es) x ended h none =
     let both = or_none (refusal plan body p (standing x ended) e) (first_from plan body p (index_step plan x e) (ended || is_end e) es) none in
-    let w : HasPassed plan body (standing x ended) e = passed plan body (standing x ended) e (mapped_none (bad p x.entry) (fault_of plan body (standing x ended) e) both.0) in
+    let w : HasPassed plan body (standing x ended) e = passed plan body p (standing x ended) e both.0 in
     fits_fold plan body p es (index_step plan x e) (ended || is_end e) (fits_step plan body x ended e h w) both.1
 
 fits_at : (plan : Plan) (k : ℕ) (is : List Indexed) (log : IntervalLog) → EachFits plan is → log_in (slice_get is k) ≡ Some log → IsFittingLog plan log

@@ -8,7 +8,6 @@ use Rattle.ppd_entry.specs.declared.entry.Entry.{Entry}
 use Rattle.ppd_entry.specs.declared.entry.Logs.{Logs}
 use Rattle.ppd_entry.specs.IntervalLogs.{IntervalLog, Indexed, interval_log}
 use Rattle.ppd_entry.proofs.Vocabulary.{log_in}
-use Rattle.ppd_entry.specs.Entries.{entries_at}
 use Rattle.ppd_model.specs.Bounds.{AreEach}
 use Rattle.ppd_model.proofs.Lists.{map_get}
 use Rattle.ppd_index.specs.declared.row.Row.{Row}
@@ -25,7 +24,7 @@ lent_in plan (rows ∷ tables) [] p k row h e = absurd h
 lent_in plan (rows ∷ tables) (es ∷ lists) zero k row h e = ap (λ (is : List Indexed). log_in (slice_get is k)) (sym h.0.logs_are) ∙ ap log_in (map_get (indexed_of es) rows k row e)
 lent_in plan (rows ∷ tables) (es ∷ lists) (suc p) k row h e = lent_in plan tables lists p k row h.1 e
 
-pub lent : (logs : Logs) (tables : List (List Row)) (p k : ℕ) (row : Row) → slice_get (rows_at tables p) k ≡ Some row → IsLogOf logs tables p k (log_of (entries_at logs p) row)
+pub lent : (logs : Logs) (tables : List (List Row)) (p k : ℕ) (row : Row) → slice_get (rows_at tables p) k ≡ Some row → IsLogOf logs tables p k (log_of (get_or logs.lists p []) row)
 lent logs tables p k row e = λ plan h. lent_in plan tables logs.lists p k row h e
 
 fit_in : (program : Program) (plan : Plan) (q : ℕ) (lists : List (List Entry)) (p k : ℕ) (log : IntervalLog) → first_in_lists program plan q lists ≡ None → interval_log plan (get_or lists p []) k ≡ Some log → IsFittingLog plan log
@@ -38,6 +37,6 @@ fit_in program plan q (es ∷ lists) (suc p) k log none e =
 pub all_fit : (program : Program) (plan : Plan) (logs : Logs) → first_in_lists program plan 0 logs.lists ≡ None → AreFittingLogs plan logs
 all_fit program plan logs none = λ p k log e. fit_in program plan 0 logs.lists p k log none e
 
-pub lent_by : (logs : Logs) (tables : List (List Row)) (p k : ℕ) (entries : List Entry) (rows : List Row) (row : Row) → entries ≡ entries_at logs p → rows ≡ rows_at tables p → k < length rows → row ≡ get_or rows k row → IsLogOf logs tables p k (log_of entries row)
+pub lent_by : (logs : Logs) (tables : List (List Row)) (p k : ℕ) (entries : List Entry) (rows : List Row) (row : Row) → entries ≡ get_or logs.lists p [] → rows ≡ rows_at tables p → k < length rows → row ≡ get_or rows k row → IsLogOf logs tables p k (log_of entries row)
 lent_by logs tables p k entries rows row es rs h is =
     subst (λ xs. IsLogOf logs tables p k (log_of xs row)) (sym es) (lent logs tables p k row (ap (λ (xs : List Row). slice_get xs k) (sym rs) ∙ got_some rows k row h is))

@@ -1,13 +1,12 @@
 -- Look-ups and changes of lists.
 use Rattle.std.proofs.Common.{◌≡◌, ℕ, zero, suc, ◌+◌, List, [], ◌∷◌, Some, None, drop, refl, ap, ◌∙◌, arith}
 use Rattle.std.specs.Prelude.{slice_get}
-use Rattle.ppd_model.specs.Extents.{first_of}
 use Rattle.ppd_index.specs.declared.row.Row.{Row}
 use Rattle.ppd_index.specs.Tables.{open_one, open_rows}
 
 -- ---- the intervals that run
 
-pub first_is_get : (ks : List ℕ) → first_of ks ≡ slice_get ks 0
+pub first_is_get : (ks : List ℕ) → slice_get ks 0 ≡ slice_get ks 0
 first_is_get [] = refl
 first_is_get (k ∷ ks) = refl
 
@@ -15,7 +14,7 @@ next_of : (n : ℕ) (ks : List ℕ) (i k : ℕ) (rows : List Row) → slice_get 
 next_of n [] i k rows e = absurd (cc e)
 next_of n (m ∷ ks) zero k rows e =
     let is : m ≡ k = cc e in
-    ap (λ j. open_rows n ks (open_one n j (first_of ks) rows)) is ∙ ap (λ o. open_rows n ks (open_one n k o rows)) (first_is_get ks)
+    ap (λ j. open_rows n ks (open_one n j (slice_get ks 0) rows)) is ∙ ap (λ o. open_rows n ks (open_one n k o rows)) (first_is_get ks)
 next_of n (m ∷ ks) (suc i) k rows e = next_of n ks i k rows e
 
 pub open_next : (n : ℕ) (ks : List ℕ) (i k : ℕ) (rows : List Row) → slice_get ks i ≡ Some k → open_rows n (drop i ks) rows ≡ open_rows n (drop (i + 1) ks) (open_one n k (slice_get ks (i + 1)) rows)

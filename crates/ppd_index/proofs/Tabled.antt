@@ -9,7 +9,7 @@ use Rattle.ppd_entry.specs.IntervalLogs.{Indexed, Indexing, index_step, left_ope
 use Rattle.ppd_entry.specs.Pieces.{Piece, finish, nested, postlog, sync, unit}
 use Rattle.ppd_sem.specs.Blocks.{block_kind, is_function}
 use Rattle.ppd_model.specs.Bounds.{AreEach}
-use Rattle.ppd_model.specs.Extents.{Extent, Extending, extend}
+use Rattle.ppd_model.specs.Extents.{Extent, extend}
 use Rattle.ppd_model.proofs.ExtentWords.{ended_by as ends_by}
 use Rattle.ppd_model.proofs.Extents.{one_longer}
 use Rattle.ppd_index.specs.declared.row.Mark.TheVariants as mark
@@ -21,13 +21,13 @@ use Rattle.ppd_index.proofs.Rows.{depth_same, left_extents, left_same, marked, m
 -- ---- logs
 
 -- the table as the definition of interval logs has it
-abbrev pub indexing_of : List Entry → Tabled → Indexing
+abbrev pub indexing_of : List Entry → Tabled → Indexing Indexed
 indexing_of entries t = record { intervals = map (indexed_of entries) t.rows; running = t.running; entry = t.entry }
 
 abbrev numbered : ℕ → Piece → ℕ × Piece
 numbered n p = (n, p)
 
-abbrev next : List Indexed → List ℕ → ℕ → Indexing
+abbrev next : List Indexed → List ℕ → ℕ → Indexing Indexed
 next intervals running n = record { intervals = intervals; running = running; entry = n + 1 }
 
 own : (entries : List Entry) (n : ℕ) (e : Entry) (p : Piece) → slice_get entries n ≡ Some e → own_piece e ≡ p → piece_at entries (mark.Own n) ≡ numbered n p
@@ -59,11 +59,11 @@ indexed_step plan entries t (entry.End status rest reads writes) there =
 
 -- ---- where intervals stand
 
-abbrev pub extending_of : Tabled → Extending
-extending_of t = record { extents = map extent_of t.rows; running = t.running; entry = t.entry }
+abbrev pub extending_of : Tabled → Indexing Extent
+extending_of t = record { intervals = map extent_of t.rows; running = t.running; entry = t.entry }
 
-abbrev following : List Extent → List ℕ → ℕ → Extending
-following xs running n = record { extents = xs; running = running; entry = n + 1 }
+abbrev following : List Extent → List ℕ → ℕ → Indexing Extent
+following xs running n = record { intervals = xs; running = running; entry = n + 1 }
 
 pub extent_step : (plan : Plan) (t : Tabled) (e : Entry) → extending_of (table_step plan t e) ≡ extend (extending_of t) e
 extent_step plan t (entry.Prelog b values) =
@@ -103,8 +103,8 @@ extents_fold plan (e ∷ es) t = extents_fold plan es (table_step plan t e) ∙ 
 
 pub are_intervals : (plan : Plan) (entries : List Entry) → AreIntervals plan (rows_of plan entries) entries
 are_intervals plan entries = record {
-  extents_are = ap (λ (x : Extending). x.extents) (extents_fold plan entries begun_table);
-  logs_are = ap (λ (x : Indexing). x.intervals) (logs_fold plan entries [] entries begun_table refl refl);
+  extents_are = ap (λ (x : Indexing Extent). x.intervals) (extents_fold plan entries begun_table);
+  logs_are = ap (λ (x : Indexing Indexed). x.intervals) (logs_fold plan entries [] entries begun_table refl refl);
 }
 
 pub all_are_intervals : (plan : Plan) (lists : List (List Entry)) → AreEach (AreIntervals plan) (map (rows_of plan) lists) lists

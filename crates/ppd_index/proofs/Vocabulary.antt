@@ -1,17 +1,12 @@
 -- What the proofs speak of: the parts of the definitions, each by a name of its own.
-use Rattle.std.specs.Prelude.{ℕ, nat_eq, Bool, List, slice_get, Option, Some, option_map, if◌then◌else◌, None, ◌+◌, ℤ, false, length}
-use Rattle.std.specs.Option.{option_eq, option_map_or}
 use Rattle.ppd_ast.specs.declared.plan.Block.{Block}
 use Rattle.ppd_ast.specs.declared.plan.BlockKind.{BlockKind}
-use Rattle.ppd_ast.specs.declared.plan.Plan.{Plan}
-use Rattle.ppd_entry.specs.declared.entry.Entry.{Entry}
+use Rattle.ppd_ast.specs.declared.plan.Unit.{Unit}
 use Rattle.ppd_entry.specs.IntervalLogs.{Indexed, interval_at}
-use Rattle.ppd_index.specs.declared.standing.Standing.{Standing}
-use Rattle.ppd_index.specs.Refusals.{begins, continues}
-use Rattle.ppd_entry.specs.Entries.{at_entry}
 use Rattle.ppd_index.specs.declared.refusal.BadLog.{BadLog}
 use Rattle.ppd_index.specs.declared.refusal.BadLog.TheVariants.{NoEnd}
-use Rattle.ppd_ast.specs.declared.plan.Unit.{Unit}
+use Rattle.std.specs.Option.{option_eq, option_map_or}
+use Rattle.std.specs.Prelude.{Bool, List, None, Option, Some, false, if◌then◌else◌, length, nat_eq, option_map, slice_get, ℕ, ℤ, ◌+◌}
 
 -- what a block is the code of, if it is there
 abbrev pub kind_there : Option Block → Option BlockKind
@@ -21,16 +16,13 @@ kind_there o = option_map (λ b. b.kind) o
 abbrev pub is_same : ℕ → Option ℕ → Bool
 is_same b o = option_eq nat_eq o (Some b)
 
-abbrev pub is_paired : Plan → ℕ → Standing → Entry → Bool
-is_paired plan body s e = if nat_eq s.entry 0 then begins plan body e else continues plan s e
-
 -- the block of the innermost of the running intervals
 abbrev pub innermost_of : List ℕ → List Indexed → Option ℕ
 innermost_of running intervals = option_map (λ k. (interval_at intervals k).log.block) (slice_get running 0)
 
 -- a list that is over has an end
 abbrev pub unended : ℕ → ℕ → Bool → Option BadLog
-unended p n ended = if ended then None else Some (NoEnd (at_entry p n))
+unended p n ended = if ended then None else Some (NoEnd (record { process = p; entry = n }))
 
 -- there are as many values as the plan has there
 abbrev pub fits_prelog : Option Block → List ℤ → Bool

@@ -1,11 +1,10 @@
 -- Interval logs that fit the plan: what a replay may rest on.
-use Rattle.std.specs.Prelude.{◌≡◌, ℕ, ◌≤◌, Bool, true, List, [], ◌∷◌, Some, ⊤}
+use Rattle.std.specs.Prelude.{◌≡◌, ℕ, ◌≤◌, Bool, true, List, [], ◌∷◌, Some, ⊤, get_or}
 use Rattle.ppd_ast.specs.declared.limits.TheConstants.{MOST_CALLS}
 use Rattle.ppd_ast.specs.declared.plan.Plan.{Plan}
 use Rattle.ppd_entry.specs.declared.entry.Logs.{Logs}
 use Rattle.ppd_entry.specs.IntervalLogs.{IntervalLog, interval_log}
 use Rattle.ppd_entry.specs.Pieces.{Piece, unit, sync, nested, unfinished, postlog, finish}
-use Rattle.ppd_entry.specs.Entries.{entries_at}
 use Rattle.ppd_entry.specs.declared.entry.Entry.TheVariants as entry
 use Rattle.ppd_index.specs.Refusals.{is_fitting}
 
@@ -33,4 +32,4 @@ pub record IsFittingLog (plan : Plan) (log : IntervalLog) : Type 0 where
 -- so it is with each interval of these logs
 abbrev pub AreFittingLogs : Plan → Logs → Type 0
 AreFittingLogs plan logs =
-    (p k : ℕ) (log : IntervalLog) → interval_log plan (entries_at logs p) k ≡ Some log → IsFittingLog plan log
+    (p k : ℕ) (log : IntervalLog) → interval_log plan (get_or logs.lists p []) k ≡ Some log → IsFittingLog plan log

@@ -5,7 +5,6 @@ use Rattle.ppd_entry.specs.declared.entry.Entry.{Entry}
 use Rattle.ppd_entry.specs.declared.entry.Logs.{Logs}
 use Rattle.ppd_entry.specs.IntervalLogs.{IntervalLog, indexed, interval_log}
 use Rattle.ppd_entry.specs.Pieces.{Piece}
-use Rattle.ppd_entry.specs.Entries.{entries_at}
 use Rattle.ppd_model.specs.Bounds.{AreEach}
 use Rattle.ppd_model.specs.Extents.{extents}
 use Rattle.ppd_index.specs.declared.interval.Interval.{Interval}
@@ -40,7 +39,7 @@ interval_of r =
 -- this log is that of interval k of process p, wherever the index is that of the logs
 abbrev pub IsLogOf : Logs → List (List Row) → ℕ → ℕ → IntervalLog → Type 0
 IsLogOf logs tables p k log =
-    (plan : Plan) → IsIndexOf plan logs tables → interval_log plan (entries_at logs p) k ≡ Some log
+    (plan : Plan) → IsIndexOf plan logs tables → interval_log plan (get_or logs.lists p []) k ≡ Some log
 
 -- the number of piece n's entry, and the piece
 abbrev pub entry_of : IntervalLog → ℕ → Option ℕ

@@ -6,7 +6,7 @@ use Rattle.ppd_entry.specs.declared.entry.Entry.TheVariants as entry
 use Rattle.ppd_entry.specs.IntervalLogs.{IntervalLog, Indexed}
 use Rattle.ppd_entry.specs.Pieces.{Piece, unit, sync, nested, unfinished, postlog, finish}
 use Rattle.ppd_sem.specs.Blocks.{block_kind, is_function}
-use Rattle.ppd_model.specs.Extents.{Extent, first_of}
+use Rattle.ppd_model.specs.Extents.{Extent}
 use Rattle.ppd_model.specs.World.{change}
 use Rattle.ppd_index.specs.declared.row.Mark.{Mark}
 use Rattle.ppd_index.specs.declared.row.Mark.TheVariants as mark
@@ -113,7 +113,7 @@ add_mark_to m (Some k) rows = change (with_mark m) k rows
 
 -- a mark for the innermost of these intervals
 abbrev pub add_mark : Mark → List ℕ → List Row → List Row
-add_mark m running rows = add_mark_to m (first_of running) rows
+add_mark m running rows = add_mark_to m (slice_get running 0) rows
 
 -- how many intervals of functions are among interval k and those round it
 abbrev pub depth_there : Option ℕ → List Row → ℕ
@@ -122,7 +122,7 @@ depth_there (Some k) rows = depth_in (slice_get rows k)
 
 -- how many intervals of functions run
 abbrev pub depth_at : List ℕ → List Row → ℕ
-depth_at running rows = depth_there (first_of running) rows
+depth_at running rows = depth_there (slice_get running 0) rows
 
 -- the block of interval k
 abbrev pub block_there : Option ℕ → List Row → Option ℕ
@@ -133,7 +133,7 @@ block_there (Some k) rows = Some (block_in (slice_get rows k))
 abbrev pub new_row : Plan → ℕ → ℕ → List ℕ → List Row → Row
 new_row plan n b running rows = record {
   block = b;
-  parent = first_of running;
+  parent = slice_get running 0;
   first = n;
   last = None;
   closed = false;
@@ -151,7 +151,7 @@ left_one n k outer rows =
 -- the innermost interval is left by entry n
 abbrev pub left_rows : ℕ → List ℕ → List Row → List Row
 left_rows n [] rows = rows
-left_rows n (k ∷ ks) rows = left_one n k (first_of ks) rows
+left_rows n (k ∷ ks) rows = left_one n k (slice_get ks 0) rows
 
 -- entry n is the end inside interval k, which is a piece of the one round it
 abbrev pub open_one : ℕ → ℕ → Option ℕ → List Row → List Row
@@ -162,7 +162,7 @@ open_one n k outer rows =
 -- entry n is the end inside these intervals
 abbrev pub open_rows : ℕ → List ℕ → List Row → List Row
 open_rows n [] rows = rows
-open_rows n (k ∷ ks) rows = open_rows n ks (open_one n k (first_of ks) rows)
+open_rows n (k ∷ ks) rows = open_rows n ks (open_one n k (slice_get ks 0) rows)
 
 -- what an entry adds
 abbrev pub table_by : Plan → Tabled → Entry → Tabled
@@ -199,7 +199,7 @@ abbrev pub standing_in : Bool → Tabled → Standing
 standing_in ended t = record {
   entry = t.entry;
   ended = ended;
-  innermost = block_there (first_of t.running) t.rows;
+  innermost = block_there (slice_get t.running 0) t.rows;
   functions = depth_at t.running t.rows;
 }
 

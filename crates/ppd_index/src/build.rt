@@ -1,41 +1,23 @@
 ghost use Rattle.std.specs.Prelude.{◌≡◌, ◌+◌, ◌*◌, ◌≤◌, ◌<◌, ◌^◌, ◌||◌, [], None, length, IfOk, IfErr, OnOk, Some, if◌then◌else◌};
 ghost use Rattle.ppd_ast.specs.declared.limits.TheConstants.{MOST_NAMED};
-ghost use Rattle.ppd_entry.specs.Entries.{at_entry, is_end};
+ghost use Rattle.ppd_entry.specs.Entries.{is_end};
 ghost use Rattle.ppd_index.specs.Fitting.{AreFittingLogs};
 ghost use Rattle.ppd_index.specs.Indexes.{IsIndexOf};
 ghost use Rattle.ppd_index.specs.declared.refusal.BadLog.TheVariants.{NoEnd};
-ghost use Rattle.ppd_index.specs.Refusals.{IsRefused, bad as bad_at, first_bad, first_in_lists, refusal};
+ghost use Rattle.ppd_index.specs.Refusals.{IsRefused, first_bad, first_in_lists, refusal};
 ghost use Rattle.ppd_index.specs.Spending.{index_cost, index_least, still_open};
 ghost use Rattle.ppd_index.specs.Tables.{rows_of, standing_in, table_step, tabled};
 
 use crate::log_index::LogIndex;
 use crate::refusal::BadLog;
 use crate::row::Row;
-use crate::standing::{Fault, first_fault, is_over};
+use crate::standing::{Owner, first_refusal, is_over};
 use crate::table::{Table, number};
 use ppd_ast::{Plan, Program, Seq, Steps};
 use ppd_entry::{At, Entry, Logs};
 use std::alloc::Global;
 use std::marker::Brand;
 use std::sync::ledger::{Blank, Ledger};
-
-/// A process by its number, and by that of its body.
-#[derive(Clone, Copy)]
-struct Owner {
-    process: u8,
-    body: u32,
-}
-
-fn bad(process: u8, entry: u32, fault: Fault) -> BadLog
-    ensures { result ≡ bad_at process entry fault }
-{
-    let at = At { process, entry };
-    match fault {
-        Fault::AfterEnd => BadLog::AfterEnd(at),
-        Fault::Unpaired => BadLog::Unpaired(at),
-        Fault::WrongValues => BadLog::WrongValues(at),
-    }
-}
 
 /// Takes entry `n` after those of the table, or refuses it; `ended` says whether an End stood before.
 fn take_entry<L: Ledger>(
@@ -62,8 +44,8 @@ fn take_entry<L: Ledger>(
 {
     let (n, ended) = place;
     let standing = table.standing(n, ended);
-    if let Some(fault) = first_fault(plan, owner.body, &standing, entry) {
-        return Err(bad(owner.process, n, fault));
+    if let Some(bad) = first_refusal(plan, owner, &standing, entry) {
+        return Err(bad);
     }
     table.take(plan, n, entry, steps)?;
     Ok(())
@@ -71,8 +53,10 @@ fn take_entry<L: Ledger>(
 
 /// A list that is over after so many entries has an End. `Memory` is the answer for a count of more than 32 bits.
 fn check_end(process: u8, entries: usize, ended: bool) -> Result<(), BadLog>
-    ensures passed { OnOk result ((if ended then None else Some (NoEnd (at_entry process entries))) ≡ None) }
-    ensures refused { IfErr result (IsRefused (if ended then None else Some (NoEnd (at_entry process entries)))) }
+    ensures passed { OnOk result
+        ((if ended then None else Some (NoEnd (record { process = process; entry = entries }))) ≡ None) }
+    ensures refused { IfErr result
+        (IsRefused (if ended then None else Some (NoEnd (record { process = process; entry = entries })))) }
     ensures large { IfErr result (λ e. e ≡ BadLog.Memory → 2 ^ 32 ≤ entries) }
 {
     if ended {

@@ -1,6 +1,5 @@
-ghost use Rattle.std.specs.Prelude.{◌≡◌, ◌<◌, ◌^◌, length, option_map, slice_get};
+ghost use Rattle.std.specs.Prelude.{◌≡◌, ◌<◌, ◌^◌, length, option_map, slice_get, get_or, []};
 ghost use Rattle.std.specs.List.{All};
-ghost use Rattle.ppd_entry.specs.Entries.{entries_at as entries_in};
 ghost use Rattle.ppd_index.specs.Indexes.{IsLogOf, interval_of as interval_in, rows_at as rows_in};
 
 use crate::interval::Interval;
@@ -27,7 +26,7 @@ fn rows_at(tables: &[Seq<Row>], p: u8) -> &[Row]
 }
 
 fn entries_at(logs: &Logs, p: u8) -> &[Entry]
-    ensures { result.now ≡ entries_in logs.now p }
+    ensures { result.now ≡ get_or logs.now.lists p [] }
 {
     match logs.lists.get(p as usize) {
         Some(entries) => entries.as_slice(),

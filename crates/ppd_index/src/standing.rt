@@ -1,19 +1,19 @@
-ghost use Rattle.std.specs.Prelude.{◌≡◌, ◌||◌, nat_eq, slice_get, Some, if◌then◌else◌};
+ghost use Rattle.std.specs.Prelude.{◌≡◌, ◌||◌, [], nat_eq, Some};
 ghost use Rattle.std.specs.Option.{option_eq};
 ghost use Rattle.ppd_entry.specs.declared.entry.Entry.TheVariants as entry_of;
 ghost use Rattle.ppd_entry.specs.Entries.{is_end as is_end_of};
-ghost use Rattle.ppd_index.specs.Refusals.{begins as begins_in, continues as continues_in, ends_there as may_end, fault_of, is_body as is_body_of, is_fitting as is_fitting_in, is_of_function as is_function_of, is_process as is_process_of, kind_at as kind_in_plan};
+ghost use Rattle.ppd_index.specs.Refusals.{is_fitting as is_fitting_in, is_paired as is_paired_in, may_begin as may_begin_there, refusal};
 
+use crate::refusal::BadLog;
 use ppd_ast::limits::MOST_CALLS;
 use ppd_ast::{BlockKind, Plan, Status};
-use ppd_entry::Entry;
+use ppd_entry::{At, Entry};
 
-/// Which test an entry fails.
+/// A process by its number, and by that of its body.
 #[derive(Clone, Copy)]
-pub enum Fault {
-    AfterEnd,
-    Unpaired,
-    WrongValues,
+pub(crate) struct Owner {
+    pub process: u8,
+    pub body: u32,
 }
 
 /// Where an entry stands: its number, whether an End stood before, the block of the innermost running interval,
@@ -24,36 +24,6 @@ pub struct Standing {
     pub ended: bool,
     pub innermost: Option<u16>,
     pub functions: u8,
-}
-
-fn kind_at(plan: &Plan, block: u16) -> Option<BlockKind>
-    ensures { result ≡ kind_in_plan plan.now block }
-{
-    match plan.blocks.get(block as usize) {
-        Some(block) => Some(block.kind),
-        None => None,
-    }
-}
-
-fn is_body(body: u32, kind: Option<BlockKind>) -> bool
-    ensures { result ≡ is_body_of body kind }
-{
-    match kind {
-        Some(BlockKind::Process(own)) => own as u32 == body,
-        _ => false,
-    }
-}
-
-fn is_process(kind: Option<BlockKind>) -> bool
-    ensures { result ≡ is_process_of kind }
-{
-    matches!(kind, Some(BlockKind::Process(_)))
-}
-
-fn is_of_function(kind: Option<BlockKind>) -> bool
-    ensures { result ≡ is_function_of kind }
-{
-    matches!(kind, Some(BlockKind::Function(_)))
 }
 
 fn fits_prelog(plan: &Plan, block: u16, values: &[i64]) -> bool
@@ -112,12 +82,25 @@ pub(crate) fn is_over(ended: bool, entry: &Entry) -> bool
     ended || is_end(entry)
 }
 
-fn begins(plan: &Plan, body: u32, entry: &Entry) -> bool
-    ensures { result ≡ begins_in plan.now body entry.now }
+fn may_begin(body: u32, standing: &Standing, kind: BlockKind) -> bool
+    ensures { result ≡ may_begin_there body standing.now (Some kind) }
 {
-    match entry {
-        Entry::Prelog { block, .. } => is_body(body, kind_at(plan, *block)),
-        _ => false,
+    match kind {
+        BlockKind::Process(own) => standing.entry == 0 && own as u32 == body,
+        BlockKind::Function(_) => {
+            let is_full = standing.functions as usize >= MOST_CALLS;
+            standing.innermost.is_some() && !is_full
+        }
+        BlockKind::Loop(_) => standing.innermost.is_some(),
+    }
+}
+
+fn begins(plan: &Plan, body: u32, standing: &Standing, block: u16) -> bool
+    ensures { result ≡ is_paired_in plan.now body standing.now (entry_of.Prelog block []) }
+{
+    match plan.blocks.get(block as usize) {
+        Some(block) => may_begin(body, standing, block.kind),
+        None => standing.innermost.is_some(),
     }
 }
 
@@ -130,59 +113,41 @@ fn is_same(block: u16, innermost: Option<u16>) -> bool
     }
 }
 
-fn ends_there(status: Status, innermost: Option<u16>) -> bool
-    ensures { result ≡ may_end status innermost }
-{
-    match status {
-        Status::Ended => innermost.is_none(),
-        _ => innermost.is_some(),
-    }
-}
-
-fn continues(plan: &Plan, standing: &Standing, entry: &Entry) -> bool
-    ensures { result ≡ continues_in plan.now standing.now entry.now }
+fn is_paired(plan: &Plan, body: u32, standing: &Standing, entry: &Entry) -> bool
+    ensures { result ≡ is_paired_in plan.now body standing.now entry.now }
 {
     match entry {
-        Entry::Prelog { block, .. } => {
-            let kind = kind_at(plan, *block);
-            let is_full = standing.functions as usize >= MOST_CALLS;
-            standing.innermost.is_some() && !is_process(kind) && !(is_of_function(kind) && is_full)
-        }
+        Entry::Prelog { block, .. } => begins(plan, body, standing, *block),
         Entry::Unit { .. } | Entry::Sync { .. } => standing.innermost.is_some(),
         Entry::Postlog { block, .. } => is_same(*block, standing.innermost),
-        Entry::End { status, .. } => ends_there(*status, standing.innermost),
+        Entry::End { status, .. } => match *status {
+            Status::Ended => standing.entry != 0 && standing.innermost.is_none(),
+            _ => standing.innermost.is_some(),
+        },
     }
 }
 
-fn is_paired(plan: &Plan, body: u32, standing: &Standing, entry: &Entry) -> bool
-    ensures { result
-        ≡ (if nat_eq standing.now.entry 0 then begins_in plan.now body entry.now
-        else continues_in plan.now standing.now entry.now) }
-{
-    if standing.entry == 0 {
-        begins(plan, body, entry)
-    } else {
-        continues(plan, standing, entry)
-    }
-}
-
-/// The first test that the entry fails; `body` is the number of the process's body.
-pub(crate) fn first_fault(
+/// The refusal of an entry of the process, by the first test that it fails.
+pub(crate) fn first_refusal(
     plan: &Plan,
-    body: u32,
+    owner: Owner,
     standing: &Standing,
     entry: &Entry,
-) -> Option<Fault>
-    ensures { result ≡ fault_of plan.now body standing.now entry.now }
+) -> Option<BadLog>
+    ensures { result ≡ refusal plan.now owner.body owner.process standing.now entry.now }
 {
+    let at = At {
+        process: owner.process,
+        entry: standing.entry,
+    };
     if standing.ended {
-        return Some(Fault::AfterEnd);
+        return Some(BadLog::AfterEnd(at));
     }
-    if !is_paired(plan, body, standing, entry) {
-        return Some(Fault::Unpaired);
+    if !is_paired(plan, owner.body, standing, entry) {
+        return Some(BadLog::Unpaired(at));
     }
     if !is_fitting(plan, entry) {
-        return Some(Fault::WrongValues);
+        return Some(BadLog::WrongValues(at));
     }
     None
 }

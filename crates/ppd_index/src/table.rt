@@ -1,7 +1,6 @@
 ghost use Rattle.std.specs.Prelude.{◌≡◌, ◌+◌, ◌≤◌, ◌++◌, ◌∷◌, [], drop, IfOk, length, slice_get, if◌then◌else◌, OnErr, OnOk, ◌^◌};
 ghost use Rattle.ppd_entry.specs.Entries.{is_end};
 ghost use Rattle.ppd_sem.specs.Blocks.{block_kind, is_function};
-ghost use Rattle.ppd_model.specs.Extents.{first_of};
 ghost use Rattle.ppd_model.specs.World.{change};
 ghost use Rattle.ppd_index.specs.declared.row.Mark.TheVariants as mark;
 ghost use Rattle.ppd_index.specs.Spending.{still_open};
@@ -31,7 +30,7 @@ fn item_at(running: &Stack<u32>, place: usize) -> Option<u32>
 }
 
 fn innermost(running: &Stack<u32>) -> Option<u32>
-    ensures { result ≡ first_of running.now }
+    ensures { result ≡ slice_get running.now 0 }
 {
     running.top().copied()
 }

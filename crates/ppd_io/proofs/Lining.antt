@@ -1,10 +1,12 @@
 -- What is taken from a source in several reads, and how lines come out of bytes.
 use Rattle.std.specs.Prelude.{◌⊎◌, None, Some, Option, Bool, true, false, if◌then◌else◌, ◌==◌, Result, Ok, Err, IfOk, IsErr, OnErr}
-use Rattle.std.proofs.Common.{◌≡◌, ◌≢◌, ◌<◌, ◌≤◌, ℕ, List, [], ◌∷◌, ◌++◌, length, ap, sym, ◌∙◌, refl, append_assoc, append-nil, subst, arith, inl, inr, true≢false}
+use Rattle.std.proofs.Common.{◌≡◌, ◌≢◌, ◌<◌, ◌≤◌, ℕ, zero, suc, List, [], ◌∷◌, ◌++◌, length, ap, sym, ◌∙◌, refl, append_assoc, append-nil, subst, arith, inl, inr, true≢false}
+use Rattle.std.specs.List.{onto_first}
+use Rattle.std.specs.Str.Iter.{LacksByte}
 use Rattle.std.proofs.lemmas.Bool.{eqb-true, false_from_ne_true}
 use Rattle.ppd_ast.specs.declared.limits.TheConstants.{MOST_LINE_BYTES}
 use Rattle.ppd_io.specs.Content.{Takes}
-use Rattle.ppd_io.specs.Lines.{IsAtNeed, Took, HasNewline, HasNoNewline, lines_of, before_lines, Lined, EndsLine, GivesLine, TellsLine, IsLong}
+use Rattle.ppd_io.specs.Lines.{IsAtNeed, Took, HasNewline, lines_of, Lined, EndsLine, GivesLine, TellsLine, IsLong}
 use Rattle.ppd_io.specs.declared.lines.LineError.{LineError}
 use Rattle.ppd_io.specs.declared.lines.LineError.TheVariants.{Failed, LongLine}
 
@@ -50,9 +52,17 @@ took_byte a b c was line held later byte h k =
     let t = took_twice a b c was line held (byte ∷ later) h k in
     rw (append_assoc line (byte ∷ []) later) t
 
-pub plain_byte : (line : List ℕ) (byte : ℕ) → HasNoNewline line → byte ≢ 10 → HasNoNewline (line ++ byte ∷ [])
-plain_byte [] byte h ne = (ne, tt)
-plain_byte (b ∷ line) byte h ne = (h.0, plain_byte line byte h.1 ne)
+pub plain_rest : (b : ℕ) (line : List ℕ) → LacksByte 10 (b ∷ line) → LacksByte 10 line
+plain_rest b line h k lt = h (suc k) (omega (arith, lt))
+
+pub plain_first : (b : ℕ) (line : List ℕ) → LacksByte 10 (b ∷ line) → b ≢ 10
+plain_first b line h = h 0 (omega arith)
+
+pub plain_byte : (line : List ℕ) (byte : ℕ) → LacksByte 10 line → byte ≢ 10 → LacksByte 10 (line ++ byte ∷ [])
+plain_byte [] byte h ne zero lt = ne
+plain_byte [] byte h ne (suc k) lt = absurd (omega (arith, lt))
+plain_byte (b ∷ line) byte h ne zero lt = plain_first b line h
+plain_byte (b ∷ line) byte h ne (suc k) lt = plain_byte line byte (plain_rest b line h) ne k (omega (arith, lt))
 
 pub holds_some : (bytes : List ℕ) → HasNewline bytes → bytes ≢ []
 holds_some [] h e = h
@@ -63,7 +73,7 @@ pub later_newline : (bytes later : List ℕ) (byte : ℕ) → bytes ≡ byte ∷
 later_newline bytes later byte e ne h = elim (subst (λ (bs : List ℕ). HasNewline bs) e h) [ inl first ↦ absurd (ne first) | inr among ↦ among ]
 
 -- the next byte is a held one, and nothing is read; or nothing is held, and a read begins, with no newline so far
-pub need_goes_on : (S : Type 0) (left last : S → Option (List ℕ)) (a b c : S) (was line held : List ℕ) → Took (left a) (left b) was (line ++ held) → HasNoNewline line → (b ≡ a) ⊎ IsAtNeed (left a) (last b) was → (held ≡ [] → last c ≡ left b) → (held ≢ [] → c ≡ b) → (c ≡ a) ⊎ IsAtNeed (left a) (last c) was
+pub need_goes_on : (S : Type 0) (left last : S → Option (List ℕ)) (a b c : S) (was line held : List ℕ) → Took (left a) (left b) was (line ++ held) → LacksByte 10 line → (b ≡ a) ⊎ IsAtNeed (left a) (last b) was → (held ≡ [] → last c ≡ left b) → (held ≢ [] → c ≡ b) → (c ≡ a) ⊎ IsAtNeed (left a) (last c) was
 need_goes_on S left last a b c was line [] took plain need begun quiet =
     let e : last c ≡ left b = begun refl in
     let t : Took (left a) (left b) was line = rw (append-nil line) at took in
@@ -79,39 +89,39 @@ plain_is : (b : ℕ) → b ≢ 10 → (b == 10) ≡ false
 plain_is b ne = false_from_ne_true (b == 10) (λ h. ne (eqb-true b 10 h))
 
 -- a whole line, and those after it
-pub line_whole : (line rest : List ℕ) → HasNoNewline line → lines_of (line ++ 10 ∷ rest) ≡ line ∷ lines_of rest
+pub line_whole : (line rest : List ℕ) → LacksByte 10 line → lines_of (line ++ 10 ∷ rest) ≡ line ∷ lines_of rest
 line_whole [] rest h = refl
 line_whole (b ∷ line) rest h =
-    let e = line_whole line rest h.1 in
-    rw (plain_is b h.0, e)
+    let e = line_whole line rest (plain_rest b line h) in
+    rw (plain_is b (plain_first b line h), e)
 
 -- the first line begins with the bytes that have no newline
-pub line_front : (line rest : List ℕ) → HasNoNewline line → line ≢ [] → (first : List ℕ) × (more : List (List ℕ)) × (lines_of (line ++ rest) ≡ first ∷ more) × (length line ≤ length first)
+pub line_front : (line rest : List ℕ) → LacksByte 10 line → line ≢ [] → (first : List ℕ) × (more : List (List ℕ)) × (lines_of (line ++ rest) ≡ first ∷ more) × (length line ≤ length first)
 line_front [] rest h ne = absurd (ne refl)
 line_front (b ∷ []) rest h ne =
-    elim (lines_of rest) as (λ v. (first : List ℕ) × (more : List (List ℕ)) × ((if b == 10 then [] ∷ v else before_lines b v) ≡ first ∷ more) × (1 ≤ length first)) [
-      | [] ↦ (b ∷ [], [], rw (plain_is b h.0), omega arith)
-      | l ∷ ls ↦ (b ∷ l, ls, rw (plain_is b h.0), omega arith)
+    elim (lines_of rest) as (λ v. (first : List ℕ) × (more : List (List ℕ)) × ((if b == 10 then [] ∷ v else onto_first b v) ≡ first ∷ more) × (1 ≤ length first)) [
+      | [] ↦ (b ∷ [], [], rw (plain_is b (plain_first b [] h)), omega arith)
+      | l ∷ ls ↦ (b ∷ l, ls, rw (plain_is b (plain_first b [] h)), omega arith)
     ]
 line_front (b ∷ c ∷ line) rest h ne =
-    let i = line_front (c ∷ line) rest h.1 (λ e. absurd (cc)) in
+    let i = line_front (c ∷ line) rest (plain_rest b (c ∷ line) h) (λ e. absurd (cc)) in
     let e : lines_of ((c ∷ line) ++ rest) ≡ i.0 ∷ i.1 = i.2 in
     let few : length (c ∷ line) ≤ length i.0 = i.3 in
-    (b ∷ i.0, i.1, rw (plain_is b h.0, e), omega arith)
+    (b ∷ i.0, i.1, rw (plain_is b (plain_first b (c ∷ line) h), e), omega arith)
 
 -- the last line
-pub line_last : (line : List ℕ) → HasNoNewline line → line ≢ [] → lines_of line ≡ line ∷ []
+pub line_last : (line : List ℕ) → LacksByte 10 line → line ≢ [] → lines_of line ≡ line ∷ []
 line_last [] h ne = absurd (ne refl)
-line_last (b ∷ []) h ne = rw (plain_is b h.0)
+line_last (b ∷ []) h ne = rw (plain_is b (plain_first b [] h))
 line_last (b ∷ c ∷ line) h ne =
-    let e = line_last (c ∷ line) h.1 (λ e. absurd (cc)) in
-    rw (plain_is b h.0, e)
+    let e = line_last (c ∷ line) (plain_rest b (c ∷ line) h) (λ e. absurd (cc)) in
+    rw (plain_is b (plain_first b (c ∷ line) h), e)
 
 -- all bytes at hand, before and after
 pub took_all : (xs ys held all : List ℕ) → Took (Some xs) (Some ys) held all → held ++ xs ≡ all ++ ys
 took_all xs ys held all t = ap (λ w. held ++ w) t.takes ∙ (sym (append_assoc held t.read ys) ∙ ap (λ w. w ++ ys) t.whole)
 
-told_line : (xs ys held : List ℕ) (now : Lined) → HasNoNewline now.line → EndsLine (Some xs) (Some ys) held now → lines_of (held ++ xs) ≡ now.line ∷ lines_of (now.held ++ ys)
+told_line : (xs ys held : List ℕ) (now : Lined) → LacksByte 10 now.line → EndsLine (Some xs) (Some ys) held now → lines_of (held ++ xs) ≡ now.line ∷ lines_of (now.held ++ ys)
 told_line xs ys held now plain (inl t) =
     ap lines_of (took_all xs ys held _ t.0 ∙ append_assoc now.line (10 ∷ now.held) ys) ∙ line_whole now.line (now.held ++ ys) plain
 told_line xs ys held now plain (inr t) =
@@ -119,7 +129,7 @@ told_line xs ys held now plain (inr t) =
     let rest : now.held ++ ys ≡ [] = ap (λ w. w ++ ys) t.2.held ∙ t.2.left in
     ap lines_of e ∙ (line_last now.line plain t.1 ∙ ap (λ w. now.line ∷ lines_of w) (sym rest))
 
-told_long : (xs ys held : List ℕ) (now : Lined) → HasNoNewline now.line → MOST_LINE_BYTES < length now.line → Took (Some xs) (Some ys) held (now.line ++ now.held) → IsLong (lines_of (held ++ xs))
+told_long : (xs ys held : List ℕ) (now : Lined) → LacksByte 10 now.line → MOST_LINE_BYTES < length now.line → Took (Some xs) (Some ys) held (now.line ++ now.held) → IsLong (lines_of (held ++ xs))
 told_long xs ys held now plain long t =
     let f = line_front now.line (now.held ++ ys) plain (λ e. let n = ap length e in absurd (omega arith)) in
     let e : lines_of (held ++ xs) ≡ f.0 ∷ f.1 = ap lines_of (took_all xs ys held _ t ∙ append_assoc now.line now.held ys) ∙ f.2 in

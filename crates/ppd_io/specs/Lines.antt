@@ -1,25 +1,17 @@
 -- The lines of bytes, and what a reader of lines takes from a source.
 use Rattle.std.specs.Prelude.{◌≡◌, ◌≢◌, ◌==◌, ◌<◌, ◌≤◌, ◌⊎◌, ℕ, List, [], ◌∷◌, ◌++◌, length, Bool, true, false, Option, Some, None, Result, Ok, Err, IfSome, if◌then◌else◌}
+use Rattle.std.specs.List.{onto_first}
+use Rattle.std.specs.Str.Iter.{LacksByte}
 use Rattle.ppd_ast.specs.declared.limits.TheConstants.{MOST_LINE_BYTES}
 use Rattle.ppd_io.specs.Content.{Takes}
 use Rattle.ppd_io.specs.declared.lines.LineError.{LineError}
 use Rattle.ppd_io.specs.declared.lines.LineError.TheVariants.{Failed, LongLine}
 
--- one more byte at the front of the first line
-abbrev pub before_lines : ℕ → List (List ℕ) → List (List ℕ)
-before_lines b [] = (b ∷ []) ∷ []
-before_lines b (l ∷ ls) = (b ∷ l) ∷ ls
-
 -- the lines of bytes, each without its newline, which is byte 10; what follows the last newline is a line
 -- where it is not empty
 abbrev pub lines_of : List ℕ → List (List ℕ)
 lines_of [] = []
-lines_of (b ∷ bs) = if b == 10 then [] ∷ lines_of bs else before_lines b (lines_of bs)
-
--- no byte is a newline
-abbrev pub HasNoNewline : List ℕ → Type 0
-HasNoNewline [] = Unit {0}
-HasNoNewline (b ∷ bs) = (b ≢ 10) × HasNoNewline bs
+lines_of (b ∷ bs) = if b == 10 then [] ∷ lines_of bs else onto_first b (lines_of bs)
 
 -- a byte is a newline
 abbrev pub HasNewline : List ℕ → Type 0
@@ -43,7 +35,7 @@ pub record Took (old new : Option (List ℕ)) (held all : List ℕ) : Type 0 whe
 pub record IsAtNeed (old last : Option (List ℕ)) (held : List ℕ) : Type 0 where
   pub all : List ℕ
   pub took : Took old last held all
-  pub plain : HasNoNewline all
+  pub plain : LacksByte 10 all
 
 -- nothing is left, where the source tells
 abbrev pub IsAtEnd : Option (List ℕ) → Type 0
@@ -79,17 +71,17 @@ EndsLine old new held now =
 -- what one call gives before the end was met: the next line of what was held and read; at the end none; a front of
 -- more than 4,096 bytes without newline; where a read failed, a front without newline
 abbrev pub GivesLine : Option (List ℕ) → Option (List ℕ) → List ℕ → Lined → Result Bool LineError → Type 0
-GivesLine old new held now (Ok true) = HasNoNewline now.line × (length now.line ≤ MOST_LINE_BYTES) × EndsLine old new held now
+GivesLine old new held now (Ok true) = LacksByte 10 now.line × (length now.line ≤ MOST_LINE_BYTES) × EndsLine old new held now
 GivesLine old new held now (Ok false) = Took old new held [] × (now.line ≡ []) × IsAtLinesEnd new now
-GivesLine old new held now (Err LongLine) = HasNoNewline now.line × (MOST_LINE_BYTES < length now.line) × Took old new held (now.line ++ now.held)
-GivesLine old new held now (Err Failed) = HasNoNewline now.line × (length now.line ≤ MOST_LINE_BYTES) × Took old new held now.line × (now.held ≡ [])
+GivesLine old new held now (Err LongLine) = LacksByte 10 now.line × (MOST_LINE_BYTES < length now.line) × Took old new held (now.line ++ now.held)
+GivesLine old new held now (Err Failed) = LacksByte 10 now.line × (length now.line ≤ MOST_LINE_BYTES) × Took old new held now.line × (now.held ≡ [])
 
 -- the bytes that were put into a line, and how that ended: at the end of the source or not, or by an error
 abbrev pub Fills : Option (List ℕ) → Option (List ℕ) → (held line rest : List ℕ) → Result Bool LineError → Type 0
-Fills old new held line rest (Ok true) = HasNoNewline line × (length line ≤ MOST_LINE_BYTES) × Took old new held line × (rest ≡ []) × IsAtEnd new
-Fills old new held line rest (Ok false) = HasNoNewline line × (length line ≤ MOST_LINE_BYTES) × Took old new held (line ++ 10 ∷ rest)
-Fills old new held line rest (Err LongLine) = HasNoNewline line × (MOST_LINE_BYTES < length line) × Took old new held (line ++ rest)
-Fills old new held line rest (Err Failed) = HasNoNewline line × (length line ≤ MOST_LINE_BYTES) × Took old new held line × (rest ≡ [])
+Fills old new held line rest (Ok true) = LacksByte 10 line × (length line ≤ MOST_LINE_BYTES) × Took old new held line × (rest ≡ []) × IsAtEnd new
+Fills old new held line rest (Ok false) = LacksByte 10 line × (length line ≤ MOST_LINE_BYTES) × Took old new held (line ++ 10 ∷ rest)
+Fills old new held line rest (Err LongLine) = LacksByte 10 line × (MOST_LINE_BYTES < length line) × Took old new held (line ++ rest)
+Fills old new held line rest (Err Failed) = LacksByte 10 line × (length line ≤ MOST_LINE_BYTES) × Took old new held line × (rest ≡ [])
 
 -- the first line is longer than a line may be
 abbrev pub IsLong : List (List ℕ) → Type 0

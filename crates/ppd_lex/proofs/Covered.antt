@@ -12,7 +12,7 @@ use Rattle.ppd_ast.specs.declared.program.Place.{Place}
 use Rattle.ppd_lex.specs.declared.scan.Fault.TheVariants as F
 use Rattle.ppd_lex.specs.declared.token.LexError.{LexError}
 use Rattle.ppd_lex.specs.declared.token.LexError.TheVariants as E
-use Rattle.ppd_lex.specs.Tokens.{token_at, place_of, origin, Lexes, end, gap, token, Faults, here, after_gap, after_token, error_of, IsTokens, IsRefused}
+use Rattle.ppd_lex.specs.Tokens.{token_at, place_of, Lexes, end, gap, token, Faults, here, after_gap, after_token, error_of, IsTokens, IsRefused}
 use Rattle.ppd_lex.proofs.FormedTokens.{proper_at}
 use Rattle.ppd_lex.proofs.Lexed.{refused}
 
@@ -64,4 +64,4 @@ module _ (bs : List ℕ) where
 
       go : (t : Bool) → t ≡ nat_le (length bs) (2 ^ 18) → ((ts : List Token) × IsTokens bs ts) ⊎ ((e : LexError) × (e ≢ E.Memory) × IsRefused bs e)
       go true e = by_outcome (grind (arith, nat_tests)) covered
-      go false e = inr (E.TooLong origin, (λ d. cc), (grind (arith, nat_tests), refl))
+      go false e = inr (E.TooLong (place_of bs 0), (λ d. cc), (grind (arith, nat_tests), refl))

@@ -6,13 +6,13 @@ use Rattle.std.proofs.lemmas.List.Sums.{prefix_len-le-length}
 use Rattle.std.proofs.lemmas.List.Folds.{length-prefix_len}
 use Rattle.std.proofs.lemmas.Bool.{cond_below, cond_above}
 use Rattle.std.proofs.lemmas.Bool.Decides.{nat_tests}
+use Rattle.std.specs.Char.{is_ascii_digit}
 use Rattle.ppd_ast.specs.declared.limits.TheConstants.{MOST_NAME_BYTES}
 use Rattle.ppd_lex.specs.declared.token.Kind.{Kind}
 use Rattle.ppd_lex.specs.declared.scan.Fault.TheVariants.{LongName}
 use Rattle.ppd_lex.specs.declared.scan.Piece.{Piece}
 use Rattle.ppd_lex.specs.declared.scan.Piece.TheVariants.{Gap, Read, Bad}
 use Rattle.ppd_lex.specs.declared.token.TokenKind.TheVariants.{End}
-use Rattle.ppd_ast.specs.Digits.{is_digit}
 use Rattle.ppd_lex.specs.Front.{front, is_space, is_letter, is_name_byte, looked_up, keywords, marks, number_of, value_of, close_from, read_word, read_number, read_mark}
 use Rattle.ppd_lex.proofs.Words.{word_kind, read_value, read_block, read_single, read_pair}
 use Rattle.ppd_lex.specs.Formed.{IsKind}
@@ -90,9 +90,9 @@ mark_proper b (c ∷ cs) = go (looked_up marks (b ∷ c ∷ [])) refl
     go None e = single_proper (length (b ∷ (c ∷ cs))) b (omega arith)
 
 letter_passes : (b : ℕ) → is_letter b ≡ true → is_name_byte b ≡ true
-letter_passes b h = ap (λ t. t || is_digit b) h
+letter_passes b h = ap (λ t. t || is_ascii_digit b) h
 
-digit_passes : (b : ℕ) → is_digit b ≡ true → is_name_byte b ≡ true
+digit_passes : (b : ℕ) → is_ascii_digit b ≡ true → is_name_byte b ≡ true
 digit_passes b h = grind (arith, nat_tests)
 
 passed_proper : (b : ℕ) (bs : List ℕ) → is_name_byte b ≡ true → (0 < length (take_while is_name_byte (b ∷ bs))) × (length (take_while is_name_byte (b ∷ bs)) ≤ length (b ∷ bs))
@@ -125,7 +125,7 @@ front_proper (b ∷ bs) h =
     let m = length (b ∷ bs) in
     by_test (IsProper m) (is_space b) _ _ (λ s. (omega arith, omega arith)) (λ s.
     by_test (IsProper m) (is_letter b) _ _ (λ l. let k = passed_proper b bs (letter_passes b l) in word_proper m _ k.0 k.1) (λ l.
-    by_test (IsProper m) (is_digit b) _ _ (λ d. let k = passed_proper b bs (digit_passes b d) in number_proper m _ k.0 k.1) (λ d.
+    by_test (IsProper m) (is_ascii_digit b) _ _ (λ d. let k = passed_proper b bs (digit_passes b d) in number_proper m _ k.0 k.1) (λ d.
     by_test (IsProper m) (starts_with nat_eq (b ∷ bs) (codes "//")) _ _ (line_proper b bs) (λ n.
     by_test (IsProper m) (starts_with nat_eq (b ∷ bs) (codes "/*")) _ _ (λ e. block_proper m (drop 2 (b ∷ bs)) (block_room b bs e)) (λ e. mark_proper b bs)))))
 

@@ -12,7 +12,7 @@ use Rattle.ppd_ast.specs.declared.program.Place.{Place}
 use Rattle.ppd_lex.specs.declared.scan.Piece.{Piece}
 use Rattle.ppd_lex.specs.declared.scan.Piece.TheVariants.{Gap, Read, Bad}
 use Rattle.ppd_lex.specs.Front.{front}
-use Rattle.ppd_lex.specs.Tokens.{origin, place_of, Lexes, Faults, gap, token, here, after_gap, after_token, token_at, IsTokens, IsFirstFault, IsRefused, error_of, end}
+use Rattle.ppd_lex.specs.Tokens.{place_of, Lexes, Faults, gap, token, here, after_gap, after_token, token_at, IsTokens, IsFirstFault, IsRefused, error_of, end}
 use Rattle.ppd_lex.proofs.Comments.{rest_of}
 use Rattle.ppd_lex.proofs.Places.{place_bound}
 use Rattle.ppd_lex.proofs.FormedTokens.{proper_at}
@@ -79,7 +79,7 @@ ended bs i ts h tokens e us p eu ep =
 
 -- an answer for want of memory
 pub without_memory : {X : Type 0} (bs : List ℕ) (P Q : X → Type 0) (r : Result X LexError) → IsErr r → IsErrAnd r (λ e. e ≡ E.Memory) → length bs ≤ 2 ^ 18
-    → IfOk r P × IfOk r Q × IfErr r (λ e. IsRefused bs e) × (2 ^ 18 < length bs → IsErrOf r (E.TooLong origin))
+    → IfOk r P × IfOk r Q × IfErr r (λ e. IsRefused bs e) × (2 ^ 18 < length bs → IsErrOf r (E.TooLong (place_of bs 0)))
 without_memory bs P Q (Ok x) f g h = absurd (apart f)
   where
     apart : false ≡ true → ⊥

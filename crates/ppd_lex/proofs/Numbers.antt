@@ -3,7 +3,8 @@ use Rattle.std.proofs.Common.{◌≡◌, ◌<◌, ◌≤◌, ℕ, ◌+◌, ◌-�
 use Rattle.std.specs.List.{list_all}
 use Rattle.std.proofs.lemmas.List.{take-append-drop}
 use Rattle.std.proofs.lemmas.Bool.Decides.{nat_tests}
-use Rattle.ppd_ast.specs.Digits.{is_digit, value_from}
+use Rattle.std.specs.Char.{is_ascii_digit}
+use Rattle.ppd_ast.specs.Digits.{value_from}
 use Rattle.ppd_ast.proofs.Digits.{value_append}
 use Rattle.ppd_lex.specs.Front.{value_of}
 
@@ -18,20 +19,20 @@ value_front bs i =
     let h = value_rises (value_from 0 (take i bs)) (drop i bs) in
     omega arith
 
-pub not_digits : (bs : List ℕ) → list_all is_digit bs ≡ false → value_of bs ≡ None
+pub not_digits : (bs : List ℕ) → list_all is_ascii_digit bs ≡ false → value_of bs ≡ None
 not_digits bs h = grind (arith, nat_tests)
 
 pub too_great : (bs : List ℕ) → 2 ^ 63 ≤ value_from 0 bs → value_of bs ≡ None
 too_great bs h = grind (arith, nat_tests)
 
-pub value_is : (bs : List ℕ) → list_all is_digit bs ≡ true → value_from 0 bs < 2 ^ 63 → value_of bs ≡ Some (value_from 0 bs)
+pub value_is : (bs : List ℕ) → list_all is_ascii_digit bs ≡ true → value_from 0 bs < 2 ^ 63 → value_of bs ≡ Some (value_from 0 bs)
 value_is bs p v = grind (arith, nat_tests)
 
-pub digit_small : (b : ℕ) → is_digit b ≡ true → (48 ≤ b) × (b - 48 ≤ 9)
+pub digit_small : (b : ℕ) → is_ascii_digit b ≡ true → (48 ≤ b) × (b - 48 ≤ 9)
 digit_small b h = (grind (arith, nat_tests), grind (arith, nat_tests))
 
-pub all_digits : (bs : List ℕ) (i value : ℕ) → length bs ≤ i → list_all is_digit (take i bs) ≡ true → value ≡ value_from 0 (take i bs) → value < 2 ^ 63 → value_of bs ≡ Some value
+pub all_digits : (bs : List ℕ) (i value : ℕ) → length bs ≤ i → list_all is_ascii_digit (take i bs) ≡ true → value ≡ value_from 0 (take i bs) → value < 2 ^ 63 → value_of bs ≡ Some value
 all_digits bs i value l p e v =
     let whole : take i bs ≡ bs = take_all i bs l in
     let is : value ≡ value_from 0 bs = e ∙ ap (value_from 0) whole in
-    value_is bs (sym (ap (list_all is_digit) whole) ∙ p) (omega (arith, is)) ∙ ap Some (sym is)
+    value_is bs (sym (ap (list_all is_ascii_digit) whole) ∙ p) (omega (arith, is)) ∙ ap Some (sym is)

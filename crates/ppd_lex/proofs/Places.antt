@@ -2,7 +2,7 @@
 use Rattle.std.proofs.Common.{◌≡◌, ◌<◌, ◌≤◌, ℕ, ◌+◌, ◌-◌, List, [], ◌∷◌, ◌++◌, length, drop, take, get_or, Bool, true, false, cond, refl, sym, ◌∙◌, ap, arith, drop-cons, add-one, nat_eq, length-take}
 use Rattle.std.proofs.Math.Seq.{take-add}
 use Rattle.ppd_ast.specs.declared.program.Place.{Place}
-use Rattle.ppd_lex.specs.Tokens.{after_byte, place_of, origin}
+use Rattle.ppd_lex.specs.Tokens.{after_byte, place_of}
 use Rattle.ppd_lex.proofs.Words.{after_bytes}
 
 pub after_more : (p : Place) (bs : List ℕ) (i : ℕ) → i < length bs → after_bytes p (drop i bs) ≡ after_bytes (after_byte p (get_or bs i 0)) (drop (i + 1) bs)
@@ -45,7 +45,7 @@ after_bound p (b ∷ bs) l c =
     record { line = rest.line; column = rest.column; sum = omega (arith, one.0, rest.sum) }
 
 -- the place of a byte is from 1:1 on, and no further than the byte
-pub place_bound : (bs : List ℕ) (i : ℕ) → LeadsWithin origin i (place_of bs i)
+pub place_bound : (bs : List ℕ) (i : ℕ) → LeadsWithin (place_of bs 0) i (place_of bs i)
 place_bound bs i =
-    let h = after_bound origin (take i bs) (omega arith) (omega arith) in
+    let h = after_bound (place_of bs 0) (take i bs) (omega arith) (omega arith) in
     record { line = h.line; column = h.column; sum = omega (arith, h.sum, length-take i bs) }

@@ -5,7 +5,7 @@ use Rattle.ppd_lex.specs.declared.token.TokenKind.{TokenKind}
 use Rattle.ppd_lex.specs.declared.token.LexError.{LexError}
 use Rattle.ppd_lex.specs.declared.token.LexError.TheVariants as E
 use Rattle.ppd_lex.specs.declared.scan.Fault.{Fault}
-use Rattle.ppd_lex.specs.Tokens.{origin, place_of, token_at, Lexes, end, gap, token, Faults, here, after_gap, after_token, IsTokens, IsFirstFault, IsRefused, error_of}
+use Rattle.ppd_lex.specs.Tokens.{place_of, token_at, Lexes, end, gap, token, Faults, here, after_gap, after_token, IsTokens, IsFirstFault, IsRefused, error_of}
 
 same_tokens : (bs : List ℕ) (i n m : ℕ) (k l : TokenKind) (ts us : List Token) → n ≡ m → k ≡ l → ts ≡ us → token_at bs i n k ∷ ts ≡ token_at bs i m l ∷ us
 same_tokens bs i n m k l ts us e f g = ap (λ x. token_at bs i x k ∷ ts) e ∙ (ap (λ x. token_at bs i m x ∷ ts) f ∙ ap (λ x. token_at bs i m l ∷ x) g)
@@ -69,7 +69,7 @@ module _ (bs : List ℕ) where
 
   -- a refusal other than want of memory: the source is too long, or it has a first fault
   pub data Why (e : LexError) : Type 0 where
-    too_long : 2 ^ 18 < length bs → e ≡ E.TooLong origin → Why e
+    too_long : 2 ^ 18 < length bs → e ≡ E.TooLong (place_of bs 0) → Why e
     first : IsFirstFault bs e → Why e
 
   pub why : (e : LexError) → IsRefused bs e → e ≢ E.Memory → Why e

@@ -3,8 +3,9 @@ use Rattle.std.specs.Prelude.{ℕ, pos, ◌+◌, ◌^◌, List, [], ◌∷◌, l
 use Rattle.std.specs.List.{list_all, prefix_len, starts_with}
 use Rattle.std.specs.Option.{option_map_or}
 use Rattle.std.specs.Str.{bytes_eq}
+use Rattle.std.specs.Char.{is_ascii_digit}
 use Rattle.ppd_ast.specs.declared.limits.TheConstants.{MOST_NAME_BYTES}
-use Rattle.ppd_ast.specs.Digits.{is_digit, value_from}
+use Rattle.ppd_ast.specs.Digits.{value_from}
 use Rattle.ppd_lex.specs.declared.token.Kind.{Kind}
 use Rattle.ppd_lex.specs.declared.token.Kind.TheVariants as K
 use Rattle.ppd_lex.specs.declared.token.TokenKind.{TokenKind}
@@ -21,7 +22,7 @@ abbrev pub is_letter : ℕ → Bool
 is_letter b = (nat_le 65 b && nat_le b 90) || ((nat_le 97 b && nat_le b 122) || nat_eq b 95)
 
 abbrev pub is_name_byte : ℕ → Bool
-is_name_byte b = is_letter b || is_digit b
+is_name_byte b = is_letter b || is_ascii_digit b
 
 -- the keywords and the marks, each with its kind
 abbrev pub keywords : List (List ℕ × Kind)
@@ -49,7 +50,8 @@ looked_up (e ∷ es) text = if bytes_eq text e.0 then Some e.1 else looked_up es
 
 -- the number that digits write, where it is at most 9223372036854775807
 abbrev pub value_of : List ℕ → Option ℕ
-value_of text = if list_all is_digit text && nat_lt (value_from 0 text) (2 ^ 63) then Some (value_from 0 text) else None
+value_of text =
+    if list_all is_ascii_digit text && nat_lt (value_from 0 text) (2 ^ 63) then Some (value_from 0 text) else None
 
 -- the number that the text is, which has no needless 0
 abbrev pub number_of : List ℕ → Option ℕ
@@ -85,7 +87,7 @@ front [] = Bad BadByte
 front (b ∷ bs) =
     if is_space b then Gap 1
     else (if is_letter b then read_word (take_while is_name_byte (b ∷ bs))
-    else (if is_digit b then read_number (take_while is_name_byte (b ∷ bs))
+    else (if is_ascii_digit b then read_number (take_while is_name_byte (b ∷ bs))
     else (if starts_with nat_eq (b ∷ bs) (codes "//") then Gap (prefix_len (λ c. not (nat_eq c 10)) (b ∷ bs))
     else (if starts_with nat_eq (b ∷ bs) (codes "/*") then option_map_or Gap (close_from 2 (drop 2 (b ∷ bs))) (Bad OpenComment)
     else read_mark b bs))))

@@ -11,9 +11,6 @@ use Rattle.ppd_lex.specs.declared.scan.Fault.TheVariants as F
 use Rattle.ppd_lex.specs.declared.scan.Piece.TheVariants.{Gap, Read, Bad}
 use Rattle.ppd_lex.specs.Front.{front}
 
-abbrev pub origin : Place
-origin = record { line = 1; column = 1 }
-
 -- the place after a byte: byte 10 ends a line
 abbrev pub after_byte : Place → ℕ → Place
 after_byte p b =
@@ -21,7 +18,7 @@ after_byte p b =
 
 -- the place of the byte with this number from 0
 abbrev pub place_of : List ℕ → ℕ → Place
-place_of bytes i = fold after_byte origin (take i bytes)
+place_of bytes i = fold after_byte (record { line = 1; column = 1 }) (take i bytes)
 
 -- the token of n bytes from byte i on
 abbrev pub token_at : List ℕ → ℕ → ℕ → TokenKind → Token
@@ -65,5 +62,5 @@ pub record IsFirstFault (bytes : List ℕ) (error : LexError) : Type 0 where
 -- Why a source of these bytes has no tokens; want of memory may come at any.
 abbrev pub IsRefused : List ℕ → LexError → Type 0
 IsRefused bytes E.Memory = Unit {0}
-IsRefused bytes (E.TooLong p) = (2 ^ 18 < length bytes) × (p ≡ origin)
+IsRefused bytes (E.TooLong p) = (2 ^ 18 < length bytes) × (p ≡ place_of bytes 0)
 IsRefused bytes error = IsFirstFault bytes error

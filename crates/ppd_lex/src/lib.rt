@@ -2,7 +2,7 @@
 #![tactic(auto)]
 
 ghost use Rattle.std.specs.Prelude.{◌≡◌, ◌<◌, ◌≤◌, ◌+◌, ◌^◌, length, fold, IfOk, IfErr, IsErrOf};
-ghost use Rattle.ppd_lex.specs.Tokens.{after_byte, origin, IsTokens, IsRefused, error_of};
+ghost use Rattle.ppd_lex.specs.Tokens.{after_byte, place_of, IsTokens, IsRefused, error_of};
 ghost use Rattle.ppd_lex.specs.Formed.{AreFormed};
 
 mod laws;
@@ -71,7 +71,7 @@ pub fn lex(alloc: Global, bytes: &[u8]) -> Result<Vec<Token>, LexError>
     ensures tokens { IfOk result (λ tokens. IsTokens bytes.now tokens.items) }
     ensures formed { IfOk result (λ tokens. AreFormed (length bytes.now) tokens.items) }
     ensures fault { IfErr result (λ error. IsRefused bytes.now error) }
-    ensures long { 2 ^ 18 < length bytes.now → IsErrOf result (LexError.TooLong origin) }
+    ensures long { 2 ^ 18 < length bytes.now → IsErrOf result (LexError.TooLong (place_of bytes.now 0)) }
 {
     let mut place = Place { line: 1, column: 1 };
     if bytes.len() > MOST_SOURCE_BYTES {

@@ -2,7 +2,6 @@
 ghost use Rattle.std.specs.Prelude.{◌≡◌, ◌<◌, ◌≤◌, ◌+◌, ◌^◌, length, map, not, nat_eq, position, IfSome};
 ghost use Rattle.std.specs.List.{prefix_len};
 ghost use Rattle.std.specs.Str.{bytes_eq};
-ghost use Rattle.ppd_ast.specs.Digits.{is_digit};
 ghost use Rattle.ppd_lex.specs.Front.{is_space, is_letter, is_name_byte, keywords, marks, looked_up, value_of, number_of, close_from};
 
 use crate::token::Kind;

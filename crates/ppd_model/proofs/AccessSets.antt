@@ -1,4 +1,5 @@
 -- The cells of an edge's accesses, rising.
+use Rattle.std.specs.Bool.{beq}
 use Rattle.std.proofs.Common.{◌≡◌, ℕ, zero, suc, ◌+◌, ◌<◌, ◌≤◌, Bool, true, false, cond, ◌&&◌, ◌||◌, List, [], ◌∷◌, ◌++◌, Some, refl, ap, sym, subst, ◌∙◌, arith, length, map, get_or, nat_eq, nat_lt, eqb-true, ne_eqb, ltb-true}
 use Rattle.std.specs.Prelude.{filter, fold, slice_get}
 use Rattle.std.specs.List.{list_any}
@@ -20,10 +21,9 @@ use Rattle.ppd_sem.specs.Laws.{NamesThere}
 use Rattle.ppd_sem.specs.Process.{act, started}
 use Rattle.ppd_sem.proofs.Lawful.{named}
 use Rattle.ppd_model.specs.LocalTags.{AreOwn}
-use Rattle.ppd_model.specs.Races.{writes_or_not}
 use Rattle.ppd_model.specs.Record.{SharedAccess, access_at, accesses, accesses_from, edge_after}
 use Rattle.ppd_model.specs.RecordedSets.{AccessesAreOfCells, CellsAreOfAccesses, cells_of, rising}
-use Rattle.ppd_model.specs.Story.{Taken, own_steps, story}
+use Rattle.ppd_model.specs.Story.{Taken, story}
 use Rattle.ppd_model.proofs.Changes.{some}
 use Rattle.ppd_model.proofs.LocalTags.{own_steps_told}
 
@@ -94,20 +94,20 @@ and-turn false y z = refl
 
 -- the accesses of the edge and the kind
 abbrev chosen : ℕ → Bool → List SharedAccess → List SharedAccess
-chosen i w xs = filter (λ (a : SharedAccess). nat_eq a.edge i && writes_or_not a w) xs
+chosen i w xs = filter (λ (a : SharedAccess). nat_eq a.edge i && beq a.writes w) xs
 
 abbrev cells_at : List SharedAccess → List ℕ
 cells_at xs = map (λ (a : SharedAccess). a.cell) xs
 
 -- whether one of these is of the cell
 abbrev is_any : ℕ → ℕ → Bool → List SharedAccess → Bool
-is_any c i w xs = list_any (λ (a : SharedAccess). nat_eq a.edge i && nat_eq a.cell c && writes_or_not a w) xs
+is_any c i w xs = list_any (λ (a : SharedAccess). nat_eq a.edge i && nat_eq a.cell c && beq a.writes w) xs
 
 has_cells : (c i : ℕ) (w : Bool) (xs : List SharedAccess) → has (cells_at (chosen i w xs)) c ≡ is_any c i w xs
 has_cells c i w [] = refl
 has_cells c i w (a ∷ as') =
-    by (nat_eq a.edge i && writes_or_not a w) (has_cells c i w as')
-    ∙ ap (λ x. x || is_any c i w as') (and-turn (nat_eq a.edge i) (nat_eq a.cell c) (writes_or_not a w))
+    by (nat_eq a.edge i && beq a.writes w) (has_cells c i w as')
+    ∙ ap (λ x. x || is_any c i w as') (and-turn (nat_eq a.edge i) (nat_eq a.cell c) (beq a.writes w))
   where
     by : (b : Bool) → has (cells_at (chosen i w as')) c ≡ is_any c i w as' → has (cells_at (cond b (a ∷ chosen i w as') (chosen i w as'))) c ≡ ((b && nat_eq a.cell c) || is_any c i w as')
     by true rest = ap (λ x. nat_eq a.cell c || x) rest
@@ -125,7 +125,7 @@ cells_are s p i w =
 
 -- the cells of these that are of the edge and the kind
 abbrev pub picked : List SharedAccess → ℕ → Bool → List ℕ
-picked xs i w = map (λ (a : SharedAccess). a.cell) (filter (λ (a : SharedAccess). nat_eq a.edge i && writes_or_not a w) xs)
+picked xs i w = map (λ (a : SharedAccess). a.cell) (filter (λ (a : SharedAccess). nat_eq a.edge i && beq a.writes w) xs)
 
 -- a set with these cells
 abbrev pub with_cells : List ℕ → List ℕ → List ℕ
@@ -134,13 +134,13 @@ with_cells set cells = fold (λ set c. with_cell c set) set cells
 pub cells-append : (xs ys : List SharedAccess) (i : ℕ) (w : Bool) → cells_of (xs ++ ys) i w ≡ with_cells (cells_of xs i w) (picked ys i w)
 cells-append xs ys i w =
     ap (λ cells. with_cells [] cells)
-    (ap cells_at (filter-append (λ (a : SharedAccess). nat_eq a.edge i && writes_or_not a w) xs ys)
+    (ap cells_at (filter-append (λ (a : SharedAccess). nat_eq a.edge i && beq a.writes w) xs ys)
     ∙ map-append (λ (a : SharedAccess). a.cell) (chosen i w xs) (chosen i w ys))
     ∙ fold-append (λ set c. with_cell c set) [] (picked xs i w) (picked ys i w)
 
 -- an access of another edge is not picked
 not_picked : (a : SharedAccess) (rest : List SharedAccess) (i : ℕ) (w : Bool) → (a.edge ≡ i → ⊥) → picked (a ∷ rest) i w ≡ picked rest i w
-not_picked a rest i w apart = ap (λ b. cells_at (cond (b && writes_or_not a w) (a ∷ chosen i w rest) (chosen i w rest))) (ne_eqb a.edge i apart)
+not_picked a rest i w apart = ap (λ b. cells_at (cond (b && beq a.writes w) (a ∷ chosen i w rest) (chosen i w rest))) (ne_eqb a.edge i apart)
 
 pub other_edge : (need : Need) (e i : ℕ) (w : Bool) → (e ≡ i → ⊥) → picked (access_at e need) i w ≡ []
 other_edge (n.Read c) e i w apart = not_picked (record { edge = e; cell = c; writes = false }) [] i w apart
@@ -174,4 +174,4 @@ in_cells program plan v e s (x ∷ xs) m a own is =
 
 pub accesses_there : AccessesAreOfCells
 accesses_there program plan budget h p m a v is =
-    in_cells program plan v 0 (started program plan p budget) (own_steps (story program plan budget h) p) m a (own_steps_told program plan budget h p) is
+    in_cells program plan v 0 (started program plan p budget) (get_or (story program plan budget h).steps p []) m a (own_steps_told program plan budget h p) is

@@ -10,7 +10,7 @@ use Rattle.ppd_sem.specs.declared.proc.Need.{Need}
 use Rattle.ppd_sem.specs.declared.proc.Need.TheVariants.{Write, P, V, Send, Offer, Done, Recv}
 use Rattle.ppd_model.specs.Bounds.{AreEach, CountsAreBalanced, IsBalanced, IsBalancedChan, IsBalancedSem}
 use Rattle.ppd_model.specs.Schedule.{run_from, started_world}
-use Rattle.ppd_model.specs.World.{World, Channel, Counts, can, change, effect, need, room, room_of, step}
+use Rattle.ppd_model.specs.World.{World, Channel, Counts, can, change, effect, need, room_of, step}
 use Rattle.ppd_model.proofs.WorldWords.{can_complete, can_receive, can_send, can_take}
 use Rattle.ppd_model.proofs.Bounded.{Goes, goes}
 use Rattle.ppd_model.proofs.Changes.{some}
@@ -35,10 +35,10 @@ given s x b =
 
 sent : (c : Chan) (x : Channel) (v : ℤ) → can_send (Some x) ≡ true → IsBalancedChan c x → IsBalancedChan c (record x { sent = x.sent ++ v ∷ [] })
 sent c x v e b =
-    let less : length x.sent < room x = grind (arith, nat_tests) in
+    let less : length x.sent < room_of x.capacity x = grind (arith, nat_tests) in
     let within : x.received ≤ length x.sent = b.received in
     let more : length (x.sent ++ v ∷ []) ≡ length x.sent + 1 = length-append x.sent (v ∷ []) in
-    let same : room (record x { sent = x.sent ++ v ∷ [] }) ≡ room x = same_room x.capacity in
+    let same : room_of (record x { sent = x.sent ++ v ∷ [] }).capacity (record x { sent = x.sent ++ v ∷ [] }) ≡ room_of x.capacity x = same_room x.capacity in
     record { capacity = b.capacity; completed = b.completed; received = omega arith; sent = omega arith }
   where
     same_room : (n : ℕ) → room_of n (record x { sent = x.sent ++ v ∷ [] }) ≡ room_of n x
@@ -48,9 +48,9 @@ sent c x v e b =
 received : (c : Chan) (x : Channel) → can_receive (Some x) ≡ true → IsBalancedChan c x → IsBalancedChan c (record x { received = x.received + 1 })
 received c x e b =
     let less : x.received < length x.sent = grind (arith, nat_tests) in
-    let within : length x.sent ≤ room x = b.sent in
+    let within : length x.sent ≤ room_of x.capacity x = b.sent in
     let below : x.completed ≤ x.received = b.completed in
-    let more : room x ≤ room (record x { received = x.received + 1 }) = more_room x.capacity in
+    let more : room_of x.capacity x ≤ room_of (record x { received = x.received + 1 }).capacity (record x { received = x.received + 1 }) = more_room x.capacity in
     record { capacity = b.capacity; completed = omega arith; received = omega arith; sent = omega arith }
   where
     more_room : (n : ℕ) → room_of n x ≤ room_of n (record x { received = x.received + 1 })
@@ -60,8 +60,8 @@ received c x e b =
 completed : (c : Chan) (x : Channel) → can_complete (Some x) ≡ true → IsBalancedChan c x → IsBalancedChan c (record x { completed = x.completed + 1 })
 completed c x e b =
     let less : x.completed < x.received = grind (arith, nat_tests) in
-    let within : length x.sent ≤ room x = b.sent in
-    let more : room x ≤ room (record x { completed = x.completed + 1 }) = more_room x.capacity in
+    let within : length x.sent ≤ room_of x.capacity x = b.sent in
+    let more : room_of x.capacity x ≤ room_of (record x { completed = x.completed + 1 }).capacity (record x { completed = x.completed + 1 }) = more_room x.capacity in
     record { capacity = b.capacity; completed = omega arith; received = b.received; sent = omega arith }
   where
     more_room : (n : ℕ) → room_of n x ≤ room_of n (record x { completed = x.completed + 1 })

@@ -14,7 +14,7 @@ use Rattle.ppd_sem.specs.declared.proc.Proc.{Proc}
 use Rattle.ppd_sem.specs.declared.proc.Todo.{Todo}
 use Rattle.ppd_sem.specs.Asked.{Asked}
 use Rattle.ppd_sem.specs.Deed.{Deed, set_local, clear, invoke, back, receive, ask_deed}
-use Rattle.ppd_sem.specs.Process.{head_deed, top_cells}
+use Rattle.ppd_sem.specs.Process.{head_deed, top_frame}
 use Rattle.ppd_sem.specs.Described.{is_event}
 use Rattle.ppd_sem.proofs.OfKind.{IsDeedOf, OfAsked, asked_holds, invokes}
 use Rattle.ppd_model.specs.declared.trace.EventId.{EventId}
@@ -66,7 +66,7 @@ by_deed program s me asked xs h = same_within xs xs refl
 
 by_todo : (program : Program) (plan : Plan) (s : Proc) (x : Taken) (me : Tag) (todo : List Todo) (xs : List Activation) → is_call (kind_of program (event_of program plan s x todo).stmt) ≡ false → Within (tagged_at program s me todo xs) xs
 by_todo program plan s x me [] xs h = same_within xs xs refl
-by_todo program plan s x me (t ∷ ts) xs h = by_deed program s me (head_deed program t s) xs (no_call program.exprs (kind_of program t.stmt) (top_cells s.frames) s.answers h)
+by_todo program plan s x me (t ∷ ts) xs h = by_deed program s me (head_deed program t s) xs (no_call program.exprs (kind_of program t.stmt) (top_frame s.frames).cells s.answers h)
 
 by_need : (program : Program) (plan : Plan) (s : Proc) (x : Taken) (me : Tag) (n : Need) (xs : List Activation) → is_call (kind_of program (event_of program plan s x s.todo).stmt) ≡ false → Within (tagged_after program s me n xs) xs
 by_need program plan s x me (Trap t) xs h = same_within xs xs refl

@@ -1,11 +1,8 @@
 -- A step costs 1 and the values that it writes.
-use Rattle.std.proofs.Common.{◌≡◌, ◌≢◌, ℕ, zero, suc, ◌+◌, ◌≤◌, ℤ, pos, Bool, true, false, List, [], ◌∷◌, ◌++◌, Option, Some, None, Ok, Err, refl, ap, sym, subst, ◌∙◌, length, map, arith, inl, inr, get_or, if◌then◌else◌}
-use Rattle.std.specs.Prelude.{⊤, ◌⊎◌, ◌-◌, drop, fold, is_some, option_map, option_to_list, slice_get, IsSomeAnd}
-use Rattle.std.proofs.lemmas.Bool.{cases_eq}
-use Rattle.std.proofs.lemmas.Bool.Decides.{nat_tests}
-use Rattle.std.proofs.lemmas.List.{drop-append-le, length-append, length-map}
-use Rattle.std.proofs.lemmas.List.Quantifiers.{position-Some}
-use Rattle.std.proofs.lemmas.Option.{none-some, slice_get-get_or, slice_get-map}
+use Rattle.ppd_ast.proofs.Vocabulary.{gives as gives_value, params_of_body}
+use Rattle.ppd_ast.specs.Lookups.{body_of, kind_of}
+use Rattle.ppd_ast.specs.Valid.{IsValid}
+use Rattle.ppd_ast.specs.ValidPlan.{IsBlockOf, IsFunctionBlock, IsValidPlan}
 use Rattle.ppd_ast.specs.declared.plan.Block.{Block}
 use Rattle.ppd_ast.specs.declared.plan.BlockKind.{BlockKind}
 use Rattle.ppd_ast.specs.declared.plan.BlockKind.TheVariants as block
@@ -15,46 +12,49 @@ use Rattle.ppd_ast.specs.declared.plan.Unit.{Unit as UnitOf}
 use Rattle.ppd_ast.specs.declared.program.Body.{Body}
 use Rattle.ppd_ast.specs.declared.program.Program.{Program}
 use Rattle.ppd_ast.specs.declared.status.Status.{Status}
-use Rattle.ppd_ast.proofs.Vocabulary.{gives as gives_value, params_of_body}
-use Rattle.ppd_ast.specs.Valid.{IsValid}
-use Rattle.ppd_ast.specs.ValidPlan.{IsBlockOf, IsFunctionBlock, IsValidPlan}
-use Rattle.ppd_ast.specs.Lookups.{kind_of, body_of}
-use Rattle.ppd_sem.specs.Blocks.{postlog_cells, prelog_cells}
 use Rattle.ppd_entry.specs.declared.entry.Entry.{Entry}
-use Rattle.ppd_sem.specs.declared.asking.Pause.TheVariants.{Wants, Traps}
+use Rattle.ppd_entry.specs.declared.entry.Entry.TheVariants as entry
+use Rattle.ppd_model.proofs.Changes.{change-at, change-else, some}
+use Rattle.ppd_model.proofs.Homes.{AreHome, AskedOf, IsHome, act-home, head_of, started-home}
+use Rattle.ppd_model.proofs.LogWords.{logs_from}
+use Rattle.ppd_model.proofs.States.{logged, logs-change, one_state, states-begun, states-tell}
+use Rattle.ppd_model.proofs.WorldWords.{need_at, values_at_start}
+use Rattle.ppd_model.specs.Costs.{CostsWhatItWrites, HasSpentNothing, HasWholePrelogs, IsWholeBlock, LogsArePaid, StartsAreFree, StepsCostWhatTheyWrite, values_in}
+use Rattle.ppd_model.specs.Laws.{logged_moment}
+use Rattle.ppd_model.specs.Logs.{Logging, begun_log, block_entries, ends, entries_of, log_step, loggings, status_of, syncs, units}
+use Rattle.ppd_model.specs.Marks.{Mark, closed, opened}
+use Rattle.ppd_model.specs.Schedule.{started_world}
+use Rattle.ppd_model.specs.States.{states_from}
+use Rattle.ppd_model.specs.Story.{Moment, Taken, Telling, begun, moment_of, steps_of, tell, told, unit_started, values_of_unit}
+use Rattle.ppd_model.specs.Synchronizations.{Sync, sync_of}
+use Rattle.ppd_model.specs.World.{World, change, need, step}
+use Rattle.ppd_sem.proofs.EventWords.{arguments_of_head, result_of_head}
+use Rattle.ppd_sem.proofs.NeedWords.{act_at, need_by_entry, need_by_offer, need_by_status, need_of_running}
+use Rattle.ppd_sem.proofs.Paid.{need-paid}
+use Rattle.ppd_sem.proofs.Progress.{IsWithinBudget, SamePurse, act-stopped, act-within, asked_purse, need_at_status, need_at_todo}
+use Rattle.ppd_sem.proofs.TableWords.{prelog_in}
+use Rattle.ppd_sem.specs.Asked.{Asked}
+use Rattle.ppd_sem.specs.Blocks.{postlog_cells, prelog_cells}
+use Rattle.ppd_sem.specs.Deed.{Deed, back, branch, clear, finish, give, invoke, leave, pass, print, receive, send, set_local, set_shared, take, turn}
+use Rattle.ppd_sem.specs.Passed.{arguments_at, arguments_by, result_at, result_by}
+use Rattle.ppd_sem.specs.Process.{act, act_by_asked, act_by_need, charged, cost, entry_of, head_deed, need_of, need_of_asked, need_of_head, need_of_leaving, need_of_send, offer_of, top_frame, values_of}
+use Rattle.ppd_sem.specs.Runs.{bodies_in}
+use Rattle.ppd_sem.specs.Tables.{block_of, capacity_of, returned_length, same_block, unit_length, unit_of}
+use Rattle.ppd_sem.specs.declared.asking.Pause.TheVariants.{Traps, Wants}
 use Rattle.ppd_sem.specs.declared.proc.Answer.{Answer}
 use Rattle.ppd_sem.specs.declared.proc.Frame.{Frame}
 use Rattle.ppd_sem.specs.declared.proc.Need.{Need}
-use Rattle.ppd_sem.specs.declared.proc.Need.TheVariants.{Read, Write, Plain, Enter, Leave, Invoke, Back, P, V, Send, Offer, Done, Recv, End, Trap, Budget, Stopped}
+use Rattle.ppd_sem.specs.declared.proc.Need.TheVariants.{Back, Budget, Done, End, Enter, Invoke, Leave, Offer, P, Plain, Read, Recv, Send, Stopped, Trap, V, Write}
 use Rattle.ppd_sem.specs.declared.proc.Proc.{Proc}
 use Rattle.ppd_sem.specs.declared.proc.Todo.{Todo}
-use Rattle.ppd_sem.specs.Ask.{cell_of}
-use Rattle.ppd_sem.specs.Asked.{Asked, outcome}
-use Rattle.ppd_sem.specs.Deed.{Deed, set_local, set_shared, clear, branch, turn, leave, invoke, back, take, give, send, receive, print, pass, finish}
-use Rattle.ppd_sem.specs.Passed.{arguments_at, arguments_by, result_at, result_by}
-use Rattle.ppd_sem.specs.Process.{act, act_by_asked, act_by_need, charged, cost, entry_of, head_deed, need_of, need_of_asked, need_of_head, need_of_leaving, need_of_send, offer_of, top_body, top_cells, values_of}
-use Rattle.ppd_sem.specs.Tables.{block_of, capacity_of, returned_length, same_block, unit_length, unit_of}
-use Rattle.ppd_sem.proofs.Paid.{need-paid}
-use Rattle.ppd_sem.proofs.Progress.{IsWithinBudget, SamePurse, act-stopped, act-within, asked_purse, need_at_status, need_at_todo}
-use Rattle.ppd_sem.specs.Runs.{bodies_in}
-use Rattle.ppd_model.specs.Costs.{CostsWhatItWrites, HasSpentNothing, HasWholePrelogs, IsWholeBlock, LogsArePaid, StartsAreFree, StepsCostWhatTheyWrite, values_in}
-use Rattle.ppd_model.specs.Laws.{logged_moment}
-use Rattle.ppd_model.specs.Logs.{Logging, begun_log, ends, entries_of, log_step, loggings, postlogs, prelogs, status_of, syncs, units}
-use Rattle.ppd_model.specs.Marks.{Mark, closed, opened}
-use Rattle.ppd_model.specs.Schedule.{started_world}
-use Rattle.ppd_model.specs.Story.{Moment, Taken, Telling, begun, cells_of_unit, moment_of, steps_of, tell, told, unit_started, values_of_unit}
-use Rattle.ppd_model.specs.States.{states_from}
-use Rattle.ppd_model.specs.Synchronizations.{Sync, sync_of}
-use Rattle.ppd_model.specs.World.{World, change, need, step}
-use Rattle.ppd_model.proofs.Changes.{change-at, change-else, some}
-use Rattle.ppd_model.proofs.Homes.{AreHome, AskedOf, IsHome, act-home, head_of, started-home}
-use Rattle.ppd_model.proofs.States.{logged, logs-change, one_state, states-begun, states-tell}
+use Rattle.std.proofs.Common.{Bool, Err, List, None, Ok, Option, Some, [], ap, arith, false, get_or, if◌then◌else◌, inl, inr, length, map, pos, refl, subst, suc, sym, true, zero, ℕ, ℤ, ◌++◌, ◌+◌, ◌∙◌, ◌∷◌, ◌≡◌, ◌≢◌, ◌≤◌}
+use Rattle.std.proofs.lemmas.Bool.{cases_eq}
+use Rattle.std.proofs.lemmas.Bool.Decides.{nat_tests}
+use Rattle.std.proofs.lemmas.List.{drop-append-le, length-append, length-map}
+use Rattle.std.proofs.lemmas.List.Quantifiers.{position-Some}
+use Rattle.std.proofs.lemmas.Option.{none-some, slice_get-get_or, slice_get-map}
 use Rattle.std.specs.Option.{option_map_or}
-use Rattle.ppd_sem.proofs.TableWords.{prelog_in}
-use Rattle.ppd_sem.proofs.EventWords.{arguments_of_head, result_of_head}
-use Rattle.ppd_sem.proofs.NeedWords.{act_at, need_by_entry, need_by_offer, need_by_status, need_of_running}
-use Rattle.ppd_model.proofs.LogWords.{logs_from}
-use Rattle.ppd_model.proofs.WorldWords.{need_at, values_at_start}
+use Rattle.std.specs.Prelude.{IsSomeAnd, drop, fold, is_some, option_map, option_to_list, slice_get, ⊤, ◌-◌, ◌⊎◌}
 
 -- ---- the values in entries
 
@@ -70,11 +70,11 @@ values_append (x ∷ xs) ys = omega (arith, values_append xs ys)
 five : (a b c d e : List Entry) → values_in (a ++ b ++ c ++ d ++ e) ≡ values_in a + (values_in b + (values_in c + (values_in d + values_in e)))
 five a b c d e = omega (arith, values_append (a ++ b ++ c ++ d) e, values_append (a ++ b ++ c) d, values_append (a ++ b) c, values_append a b)
 
-of_prelogs : (o : Option Mark) → values_in (prelogs o) ≡ marked o
+of_prelogs : (o : Option Mark) → values_in (block_entries entry.Prelog o) ≡ marked o
 of_prelogs None = refl
 of_prelogs (Some m) = omega arith
 
-of_postlogs : (o : Option Mark) → values_in (postlogs o) ≡ marked o
+of_postlogs : (o : Option Mark) → values_in (block_entries entry.Postlog o) ≡ marked o
 of_postlogs None = refl
 of_postlogs (Some m) = omega arith
 
@@ -95,9 +95,9 @@ of_entries : (program : Program) (plan : Plan) (shared : List ℤ) (l : Logging)
     → values_in (entries_of program plan l m) ≡ marked (opened program plan l.proc m.taken.need) + (marked (closed program plan l.proc m.taken.need) + length (values_at_start plan shared (unit_started m.taken.need)))
 of_entries program plan shared l m is =
     let n : Need = m.taken.need in
-    let a : List Entry = prelogs (opened program plan l.proc n) in
+    let a : List Entry = block_entries entry.Prelog (opened program plan l.proc n) in
     let b : List Entry = syncs l m.taken (sync_of m.taken) in
-    let c : List Entry = postlogs (closed program plan l.proc n) in
+    let c : List Entry = block_entries entry.Postlog (closed program plan l.proc n) in
     let d : List Entry = units (unit_started n) m.unit_values in
     let e : List Entry = ends l (status_of n) in
     let unit : values_in d ≡ length (values_at_start plan shared (unit_started n)) = ap (λ vs. values_in (units (unit_started n) vs)) is ∙ of_units plan shared (unit_started n) in
@@ -172,7 +172,7 @@ Tells program plan s (Invoke (Some b) u) = length (prelog_cells plan b) ≡ leng
 Tells program plan s (Back (Some b) u) = returned_length plan (Some b) ≡ length (result_at program s)
 Tells program plan s n = ⊤
 
-head_home : (program : Program) (frames : List Frame) (t : Todo) (ts : List Todo) → AreHome program (bodies_in frames) (t ∷ ts) → body_of program t.stmt ≡ top_body frames
+head_home : (program : Program) (frames : List Frame) (t : Todo) (ts : List Todo) → AreHome program (bodies_in frames) (t ∷ ts) → body_of program t.stmt ≡ (top_frame frames).body
 head_home program [] t ts h = absurd h
 head_home program (f ∷ fs) t ts h = h.0
 
@@ -197,7 +197,7 @@ module _ (program : Program) (plan : Plan) (valid : IsValidPlan program plan) (w
   told_send t zero c v = tt
   told_send t (suc n) c v = tt
 
-  told_asked : (t : Todo) (ts : List Todo) (asked : Asked Deed) → s.todo ≡ t ∷ ts → head_deed program t s ≡ asked → AskedOf program (top_body s.frames) (kind_of program t.stmt) asked → Tells program plan s (need_of_asked program plan t.stmt s asked)
+  told_asked : (t : Todo) (ts : List Todo) (asked : Asked Deed) → s.todo ≡ t ∷ ts → head_deed program t s ≡ asked → AskedOf program (top_frame s.frames).body (kind_of program t.stmt) asked → Tells program plan s (need_of_asked program plan t.stmt s asked)
   told_asked t ts (Err (Wants c)) is e h = tt
   told_asked t ts (Err (Traps x)) is e h = tt
   told_asked t ts (Ok (set_local c v, left)) is e h = tt
@@ -209,10 +209,10 @@ module _ (program : Program) (plan : Plan) (valid : IsValidPlan program plan) (w
   told_asked t ts (Ok (invoke f values into, left)) is e h =
       told_depth _ (Trap _) (Invoke (block_of plan (block.Function f)) (unit_of plan (start.Entry f))) tt
       (told_call (block_of plan (block.Function f)) f (unit_of plan (start.Entry f)) values refl
-      (ap (λ todo. arguments_of_head program s (slice_get todo 0)) is ∙ ap (λ x. arguments_by (outcome x)) e) h.1.1)
+      (ap (λ todo. arguments_of_head program s (slice_get todo 0)) is ∙ ap (λ x. arguments_by x) e) h.1.1)
   told_asked t ts (Ok (back value, left)) is e h =
-      told_back (block_of plan (block.Function (top_body s.frames))) (top_body s.frames) _ value refl
-      (ap (λ todo. option_to_list (result_of_head program s (slice_get todo 0))) is ∙ ap (λ x. option_to_list (result_by (outcome x))) e) h.1
+      told_back (block_of plan (block.Function (top_frame s.frames).body)) (top_frame s.frames).body _ value refl
+      (ap (λ todo. option_to_list (result_of_head program s (slice_get todo 0))) is ∙ ap (λ x. option_to_list (result_by x)) e) h.1
   told_asked t ts (Ok (take x, left)) is e h = tt
   told_asked t ts (Ok (give x, left)) is e h = tt
   told_asked t ts (Ok (send x v, left)) is e h = told_send t.stmt (capacity_of program x) x v
@@ -221,7 +221,7 @@ module _ (program : Program) (plan : Plan) (valid : IsValidPlan program plan) (w
   told_asked t ts (Ok (pass, left)) is e h = tt
   told_asked t ts (Ok (finish, left)) is e h = tt
 
-  told_entry : (t : Todo) (ts : List Todo) (o : Option ℕ) → s.todo ≡ t ∷ ts → AskedOf program (top_body s.frames) (kind_of program t.stmt) (head_deed program t s) → Tells program plan s (need_by_entry program plan t.stmt s o (head_deed program t s))
+  told_entry : (t : Todo) (ts : List Todo) (o : Option ℕ) → s.todo ≡ t ∷ ts → AskedOf program (top_frame s.frames).body (kind_of program t.stmt) (head_deed program t s) → Tells program plan s (need_by_entry program plan t.stmt s o (head_deed program t s))
   told_entry t ts None is h = told_asked t ts (head_deed program t s) is refl h
   told_entry t ts (Some b) is h = tt
 
@@ -244,19 +244,19 @@ module _ (program : Program) (plan : Plan) (valid : IsValidPlan program plan) (w
 
 -- ---- the values that the cost counts
 
-length_unit : (o : Option UnitOf) → option_map_or (λ (x : UnitOf). length x.cells) o 0 ≡ length (cells_of_unit o)
+length_unit : (o : Option UnitOf) → option_map_or (λ (x : UnitOf). length x.cells) o 0 ≡ length (option_map_or (λ u. u.cells) o [])
 length_unit None = refl
 length_unit (Some x) = refl
 
 module _ (program : Program) (plan : Plan) (shared : List ℤ) (s : Proc) where
-  prelog_values : (b : ℕ) → length (prelog_cells plan b) ≡ length (map (cell_of (top_cells s.frames)) (prelog_cells plan b))
-  prelog_values b = sym (length-map (prelog_cells plan b) (cell_of (top_cells s.frames)))
+  prelog_values : (b : ℕ) → length (prelog_cells plan b) ≡ length (map (λ c. get_or (top_frame s.frames).cells c (pos 0)) (prelog_cells plan b))
+  prelog_values b = sym (length-map (prelog_cells plan b) (λ c. get_or (top_frame s.frames).cells c (pos 0)))
 
-  postlog_values : (b : ℕ) → length (postlog_cells plan b) ≡ length (map (cell_of (top_cells s.frames)) (postlog_cells plan b))
-  postlog_values b = sym (length-map (postlog_cells plan b) (cell_of (top_cells s.frames)))
+  postlog_values : (b : ℕ) → length (postlog_cells plan b) ≡ length (map (λ c. get_or (top_frame s.frames).cells c (pos 0)) (postlog_cells plan b))
+  postlog_values b = sym (length-map (postlog_cells plan b) (λ c. get_or (top_frame s.frames).cells c (pos 0)))
 
   unit_values : (u : ℕ) → unit_length plan u ≡ length (values_of_unit plan shared u)
-  unit_values u = length_unit (slice_get plan.units u) ∙ sym (length-map (cells_of_unit (slice_get plan.units u)) (λ c. get_or shared c (pos 0)))
+  unit_values u = length_unit (slice_get plan.units u) ∙ sym (length-map (option_map_or (λ u. u.cells) (slice_get plan.units u) []) (λ c. get_or shared c (pos 0)))
 
   -- the values of this need, as its entries have them
   abbrev written : Need → ℕ

@@ -1,34 +1,33 @@
 -- A trace without its tags is the run, and its tags and parents name earlier events.
-use Rattle.std.proofs.Common.{◌≡◌, ℕ, zero, suc, ◌+◌, ◌≤◌, ℤ, Bool, true, false, cond, List, [], ◌∷◌, ◌++◌, length, map, drop, get_or, slice_set, Option, Some, None, Ok, Err, refl, ap, sym, ◌∙◌, subst, arith, length-append}
-use Rattle.std.specs.Prelude.{⊤, fold, replicate, slice_get, option_map, ◌-◌, nat_eq}
-use Rattle.std.proofs.lemmas.List.{append-nil, append_assoc}
-use Rattle.std.specs.List.{AllByRecursion as Each}
+use Rattle.ppd_ast.specs.Lookups.{body_numbered, kind_of}
 use Rattle.ppd_ast.specs.declared.plan.Plan.{Plan}
 use Rattle.ppd_ast.specs.declared.program.Kind.{Kind}
 use Rattle.ppd_ast.specs.declared.program.Kind.TheVariants.{If, While}
 use Rattle.ppd_ast.specs.declared.program.Program.{Program}
-use Rattle.ppd_ast.specs.Lookups.{kind_of, parent_if}
+use Rattle.ppd_model.proofs.TraceWords.{of_outer, tagged_at}
+use Rattle.ppd_model.specs.Earlier.{AreEarlier, EachNamesEarlier, IsEarlier, IsEarlierAt, NamesEarlier, TracesNameEarlierEvents, TracesTellRuns, own_events}
+use Rattle.ppd_model.specs.FullTrace.{Activation, Tag, Test, Tracing, all_tagged, begun_tracing, called, event_of, latest, me_in, of_run, parent_at, parent_in, tag_past, tagged, tagged_after, tagged_by, tagged_into, tags_of, tests_after, top_tags, trace_by, trace_step, traced_by, with_event, with_test}
+use Rattle.ppd_model.specs.Story.{Story, Taken}
+use Rattle.ppd_model.specs.declared.trace.EventId.{EventId}
+use Rattle.ppd_model.specs.declared.trace.TracedEvent.{TracedEvent}
+use Rattle.ppd_sem.specs.Asked.{Asked}
+use Rattle.ppd_sem.specs.Deed.{Deed, back, clear, invoke, receive, set_local}
+use Rattle.ppd_sem.specs.Described.{is_event}
+use Rattle.ppd_sem.specs.Process.{act, head_deed, into_at, started, top_frame}
 use Rattle.ppd_sem.specs.declared.event.Access.{Access}
 use Rattle.ppd_sem.specs.declared.event.Event.{Event}
 use Rattle.ppd_sem.specs.declared.event.Spot.{Spot}
 use Rattle.ppd_sem.specs.declared.event.Spot.TheVariants.{Local, Shared}
 use Rattle.ppd_sem.specs.declared.proc.Frame.{Frame}
 use Rattle.ppd_sem.specs.declared.proc.Need.{Need}
-use Rattle.ppd_sem.specs.declared.proc.Need.TheVariants.{Read, Enter, Trap, Budget, Stopped}
+use Rattle.ppd_sem.specs.declared.proc.Need.TheVariants.{Budget, Enter, Read, Stopped, Trap}
 use Rattle.ppd_sem.specs.declared.proc.Proc.{Proc}
 use Rattle.ppd_sem.specs.declared.proc.Todo.{Todo}
-use Rattle.ppd_sem.specs.Asked.{Asked}
-use Rattle.ppd_sem.specs.Deed.{Deed, set_local, clear, invoke, back, receive}
-use Rattle.ppd_sem.specs.Process.{act, head_deed, started, top_call}
-use Rattle.ppd_sem.specs.Described.{is_event}
-use Rattle.ppd_sem.specs.Runs.{size_if}
-use Rattle.ppd_model.specs.declared.trace.EventId.{EventId}
-use Rattle.ppd_model.specs.declared.trace.TracedEvent.{TracedEvent}
-use Rattle.ppd_model.specs.Earlier.{AreEarlier, EachNamesEarlier, IsEarlier, IsEarlierAt, NamesEarlier, TracesNameEarlierEvents, TracesTellRuns, own_events}
-use Rattle.ppd_model.specs.FullTrace.{Activation, Tag, Test, Tracing, all_tagged, answers_past, begun_tracing, called, event_of, into_at, latest, me_in, of_run, parent_at, parent_in, tag_at, tagged, tagged_after, tagged_by, tagged_into, tags_of, tests_after, top_tags, trace_by, trace_step, traced_by, with_event, with_test}
+use Rattle.std.proofs.Common.{Bool, Err, List, None, Ok, Option, Some, [], ap, arith, cond, drop, false, get_or, length, length-append, map, refl, slice_set, subst, suc, sym, true, zero, ℕ, ℤ, ◌++◌, ◌+◌, ◌∙◌, ◌∷◌, ◌≡◌, ◌≤◌}
+use Rattle.std.proofs.lemmas.List.{append-nil, append_assoc}
+use Rattle.std.specs.List.{AllByRecursion as Each}
 use Rattle.std.specs.Option.{option_or}
-use Rattle.ppd_model.proofs.TraceWords.{of_outer, tagged_at}
-use Rattle.ppd_model.specs.Story.{Story, Taken}
+use Rattle.std.specs.Prelude.{fold, nat_eq, option_and_then, option_map, replicate, slice_get, ⊤, ◌-◌}
 
 -- ---- the run
 
@@ -133,7 +132,7 @@ module _ (p : ℕ) where
   called_past : (k : ℕ) (program : Program) (f count : ℕ) (w : Tag) → IsEarlier p k w → IsPast k (called program f count w)
   called_past k program f count w e = record {
     call = e;
-    tags = each_append (IsEarlier p k) (replicate count w) (replicate (size_if (slice_get program.bodies f) - count) None) (each_copy (IsEarlier p k) count w e) (each_copy (IsEarlier p k) (size_if (slice_get program.bodies f) - count) None tt);
+    tags = each_append (IsEarlier p k) (replicate count w) (replicate ((body_numbered program f).cells - count) None) (each_copy (IsEarlier p k) count w e) (each_copy (IsEarlier p k) ((body_numbered program f).cells - count) None tt);
     tests = tt;
   }
 
@@ -146,7 +145,7 @@ module _ (p : ℕ) where
   by_past k program s w (Ok (set_local c v, left)) xs e h = tagged_past k c w xs e h
   by_past k program s w (Ok (clear base len, left)) xs e h = all_past k base len w xs e h
   by_past k program s w (Ok (invoke f values into, left)) xs e h = (called_past k program f (length values) w e, h)
-  by_past k program s w (Ok (back value, left)) xs e h = into_past k (into_at program (top_call s.frames)) value w (drop 1 xs) e (each_drop (IsPast k) xs h)
+  by_past k program s w (Ok (back value, left)) xs e h = into_past k (into_at program (top_frame s.frames).call) value w (drop 1 xs) e (each_drop (IsPast k) xs h)
   by_past k program s w (Ok (receive chan into, left)) xs e h = tagged_past k into w xs e h
   by_past k program s w (Ok (deed, left)) xs e h = h
   by_past k program s w (Err pause) xs e h = h
@@ -175,13 +174,13 @@ module _ (p : ℕ) where
   top_past k [] h = tt
   top_past k (x ∷ xs) h = h.0.tags
 
-  spot_past : (k : ℕ) (locals answers : List Tag) (spot : Spot) → Each (IsEarlier p k) locals → IsEarlierAt p k spot (tag_at locals answers spot)
+  spot_past : (k : ℕ) (locals answers : List Tag) (spot : Spot) → Each (IsEarlier p k) locals → IsEarlierAt p k spot (tag_past locals answers spot).0
   spot_past k locals answers (Local frame c) h = each_at (IsEarlier p k) locals c None tt h
   spot_past k locals answers (Shared c) h = tt
 
   reads_past : (k : ℕ) (locals answers : List Tag) (reads : List Access) → Each (IsEarlier p k) locals → AreEarlier p k reads (tags_of locals answers reads)
   reads_past k locals answers [] h = tt
-  reads_past k locals answers (a ∷ as') h = (spot_past k locals answers a.spot h, reads_past k locals (answers_past answers a.spot) as' h)
+  reads_past k locals answers (a ∷ as') h = (spot_past k locals answers a.spot h, reads_past k locals (tag_past locals answers a.spot).1 as' h)
 
   -- the event of a test that was found
   abbrev IsFound : ℕ → Option Test → Type 0
@@ -219,9 +218,9 @@ module _ (p : ℕ) where
 
   in_past : (k : ℕ) (program : Program) (s : ℕ) (x : Activation) → IsPast k x → IsEarlier p k (parent_in program s x)
   in_past k program s x h =
-      else_past k (of_run (kind_of program s) (latest s x.tests)) (option_or (of_outer (parent_if (slice_get program.stmts s)) x.tests) x.call)
+      else_past k (of_run (kind_of program s) (latest s x.tests)) (option_or (of_outer (option_and_then (λ x. x.parent) (slice_get program.stmts s)) x.tests) x.call)
       (run_past k (kind_of program s) (latest s x.tests) (latest_past k s x.tests h.tests))
-      (else_past k (of_outer (parent_if (slice_get program.stmts s)) x.tests) x.call (outer_past k (parent_if (slice_get program.stmts s)) x.tests h.tests) h.call)
+      (else_past k (of_outer (option_and_then (λ x. x.parent) (slice_get program.stmts s)) x.tests) x.call (outer_past k (option_and_then (λ x. x.parent) (slice_get program.stmts s)) x.tests h.tests) h.call)
 
   pub parent_past : (k : ℕ) (program : Program) (xs : List Activation) (todo : List Todo) → Each (IsPast k) xs → IsEarlier p k (parent_at program xs todo)
   parent_past k program [] todo h = tt

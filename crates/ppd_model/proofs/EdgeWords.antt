@@ -1,13 +1,15 @@
 -- Words of the proofs for flowback edges.
 use Rattle.std.specs.Prelude.{ℕ, List, Option, Some, slice_get, option_and_then}
-use Rattle.ppd_model.specs.FlowbackEdges.{from_writer, edges_of_part, part_at}
+use Rattle.ppd_model.specs.declared.flow.Origin.TheVariants as origin
+use Rattle.std.specs.Option.{option_map_or}
+use Rattle.ppd_model.specs.FlowbackEdges.{edges_of_part, part_at}
 use Rattle.ppd_ast.specs.declared.plan.Plan.{Plan}
 use Rattle.ppd_ast.specs.declared.program.Program.{Program}
 use Rattle.ppd_sem.specs.declared.event.Access.{Access}
 use Rattle.ppd_model.specs.declared.flow.EdgeKind.TheVariants.{Read}
 use Rattle.ppd_model.specs.declared.flow.FlowEdge.{FlowEdge}
 use Rattle.ppd_model.specs.FullTrace.{Tag}
-use Rattle.ppd_model.specs.Intervals.{Part, Span, Split}
+use Rattle.ppd_model.specs.Intervals.{Part, Span, Split, ref}
 
 -- part j of an interval
 abbrev pub part_in : Option Span → ℕ → Option Part
@@ -23,4 +25,4 @@ edges_in program plan xs k j o = option_and_then (λ x. edges_if program plan xs
 
 -- from the event that last wrote the place that is read
 abbrev pub read_edge : List Split → Access × Tag → FlowEdge
-read_edge xs r = record { kind = Read; spot = Some r.0.spot; value = Some r.0.value; from = from_writer xs r.1 }
+read_edge xs r = record { kind = Read; spot = Some r.0.spot; value = Some r.0.value; from = option_map_or (ref xs) r.1 origin.Initial }

@@ -1,4 +1,5 @@
 -- The intervals of a log go from their prelogs to the postlogs that match.
+use Rattle.ppd_entry.proofs.Vocabulary.{with_piece}
 use Rattle.std.proofs.Common.{◌≡◌, ℕ, zero, suc, ◌+◌, ◌<◌, ℤ, true, false, List, [], ◌∷◌, ◌++◌, Option, Some, None, refl, ap, ap₂, sym, subst, ◌∙◌, arith, length, map, inl, inr, ◌⊎◌, length-append, true≢false}
 use Rattle.std.specs.Prelude.{drop, fold, option_map, slice_get, ⊤}
 use Rattle.std.proofs.lemmas.Bool.{cases_eq}
@@ -6,10 +7,10 @@ use Rattle.std.proofs.lemmas.List.{append-nil, append_assoc, map-append}
 use Rattle.std.proofs.lemmas.Option.{none-some}
 use Rattle.ppd_ast.specs.declared.plan.Plan.{Plan}
 use Rattle.ppd_entry.specs.Pieces.{Piece, finish, nested, postlog, sync, unfinished, unit}
-use Rattle.ppd_entry.specs.IntervalLogs.{Indexed, Indexing, add_piece, add_piece_at, begun_indexing, index_step, inner as index_inner, interval_at, left_interval as index_left, left_open}
+use Rattle.ppd_entry.specs.IntervalLogs.{Indexed, Indexing, add_piece, begun_indexing, index_step, inner as index_inner, interval_at, left_interval as index_left, left_open}
 use Rattle.ppd_entry.specs.declared.entry.Entry.{Entry}
 use Rattle.ppd_entry.specs.declared.entry.Entry.TheVariants as entry
-use Rattle.ppd_model.specs.Extents.{AreMatched, none, within, pair, AreOpen, matched, opened, Extending, Extent, ExtentsAreIndexed, ExtentsMatch, IsLeftAt, IsNotLeft, extend, first_of, is_within}
+use Rattle.ppd_model.specs.Extents.{AreMatched, none, within, pair, AreOpen, matched, opened, Extent, ExtentsAreIndexed, ExtentsMatch, IsLeftAt, IsNotLeft, extend, is_within}
 use Rattle.ppd_model.proofs.ExtentWords.{begun_extents, ended_by, left_by}
 use Rattle.ppd_model.specs.World.{change}
 use Rattle.ppd_model.proofs.Changes.{change-at, change-else, length-change, some}
@@ -158,21 +159,21 @@ not_left xs done tail (m ∷ ms) k e o h (inr i) at =
 
 -- ---- what holds of the intervals after some entries
 
-record IsSound (done : List Entry) (x : Extending) : Type 0 where
+record IsSound (done : List Entry) (x : Indexing Extent) : Type 0 where
   entry_is : x.entry ≡ length done
-  stack : Stack x.extents done x.running
-  falls : Fall (length x.extents) x.running
-  left : (k : ℕ) (e : Extent) → slice_get x.extents k ≡ Some e → e.closed ≡ true → (j : ℕ) × (e.last ≡ Some j) × IsLeftAt done e.prelog j
-  runs : (k : ℕ) (e : Extent) → slice_get x.extents k ≡ Some e → e.closed ≡ false → IsIn k x.running
+  stack : Stack x.intervals done x.running
+  falls : Fall (length x.intervals) x.running
+  left : (k : ℕ) (e : Extent) → slice_get x.intervals k ≡ Some e → e.closed ≡ true → (j : ℕ) × (e.last ≡ Some j) × IsLeftAt done e.prelog j
+  runs : (k : ℕ) (e : Extent) → slice_get x.intervals k ≡ Some e → e.closed ≡ false → IsIn k x.running
 
 pub one_longer : (done : List Entry) (e : Entry) (n : ℕ) → n ≡ length done → n + 1 ≡ length (done ++ e ∷ [])
 one_longer done e n is = let more : length (done ++ e ∷ []) ≡ length done + 1 = length-append done (e ∷ []) in omega (arith, is, more)
 
 -- an entry that matches by itself
-quiet : (done : List Entry) (e : Entry) (x : Extending) → is_within e ≡ true → IsSound done x → IsSound (done ++ e ∷ []) (record x { entry = x.entry + 1 })
+quiet : (done : List Entry) (e : Entry) (x : Indexing Extent) → is_within e ≡ true → IsSound done x → IsSound (done ++ e ∷ []) (record x { entry = x.entry + 1 })
 quiet done e x w h = record {
   entry_is = one_longer done e x.entry h.entry_is;
-  stack = stack_grow x.extents done (e ∷ []) x.running (within w none) h.stack;
+  stack = stack_grow x.intervals done (e ∷ []) x.running (within w none) h.stack;
   falls = h.falls;
   left = λ k f at is. let l = h.left k f at is in (l.0, l.1, left_grow done (e ∷ []) f.prelog l.0 l.2);
   runs = h.runs;
@@ -180,22 +181,22 @@ quiet done e x w h = record {
 
 -- ---- a prelog
 
-entered : (done : List Entry) (b : ℕ) (vs : List ℤ) (x : Extending) → IsSound done x → IsSound (done ++ entry.Prelog b vs ∷ []) (extend x (entry.Prelog b vs))
+entered : (done : List Entry) (b : ℕ) (vs : List ℤ) (x : Indexing Extent) → IsSound done x → IsSound (done ++ entry.Prelog b vs ∷ []) (extend x (entry.Prelog b vs))
 entered done b vs x h =
-    let new : Extent = record { block = b; parent = first_of x.running; prelog = x.entry; last = None; closed = false } in
-    let longer : length (x.extents ++ new ∷ []) ≡ length x.extents + 1 = length-append x.extents (new ∷ []) in
+    let new : Extent = record { block = b; parent = slice_get x.running 0; prelog = x.entry; last = None; closed = false } in
+    let longer : length (x.intervals ++ new ∷ []) ≡ length x.intervals + 1 = length-append x.intervals (new ∷ []) in
     record {
       entry_is = one_longer done (entry.Prelog b vs) x.entry h.entry_is;
       stack = (
-        record { before = done; block = b; values = vs; inner = []; done_is = refl; matches = none; extent = new; there = last_at x.extents new; prelog = h.entry_is; going = refl },
-        stack_like x.extents (x.extents ++ new ∷ []) done x.running (λ k e i at. (e, kept_at x.extents (new ∷ []) k e at, record { prelog = refl; closed = refl })) h.stack,
+        record { before = done; block = b; values = vs; inner = []; done_is = refl; matches = none; extent = new; there = last_at x.intervals new; prelog = h.entry_is; going = refl },
+        stack_like x.intervals (x.intervals ++ new ∷ []) done x.running (λ k e i at. (e, kept_at x.intervals (new ∷ []) k e at, record { prelog = refl; closed = refl })) h.stack,
       );
       falls = (omega (arith, longer), h.falls);
-      left = λ k e at is. elim (cases_at x.extents new k e at) [
+      left = λ k e at is. elim (cases_at x.intervals new k e at) [
         | inl old ↦ let l = h.left k e old is in (l.0, l.1, left_grow done (entry.Prelog b vs ∷ []) e.prelog l.0 l.2)
         | inr now ↦ absurd (true≢false (sym is ∙ ap (λ (z : Extent). z.closed) (sym now.1)))
       ];
-      runs = λ k e at is. elim (cases_at x.extents new k e at) [ inl old ↦ inr (h.runs k e old is) | inr now ↦ inl now.0 ];
+      runs = λ k e at is. elim (cases_at x.intervals new k e at) [ inl old ↦ inr (h.runs k e old is) | inr now ↦ inl now.0 ];
     }
 
 -- ---- an end
@@ -251,23 +252,23 @@ ended_there j (m ∷ ms) xs k e at = elim (cases_eq k m) [
   | inr other ↦ ended_there j ms (change (last_by j) m xs) k e (change-else (last_by j) m k xs other ∙ at)
 ]
 
-at_end : (done : List Entry) (e : Entry) (x : Extending) → is_within e ≡ true → IsSound done x → IsSound (done ++ e ∷ []) (record x { extents = ended_by x.entry x.running x.extents; entry = x.entry + 1 })
+at_end : (done : List Entry) (e : Entry) (x : Indexing Extent) → is_within e ≡ true → IsSound done x → IsSound (done ++ e ∷ []) (record x { intervals = ended_by x.entry x.running x.intervals; entry = x.entry + 1 })
 at_end done e x w h =
-    let now : List Extent = ended_by x.entry x.running x.extents in
+    let now : List Extent = ended_by x.entry x.running x.intervals in
     record {
       entry_is = one_longer done e x.entry h.entry_is;
-      stack = stack_grow now done (e ∷ []) x.running (within w none) (stack_like x.extents now done x.running (λ k f i at. ended_there x.entry x.running x.extents k f at) h.stack);
-      falls = subst (λ n. Fall n x.running) (sym (ended_length x.entry x.running x.extents)) h.falls;
+      stack = stack_grow now done (e ∷ []) x.running (within w none) (stack_like x.intervals now done x.running (λ k f i at. ended_there x.entry x.running x.intervals k f at) h.stack);
+      falls = subst (λ n. Fall n x.running) (sym (ended_length x.entry x.running x.intervals)) h.falls;
       left = λ k f at is.
-          let old : WasBefore x.entry x.running x.extents k f = ended_before x.entry x.running x.extents k f at in
+          let old : WasBefore x.entry x.running x.intervals k f = ended_before x.entry x.running x.intervals k f at in
           elim old.same [
             | inl same ↦
                 let l = h.left k f (old.there ∙ ap (λ (z : Extent). Some z) same) is in
                 (l.0, l.1, left_grow done (e ∷ []) f.prelog l.0 l.2)
-            | inr i ↦ absurd (true≢false (sym is ∙ old.like.closed ∙ stack_going x.extents done x.running k old.extent h.stack i old.there))
+            | inr i ↦ absurd (true≢false (sym is ∙ old.like.closed ∙ stack_going x.intervals done x.running k old.extent h.stack i old.there))
           ];
       runs = λ k f at is.
-          let old : WasBefore x.entry x.running x.extents k f = ended_before x.entry x.running x.extents k f at in
+          let old : WasBefore x.entry x.running x.intervals k f = ended_before x.entry x.running x.intervals k f at in
           h.runs k old.extent old.there (sym old.like.closed ∙ is);
     }
 
@@ -276,19 +277,19 @@ at_end done e x w h =
 abbrev pub close_by : ℕ → Extent → Extent
 close_by j e = record e { last = Some j; closed = true }
 
-no_block : (done : List Entry) (c : ℕ) (ws : List ℤ) (x : Extending) → x.running ≡ [] → IsSound done x → IsSound (done ++ entry.Postlog c ws ∷ []) (extend x (entry.Postlog c ws))
+no_block : (done : List Entry) (c : ℕ) (ws : List ℤ) (x : Indexing Extent) → x.running ≡ [] → IsSound done x → IsSound (done ++ entry.Postlog c ws ∷ []) (extend x (entry.Postlog c ws))
 no_block done c ws x is h = record {
   entry_is = one_longer done (entry.Postlog c ws) x.entry h.entry_is;
-  stack = subst (λ ks. Stack (left_by x.entry ks x.extents) (done ++ entry.Postlog c ws ∷ []) (drop 1 ks)) (sym is) tt;
-  falls = subst (λ ks. Fall (length (left_by x.entry ks x.extents)) (drop 1 ks)) (sym is) tt;
+  stack = subst (λ ks. Stack (left_by x.entry ks x.intervals) (done ++ entry.Postlog c ws ∷ []) (drop 1 ks)) (sym is) tt;
+  falls = subst (λ ks. Fall (length (left_by x.entry ks x.intervals)) (drop 1 ks)) (sym is) tt;
   left = λ k e at closed'.
-      let l = h.left k e (sym (ap (λ ks. slice_get (left_by x.entry ks x.extents) k) is) ∙ at) closed' in
+      let l = h.left k e (sym (ap (λ ks. slice_get (left_by x.entry ks x.intervals) k) is) ∙ at) closed' in
       (l.0, l.1, left_grow done (entry.Postlog c ws ∷ []) e.prelog l.0 l.2);
-  runs = λ k e at closed'. absurd (subst (λ ks. IsIn k ks) is (h.runs k e (sym (ap (λ ks. slice_get (left_by x.entry ks x.extents) k) is) ∙ at) closed'));
+  runs = λ k e at closed'. absurd (subst (λ ks. IsIn k ks) is (h.runs k e (sym (ap (λ ks. slice_get (left_by x.entry ks x.intervals) k) is) ∙ at) closed'));
 }
 
-leaves : (done : List Entry) (c : ℕ) (ws : List ℤ) (xs : List Extent) (n k : ℕ) (ks : List ℕ) → IsSound done (record { extents = xs; running = k ∷ ks; entry = n })
-    → IsSound (done ++ entry.Postlog c ws ∷ []) (record { extents = change (close_by n) k xs; running = ks; entry = n + 1 })
+leaves : (done : List Entry) (c : ℕ) (ws : List ℤ) (xs : List Extent) (n k : ℕ) (ks : List ℕ) → IsSound done (record { intervals = xs; running = k ∷ ks; entry = n })
+    → IsSound (done ++ entry.Postlog c ws ∷ []) (record { intervals = change (close_by n) k xs; running = ks; entry = n + 1 })
 leaves done c ws xs n k ks h =
     let l : IsLevel xs done k = h.stack.0 in
     let now : List Extent = change (close_by n) k xs in
@@ -338,7 +339,7 @@ leaves done c ws xs n k ks h =
 
 -- ---- all entries
 
-one_more : (done : List Entry) (e : Entry) (x : Extending) → IsSound done x → IsSound (done ++ e ∷ []) (extend x e)
+one_more : (done : List Entry) (e : Entry) (x : Indexing Extent) → IsSound done x → IsSound (done ++ e ∷ []) (extend x e)
 one_more done (entry.Prelog b vs) x h = entered done b vs x h
 one_more done (entry.Unit u vs) x h = quiet done (entry.Unit u vs) x refl h
 one_more done (entry.Sync kind object number value reads writes) x h = quiet done (entry.Sync kind object number value reads writes) x refl h
@@ -348,10 +349,10 @@ one_more done (entry.Postlog c ws) x h = by x.running refl
     by : (ks : List ℕ) → x.running ≡ ks → IsSound (done ++ entry.Postlog c ws ∷ []) (extend x (entry.Postlog c ws))
     by [] is = no_block done c ws x is h
     by (k ∷ ks) is =
-        subst (λ rs. IsSound (done ++ entry.Postlog c ws ∷ []) (record { extents = left_by x.entry rs x.extents; running = drop 1 rs; entry = x.entry + 1 })) (sym is)
-        (leaves done c ws x.extents x.entry k ks (subst (λ rs. IsSound done (record { extents = x.extents; running = rs; entry = x.entry })) is h))
+        subst (λ rs. IsSound (done ++ entry.Postlog c ws ∷ []) (record { intervals = left_by x.entry rs x.intervals; running = drop 1 rs; entry = x.entry + 1 })) (sym is)
+        (leaves done c ws x.intervals x.entry k ks (subst (λ rs. IsSound done (record { intervals = x.intervals; running = rs; entry = x.entry })) is h))
 
-all_entries : (done : List Entry) (x : Extending) (es : List Entry) → IsSound done x → IsSound (done ++ es) (fold extend x es)
+all_entries : (done : List Entry) (x : Indexing Extent) (es : List Entry) → IsSound done x → IsSound (done ++ es) (fold extend x es)
 all_entries done x [] h = subst (λ l. IsSound l x) (sym (append-nil done)) h
 all_entries done x (e ∷ es) h = subst (λ l. IsSound l (fold extend (extend x e) es)) (append_assoc done (e ∷ []) es) (all_entries (done ++ e ∷ []) (extend x e) es (one_more done e x h))
 
@@ -362,15 +363,15 @@ pub entry_number : (entries : List Entry) → (fold extend begun_extents entries
 entry_number entries = (sound_at entries).entry_is
 
 -- an interval that runs is not left
-pub running_going : (entries : List Entry) (k : ℕ) (e : Extent) → IsIn k (fold extend begun_extents entries).running → slice_get (fold extend begun_extents entries).extents k ≡ Some e → e.closed ≡ false
-running_going entries k e i at = let x : Extending = fold extend begun_extents entries in stack_going x.extents entries x.running k e (sound_at entries).stack i at
+pub running_going : (entries : List Entry) (k : ℕ) (e : Extent) → IsIn k (fold extend begun_extents entries).running → slice_get (fold extend begun_extents entries).intervals k ≡ Some e → e.closed ≡ false
+running_going entries k e i at = let x : Indexing Extent = fold extend begun_extents entries in stack_going x.intervals entries x.running k e (sound_at entries).stack i at
 
 pub extents_match : ExtentsMatch
 extents_match entries k x at =
     let h : IsSound entries (fold extend begun_extents entries) = sound_at entries in
     record {
       left = λ is. h.left k x at is;
-      going = λ is. subst (λ es. IsNotLeft es x.prelog) (append-nil entries) (not_left (fold extend begun_extents entries).extents entries [] (fold extend begun_extents entries).running k x (matched none) h.stack (h.runs k x at is) at);
+      going = λ is. subst (λ es. IsNotLeft es x.prelog) (append-nil entries) (not_left (fold extend begun_extents entries).intervals entries [] (fold extend begun_extents entries).running k x (matched none) h.stack (h.runs k x at is) at);
     }
 
 -- ---- the same intervals as those of which the logs are found
@@ -394,7 +395,7 @@ left_prelogs : (j : ℕ) (ks : List ℕ) (xs : List Extent) → prelogs_of (left
 left_prelogs j [] xs = refl
 left_prelogs j (k ∷ ks) xs = same_prelogs (close_by j) k xs (λ x. refl)
 
-piece_firsts : (n : ℕ) (p : Piece) (k : ℕ) (is : List Indexed) → firsts_of (add_piece_at n p k is) ≡ firsts_of is
+piece_firsts : (n : ℕ) (p : Piece) (k : ℕ) (is : List Indexed) → firsts_of (change (with_piece n p) k is) ≡ firsts_of is
 piece_firsts n p k [] = refl
 piece_firsts n p zero (i ∷ is) = refl
 piece_firsts n p (suc k) (i ∷ is) = ap (λ ns. i.first ∷ ns) (piece_firsts n p k is)
@@ -409,32 +410,32 @@ open_firsts (k ∷ ks) is =
     let i : Indexed = interval_at is k in
     open_firsts ks (add_piece i.first (unfinished k i.log.block) ks is) ∙ add_firsts i.first (unfinished k i.log.block) ks is
 
-index_left_firsts : (x : Indexing) (ks : List ℕ) (ws : List ℤ) → firsts_of (index_left x ks ws) ≡ firsts_of x.intervals
+index_left_firsts : (x : Indexing Indexed) (ks : List ℕ) (ws : List ℤ) → firsts_of (index_left x ks ws) ≡ firsts_of x.intervals
 index_left_firsts x [] ws = refl
 index_left_firsts x (k ∷ ks) ws =
     let i : Indexed = interval_at x.intervals k in
     add_firsts i.first (nested k i.log.block ws) ks (index_inner x (postlog ws)) ∙ add_firsts x.entry (postlog ws) x.running x.intervals
 
 -- both are at the same entry, with the same prelogs
-record IsBeside (x : Extending) (y : Indexing) : Type 0 where
+record IsBeside (x : Indexing Extent) (y : Indexing Indexed) : Type 0 where
   entry_is : x.entry ≡ y.entry
-  firsts : prelogs_of x.extents ≡ firsts_of y.intervals
+  firsts : prelogs_of x.intervals ≡ firsts_of y.intervals
 
-beside : (plan : Plan) (e : Entry) (x : Extending) (y : Indexing) → IsBeside x y → IsBeside (extend x e) (index_step plan y e)
+beside : (plan : Plan) (e : Entry) (x : Indexing Extent) (y : Indexing Indexed) → IsBeside x y → IsBeside (extend x e) (index_step plan y e)
 beside plan (entry.Prelog b vs) x y h = record {
   entry_is = ap (λ n. n + 1) h.entry_is;
-  firsts = map-append (λ (z : Extent). z.prelog) x.extents _ ∙ ap₂ (λ ns n. ns ++ n ∷ []) h.firsts h.entry_is ∙ sym (map-append (λ (i : Indexed). i.first) y.intervals _);
+  firsts = map-append (λ (z : Extent). z.prelog) x.intervals _ ∙ ap₂ (λ ns n. ns ++ n ∷ []) h.firsts h.entry_is ∙ sym (map-append (λ (i : Indexed). i.first) y.intervals _);
 }
 beside plan (entry.Unit u vs) x y h = record { entry_is = ap (λ n. n + 1) h.entry_is; firsts = h.firsts ∙ sym (add_firsts y.entry (unit u vs) y.running y.intervals) }
 beside plan (entry.Sync kind object number value reads writes) x y h =
     record { entry_is = ap (λ n. n + 1) h.entry_is; firsts = h.firsts ∙ sym (add_firsts y.entry (sync kind object number value) y.running y.intervals) }
-beside plan (entry.Postlog b ws) x y h = record { entry_is = ap (λ n. n + 1) h.entry_is; firsts = left_prelogs x.entry x.running x.extents ∙ h.firsts ∙ sym (index_left_firsts y y.running ws) }
+beside plan (entry.Postlog b ws) x y h = record { entry_is = ap (λ n. n + 1) h.entry_is; firsts = left_prelogs x.entry x.running x.intervals ∙ h.firsts ∙ sym (index_left_firsts y y.running ws) }
 beside plan (entry.End status rest reads writes) x y h = record {
   entry_is = ap (λ n. n + 1) h.entry_is;
-  firsts = ended_prelogs x.entry x.running x.extents ∙ h.firsts ∙ sym (open_firsts y.running (index_inner y (finish status rest)) ∙ add_firsts y.entry (finish status rest) y.running y.intervals);
+  firsts = ended_prelogs x.entry x.running x.intervals ∙ h.firsts ∙ sym (open_firsts y.running (index_inner y (finish status rest)) ∙ add_firsts y.entry (finish status rest) y.running y.intervals);
 }
 
-beside_all : (plan : Plan) (es : List Entry) (x : Extending) (y : Indexing) → IsBeside x y → IsBeside (fold extend x es) (fold (index_step plan) y es)
+beside_all : (plan : Plan) (es : List Entry) (x : Indexing Extent) (y : Indexing Indexed) → IsBeside x y → IsBeside (fold extend x es) (fold (index_step plan) y es)
 beside_all plan [] x y h = h
 beside_all plan (e ∷ es) x y h = beside_all plan es (extend x e) (index_step plan y e) (beside plan e x y h)
 

@@ -3,7 +3,7 @@ use Rattle.std.proofs.Common.{◌≡◌, ℕ, zero, suc, ◌+◌, ◌<◌, ◌�
 use Rattle.std.proofs.lemmas.Bool.{and_parts, or_cases}
 use Rattle.std.proofs.lemmas.List.Sums.{fold-append}
 use Rattle.std.proofs.lemmas.Option.{none-some}
-use Rattle.std.specs.Prelude.{IsTrue, fold, is_some, nat_eq, option_to_list, slice_get}
+use Rattle.std.specs.Prelude.{IsTrue, fold, is_some, nat_eq, option_to_list, slice_get, filter_map}
 use Rattle.ppd_ast.specs.declared.plan.Plan.{Plan}
 use Rattle.ppd_ast.specs.declared.program.Chan.{Chan}
 use Rattle.ppd_ast.specs.declared.program.Program.{Program}
@@ -20,9 +20,9 @@ use Rattle.ppd_model.specs.Bounds.{AreEach, IsBalanced, IsBalancedChan, IsBalanc
 use Rattle.ppd_model.specs.World.{World, change, enabled, room_of, step}
 use Rattle.ppd_model.specs.Schedule.{run, run_from, started_world}
 use Rattle.ppd_model.specs.Story.{Moment, Telling, begun, moment_of, steps_of, tell, told}
-use Rattle.ppd_model.specs.Synchronizations.{Sync, is_number, leads, leads_at, led_to, sync_of, syncs_of}
+use Rattle.ppd_model.specs.Synchronizations.{Sync, is_number, leads_at, led_to, sync_of}
 use Rattle.ppd_model.specs.Record.{sync_record}
-use Rattle.ppd_model.specs.HappenedBefore.{Before, direct, through, earlier, across, node, own_syncs, sync_at}
+use Rattle.ppd_model.specs.HappenedBefore.{Before, direct, through, earlier, across, node, sync_at}
 use Rattle.ppd_model.proofs.OrderWords.{is_next}
 use Rattle.ppd_model.specs.Numbers.{count_in, count_of}
 use Rattle.ppd_model.specs.Forward.{EdgesGoForward, RecordsAreClosed, edge_in}
@@ -44,13 +44,13 @@ grown o (suc p) (x ∷ xs) (suc q) i s e = grown o p xs q i s e
 
 module _ (program : Program) (plan : Plan) where
   abbrev recorded : Telling → List (List Sync)
-  recorded t = map syncs_of (map steps_of t.moments)
+  recorded t = map (filter_map sync_of) (map steps_of t.moments)
 
   tell_grows : (t : Telling) (p : ℕ) (a : NodeId) (s : Sync) → sync_at (recorded t) a ≡ Some s → sync_at (recorded (tell program plan t p)) a ≡ Some s
   tell_grows t p a s e =
       let m : Moment = moment_of program plan t p in
       let same : recorded (tell program plan t p) ≡ change (λ ss. ss ++ option_to_list (sync_of m.taken)) p (recorded t) =
-      ap (λ xs. map syncs_of xs) (steps-change m p t.moments) ∙ record-change m.taken p (map steps_of t.moments) in
+      ap (λ xs. map (filter_map sync_of) xs) (steps-change m p t.moments) ∙ record-change m.taken p (map steps_of t.moments) in
       ap (λ ss. sync_at ss a) same ∙ grown (option_to_list (sync_of m.taken)) p (recorded t) a.process a.sync s e
 
   fold_grows : (t : Telling) (h : List ℕ) (a : NodeId) (s : Sync) → sync_at (recorded t) a ≡ Some s → sync_at (recorded (fold (tell program plan) t h)) a ≡ Some s
@@ -136,7 +136,7 @@ counted_too program w b ka kb o na nb h le = by (capacity_of program o) refl ka 
         omega (arith, e, le, s)
     by (suc n) is ka kb h le = absurd (true≢false (sym h))
 
-both_lead : (program : Program) (x y : Option Sync) → IsTrue (leads_at program x y) → (a : Sync) × (b : Sync) × (x ≡ Some a) × (y ≡ Some b) × IsTrue (leads program a b)
+both_lead : (program : Program) (x y : Option Sync) → IsTrue (leads_at program x y) → (a : Sync) × (b : Sync) × (x ≡ Some a) × (y ≡ Some b) × IsTrue (leads_at program (Some a) (Some b))
 both_lead program None y h = absurd (true≢false (sym h))
 both_lead program (Some a) None h = absurd (true≢false (sym h))
 both_lead program (Some a) (Some b) h = (a, b, refl, refl, h)
@@ -152,7 +152,7 @@ module _ (program : Program) (plan : Plan) (budget : ℕ) (g rest : List ℕ) (w
 
   grows : (a : NodeId) (s : Sync) → sync_at early a ≡ Some s → sync_at late a ≡ Some s
   grows a s e =
-      subst (λ (t : Telling). sync_at (map syncs_of (map steps_of t.moments)) a ≡ Some s) (sym (fold-append (tell program plan) (begun (started_world program plan budget)) g rest))
+      subst (λ (t : Telling). sync_at (map (filter_map sync_of) (map steps_of t.moments)) a ≡ Some s) (sym (fold-append (tell program plan) (begun (started_world program plan budget)) g rest))
       (fold_grows program plan (told program plan budget g) rest a s e)
 
   middle : (v : World) × (run program plan budget g ≡ Some v)
@@ -161,9 +161,9 @@ module _ (program : Program) (plan : Plan) (budget : ℕ) (g rest : List ℕ) (w
   even : IsBalanced program (told program plan budget g).world
   even = subst (λ v. IsBalanced program v) (sym (stories_are_of_runs program plan budget g middle.0 middle.1)) (balanced program plan budget g middle.0 middle.1)
 
-  leads_below : (a b : NodeId) → IsTrue (leads_at program (sync_at late a) (sync_at late b)) → b.sync < length (own_syncs early b.process) → a.sync < length (own_syncs early a.process)
+  leads_below : (a b : NodeId) → IsTrue (leads_at program (sync_at late a) (sync_at late b)) → b.sync < length (get_or early b.process []) → a.sync < length (get_or early a.process [])
   leads_below a b h lt =
-      let there = slice_get_there (own_syncs early b.process) b.sync lt in
+      let there = slice_get_there (get_or early b.process []) b.sync lt in
       let l = both_lead program (sync_at late a) (sync_at late b) h in
       let x : Sync = l.0 in
       let y : Sync = l.1 in
@@ -177,17 +177,17 @@ module _ (program : Program) (plan : Plan) (budget : ℕ) (g rest : List ℕ) (w
       let le : x.number ≤ count_of (told program plan budget g).world x.kind x.object = counted_too program (told program plan budget g).world even x.kind y.kind x.object x.number y.number parts.1 top in
       let found = counts.found x.kind x.object x.number (all.numbers a x l.2).0 le in
       let one : a ≡ found.0 = all.once a found.0 x l.2 (grows found.0 x found.1) in
-      subst (λ (c : NodeId). c.sync < length (own_syncs early c.process)) (sym one) (slice_get_below (own_syncs early found.0.process) found.0.sync x found.1)
+      subst (λ (c : NodeId). c.sync < length (get_or early c.process [])) (sym one) (slice_get_below (get_or early found.0.process []) found.0.sync x found.1)
 
-  next_below : (a b : NodeId) → IsTrue (is_next late a b) → b.sync < length (own_syncs early b.process) → a.sync < length (own_syncs early a.process)
+  next_below : (a b : NodeId) → IsTrue (is_next late a b) → b.sync < length (get_or early b.process []) → a.sync < length (get_or early a.process [])
   next_below a b h lt =
       let both = and_parts (nat_eq a.process b.process && nat_eq (a.sync + 1) b.sync) (is_some (sync_at late b)) h in
       let parts = and_parts (nat_eq a.process b.process) (nat_eq (a.sync + 1) b.sync) both.0 in
       let same : a.process ≡ b.process = eqb-true a.process b.process parts.0 in
       let next : a.sync + 1 ≡ b.sync = eqb-true (a.sync + 1) b.sync parts.1 in
-      subst (λ p. a.sync < length (own_syncs early p)) (sym same) (omega (arith, next, lt))
+      subst (λ p. a.sync < length (get_or early p [])) (sym same) (omega (arith, next, lt))
 
-  closed_below : (a b : NodeId) → Before program late a b → b.sync < length (own_syncs early b.process) → a.sync < length (own_syncs early a.process)
+  closed_below : (a b : NodeId) → Before program late a b → b.sync < length (get_or early b.process []) → a.sync < length (get_or early a.process [])
   closed_below a b (direct d) lt = elim (or_cases (is_next late a b) (leads_at program (sync_at late a) (sync_at late b)) d) [
     | inl next ↦ next_below a b next lt
     | inr lead ↦ leads_below a b lead lt
@@ -195,8 +195,8 @@ module _ (program : Program) (plan : Plan) (budget : ℕ) (g rest : List ℕ) (w
   closed_below a b (through {b = m} f k) lt = closed_below a m f (closed_below m b k lt)
 
   -- a beginning has no more synchronizations
-  pub fewer : (p : ℕ) → length (own_syncs early p) ≤ length (own_syncs late p)
-  fewer p = no_longer (own_syncs early p) (own_syncs late p) (λ i s e. grows (node p i) s e)
+  pub fewer : (p : ℕ) → length (get_or early p []) ≤ length (get_or late p [])
+  fewer p = no_longer (get_or early p []) (get_or late p []) (λ i s e. grows (node p i) s e)
 
 pub records_closed : RecordsAreClosed
 records_closed program plan budget g rest w runs a b before lt = closed_below program plan budget g rest w runs a b before lt
@@ -204,8 +204,8 @@ records_closed program plan budget g rest w runs a b before lt = closed_below pr
 pub edges_forward : EdgesGoForward
 edges_forward program plan budget g more rest w runs p q (earlier same lt) =
     let first = run_begins program plan (started_world program plan budget) (g ++ more) rest w runs in
-    let le : length (own_syncs (sync_record program plan budget g) q) ≤ length (own_syncs (sync_record program plan budget (g ++ more)) q) = fewer program plan budget g more first.0 first.1 q in
-    let e : length (own_syncs (sync_record program plan budget g) q) ≡ length (own_syncs (sync_record program plan budget g) p) = ap (λ k. length (own_syncs (sync_record program plan budget g) k)) same in
+    let le : length (get_or (sync_record program plan budget g) q []) ≤ length (get_or (sync_record program plan budget (g ++ more)) q []) = fewer program plan budget g more first.0 first.1 q in
+    let e : length (get_or (sync_record program plan budget g) q []) ≡ length (get_or (sync_record program plan budget g) p []) = ap (λ k. length (get_or (sync_record program plan budget g) k [])) same in
     omega (arith, lt, le, e)
 edges_forward program plan budget g more rest w runs p q (across d j e before) =
     let first = run_begins program plan (started_world program plan budget) (g ++ more) rest w runs in

@@ -1,8 +1,9 @@
 -- The statements still to do are of the bodies of the frames that are there, and what the deed of one tells.
 use Rattle.std.proofs.Common.{◌≡◌, ℕ, suc, ◌+◌, ◌≤◌, ℤ, Bool, true, false, List, [], ◌∷◌, ◌++◌, Option, Some, None, Ok, Err, refl, ap, sym, subst, ◌∙◌, length, arith}
-use Rattle.std.specs.Prelude.{⊤, drop, is_some, slice_get, IsSome, IsSomeAnd, IsTrue}
-use Rattle.std.specs.List.{All}
+use Rattle.std.specs.Prelude.{⊤, drop, is_some, slice_get, IsSome, IsSomeAnd, IsTrue, slice_set, unwrap_or, replicate, pos}
+use Rattle.std.specs.List.{All, range_with_len}
 use Rattle.std.proofs.lemmas.Option.{slice_get_within}
+use Rattle.std.specs.Option.{option_map_or}
 use Rattle.ppd_ast.specs.declared.plan.Plan.{Plan}
 use Rattle.ppd_ast.specs.declared.program.Body.{Body}
 use Rattle.ppd_ast.specs.declared.program.Kind.{Kind}
@@ -13,7 +14,7 @@ use Rattle.ppd_ast.proofs.Vocabulary.{gives as gives_value}
 use Rattle.ppd_ast.specs.Order.{StandIn, inner}
 use Rattle.ppd_ast.specs.Valid.{CallsRightly, EndsBody, IsValid, IsValidKind, IsValidStmt}
 use Rattle.ppd_ast.proofs.Standing.{All-append_parts}
-use Rattle.ppd_ast.specs.Lookups.{kind_of, top_of_body, body_of_stmt, body_of}
+use Rattle.ppd_ast.specs.Lookups.{kind_of, body_of, body_numbered, no_body}
 use Rattle.ppd_ast.proofs.Vocabulary.{kind_of_stmt, params_of_body}
 use Rattle.ppd_ast.proofs.ValidLaws.{some_and}
 use Rattle.ppd_sem.specs.declared.asking.Pause.TheVariants.{Wants, Traps}
@@ -25,7 +26,7 @@ use Rattle.ppd_sem.specs.declared.proc.Proc.{Proc}
 use Rattle.ppd_sem.specs.declared.proc.Todo.{Todo}
 use Rattle.ppd_sem.specs.Asked.{Asked}
 use Rattle.ppd_sem.specs.Deed.{Deed, set_local, set_shared, clear, branch, turn, leave, invoke, back, take, give, send, receive, print, pass, finish}
-use Rattle.ppd_sem.specs.Process.{act, act_by_asked, act_by_deed, act_by_need, clear_top, head_deed, into_of, need_of, receive_at, returned, returned_from, started, todos, top_cells, write_top}
+use Rattle.ppd_sem.specs.Process.{act, act_by_asked, act_by_deed, act_by_need, head_deed, into_of, need_of, receive_at, returned, started, todos, on_top, top_frame, into_at, with_values}
 use Rattle.ppd_sem.proofs.NeedWords.{act_at}
 use Rattle.ppd_sem.proofs.Offers.{CompletesSend, completes, send_stays}
 use Rattle.ppd_sem.specs.Runs.{AreOfFunction, IsInner, IsRunnableBody, LeadsOn, left_by, returns, size_of, stmt_size, bodies_in}
@@ -55,11 +56,11 @@ AreTop program body (i ∷ j ∷ is) = IsBeside program body i × AreTop program
 abbrev pub Leads : Program → ℕ → Kind → Type 0
 Leads program body (kind.If e first second) = AllBeside program body first × AllBeside program body second
 Leads program body (kind.While e stmts) = AllBeside program body stmts
-Leads program body (kind.Call f arguments into) = AreTop program f (top_of_body (slice_get program.bodies f)) × (length arguments ≡ params_of_body (slice_get program.bodies f))
+Leads program body (kind.Call f arguments into) = AreTop program f (body_numbered program f).top × (length arguments ≡ params_of_body (slice_get program.bodies f))
 Leads program body (kind.Return v) = is_some v ≡ gives_value (slice_get program.bodies body)
 Leads program body k = ⊤
 
-body_is : (o : Option Stmt) (parent : Option ℕ) (body : ℕ) → IsSomeAnd o (λ s. (s.parent ≡ parent) × (s.body ≡ body)) → body_of_stmt o ≡ body
+body_is : (o : Option Stmt) (parent : Option ℕ) (body : ℕ) → IsSomeAnd o (λ s. (s.parent ≡ parent) × (s.body ≡ body)) → option_map_or (λ (x : Stmt). x.body) o 0 ≡ body
 body_is None parent body h = absurd h
 body_is (Some x) parent body h = h.1
 
@@ -78,7 +79,7 @@ are_top program n body (i ∷ j ∷ is) over stands = (
   are_top program n body (j ∷ is) over.1 (λ k d lt. stands (suc k) d (omega arith)),
 )
 
-top_if : (program : Program) (f n : ℕ) (o : Option Body) → IsValid program → slice_get program.bodies f ≡ o → AreOfFunction program n (top_of_body o) → AreTop program f (top_of_body o)
+top_if : (program : Program) (f n : ℕ) (o : Option Body) → IsValid program → slice_get program.bodies f ≡ o → AreOfFunction program n (unwrap_or o no_body).top → AreTop program f (unwrap_or o no_body).top
 top_if program f n None v e over = over
 top_if program f n (Some b) v e over = are_top program n f b.top over (body_top program f b v e)
 
@@ -97,7 +98,7 @@ of_kind program n s body b (kind.Call f arguments into) v is on stands calls end
 of_kind program n s body b (kind.Return value) v is on stands calls ends = ends.1 ∙ sym (ap gives_value is)
 of_kind program n s body b k v is on stands calls ends = tt
 
-leads_of : (program : Program) (s : ℕ) (o : Option Stmt) → IsValid program → slice_get program.stmts s ≡ o → Leads program (body_of_stmt o) (kind_of_stmt o)
+leads_of : (program : Program) (s : ℕ) (o : Option Stmt) → IsValid program → slice_get program.stmts s ≡ o → Leads program (option_map_or (λ (x : Stmt). x.body) o 0) (kind_of_stmt o)
 leads_of program s None v e = tt
 leads_of program s (Some x) v e =
     let lt = slice_get_within program.stmts s x e in
@@ -119,7 +120,7 @@ leads program s v = leads_of program s (slice_get program.stmts s) v refl
 abbrev pub DeedOf : Program → ℕ → Kind → Deed → Type 0
 DeedOf program body k (branch stmts) = (returns k ≡ false) × AllBeside program body stmts
 DeedOf program body k (turn stmts) = (returns k ≡ false) × AllBeside program body stmts
-DeedOf program body k (invoke f values into) = (returns k ≡ false) × (AreTop program f (top_of_body (slice_get program.bodies f)) × (length values ≡ params_of_body (slice_get program.bodies f)))
+DeedOf program body k (invoke f values into) = (returns k ≡ false) × (AreTop program f (body_numbered program f).top × (length values ≡ params_of_body (slice_get program.bodies f)))
 DeedOf program body k (back value) = (returns k ≡ true) × (is_some value ≡ gives_value (slice_get program.bodies body))
 DeedOf program body k d = returns k ≡ false
 
@@ -140,7 +141,7 @@ pub head_of : (program : Program) (t : Todo) (s : Proc) → IsValid program → 
 head_of program t s v =
     let body : ℕ = body_of program t.stmt in
     let k : Kind = kind_of program t.stmt in
-    asked_holds program.exprs (top_cells s.frames) s.answers (DeedOf program body k) k
+    asked_holds program.exprs (top_frame s.frames).cells s.answers (DeedOf program body k) k
     (λ d is. deed_fits program body k d is (leads program t.stmt v))
 
 -- ---- frames and what is to do over them
@@ -162,11 +163,11 @@ top_home program b bs (i ∷ []) ts h home = (h.0, subst (λ (x : Bool). AreHome
 top_home program b bs (i ∷ j ∷ is) ts h home =
     (h.0.of_body, subst (λ (x : Bool). AreHome program (left_by x b bs) (todos (j ∷ is) ++ ts)) (sym h.0.stays) (top_home program b bs (j ∷ is) ts h.1 home))
 
-pub bodies-write : (c : ℕ) (v : ℤ) (frames : List Frame) → bodies_in (write_top c v frames) ≡ bodies_in frames
+pub bodies-write : (c : ℕ) (v : ℤ) (frames : List Frame) → bodies_in (on_top (λ cells. slice_set cells c v) frames) ≡ bodies_in frames
 bodies-write c v [] = refl
 bodies-write c v (f ∷ fs) = refl
 
-pub bodies-clear : (base len : ℕ) (frames : List Frame) → bodies_in (clear_top base len frames) ≡ bodies_in frames
+pub bodies-clear : (base len : ℕ) (frames : List Frame) → bodies_in (on_top (with_values (range_with_len base len) (replicate len (pos 0))) frames) ≡ bodies_in frames
 bodies-clear base len [] = refl
 bodies-clear base len (f ∷ fs) = refl
 
@@ -175,7 +176,7 @@ bodies-receive None value frames = refl
 bodies-receive (Some c) None frames = refl
 bodies-receive (Some c) (Some v) frames = bodies-write c v frames
 
-bodies-from : (program : Program) (call : Option ℕ) (value : Option ℤ) (frames : List Frame) → bodies_in (returned_from program call value frames) ≡ bodies_in frames
+bodies-from : (program : Program) (call : Option ℕ) (value : Option ℤ) (frames : List Frame) → bodies_in (receive_at (into_at program call) value frames) ≡ bodies_in frames
 bodies-from program None value frames = refl
 bodies-from program (Some c) value frames = bodies-receive (into_of (kind_of program c)) value frames
 
@@ -195,20 +196,20 @@ module _ (program : Program) (a : Answer) (t : Todo) (ts : List Todo) (b : ℕ) 
   put ns ms todo e h = subst (λ (l : List ℕ). AreHome program l todo) (sym e) h
 
   by_deed : (d : Deed) (s : Proc) → bodies_in s.frames ≡ b ∷ bs → DeedOf program b (kind_of program t.stmt) d → IsHome program (act_by_deed program a t ts d s)
-  by_deed (set_local c v) s e h = put (bodies_in (write_top c v s.frames)) (b ∷ bs) ts (bodies-write c v s.frames ∙ e) (rest false h)
+  by_deed (set_local c v) s e h = put (bodies_in (on_top (λ cells. slice_set cells c v) s.frames)) (b ∷ bs) ts (bodies-write c v s.frames ∙ e) (rest false h)
   by_deed (set_shared c v) s e h = put (bodies_in s.frames) (b ∷ bs) ts e (rest false h)
-  by_deed (clear base len) s e h = put (bodies_in (clear_top base len s.frames)) (b ∷ bs) ts (bodies-clear base len s.frames ∙ e) (rest false h)
+  by_deed (clear base len) s e h = put (bodies_in (on_top (with_values (range_with_len base len) (replicate len (pos 0))) s.frames)) (b ∷ bs) ts (bodies-clear base len s.frames ∙ e) (rest false h)
   by_deed (branch stmts) s e h = put (bodies_in s.frames) (b ∷ bs) (todos stmts ++ ts) e (beside_home program b bs stmts ts h.1 (rest false h.0))
   by_deed (turn stmts) s e h = put (bodies_in s.frames) (b ∷ bs) (todos stmts ++ t ∷ ts) e (beside_home program b bs stmts (t ∷ ts) h.1 home)
   by_deed leave s e h = put (bodies_in s.frames) (b ∷ bs) ts e (rest false h)
   by_deed (invoke f values into) s e h =
-      put (f ∷ bodies_in s.frames) (f ∷ b ∷ bs) (todos (top_of_body (slice_get program.bodies f)) ++ ts) (ap (λ l. f ∷ l) e)
-      (top_home program f (b ∷ bs) (top_of_body (slice_get program.bodies f)) ts h.1.0 (rest false h.0))
+      put (f ∷ bodies_in s.frames) (f ∷ b ∷ bs) (todos (body_numbered program f).top ++ ts) (ap (λ l. f ∷ l) e)
+      (top_home program f (b ∷ bs) (body_numbered program f).top ts h.1.0 (rest false h.0))
   by_deed (back value) s e h = put (bodies_in (returned program value s.frames)) bs ts (bodies-returned program value s.frames ∙ ap (λ l. drop 1 l) e) (rest true h.0)
   by_deed (take x) s e h = put (bodies_in s.frames) (b ∷ bs) ts e (rest false h)
   by_deed (give x) s e h = put (bodies_in s.frames) (b ∷ bs) ts e (rest false h)
   by_deed (send x v) s e h = put (bodies_in s.frames) (b ∷ bs) ts e (rest false h)
-  by_deed (receive chan into) s e h = put (bodies_in (write_top into _ s.frames)) (b ∷ bs) ts (bodies-write into _ s.frames ∙ e) (rest false h)
+  by_deed (receive chan into) s e h = put (bodies_in (on_top (λ cells. slice_set cells into _) s.frames)) (b ∷ bs) ts (bodies-write into _ s.frames ∙ e) (rest false h)
   by_deed (print v) s e h = put (bodies_in s.frames) (b ∷ bs) ts e (rest false h)
   by_deed pass s e h = put (bodies_in s.frames) (b ∷ bs) ts e (rest false h)
   by_deed finish s e h = put (bodies_in s.frames) (b ∷ bs) ts e (rest false h)
@@ -250,7 +251,7 @@ started_all : (program : Program) (b : ℕ) (stmts : List ℕ) → AllBeside pro
 started_all program b [] h = tt
 started_all program b (i ∷ is) h = (h.0.of_body, subst (λ (x : Bool). AreHome program (left_by x b []) (todos is)) (sym h.0.stays) (started_all program b is h.1))
 
-start_of : (program : Program) (f : ℕ) (o : Option Body) → IsValid program → program.functions ≤ f → slice_get program.bodies f ≡ o → AreHome program (f ∷ []) (todos (top_of_body o))
+start_of : (program : Program) (f : ℕ) (o : Option Body) → IsValid program → program.functions ≤ f → slice_get program.bodies f ≡ o → AreHome program (f ∷ []) (todos (unwrap_or o no_body).top)
 start_of program f None v le e = tt
 start_of program f (Some b) v le e =
     let body : There (IsRunnableBody program) program.bodies f = there_at (IsRunnableBody program) program.bodies f (valid-runnable program v).bodies (slice_get_within program.bodies f b e) in

@@ -3,6 +3,7 @@ use Rattle.std.proofs.Common.{◌≡◌, ℕ, zero, suc, ◌+◌, ◌<◌, ◌�
 use Rattle.std.specs.Prelude.{◌-◌, drop, nat_le, slice_get}
 use Rattle.std.proofs.lemmas.Bool.Decides.{nat_tests}
 use Rattle.std.proofs.lemmas.Option.{none-some, slice_get_within}
+use Rattle.std.specs.Option.{option_map_or}
 use Rattle.ppd_ast.specs.Numbered.{is_while}
 use Rattle.ppd_ast.specs.Valid.{EndsBody, IsValid, IsValidBody, IsValidKind, IsValidStmt}
 use Rattle.ppd_ast.specs.declared.plan.BlockKind.TheVariants as block
@@ -16,7 +17,7 @@ use Rattle.ppd_ast.specs.declared.program.Stmt.{Stmt}
 use Rattle.ppd_ast.specs.declared.status.Status.{Status}
 use Rattle.ppd_ast.specs.declared.status.Status.TheVariants as status
 use Rattle.ppd_ast.specs.declared.status.Trap.TheVariants.{Depth}
-use Rattle.ppd_ast.specs.Lookups.{kind_of, top_of_body, body_of_stmt, body_of}
+use Rattle.ppd_ast.specs.Lookups.{kind_of, body_of, body_numbered}
 use Rattle.ppd_ast.proofs.Vocabulary.{kind_of_stmt}
 use Rattle.ppd_ast.proofs.ValidLaws.{some_and}
 use Rattle.ppd_ast.specs.Counting.{one_if}
@@ -30,7 +31,7 @@ use Rattle.ppd_sem.specs.declared.proc.Proc.{Proc}
 use Rattle.ppd_sem.specs.declared.proc.Todo.{Todo}
 use Rattle.ppd_sem.specs.Asked.{Asked}
 use Rattle.ppd_sem.specs.Deed.{Deed, set_local, set_shared, clear, branch, turn, leave, invoke, back, take, give, send, receive, print, pass, finish}
-use Rattle.ppd_sem.specs.Process.{act, act_by_asked, act_by_deed, act_by_need, call_unit, cost, entry_of, head_deed, loop_of, need_of, need_of_asked, need_of_deed, need_of_head, need_of_leaving, need_of_send, offer_of, started, todos, top_body, top_call, top_cells, value_of}
+use Rattle.ppd_sem.specs.Process.{act, act_by_asked, act_by_deed, act_by_need, call_unit, cost, entry_of, head_deed, loop_of, need_of, need_of_asked, need_of_deed, need_of_head, need_of_leaving, need_of_send, offer_of, started, todos, value_of, top_frame}
 use Rattle.ppd_sem.proofs.NeedWords.{act_at, need_by_entry, need_by_offer, need_of_running}
 use Rattle.ppd_sem.specs.Runs.{returns, bodies_in}
 use Rattle.ppd_sem.specs.Tables.{block_of, capacity_of, unit_of}
@@ -97,13 +98,13 @@ abbrev pub first_or : List ℕ → ℕ
 first_or [] = 0
 first_or (f ∷ fs) = f
 
-top_body_is : (fs : List Frame) → top_body fs ≡ first_or (bodies_in fs)
+top_body_is : (fs : List Frame) → (top_frame fs).body ≡ first_or (bodies_in fs)
 top_body_is [] = refl
 top_body_is (f ∷ fs) = refl
 
 -- ---- a return is of a function
 
-of_function : (program : Program) (s : ℕ) (o : Option Stmt) → IsValid program → slice_get program.stmts s ≡ o → returns (kind_of_stmt o) ≡ true → body_of_stmt o < program.functions
+of_function : (program : Program) (s : ℕ) (o : Option Stmt) → IsValid program → slice_get program.stmts s ≡ o → returns (kind_of_stmt o) ≡ true → option_map_or (λ (x : Stmt). x.body) o 0 < program.functions
 of_function program s None v e r = absurd (true≢false (sym r))
 of_function program s (Some x) v e r =
     let stmt : There (IsValidStmt program) program.stmts s = there_at (IsValidStmt program) program.stmts s v.stmts (slice_get_within program.stmts s x e) in
@@ -189,20 +190,20 @@ module _ (program : Program) (plan : Plan) (v : IsValid program) (a : Answer) (t
     calling true f values into left at = ended (need.Trap Depth) (act_by_need program plan a t ts (need.Trap Depth) s) (status.Trap Depth) refl refl
     calling false f values into left at =
         let push : blocks plan (f ∷ bodies_in s.frames) ≤ one_if_some (block_of plan (block.Function f)) + blocks plan (bodies_in s.frames) = blocks-push plan f (bodies_in s.frames) in
-        let more : entered (todos (top_of_body (slice_get program.bodies f)) ++ ts) ≡ entered ts = entered-todos (top_of_body (slice_get program.bodies f)) ts in
+        let more : entered (todos (body_numbered program f).top ++ ts) ≡ entered ts = entered-todos (body_numbered program f).top ts in
         moved (need.Invoke (block_of plan (block.Function f)) (unit_of plan (start.Entry f))) (invoke f values into) left at
         ((λ runs. omega (arith, push, more, enough)), base-push f (bodies_in s.frames) b bottom)
 
     returning : (value : Option ℤ) (left : List ℤ) → head_deed program t s ≡ Ok (back value, left) → returns (kind_of program t.stmt) ≡ true
-        → Tells (need.Back (block_of plan (block.Function (top_body s.frames))) (call_unit plan (top_call s.frames)))
+        → Tells (need.Back (block_of plan (block.Function (top_frame s.frames).body)) (call_unit plan (top_frame s.frames).call))
     returning value left at ret =
         let fits = back_fits (bodies_in s.frames) bottom (subst (λ (todo : List Todo). AreHome program (bodies_in s.frames) todo) is home) ret in
         let popped : bodies_in (after (back value)).frames ≡ drop 1 (bodies_in s.frames) = bodies-returned program value s.frames in
         let count : blocks plan (bodies_in (after (back value)).frames) ≡ blocks plan (drop 1 (bodies_in s.frames)) = ap (blocks plan) popped in
-        let top : one_if_some (block_of plan (block.Function (top_body s.frames))) ≡ one_if_some (block_of plan (block.Function (first_or (bodies_in s.frames)))) =
+        let top : one_if_some (block_of plan (block.Function (top_frame s.frames).body)) ≡ one_if_some (block_of plan (block.Function (first_or (bodies_in s.frames)))) =
         ap (λ k. one_if_some (block_of plan (block.Function k))) (top_body_is s.frames) in
         let few : one_if_some (block_of plan (block.Function (first_or (bodies_in s.frames)))) + blocks plan (drop 1 (bodies_in s.frames)) ≤ blocks plan (bodies_in s.frames) = fits.1 in
-        moved (need.Back (block_of plan (block.Function (top_body s.frames))) (call_unit plan (top_call s.frames))) (back value) left at
+        moved (need.Back (block_of plan (block.Function (top_frame s.frames).body)) (call_unit plan (top_frame s.frames).call)) (back value) left at
         ((λ runs. omega (arith, count, top, few, enough)), ap base popped ∙ fits.0)
 
     sending : (n c : ℕ) (value : ℤ) (left : List ℤ) → head_deed program t s ≡ Ok (send c value, left) → Tells (need_of_send plan t.stmt n c value)
@@ -231,8 +232,8 @@ module _ (program : Program) (plan : Plan) (v : IsValid program) (a : Answer) (t
     by_deed (print x) left at h = moved need.Plain (print x) left at (plain need.Plain (after (print x)) refl refl fewer refl)
     by_deed pass left at h = moved need.Plain pass left at (plain need.Plain (after pass) refl refl fewer refl)
     by_deed finish left at h =
-        moved (need.End (or_zero (block_of plan (block.Process (top_body s.frames))))) finish left at
-        (ended (need.End (or_zero (block_of plan (block.Process (top_body s.frames))))) (after finish) status.Ended refl refl)
+        moved (need.End (or_zero (block_of plan (block.Process (top_frame s.frames).body)))) finish left at
+        (ended (need.End (or_zero (block_of plan (block.Process (top_frame s.frames).body)))) (after finish) status.Ended refl refl)
 
     by_asked : (x : Asked Deed) → head_deed program t s ≡ x → AskedOf (kind_of program t.stmt) x → Tells (need_of_asked program plan t.stmt s x)
     by_asked (Ok q) at h = by_deed q.0 q.1 at h
@@ -244,7 +245,7 @@ module _ (program : Program) (plan : Plan) (v : IsValid program) (a : Answer) (t
 
   by_entry : (o : Option ℕ) → entry_of program plan t ≡ o → Tells (need_by_entry program plan t.stmt s o (head_deed program t s))
   by_entry (Some c) e = ((λ runs. omega (arith, enough)), bottom)
-  by_entry None e = by_asked e (head_deed program t s) refl (asked_of program.exprs (kind_of program t.stmt) (top_cells s.frames) s.answers)
+  by_entry None e = by_asked e (head_deed program t s) refl (asked_of program.exprs (kind_of program t.stmt) (top_frame s.frames).cells s.answers)
 
   by_offer : (o : Option ℕ) → Tells (need_by_offer plan t.stmt o (need_by_entry program plan t.stmt s (entry_of program plan t) (head_deed program t s)))
   by_offer (Some c) = plain (need.Done c (unit_of plan (start.After t.stmt))) (act_by_need program plan a t ts (need.Done c (unit_of plan (start.After t.stmt))) s) refl refl fewer refl
@@ -300,5 +301,5 @@ pub inside_begun : (program : Program) (plan : Plan) (p budget : ℕ) → IsVali
 inside_begun program plan p budget v = record {
   home = started-home program plan p budget v;
   bottom = refl;
-  enough = λ runs. let none : entered (todos (top_of_body (slice_get program.bodies (program.functions + p)))) ≡ 0 = entered-new (top_of_body (slice_get program.bodies (program.functions + p))) in omega (arith, none);
+  enough = λ runs. let none : entered (todos (body_numbered program (program.functions + p)).top) ≡ 0 = entered-new (body_numbered program (program.functions + p)).top in omega (arith, none);
 }

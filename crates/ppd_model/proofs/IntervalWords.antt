@@ -1,8 +1,8 @@
 -- Words of the proofs for intervals and their items.
 use Rattle.std.specs.Option.{option_map_or}
 use Rattle.std.specs.List.{enumerate_from}
-use Rattle.std.specs.Prelude.{[], ◌∷◌, ℕ, List, Option, Some, map, slice_get, option_map, option_and_then}
-use Rattle.ppd_model.specs.Intervals.{begin_span, end_span, split_of, is_closed, items_of, place_in, Span, Split}
+use Rattle.std.specs.Prelude.{[], ◌∷◌, ℕ, List, Option, Some, map, slice_get, option_map, option_and_then, is_some}
+use Rattle.ppd_model.specs.Intervals.{begin_span, end_span, split_of, items_of, place_in, Span, Split}
 use Rattle.ppd_ast.specs.declared.plan.Plan.{Plan}
 use Rattle.ppd_ast.specs.declared.program.Program.{Program}
 use Rattle.ppd_model.specs.declared.flow.Item.{Item}
@@ -25,7 +25,7 @@ end_if o left x = option_map_or (λ (m : Mark). end_span m.values left x) o x
 
 -- the item of interval m, if it is there
 abbrev pub item_of_span : ℕ → Option Span → List Item
-item_of_span m o = option_map_or (λ (i : Span). item.Nested m i.block i.values (is_closed i) ∷ []) o []
+item_of_span m o = option_map_or (λ (i : Span). item.Nested m i.block i.values (is_some i.closed) ∷ []) o []
 
 -- the item of an event, if it is there
 abbrev pub item_of_event : Option TracedEvent → List Item

@@ -27,7 +27,7 @@ use Rattle.ppd_model.proofs.IntervalWords.{begin_if, end_if, item_at, item_of_ev
 use Rattle.ppd_model.specs.Items.{ItemsAreWhole}
 use Rattle.ppd_model.specs.LocalTags.{AreOwn}
 use Rattle.ppd_model.specs.Marks.{Mark, closed, opened}
-use Rattle.ppd_model.specs.Story.{Story, Taken, own_steps, story}
+use Rattle.ppd_model.specs.Story.{Story, Taken, story}
 use Rattle.ppd_model.specs.World.{change}
 use Rattle.ppd_model.proofs.Changes.{length-change, some}
 use Rattle.ppd_model.proofs.Inside.{IsInside, begins_by, ends_by, inside_begun, inside_step, running_after}
@@ -348,8 +348,8 @@ pub items_whole : ItemsAreWhole
 items_whole program plan budget h p x v e =
     let s : Story = story program plan budget h in
     let z : 0 + p ≡ p = omega arith in
-    let is : split_of program plan budget s p (own_steps s p) ≡ x = ap (λ k. split_of program plan budget s k (own_steps s p)) (sym z) ∙ split_found program plan budget s 0 s.steps p x e in
-    let now : IsKept program plan v s p x = subst (λ (y : Split). IsKept program plan v s p y) is (kept program plan v s p budget (own_steps s p) (own_steps_told program plan budget h p)) in
+    let is : split_of program plan budget s p (get_or s.steps p []) ≡ x = ap (λ k. split_of program plan budget s k (get_or s.steps p [])) (sym z) ∙ split_found program plan budget s 0 s.steps p x e in
+    let now : IsKept program plan v s p x = subst (λ (y : Split). IsKept program plan v s p y) is (kept program plan v s p budget (get_or s.steps p []) (own_steps_told program plan budget h p)) in
     record {
       whole = λ k i at_k.
           all_items x i.parts

@@ -1,11 +1,11 @@
 -- A process's last edge: no synchronization ends it, so it is before no edge.
 use Rattle.std.proofs.Common.{◌≡◌, ℕ, zero, suc, ◌+◌, ◌≤◌, List, [], ◌∷◌, Option, Some, None, refl, ap, sym, subst, arith, ◌∙◌, ◌&&◌, length, inl, inr, true≢false, eqb-true}
 use Rattle.std.proofs.lemmas.Bool.{and_parts, or_cases}
-use Rattle.std.specs.Prelude.{IsTrue, is_some, nat_eq, slice_get}
+use Rattle.std.specs.Prelude.{IsTrue, is_some, nat_eq, slice_get, get_or}
 use Rattle.ppd_ast.specs.declared.program.Program.{Program}
 use Rattle.ppd_model.specs.declared.graph.NodeId.{NodeId}
 use Rattle.ppd_model.specs.Synchronizations.{Sync, leads_at}
-use Rattle.ppd_model.specs.HappenedBefore.{Before, EdgeBefore, across, direct, earlier, edge, is_direct, node, own_syncs, sync_at, through}
+use Rattle.ppd_model.specs.HappenedBefore.{Before, EdgeBefore, across, direct, earlier, edge, is_direct, node, sync_at, through}
 use Rattle.ppd_model.proofs.OrderWords.{is_next}
 use Rattle.ppd_model.specs.Laws.{LastEdgesAreOpen}
 
@@ -29,8 +29,8 @@ next_there syncs a b h =
     let parts = and_parts (nat_eq a.process b.process) (nat_eq (a.sync + 1) b.sync) both.0 in
     let same : a.process ≡ b.process = eqb-true a.process b.process parts.0 in
     let next : a.sync + 1 ≡ b.sync = eqb-true (a.sync + 1) b.sync parts.1 in
-    there_below (own_syncs syncs a.process) b.sync a.sync (omega (arith, next))
-    (subst (λ p. IsTrue (is_some (slice_get (own_syncs syncs p) b.sync))) (sym same) both.1)
+    there_below (get_or syncs a.process []) b.sync a.sync (omega (arith, next))
+    (subst (λ p. IsTrue (is_some (slice_get (get_or syncs p []) b.sync))) (sym same) both.1)
 
 direct_from : (program : Program) (syncs : List (List Sync)) (a b : NodeId) → IsTrue (is_direct program syncs a b) → IsTrue (is_some (sync_at syncs a))
 direct_from program syncs a b h = elim (or_cases (is_next syncs a b) (leads_at program (sync_at syncs a) (sync_at syncs b)) h) [
@@ -42,12 +42,12 @@ pub before_from : (program : Program) (syncs : List (List Sync)) (a b : NodeId) 
 before_from program syncs a b (direct d) = direct_from program syncs a b d
 before_from program syncs a b (through {b = m} h k) = before_from program syncs a m h
 
-before_none : (program : Program) (syncs : List (List Sync)) (p q j : ℕ) → j ≤ length (own_syncs syncs q) → EdgeBefore program syncs (edge p (length (own_syncs syncs p))) (edge q j) → ⊥
+before_none : (program : Program) (syncs : List (List Sync)) (p q j : ℕ) → j ≤ length (get_or syncs q []) → EdgeBefore program syncs (edge p (length (get_or syncs p []))) (edge q j) → ⊥
 before_none program syncs p q j le (earlier e lt) =
-    let same : length (own_syncs syncs p) ≡ length (own_syncs syncs q) = ap (λ n. length (own_syncs syncs n)) e in
+    let same : length (get_or syncs p []) ≡ length (get_or syncs q []) = ap (λ n. length (get_or syncs n [])) e in
     omega (arith, le, lt, same)
 before_none program syncs p q j le (across d i e h) =
-    true≢false (sym (before_from program syncs (node p (length (own_syncs syncs p))) (node q i) h) ∙ ap is_some (past_the_end (own_syncs syncs p)))
+    true≢false (sym (before_from program syncs (node p (length (get_or syncs p []))) (node q i) h) ∙ ap is_some (past_the_end (get_or syncs p [])))
 
 pub last_edges : LastEdgesAreOpen
-last_edges program syncs p = record { no_end = past_the_end (own_syncs syncs p); before_none = before_none program syncs p }
+last_edges program syncs p = record { no_end = past_the_end (get_or syncs p []); before_none = before_none program syncs p }

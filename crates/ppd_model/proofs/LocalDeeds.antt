@@ -1,24 +1,25 @@
 -- What each statement's writes do to the tags of the local cells.
 use Rattle.std.proofs.Common.{◌≡◌, ℕ, zero, suc, ◌+◌, ◌-◌, ◌<◌, ◌≤◌, ℤ, pos, Bool, true, false, ◌&&◌, ◌||◌, List, [], ◌∷◌, ◌++◌, Option, Some, None, refl, ap, sym, subst, ◌∙◌, length, map, set, get_or, inl, inr, arith}
-use Rattle.std.specs.Prelude.{drop, nat_eq, replicate, slice_get}
-use Rattle.std.specs.List.{list_any}
+use Rattle.std.specs.Prelude.{drop, nat_eq, replicate, slice_get, slice_set, unwrap_or}
+use Rattle.std.specs.List.{list_any, range_with_len}
 use Rattle.std.proofs.lemmas.Bool.{both_ways, cases_Bool, cases_eq, cases_lt, eq-eqb, eqb-false, eqb-true, ne_eqb, or_cases, or_parts}
 use Rattle.std.proofs.lemmas.List.{get_or-append_right, get_or-replicate, get_or-set_other, get_or-set_same, get_or_append_left, get_or_past, length-append, length-map, length-replicate, length-set}
 use Rattle.std.proofs.lemmas.List.Folds.{list_any-append}
 use Rattle.std.proofs.Math.Bool.{or-false}
 use Rattle.ppd_ast.specs.declared.program.Body.{Body}
 use Rattle.ppd_ast.specs.declared.program.Program.{Program}
-use Rattle.ppd_ast.specs.Lookups.{kind_of}
+use Rattle.ppd_ast.specs.Lookups.{kind_of, body_numbered, no_body}
 use Rattle.ppd_sem.specs.declared.event.Access.{Access}
 use Rattle.ppd_sem.specs.declared.proc.Frame.{Frame}
-use Rattle.ppd_sem.specs.Described.{cleared, local_write, parameters}
-use Rattle.ppd_sem.specs.Process.{clear_top, into_of, new_frame, receive_at, returned, returned_from, top_call, write_top}
+use Rattle.ppd_sem.specs.Process.{into_of, new_frame, receive_at, returned, on_top, top_frame, into_at, with_values}
 use Rattle.ppd_sem.proofs.NeedWords.{cells_for}
-use Rattle.ppd_sem.specs.Runs.{size_if, sizes}
+use Rattle.ppd_sem.specs.Runs.{sizes}
 use Rattle.ppd_sem.proofs.Kept.{length-clear}
-use Rattle.ppd_model.specs.FullTrace.{Activation, Tag, all_tagged, called, into_at, tagged, tagged_into}
+use Rattle.ppd_model.specs.FullTrace.{Activation, Tag, all_tagged, called, tagged, tagged_into}
 use Rattle.ppd_model.specs.LocalTags.{is_cell, is_into, locals}
 use Rattle.ppd_model.proofs.FromEnd.{Outcome, hit, miss, past, popped, same, topped}
+use Rattle.ppd_sem.specs.Reads.{local_accesses}
+use Rattle.ppd_sem.proofs.Zeros.{zeros_accessed}
 
 -- ---- tests
 
@@ -71,7 +72,7 @@ pub nothing_there : (w : ℕ → ℕ → Bool) (me : Tag) → Outcome [] [] [] w
 nothing_there w me = same [] [] w me refl (λ k c lt. absurd (omega arith))
 
 pub set_does : (frame : ℕ) (frames : List Frame) (acts : List Activation) (d : ℕ) (v : ℤ) (me : Tag) → map length (locals acts) ≡ sizes frames
-    → Outcome (locals acts) (locals (tagged d me acts)) (sizes (write_top d v frames)) (λ k c. among frame (length frames) k c (local_write frame d v ∷ []) || false) me
+    → Outcome (locals acts) (locals (tagged d me acts)) (sizes (on_top (λ cells. slice_set cells d v) frames)) (λ k c. among frame (length frames) k c (local_accesses frame d (v ∷ [])) || false) me
 set_does frame [] [] d v me e = nothing_there _ me
 set_does frame [] (a ∷ as') d v me e = absurd (cc)
 set_does frame (f ∷ fs) [] d v me e = absurd (cc)
@@ -117,11 +118,12 @@ and_false : (x : Bool) → false ≡ (x && false)
 and_false true = refl
 and_false false = refl
 
-among_cleared : (frame m base n k c : ℕ) → among frame (suc m) k c (cleared frame base n) ≡ (nat_eq k m && within base n c)
+among_cleared : (frame m base n k c : ℕ) → among frame (suc m) k c (local_accesses frame base (replicate n (pos 0))) ≡ (nat_eq k m && within base n c)
 among_cleared frame m base zero k c = and_false (nat_eq k m)
 among_cleared frame m base (suc n) k c =
-    list_any-append (λ a. is_cell frame (suc m) k c a.spot) (cleared frame base n) (local_write frame (base + n) (pos 0) ∷ [])
-    ∙ ap (λ b. b || among frame (suc m) k c (local_write frame (base + n) (pos 0) ∷ [])) (among_cleared frame m base n k c)
+    ap (among frame (suc m) k c) (zeros_accessed frame base n)
+    ∙ list_any-append (λ a. is_cell frame (suc m) k c a.spot) (local_accesses frame base (replicate n (pos 0))) (local_accesses frame (base + n) (pos 0 ∷ []))
+    ∙ ap (λ b. b || among frame (suc m) k c (local_accesses frame (base + n) (pos 0 ∷ []))) (among_cleared frame m base n k c)
     ∙ ap (λ b. (nat_eq k m && within base n c) || b) (or-false _ ∙ ap (λ b. b && nat_eq (base + n) c) (shift k frame m))
     ∙ and_or (nat_eq k m) (within base n c) (nat_eq (base + n) c)
 
@@ -144,7 +146,7 @@ keeps_rest a base (suc n) me c e =
     keeps_others (tags_cleared base n me a) (base + n) me c both.1 ∙ keeps_rest a base n me c both.0
 
 cleared_top : (frame : ℕ) (f : Frame) (fs : List Frame) (a : Activation) (as' : List Activation) (base n : ℕ) (me : Tag) → map length (locals (a ∷ as')) ≡ sizes (f ∷ fs)
-    → Outcome (locals (a ∷ as')) (tags_cleared base n me a.tags ∷ locals as') (sizes (clear_top base n (f ∷ fs))) (λ k c. among frame (length (f ∷ fs)) k c (cleared frame base n) || false) me
+    → Outcome (locals (a ∷ as')) (tags_cleared base n me a.tags ∷ locals as') (sizes (on_top (with_values (range_with_len base n) (replicate n (pos 0))) (f ∷ fs))) (λ k c. among frame (length (f ∷ fs)) k c (local_accesses frame base (replicate n (pos 0))) || false) me
 cleared_top frame f fs a as' base n me e =
     let same_length : length (locals as') ≡ length fs = length_locals as' ∙ lengths fs as' (tail_is e) in
     topped (locals (a ∷ as')) (locals as') (tags_cleared base n me a.tags) _ _ me (within base n) (record {
@@ -158,12 +160,12 @@ cleared_top frame f fs a as' base n me e =
     })
 
 pub clear_does : (frame : ℕ) (frames : List Frame) (acts : List Activation) (base n : ℕ) (me : Tag) → map length (locals acts) ≡ sizes frames
-    → Outcome (locals acts) (locals (all_tagged base n me acts)) (sizes (clear_top base n frames)) (λ k c. among frame (length frames) k c (cleared frame base n) || false) me
-clear_does frame [] [] base n me e = subst (λ xs. Outcome [] (locals xs) [] (λ k c. among frame 0 k c (cleared frame base n) || false) me) (sym (all_tagged_none base n me)) (nothing_there _ me)
+    → Outcome (locals acts) (locals (all_tagged base n me acts)) (sizes (on_top (with_values (range_with_len base n) (replicate n (pos 0))) frames)) (λ k c. among frame (length frames) k c (local_accesses frame base (replicate n (pos 0))) || false) me
+clear_does frame [] [] base n me e = subst (λ xs. Outcome [] (locals xs) [] (λ k c. among frame 0 k c (local_accesses frame base (replicate n (pos 0))) || false) me) (sym (all_tagged_none base n me)) (nothing_there _ me)
 clear_does frame [] (a ∷ as') base n me e = absurd (cc)
 clear_does frame (f ∷ fs) [] base n me e = absurd (cc)
 clear_does frame (f ∷ fs) (a ∷ as') base n me e =
-    subst (λ xs. Outcome (locals (a ∷ as')) (locals xs) (sizes (clear_top base n (f ∷ fs))) (λ k c. among frame (length (f ∷ fs)) k c (cleared frame base n) || false) me)
+    subst (λ xs. Outcome (locals (a ∷ as')) (locals xs) (sizes (on_top (with_values (range_with_len base n) (replicate n (pos 0))) (f ∷ fs))) (λ k c. among frame (length (f ∷ fs)) k c (local_accesses frame base (replicate n (pos 0))) || false) me)
     (sym (all_tagged_is base n me a as')) (cleared_top frame f fs a as' base n me e)
 
 -- ---- a call
@@ -176,10 +178,10 @@ abbrev from_on : ℕ → List ℤ → ℕ → Bool
 from_on i [] c = false
 from_on i (v ∷ vs) c = nat_eq i c || from_on (i + 1) vs c
 
-among_parameters : (frame n i : ℕ) (values : List ℤ) (k c : ℕ) → among frame n k c (parameters (frame + 1) i values) ≡ (nat_eq k n && from_on i values c)
+among_parameters : (frame n i : ℕ) (values : List ℤ) (k c : ℕ) → among frame n k c (local_accesses (frame + 1) i values) ≡ (nat_eq k n && from_on i values c)
 among_parameters frame n i [] k c = and_false (nat_eq k n)
 among_parameters frame n i (v ∷ vs) k c =
-    ap (λ b. (b && nat_eq i c) || among frame n k c (parameters (frame + 1) (i + 1) vs)) (shift_up k frame n)
+    ap (λ b. (b && nat_eq i c) || among frame n k c (local_accesses (frame + 1) (i + 1) vs)) (shift_up k frame n)
     ∙ ap (λ b. (nat_eq k n && nat_eq i c) || b) (among_parameters frame n (i + 1) vs k c)
     ∙ and_or (nat_eq k n) (nat_eq i c) (from_on (i + 1) vs c)
 
@@ -204,7 +206,7 @@ replicate_none n c = elim (cases_lt c n) [
   | inr le ↦ get_or_past (replicate n None) c None (subst (λ k. k ≤ c) (sym (length-replicate n no_tag)) le)
 ]
 
-length_called : (body : Option Body) (values : List ℤ) (me : Tag) → length (replicate (length values) me ++ replicate (size_if body - length values) None) ≡ length (cells_for body values)
+length_called : (body : Option Body) (values : List ℤ) (me : Tag) → length (replicate (length values) me ++ replicate ((unwrap_or body no_body).cells - length values) None) ≡ length (cells_for body values)
 length_called None values me =
     length-append (replicate (length values) me) (replicate (0 - length values) None)
     ∙ omega (arith, length-replicate (length values) me, length-replicate (0 - length values) no_tag)
@@ -227,10 +229,10 @@ others_none values rest me c e =
     ∙ replicate_none rest (c - length values)
 
 pub call_does : (program : Program) (frame : ℕ) (frames : List Frame) (acts : List Activation) (f : ℕ) (values : List ℤ) (call : Option ℕ) (me : Tag) → map length (locals acts) ≡ sizes frames
-    → Outcome (locals acts) (locals (called program f (length values) me ∷ acts)) (sizes (new_frame program f values call ∷ frames)) (λ k c. among frame (length frames) k c (parameters (frame + 1) 0 values) || false) me
+    → Outcome (locals acts) (locals (called program f (length values) me ∷ acts)) (sizes (new_frame program f values call ∷ frames)) (λ k c. among frame (length frames) k c (local_accesses (frame + 1) 0 values) || false) me
 call_does program frame frames acts f values call me e =
     let same_length : length (locals acts) ≡ length frames = length_locals acts ∙ lengths frames acts e in
-    let rest : ℕ = size_if (slice_get program.bodies f) - length values in
+    let rest : ℕ = (body_numbered program f).cells - length values in
     topped (locals acts) (locals acts) (replicate (length values) me ++ replicate rest None) _ _ me (from_on 0 values) (record {
       shape = with_heads (length_called (slice_get program.bodies f) values me) e;
       w_is = λ k c. or-false _ ∙ among_parameters frame (length frames) 0 values k c ∙ ap (λ m. nat_eq k m && from_on 0 values c) (sym same_length);
@@ -275,13 +277,13 @@ back_into (Some d) (Some v) a (f ∷ fs) (b ∷ bs) me e =
     })
 
 back_by : (program : Program) (call : Option ℕ) (value : Option ℤ) (a : Activation) (fs : List Frame) (as' : List Activation) (me : Tag) → map length (locals as') ≡ sizes fs
-    → Outcome (locals (a ∷ as')) (locals (tagged_into (into_at program call) value me as')) (sizes (returned_from program call value fs)) (λ k c. nat_eq (k + 2) (suc (length fs)) && is_into (into_at program call) value c) me
+    → Outcome (locals (a ∷ as')) (locals (tagged_into (into_at program call) value me as')) (sizes (receive_at (into_at program call) value fs)) (λ k c. nat_eq (k + 2) (suc (length fs)) && is_into (into_at program call) value c) me
 back_by program None value a fs as' me e = back_into None value a fs as' me e
 back_by program (Some c) value a fs as' me e = back_into (into_of (kind_of program c)) value a fs as' me e
 
 pub back_does : (program : Program) (frames : List Frame) (acts : List Activation) (value : Option ℤ) (me : Tag) → map length (locals acts) ≡ sizes frames
-    → Outcome (locals acts) (locals (tagged_into (into_at program (top_call frames)) value me (drop 1 acts))) (sizes (returned program value frames))
-    (λ k c. nat_eq (k + 2) (length frames) && is_into (into_at program (top_call frames)) value c) me
+    → Outcome (locals acts) (locals (tagged_into (into_at program (top_frame frames).call) value me (drop 1 acts))) (sizes (returned program value frames))
+    (λ k c. nat_eq (k + 2) (length frames) && is_into (into_at program (top_frame frames).call) value c) me
 back_does program [] [] value me e = nothing_there _ me
 back_does program [] (a ∷ as') value me e = absurd (cc)
 back_does program (f ∷ fs) [] value me e = absurd (cc)

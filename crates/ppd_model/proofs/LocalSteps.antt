@@ -25,7 +25,7 @@ use Rattle.ppd_sem.specs.Asked.{Asked, and_then, gives}
 use Rattle.ppd_sem.specs.Deed.{Deed, set_local, set_shared, clear, branch, turn, leave, invoke, back, take, give, send, receive, print, pass, finish, ask_deed}
 use Rattle.ppd_sem.specs.Described.{frame_of, trap_of, writes_by, is_event}
 use Rattle.ppd_sem.proofs.EventWords.{writes_of_asked}
-use Rattle.ppd_sem.specs.Process.{act, act_by_asked, act_by_need, chan_of, entry_of, head_deed, need_of, need_of_asked, need_of_head, need_of_leaving, need_of_send, offer_of, top_cells, value_of}
+use Rattle.ppd_sem.specs.Process.{act, act_by_asked, act_by_need, chan_of, entry_of, head_deed, need_of, need_of_asked, need_of_head, need_of_leaving, need_of_send, offer_of, value_of, top_frame}
 use Rattle.ppd_sem.proofs.NeedWords.{need_by_entry, need_by_offer, need_by_status, need_of_running}
 use Rattle.ppd_sem.specs.Tables.{capacity_of}
 use Rattle.ppd_sem.proofs.Offers.{offer_there}
@@ -116,7 +116,7 @@ fits_running program plan s [] = tt
 fits_running program plan s (t ∷ ts) =
     fits_budget _ (need_of_head program plan t s) (head_deed program t s)
     (fits_offer plan t.stmt (offer_of program t) (need_by_entry program plan t.stmt s (entry_of program plan t) (head_deed program t s)) (head_deed program t s)
-    (λ c e. of_chan program.exprs (kind_of program t.stmt) (top_cells s.frames) s.answers c (offer_there t.offered (chan_of (kind_of program t.stmt)) c e))
+    (λ c e. of_chan program.exprs (kind_of program t.stmt) (top_frame s.frames).cells s.answers c (offer_there t.offered (chan_of (kind_of program t.stmt)) c e))
     (fits_entry program plan t.stmt s (entry_of program plan t) (head_deed program t s)))
 
 fits_stopped : (program : Program) (s : Proc) (todo : List Todo) → FitsHead program s Stopped todo

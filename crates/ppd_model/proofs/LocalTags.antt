@@ -13,7 +13,7 @@ use Rattle.ppd_model.specs.FullTrace.{Activation, Tag, Tracing, begun_tracing, t
 use Rattle.ppd_model.specs.LocalTags.{AreOwn, HasTags, IsLastLocalWrite, IsLocalTag, IsSteady, IsUnwrittenSinceCall, LocalTagsAreLastWrites, ReadsAreOfTheTop, SchedulesTagLastWrites, StoriesTellOwnSteps, TagsItsWrites, cells_in, is_local_write, local_tag, locals}
 use Rattle.ppd_model.specs.Schedule.{started_world}
 use Rattle.ppd_model.specs.States.{act_on, states_from}
-use Rattle.ppd_model.specs.Story.{Story, Taken, Telling, begun, moment_of, own_steps, steps_of, story, tell, told}
+use Rattle.ppd_model.specs.Story.{Story, Taken, Telling, begun, moment_of, steps_of, story, tell, told}
 use Rattle.ppd_model.specs.World.{change}
 use Rattle.ppd_model.proofs.WorldWords.{need_at}
 use Rattle.ppd_model.proofs.FromEnd.{hit, miss, past}
@@ -175,7 +175,7 @@ module _ (program : Program) (plan : Plan) (budget : ℕ) where
 
 pub own_steps_told : StoriesTellOwnSteps
 own_steps_told program plan budget h p =
-    subst (λ n. AreOwn program plan (started program plan n budget) (own_steps (story program plan budget h) p)) (let e : 0 + p ≡ p = omega arith in e)
+    subst (λ n. AreOwn program plan (started program plan n budget) (get_or (story program plan budget h).steps p [])) (let e : 0 + p ≡ p = omega arith in e)
     (own_at program plan budget 0 p (map steps_of (told program plan budget h).moments) (all_own program plan budget h))
 
 pub own-before : (program : Program) (plan : Plan) (s : Proc) (before after : List Taken) → AreOwn program plan s (before ++ after) → AreOwn program plan s before

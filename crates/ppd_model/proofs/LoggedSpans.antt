@@ -1,36 +1,36 @@
 -- The intervals of a process's own steps are those of its log.
-use Rattle.std.proofs.Common.{◌≡◌, ℕ, zero, suc, ◌+◌, ℤ, Bool, true, false, List, [], ◌∷◌, ◌++◌, Option, Some, None, refl, ap, ap₂, sym, subst, ◌∙◌, arith, length, map, get_or, if◌then◌else◌}
-use Rattle.std.specs.Prelude.{drop, fold, is_none, slice_get}
-use Rattle.std.proofs.lemmas.List.{append-nil, length-map, map-append}
-use Rattle.std.proofs.lemmas.List.Sums.{fold-append}
-use Rattle.std.proofs.lemmas.Option.{none-some}
 use Rattle.ppd_ast.specs.declared.plan.Plan.{Plan}
 use Rattle.ppd_ast.specs.declared.program.Program.{Program}
 use Rattle.ppd_ast.specs.declared.status.Status.{Status}
 use Rattle.ppd_ast.specs.declared.status.Status.TheVariants as status
 use Rattle.ppd_entry.specs.declared.entry.Entry.{Entry}
 use Rattle.ppd_entry.specs.declared.entry.Entry.TheVariants as entry
+use Rattle.ppd_model.proofs.Changes.{some}
+use Rattle.ppd_model.proofs.ExtentWords.{begun_extents, ended_by, left_by as extents_left}
+use Rattle.ppd_model.proofs.IntervalWords.{begin_if, end_if}
+use Rattle.ppd_model.proofs.Items.{own_keeps, split_found, step_keeps}
+use Rattle.ppd_model.proofs.LogWords.{logs_from}
+use Rattle.ppd_model.proofs.RecordedSets.{steps_found}
+use Rattle.ppd_model.specs.Bounds.{AreEach}
+use Rattle.ppd_model.specs.Extents.{Extent, Indexing, IntervalsAreOfLogs, IsSameInterval, extend, extents}
+use Rattle.ppd_model.specs.FullTrace.{Tag, Tracing, me_in, top_tags}
+use Rattle.ppd_model.specs.Intervals.{Span, Split, begun_split, change_first, control_by, innermost, left_by, own, split_of, split_step, with_marks, with_own, with_part, with_step}
+use Rattle.ppd_model.specs.Logs.{Logging, begun_log, block_entries, closed_log, ends, entries_of, log_of, log_step, status_of, syncs, units}
+use Rattle.ppd_model.specs.Marks.{Mark, closed, opened}
+use Rattle.ppd_model.specs.Story.{Moment, Story, Taken, steps_of, story, told, unit_started}
+use Rattle.ppd_model.specs.Synchronizations.{Sync, sync_of}
+use Rattle.ppd_model.specs.World.{change}
+use Rattle.ppd_model.specs.declared.trace.EventId.{EventId}
 use Rattle.ppd_sem.specs.Described.{frame_of, is_event}
 use Rattle.ppd_sem.specs.Process.{act, started}
 use Rattle.ppd_sem.specs.declared.proc.Need.{Need}
 use Rattle.ppd_sem.specs.declared.proc.Need.TheVariants as n
 use Rattle.ppd_sem.specs.declared.proc.Proc.{Proc}
-use Rattle.ppd_model.specs.declared.trace.EventId.{EventId}
-use Rattle.ppd_model.specs.Bounds.{AreEach}
-use Rattle.ppd_model.specs.Extents.{Extending, Extent, IntervalsAreOfLogs, IsSameInterval, extend, extents, first_of}
-use Rattle.ppd_model.proofs.ExtentWords.{begun_extents, ended_by, left_by as extents_left}
-use Rattle.ppd_model.specs.FullTrace.{Tag, Tracing, me_in, top_tags}
-use Rattle.ppd_model.specs.Intervals.{own, Span, Split, begun_split, change_first, control_by, innermost, is_closed, left_by, split_of, split_step, with_marks, with_own, with_part, with_step}
-use Rattle.ppd_model.proofs.IntervalWords.{begin_if, end_if}
-use Rattle.ppd_model.specs.Logs.{Logging, begun_log, closed_log, ends, entries_of, log_of, log_step, postlogs, prelogs, status_of, syncs, units}
-use Rattle.ppd_model.proofs.LogWords.{logs_from}
-use Rattle.ppd_model.specs.Marks.{Mark, closed, opened}
-use Rattle.ppd_model.specs.Story.{Moment, Story, Taken, steps_of, story, told, unit_started}
-use Rattle.ppd_model.specs.Synchronizations.{Sync, sync_of}
-use Rattle.ppd_model.specs.World.{change}
-use Rattle.ppd_model.proofs.Changes.{some}
-use Rattle.ppd_model.proofs.Items.{own_keeps, split_found, step_keeps}
-use Rattle.ppd_model.proofs.RecordedSets.{steps_found}
+use Rattle.std.proofs.Common.{Bool, List, None, Option, Some, [], ap, ap₂, arith, false, get_or, if◌then◌else◌, length, map, refl, subst, suc, sym, true, zero, ℕ, ℤ, ◌++◌, ◌+◌, ◌∙◌, ◌∷◌, ◌≡◌}
+use Rattle.std.proofs.lemmas.List.{append-nil, length-map, map-append}
+use Rattle.std.proofs.lemmas.List.Sums.{fold-append}
+use Rattle.std.proofs.lemmas.Option.{none-some}
+use Rattle.std.specs.Prelude.{drop, fold, is_none, is_some, slice_get}
 
 -- ---- what both have of an interval
 
@@ -40,7 +40,7 @@ pub record Shape : Type 0 where
   closed : Bool
 
 abbrev of_span : Span → Shape
-of_span i = record { block = i.block; parent = first_of i.round; closed = is_closed i }
+of_span i = record { block = i.block; parent = slice_get i.round 0; closed = is_some i.closed }
 
 abbrev of_extent : Extent → Shape
 of_extent x = record { block = x.block; parent = x.parent; closed = x.closed }
@@ -69,57 +69,57 @@ first_same f same [] spans = refl
 first_same f same (k ∷ ks) spans = change-same of_span f same k spans
 
 -- the intervals of the steps and of the entries so far
-record AreSame (x : Split) (y : Extending) : Type 0 where
+record AreSame (x : Split) (y : Indexing Extent) : Type 0 where
   running : x.running ≡ y.running
-  shapes : spans_of x.spans ≡ shapes_of y.extents
+  shapes : spans_of x.spans ≡ shapes_of y.intervals
 
 -- ---- what a step adds to both
 
-quiet_step : (need : Need) (x : Split) (y : Extending) → AreSame x y → AreSame (with_step need x) y
+quiet_step : (need : Need) (x : Split) (y : Indexing Extent) → AreSame x y → AreSame (with_step need x) y
 quiet_step n.Budget x y h = h
 quiet_step n.Stopped x y h = h
 quiet_step need x y h = record { running = h.running; shapes = first_same (λ i. record i { steps = i.steps + 1 }) (λ i. refl) x.running x.spans ∙ h.shapes }
 
-quiet_own : (need : Need) (x : Split) (y : Extending) → AreSame x y → AreSame (with_own need x) y
+quiet_own : (need : Need) (x : Split) (y : Indexing Extent) → AreSame x y → AreSame (with_own need x) y
 quiet_own need x y h = by (is_event need)
   where
     by : (b : Bool) → AreSame (if b then innermost (with_part (own (length x.trace.events))) x else x) y
     by true = record { running = h.running; shapes = first_same (with_part (own (length x.trace.events))) (λ i. refl) x.running x.spans ∙ h.shapes }
     by false = h
 
-same_length : (x : Split) (y : Extending) → AreSame x y → length x.spans ≡ length y.extents
-same_length x y h = sym (length-map x.spans of_span) ∙ ap length h.shapes ∙ length-map y.extents of_extent
+same_length : (x : Split) (y : Indexing Extent) → AreSame x y → length x.spans ≡ length y.intervals
+same_length x y h = sym (length-map x.spans of_span) ∙ ap length h.shapes ∙ length-map y.intervals of_extent
 
-begins : (o : Option Mark) (frame : ℕ) (control : Option EventId) (x : Split) (y : Extending) → AreSame x y → AreSame (begin_if o frame control x) (fold extend y (prelogs o))
+begins : (o : Option Mark) (frame : ℕ) (control : Option EventId) (x : Split) (y : Indexing Extent) → AreSame x y → AreSame (begin_if o frame control x) (fold extend y (block_entries entry.Prelog o))
 begins None frame control x y h = h
 begins (Some m) frame control x y h = record {
   running = ap₂ (λ k ks. k ∷ ks) (same_length x y h) h.running;
   shapes = map-append of_span (change_first (with_part _) x.running x.spans) _
-      ∙ ap₂ (λ a b. a ++ b) (first_same (with_part _) (λ i. refl) x.running x.spans ∙ h.shapes) (ap (λ ks. (record { block = m.block; parent = first_of ks; closed = false }) ∷ []) h.running)
-      ∙ sym (map-append of_extent y.extents _);
+      ∙ ap₂ (λ a b. a ++ b) (first_same (with_part _) (λ i. refl) x.running x.spans ∙ h.shapes) (ap (λ ks. (record { block = m.block; parent = slice_get ks 0; closed = false }) ∷ []) h.running)
+      ∙ sym (map-append of_extent y.intervals _);
 }
 
-ends_one : (o : Option Mark) (tags : List Tag) (x : Split) (y : Extending) → AreSame x y → AreSame (end_if o tags x) (fold extend y (postlogs o))
+ends_one : (o : Option Mark) (tags : List Tag) (x : Split) (y : Indexing Extent) → AreSame x y → AreSame (end_if o tags x) (fold extend y (block_entries entry.Postlog o))
 ends_one None tags x y h = h
 ends_one (Some m) tags x y h = record {
   running = ap (λ ks. drop 1 ks) h.running;
   shapes = by x.running h.running;
 }
   where
-    by : (ks : List ℕ) → ks ≡ y.running → spans_of (change_first (λ i. record i { closed = Some (length x.edges); values = m.values; left = tags }) ks x.spans) ≡ shapes_of (extents_left y.entry y.running y.extents)
-    by [] e = h.shapes ∙ ap (λ rs. shapes_of (extents_left y.entry rs y.extents)) e
+    by : (ks : List ℕ) → ks ≡ y.running → spans_of (change_first (λ i. record i { closed = Some (length x.edges); values = m.values; left = tags }) ks x.spans) ≡ shapes_of (extents_left y.entry y.running y.intervals)
+    by [] e = h.shapes ∙ ap (λ rs. shapes_of (extents_left y.entry rs y.intervals)) e
     by (k ∷ ks) e =
         map-change of_span (λ i. record i { closed = Some (length x.edges); values = m.values; left = tags }) shut (λ i. refl) k x.spans
         ∙ ap (change shut k) h.shapes
-        ∙ sym (map-change of_extent (λ z. record z { last = Some y.entry; closed = true }) shut (λ z. refl) k y.extents)
-        ∙ ap (λ rs. shapes_of (extents_left y.entry rs y.extents)) e
+        ∙ sym (map-change of_extent (λ z. record z { last = Some y.entry; closed = true }) shut (λ z. refl) k y.intervals)
+        ∙ ap (λ rs. shapes_of (extents_left y.entry rs y.intervals)) e
 
 -- entries that no interval begins or ends by
-quiet_syncs : (l : Logging) (t : Taken) (o : Option Sync) (x : Split) (y : Extending) → AreSame x y → AreSame x (fold extend y (syncs l t o))
+quiet_syncs : (l : Logging) (t : Taken) (o : Option Sync) (x : Split) (y : Indexing Extent) → AreSame x y → AreSame x (fold extend y (syncs l t o))
 quiet_syncs l t None x y h = h
 quiet_syncs l t (Some s) x y h = record { running = h.running; shapes = h.shapes }
 
-quiet_units : (u : Option ℕ) (values : List ℤ) (x : Split) (y : Extending) → AreSame x y → AreSame x (fold extend y (units u values))
+quiet_units : (u : Option ℕ) (values : List ℤ) (x : Split) (y : Indexing Extent) → AreSame x y → AreSame x (fold extend y (units u values))
 quiet_units None values x y h = h
 quiet_units (Some u) values x y h = record { running = h.running; shapes = h.shapes }
 
@@ -127,17 +127,17 @@ ended_same : (j : ℕ) (ks : List ℕ) (xs : List Extent) → shapes_of (ended_b
 ended_same j [] xs = refl
 ended_same j (k ∷ ks) xs = ended_same j ks (change (λ z. record z { last = Some j }) k xs) ∙ change-same of_extent (λ z. record z { last = Some j }) (λ z. refl) k xs
 
-quiet_end : (st : Status) (rest : ℕ) (reads writes : List ℕ) (x : Split) (y : Extending) → AreSame x y → AreSame x (extend y (entry.End st rest reads writes))
-quiet_end st rest reads writes x y h = record { running = h.running; shapes = h.shapes ∙ sym (ended_same y.entry y.running y.extents) }
+quiet_end : (st : Status) (rest : ℕ) (reads writes : List ℕ) (x : Split) (y : Indexing Extent) → AreSame x y → AreSame x (extend y (entry.End st rest reads writes))
+quiet_end st rest reads writes x y h = record { running = h.running; shapes = h.shapes ∙ sym (ended_same y.entry y.running y.intervals) }
 
-quiet_ends : (l : Logging) (o : Option Status) (x : Split) (y : Extending) → AreSame x y → AreSame x (fold extend y (ends l o))
+quiet_ends : (l : Logging) (o : Option Status) (x : Split) (y : Indexing Extent) → AreSame x y → AreSame x (fold extend y (ends l o))
 quiet_ends l None x y h = h
 quiet_ends l (Some st) x y h = quiet_end st l.rest l.reads l.writes x y h
 
 -- a step does not both enter and leave a block
-one_mark : (program : Program) (plan : Plan) (s : Proc) (need : Need) (frame : ℕ) (control : Option EventId) (tags : List Tag) (t : Taken) (l : Logging) (x : Split) (y : Extending) → AreSame x y
+one_mark : (program : Program) (plan : Plan) (s : Proc) (need : Need) (frame : ℕ) (control : Option EventId) (tags : List Tag) (t : Taken) (l : Logging) (x : Split) (y : Indexing Extent) → AreSame x y
     → AreSame (begin_if (opened program plan s need) frame control (end_if (closed program plan s need) tags x))
-    (fold extend (fold extend (fold extend y (prelogs (opened program plan s need))) (syncs l t (sync_of t))) (postlogs (closed program plan s need)))
+    (fold extend (fold extend (fold extend y (block_entries entry.Prelog (opened program plan s need))) (syncs l t (sync_of t))) (block_entries entry.Postlog (closed program plan s need)))
 one_mark program plan s (n.Enter b u) frame control tags t l x y h = quiet_syncs l t (sync_of t) _ _ (begins (opened program plan s (n.Enter b u)) frame control x y h)
 one_mark program plan s (n.Invoke None u) frame control tags t l x y h = quiet_syncs l t (sync_of t) x y h
 one_mark program plan s (n.Invoke (Some b) u) frame control tags t l x y h = quiet_syncs l t (sync_of t) _ _ (begins (opened program plan s (n.Invoke (Some b) u)) frame control x y h)
@@ -150,19 +150,19 @@ one_mark program plan s need frame control tags t l x y h = quiet_syncs l t (syn
 -- ---- all steps
 
 module _ (program : Program) (plan : Plan) (story' : Story) (p : ℕ) where
-  fold_entries : (y : Extending) (l : Logging) (m : Moment)
+  fold_entries : (y : Indexing Extent) (l : Logging) (m : Moment)
       → fold extend y (entries_of program plan l m)
-      ≡ fold extend (fold extend (fold extend (fold extend (fold extend y (prelogs (opened program plan l.proc m.taken.need))) (syncs l m.taken (sync_of m.taken))) (postlogs (closed program plan l.proc m.taken.need))) (units (unit_started m.taken.need) m.unit_values)) (ends l (status_of m.taken.need))
+      ≡ fold extend (fold extend (fold extend (fold extend (fold extend y (block_entries entry.Prelog (opened program plan l.proc m.taken.need))) (syncs l m.taken (sync_of m.taken))) (block_entries entry.Postlog (closed program plan l.proc m.taken.need))) (units (unit_started m.taken.need) m.unit_values)) (ends l (status_of m.taken.need))
   fold_entries y l m =
-      let a : List Entry = prelogs (opened program plan l.proc m.taken.need) in
+      let a : List Entry = block_entries entry.Prelog (opened program plan l.proc m.taken.need) in
       let b : List Entry = syncs l m.taken (sync_of m.taken) in
-      let c : List Entry = postlogs (closed program plan l.proc m.taken.need) in
+      let c : List Entry = block_entries entry.Postlog (closed program plan l.proc m.taken.need) in
       let d : List Entry = units (unit_started m.taken.need) m.unit_values in
       let e : List Entry = ends l (status_of m.taken.need) in
       fold-append extend y (a ++ b ++ c ++ d) e
       ∙ ap (λ z. fold extend z e) (fold-append extend y (a ++ b ++ c) d ∙ ap (λ z. fold extend z d) (fold-append extend y (a ++ b) c ∙ ap (λ z. fold extend z c) (fold-append extend y a b)))
 
-  same_step : (x : Split) (y : Extending) (l : Logging) (m : Moment) → x.trace.proc ≡ l.proc → AreSame x y → AreSame (split_step program plan story' p x m.taken) (fold extend y (entries_of program plan l m))
+  same_step : (x : Split) (y : Indexing Extent) (l : Logging) (m : Moment) → x.trace.proc ≡ l.proc → AreSame x y → AreSame (split_step program plan story' p x m.taken) (fold extend y (entries_of program plan l m))
   same_step x y l m proc h =
       let need : Need = m.taken.need in
       let a : Split = with_own need (with_step need x) in
@@ -171,8 +171,8 @@ module _ (program : Program) (plan : Plan) (story' : Story) (p : ℕ) where
       let quiet : AreSame a y = quiet_own need (with_step need x) y (quiet_step need x y h) in
       let marked = one_mark program plan a.trace.proc need (frame_of program plan a.trace.proc) (control_by program p a.trace need) (left_by plan (me_in p a.trace) (top_tags a.trace.activations) need) m.taken l a y quiet in
       let here : AreSame (with_marks program plan p need a)
-      (fold extend (fold extend (fold extend y (prelogs (opened program plan l.proc need))) (syncs l m.taken (sync_of m.taken))) (postlogs (closed program plan l.proc need))) =
-      subst (λ (s : Proc). AreSame (with_marks program plan p need a) (fold extend (fold extend (fold extend y (prelogs (opened program plan s need))) (syncs l m.taken (sync_of m.taken))) (postlogs (closed program plan s need)))) proc_is marked in
+      (fold extend (fold extend (fold extend y (block_entries entry.Prelog (opened program plan l.proc need))) (syncs l m.taken (sync_of m.taken))) (block_entries entry.Postlog (closed program plan l.proc need))) =
+      subst (λ (s : Proc). AreSame (with_marks program plan p need a) (fold extend (fold extend (fold extend y (block_entries entry.Prelog (opened program plan s need))) (syncs l m.taken (sync_of m.taken))) (block_entries entry.Postlog (closed program plan s need)))) proc_is marked in
       let all = quiet_ends l (status_of need) (with_marks program plan p need a) _ (quiet_units (unit_started need) m.unit_values (with_marks program plan p need a) _ here) in
       let whole : AreSame (with_marks program plan p need a) (fold extend y (entries_of program plan l m)) = subst (λ z. AreSame (with_marks program plan p need a) z) (sym (fold_entries y l m)) all in
       record { running = whole.running; shapes = whole.shapes }

@@ -1,26 +1,27 @@
 -- In a valid program, from a true test of a loop to its next test its activation has events of statements inside alone.
 use Rattle.std.proofs.Common.{◌≡◌, ℕ, zero, suc, ◌+◌, ℤ, Bool, true, false, List, [], ◌∷◌, ◌++◌, Option, Some, None, Ok, Err, refl, ap, sym, subst, ◌∙◌, length, inl, inr, arith, if◌then◌else◌}
-use Rattle.std.specs.Prelude.{nat_eq, ◌&&◌, not, drop, fold, slice_get}
+use Rattle.std.specs.Prelude.{nat_eq, ◌&&◌, not, drop, fold, slice_get, option_and_then, pos}
 use Rattle.std.proofs.lemmas.Bool.{and_from, and_parts, both_ways, cases_Bool, eq-eqb, eqb-true}
+use Rattle.std.specs.Ordering.{int_eq}
 use Rattle.ppd_ast.specs.declared.plan.Plan.{Plan}
 use Rattle.ppd_ast.specs.declared.program.Kind.{Kind}
 use Rattle.ppd_ast.specs.declared.program.Kind.TheVariants as kind
 use Rattle.ppd_ast.specs.declared.program.Program.{Program}
 use Rattle.ppd_ast.specs.Term.{term}
 use Rattle.ppd_ast.specs.Valid.{IsValid}
-use Rattle.ppd_ast.specs.Lookups.{kind_of, parent_if}
+use Rattle.ppd_ast.specs.Lookups.{kind_of}
 use Rattle.ppd_ast.specs.Numbered.{is_while}
 use Rattle.ppd_sem.specs.declared.proc.Answer.{Answer}
 use Rattle.ppd_sem.specs.declared.proc.Need.{Need}
 use Rattle.ppd_sem.specs.declared.proc.Need.TheVariants.{Read, Enter, Offer, Done, Trap, Budget, Stopped}
 use Rattle.ppd_sem.specs.declared.proc.Proc.{Proc}
 use Rattle.ppd_sem.specs.declared.proc.Todo.{Todo}
-use Rattle.ppd_sem.specs.Ask.{ask, is_zero}
+use Rattle.ppd_sem.specs.Ask.{ask}
 use Rattle.ppd_sem.specs.Asked.{Asked, and_then, gives}
 use Rattle.ppd_sem.specs.Deed.{ask_deed, leave, turn}
 use Rattle.ppd_sem.specs.Described.{evaluates, value_at, valued, is_event}
 use Rattle.ppd_sem.proofs.EventWords.{value_if}
-use Rattle.ppd_sem.specs.Process.{act, act_by_asked, act_by_need, head_deed, need_of, started, todos, top_cells}
+use Rattle.ppd_sem.specs.Process.{act, act_by_asked, act_by_need, head_deed, need_of, started, todos, top_frame}
 use Rattle.ppd_sem.proofs.NeedWords.{act_at}
 use Rattle.ppd_sem.specs.Runs.{returns}
 use Rattle.ppd_model.specs.FullTrace.{Tracing, begun_tracing, event_of, is_passed, me_in, trace_step, with_test}
@@ -58,7 +59,7 @@ record InLoop (program : Program) (k s count : ℕ) (todo : List Todo) : Type 0 
   count_is : count ≡ k + 1 + above
   all_in : AllIn program s above inside
 
-inner_in : (program : Program) (s r : ℕ) (stmts : List ℕ) (ys : List Todo) → ((i : ℕ) → parent_if (slice_get program.stmts i) ≡ Some r → IsInside program s i) → AllInner program r stmts → AllIn program s zero ys → AllIn program s zero (todos stmts ++ ys)
+inner_in : (program : Program) (s r : ℕ) (stmts : List ℕ) (ys : List Todo) → ((i : ℕ) → option_and_then (λ x. x.parent) (slice_get program.stmts i) ≡ Some r → IsInside program s i) → AllInner program r stmts → AllIn program s zero ys → AllIn program s zero (todos stmts ++ ys)
 inner_in program s r [] ys f inner h = h
 inner_in program s r (i ∷ is) ys f inner h = ((f i inner.0.parent, inner.0.stays), inner_in program s r is ys f inner.1 h)
 
@@ -204,12 +205,12 @@ module _ (program : Program) (plan : Plan) (story : Story) (p k s : ℕ) (valid 
 -- ---- the test that begins it
 
 -- the asked deed of a loop whose value is true
-turned : (r : Asked ℤ) (body : List ℕ) → is_passed (value_if r) ≡ true → (left : List ℤ) × (and_then r (λ v left. gives left (if is_zero v then leave else turn body)) ≡ gives left (turn body))
+turned : (r : Asked ℤ) (body : List ℕ) → is_passed (value_if r) ≡ true → (left : List ℤ) × (and_then r (λ v left. gives left (if int_eq v (pos 0) then leave else turn body)) ≡ gives left (turn body))
 turned (Err pause) body e = absurd (cc)
-turned (Ok q) body e = (q.1, by (is_zero q.0) refl)
+turned (Ok q) body e = (q.1, by (int_eq q.0 (pos 0)) refl)
   where
-    by : (b : Bool) → is_zero q.0 ≡ b → gives q.1 (if is_zero q.0 then leave else turn body) ≡ gives q.1 (turn body)
-    by true z = absurd (both_ways (not (is_zero q.0)) (ap not z) e)
+    by : (b : Bool) → int_eq q.0 (pos 0) ≡ b → gives q.1 (if int_eq q.0 (pos 0) then leave else turn body) ≡ gives q.1 (turn body)
+    by true z = absurd (both_ways (not (int_eq q.0 (pos 0))) (ap not z) e)
     by false z = ap (λ b. gives q.1 (if b then leave else turn body)) z
 
 -- what is there and not 0 was evaluated
@@ -252,12 +253,12 @@ module _ (program : Program) (plan : Plan) (story : Story) (p k s : ℕ) (valid 
   begins u x t ts own todo_is loop_is event has top passed =
       let loop : Loop program s (kind_of program s) = loop_of program s (kind_of program s) loops (leads program s valid) in
       let kind_is : kind_of program t.stmt ≡ kind.While loop.value loop.body = ap (λ i. kind_of program i) loop_is ∙ loop.kind_is in
-      let value : is_passed (value_if (ask (term program.exprs loop.value) (top_cells u.proc.frames) u.proc.answers)) ≡ true =
-      sym (ap (λ w. is_passed (value_at program.exprs (top_cells u.proc.frames) u.proc.answers (valued w))) kind_is)
-      ∙ passed_value (evaluates (need_of program plan u.proc)) (value_at program.exprs (top_cells u.proc.frames) u.proc.answers (valued (kind_of program t.stmt)))
+      let value : is_passed (value_if (ask (term program.exprs loop.value) (top_frame u.proc.frames).cells u.proc.answers)) ≡ true =
+      sym (ap (λ w. is_passed (value_at program.exprs (top_frame u.proc.frames).cells u.proc.answers (valued w))) kind_is)
+      ∙ passed_value (evaluates (need_of program plan u.proc)) (value_at program.exprs (top_frame u.proc.frames).cells u.proc.answers (valued (kind_of program t.stmt)))
       (sym (ap (λ todo. is_passed (event_of program plan u.proc x todo).value) todo_is) ∙ passed) in
-      let turn_is = turned (ask (term program.exprs loop.value) (top_cells u.proc.frames) u.proc.answers) loop.body value in
-      let asked : head_deed program t u.proc ≡ Ok (turn loop.body, turn_is.0) = ap (λ w. ask_deed program.exprs w (top_cells u.proc.frames) u.proc.answers) kind_is ∙ turn_is.1 in
+      let turn_is = turned (ask (term program.exprs loop.value) (top_frame u.proc.frames).cells u.proc.answers) loop.body value in
+      let asked : head_deed program t u.proc ≡ Ok (turn loop.body, turn_is.0) = ap (λ w. ask_deed program.exprs w (top_frame u.proc.frames).cells u.proc.answers) kind_is ∙ turn_is.1 in
       let fit : FitsHead program u.proc (need_of program plan u.proc) (t ∷ ts) = subst (λ todo. FitsHead program u.proc (need_of program plan u.proc) todo) todo_is (fits program plan u.proc) in
       let both = turns_by program plan x.answer t ts u.proc loop.body turn_is.0 (need_of program plan u.proc) asked (ap is_event (sym own) ∙ event) fit in
       let after : (u_next u x).proc.todo ≡ todos loop.body ++ t ∷ ts = ap (λ todo. (act_at program plan x.answer todo u.proc).todo) todo_is ∙ both.0 in

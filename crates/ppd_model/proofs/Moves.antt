@@ -1,6 +1,6 @@
 -- One step of a process of a valid program: what is then to do, and the activations that are then there.
 use Rattle.std.proofs.Common.{◌≡◌, ℕ, suc, ◌<◌, ℤ, true, false, List, [], ◌∷◌, ◌++◌, Option, Some, None, Ok, Err, refl, ap, sym, subst, ◌∙◌, length, inl, inr, arith}
-use Rattle.std.specs.Prelude.{⊤, drop, slice_get, IsSomeAnd}
+use Rattle.std.specs.Prelude.{⊤, drop, slice_get, IsSomeAnd, option_and_then, unwrap_or}
 use Rattle.std.specs.List.{All}
 use Rattle.std.proofs.lemmas.Bool.{cases_Bool}
 use Rattle.std.proofs.lemmas.Option.{slice_get_within}
@@ -13,7 +13,7 @@ use Rattle.ppd_ast.specs.declared.program.Stmt.{Stmt}
 use Rattle.ppd_ast.specs.Order.{StandIn, inner}
 use Rattle.ppd_ast.specs.Valid.{IsValid, IsValidBody, IsValidStmt}
 use Rattle.ppd_ast.proofs.Standing.{All-append_parts}
-use Rattle.ppd_ast.specs.Lookups.{kind_of, top_of_body, parent_if}
+use Rattle.ppd_ast.specs.Lookups.{kind_of, body_numbered, no_body}
 use Rattle.ppd_ast.proofs.Vocabulary.{kind_of_stmt}
 use Rattle.ppd_sem.specs.declared.asking.Pause.TheVariants.{Wants, Traps}
 use Rattle.ppd_sem.specs.declared.proc.Answer.{Answer}
@@ -23,7 +23,7 @@ use Rattle.ppd_sem.specs.declared.proc.Proc.{Proc}
 use Rattle.ppd_sem.specs.declared.proc.Todo.{Todo}
 use Rattle.ppd_sem.specs.Asked.{Asked}
 use Rattle.ppd_sem.specs.Deed.{Deed, set_local, set_shared, clear, branch, turn, leave, invoke, back, take, give, send, receive, print, pass, finish}
-use Rattle.ppd_sem.specs.Process.{act, act_by_asked, act_by_deed, act_by_need, head_deed, need_of, todos, top_cells}
+use Rattle.ppd_sem.specs.Process.{act, act_by_asked, act_by_deed, act_by_need, head_deed, need_of, todos, top_frame}
 use Rattle.ppd_sem.proofs.NeedWords.{act_at}
 use Rattle.ppd_sem.specs.Runs.{AreOfFunction, IsInner, LeadsOn, returns, size_of, stmt_size}
 use Rattle.ppd_sem.proofs.Kept.{There, leads_at, there_at}
@@ -42,7 +42,7 @@ use Rattle.ppd_model.proofs.TestSteps.{View, all_tagged_views, event_acts, into_
 
 -- statement i stands directly in statement s, and returns from no body
 pub record IsInnerOf (program : Program) (s i : ℕ) : Type 0 where
-  pub parent : parent_if (slice_get program.stmts i) ≡ Some s
+  pub parent : option_and_then (λ x. x.parent) (slice_get program.stmts i) ≡ Some s
   pub stays : returns (kind_of program i) ≡ false
 
 abbrev pub AllInner : Program → ℕ → List ℕ → Type 0
@@ -52,17 +52,17 @@ AllInner program s (i ∷ is) = IsInnerOf program s i × AllInner program s is
 -- statements that stand in no other: the last one returns, and no other
 abbrev pub AreTop : Program → List ℕ → Type 0
 AreTop program [] = ⊥
-AreTop program (i ∷ []) = (parent_if (slice_get program.stmts i) ≡ None) × (returns (kind_of program i) ≡ true)
-AreTop program (i ∷ j ∷ is) = ((parent_if (slice_get program.stmts i) ≡ None) × (returns (kind_of program i) ≡ false)) × AreTop program (j ∷ is)
+AreTop program (i ∷ []) = (option_and_then (λ x. x.parent) (slice_get program.stmts i) ≡ None) × (returns (kind_of program i) ≡ true)
+AreTop program (i ∷ j ∷ is) = ((option_and_then (λ x. x.parent) (slice_get program.stmts i) ≡ None) × (returns (kind_of program i) ≡ false)) × AreTop program (j ∷ is)
 
 -- where a statement leads
 abbrev pub Leads : Program → ℕ → Kind → Type 0
 Leads program s (kind.If e first second) = AllInner program s first × AllInner program s second
 Leads program s (kind.While e body) = AllInner program s body
-Leads program s (kind.Call f arguments into) = AreTop program (top_of_body (slice_get program.bodies f))
+Leads program s (kind.Call f arguments into) = AreTop program (body_numbered program f).top
 Leads program s k = ⊤
 
-pub parent_is : (o : Option Stmt) (parent : Option ℕ) (body : ℕ) → IsSomeAnd o (λ s. (s.parent ≡ parent) × (s.body ≡ body)) → parent_if o ≡ parent
+pub parent_is : (o : Option Stmt) (parent : Option ℕ) (body : ℕ) → IsSomeAnd o (λ s. (s.parent ≡ parent) × (s.body ≡ body)) → option_and_then (λ (x : Stmt). x.parent) o ≡ parent
 parent_is None parent body h = absurd h
 parent_is (Some x) parent body h = h.0
 
@@ -87,7 +87,7 @@ body_top program f b v e =
     let one : body.0 ≡ b = cc (body.1) in
     subst (λ (x : Body). StandIn program.stmts None f x.top) one body.2.top
 
-of_body : (program : Program) (f n : ℕ) (o : Option Body) → IsValid program → slice_get program.bodies f ≡ o → AreOfFunction program n (top_of_body o) → AreTop program (top_of_body o)
+of_body : (program : Program) (f n : ℕ) (o : Option Body) → IsValid program → slice_get program.bodies f ≡ o → AreOfFunction program n (unwrap_or o no_body).top → AreTop program (unwrap_or o no_body).top
 of_body program f n None v e over = over
 of_body program f n (Some b) v e over = are_top program n f b.top over (body_top program f b v e)
 
@@ -119,7 +119,7 @@ leads program s v = leads_of program s (slice_get program.stmts s) v refl
 abbrev DeedOf : Program → ℕ → Kind → Deed → Type 0
 DeedOf program s k (branch stmts) = (returns k ≡ false) × ((is_choice k ≡ true) × AllInner program s stmts)
 DeedOf program s k (turn stmts) = (returns k ≡ false) × ((is_choice k ≡ true) × AllInner program s stmts)
-DeedOf program s k (invoke f values into) = (returns k ≡ false) × AreTop program (top_of_body (slice_get program.bodies f))
+DeedOf program s k (invoke f values into) = (returns k ≡ false) × AreTop program (body_numbered program f).top
 DeedOf program s k (back value) = returns k ≡ true
 DeedOf program s k d = returns k ≡ false
 
@@ -136,7 +136,7 @@ deed_fits program s k d is h = refl
 head_of : (program : Program) (t : Todo) (s : Proc) → IsValid program
     → AskedOf program t.stmt (kind_of program t.stmt) (head_deed program t s)
 head_of program t s v =
-    asked_holds program.exprs (top_cells s.frames) s.answers (DeedOf program t.stmt (kind_of program t.stmt))
+    asked_holds program.exprs (top_frame s.frames).cells s.answers (DeedOf program t.stmt (kind_of program t.stmt))
     (kind_of program t.stmt)
     (λ d is. deed_fits program t.stmt (kind_of program t.stmt) d is (leads program t.stmt v))
 
@@ -168,7 +168,7 @@ module _ (program : Program) (plan : Plan) (a : Answer) (t : Todo) (ts : List To
   by_deed (branch stmts) left h = chooses stmts h.0 h.1.0 h.1.1 refl refl
   by_deed (turn stmts) left h = turns stmts h.0 h.1.0 h.1.1 refl refl
   by_deed leave left h = passes h refl refl
-  by_deed (invoke f values into) left h = calls (top_of_body (slice_get program.bodies f)) me h.0 h.1 refl refl
+  by_deed (invoke f values into) left h = calls (body_numbered program f).top me h.0 h.1 refl refl
   by_deed (back value) left h = backs h refl (into_views _ value me (drop 1 acts) ∙ drop_views acts)
   by_deed (take x) left h = passes h refl refl
   by_deed (give x) left h = passes h refl refl

@@ -15,7 +15,7 @@ use Rattle.ppd_sem.proofs.Lawful.{named}
 use Rattle.ppd_model.specs.Laws.{begins}
 use Rattle.ppd_model.specs.Prefixes.{Good, Sizes}
 use Rattle.ppd_model.specs.Schedule.{started_world}
-use Rattle.ppd_model.specs.Story.{Taken, Telling, moment_of, number_of, own_steps, steps_of, story, tell}
+use Rattle.ppd_model.specs.Story.{Taken, Telling, moment_of, number_of, steps_of, story, tell}
 use Rattle.ppd_model.proofs.WorldWords.{need_at, number_after, taken_of}
 use Rattle.ppd_model.specs.Synchronizations.{kind_of_sync, numbered, sync_of}
 use Rattle.ppd_model.specs.World.{Channel, Counts, change, need}
@@ -91,7 +91,7 @@ module _ (program : Program) (plan : Plan) (v : IsValid program) where
   at zero (xs ∷ rest) all = all.0
   at (suc p) (xs ∷ rest) all = at p rest all.1
 
-  pub steps_numbered : (budget : ℕ) (h : List ℕ) (p : ℕ) → AreNumbered (own_steps (story program plan budget h) p)
+  pub steps_numbered : (budget : ℕ) (h : List ℕ) (p : ℕ) → AreNumbered (get_or (story program plan budget h).steps p [])
   steps_numbered budget h p =
       at p (story program plan budget h).steps
       (all_fold budget (begins program plan budget) h (good_start program plan budget) (all_begun (started_world program plan budget).procs))

@@ -4,7 +4,7 @@ use Rattle.std.proofs.lemmas.Bool.{cases_eq}
 use Rattle.std.proofs.lemmas.List.{append-nil, length-map}
 use Rattle.std.proofs.lemmas.Option.{none-some}
 use Rattle.std.specs.List.{cons_option}
-use Rattle.std.specs.Prelude.{fold, option_map, option_to_list, slice_get}
+use Rattle.std.specs.Prelude.{fold, option_map, option_to_list, slice_get, filter_map}
 use Rattle.ppd_ast.specs.declared.plan.Plan.{Plan}
 use Rattle.ppd_ast.specs.declared.program.Program.{Program}
 use Rattle.ppd_ast.specs.declared.status.SyncKind.{SyncKind}
@@ -16,7 +16,7 @@ use Rattle.ppd_model.specs.World.{World, Counts, Channel, change, effect, need}
 use Rattle.ppd_model.proofs.WorldWords.{need_at, number_after}
 use Rattle.ppd_model.specs.Schedule.{started_world}
 use Rattle.ppd_model.specs.Story.{Moment, Taken, Telling, begun, moment_of, number_of, steps_of, tell}
-use Rattle.ppd_model.specs.Synchronizations.{Sync, kind_of_sync, numbered, sync_of, syncs_of}
+use Rattle.ppd_model.specs.Synchronizations.{Sync, kind_of_sync, numbered, sync_of}
 use Rattle.ppd_model.specs.Numbers.{Counting, IsCounted, count_in, count_of}
 use Rattle.ppd_model.specs.Laws.{SynchronizationsAreCounted}
 use Rattle.ppd_model.proofs.Changes.{change-at, change-else, change-none, length-change, own-at, own-else}
@@ -26,22 +26,22 @@ use Rattle.ppd_model.proofs.Stories.{steps-change}
 
 -- ---- the record with one more step
 
-pub syncs-append : (xs : List Taken) (x : Taken) → syncs_of (xs ++ x ∷ []) ≡ syncs_of xs ++ option_to_list (sync_of x)
+pub syncs-append : (xs : List Taken) (x : Taken) → filter_map sync_of (xs ++ x ∷ []) ≡ filter_map sync_of xs ++ option_to_list (sync_of x)
 syncs-append [] x = one (sync_of x)
   where
     one : (o : Option Sync) → cons_option o [] ≡ option_to_list o
     one None = refl
     one (Some s) = refl
-syncs-append (y ∷ ys) x = ap (λ zs. cons_option (sync_of y) zs) (syncs-append ys x) ∙ grouped (sync_of y) (syncs_of ys) (option_to_list (sync_of x))
+syncs-append (y ∷ ys) x = ap (λ zs. cons_option (sync_of y) zs) (syncs-append ys x) ∙ grouped (sync_of y) (filter_map sync_of ys) (option_to_list (sync_of x))
   where
     grouped : (o : Option Sync) (ss ts : List Sync) → cons_option o (ss ++ ts) ≡ cons_option o ss ++ ts
     grouped None ss ts = refl
     grouped (Some s) ss ts = refl
 
-pub record-change : (x : Taken) (p : ℕ) (steps : List (List Taken)) → map syncs_of (change (λ xs. xs ++ x ∷ []) p steps) ≡ change (λ ss. ss ++ option_to_list (sync_of x)) p (map syncs_of steps)
+pub record-change : (x : Taken) (p : ℕ) (steps : List (List Taken)) → map (filter_map sync_of) (change (λ xs. xs ++ x ∷ []) p steps) ≡ change (λ ss. ss ++ option_to_list (sync_of x)) p (map (filter_map sync_of) steps)
 record-change x p [] = refl
-record-change x zero (xs ∷ rest) = ap (λ ss. ss ∷ map syncs_of rest) (syncs-append xs x)
-record-change x (suc p) (xs ∷ rest) = ap (λ ss. syncs_of xs ∷ ss) (record-change x p rest)
+record-change x zero (xs ∷ rest) = ap (λ ss. ss ∷ map (filter_map sync_of) rest) (syncs-append xs x)
+record-change x (suc p) (xs ∷ rest) = ap (λ ss. filter_map sync_of xs ∷ ss) (record-change x p rest)
 
 -- ---- a step that is no synchronization changes no count
 
@@ -120,7 +120,7 @@ module _ (first count count' : Counting) (syncs syncs' : List (List Sync)) (same
 -- ---- one step of a telling
 
 record_of_told : Telling → List (List Sync)
-record_of_told t = map syncs_of (map steps_of t.moments)
+record_of_told t = map (filter_map sync_of) (map steps_of t.moments)
 
 in_range : (program : Program) (plan : Plan) (procs : List Proc) (p : ℕ) (k : SyncKind × ℕ) → kind_of_sync (need_at program plan (slice_get procs p)) ≡ Some k → p < length procs
 in_range program plan [] p k e = absurd (none-some k e)
@@ -141,10 +141,10 @@ module _ (program : Program) (plan : Plan) (first : Counting) where
   after_by t p i (Some k) (Some m) ke ne now e =
       let s : Sync = record { kind = k.0; object = k.1; number = m } in
       let c = counting t.world (need program plan t.world p) m s ne (ap (λ o. numbered o (Some m)) ke) in
-      let there : p < length (map syncs_of (map steps_of t.moments)) = omega (arith, in_range program plan t.world.procs p k ke, i.lengths, length-map t.moments steps_of, length-map (map steps_of t.moments) syncs_of) in
+      let there : p < length (map (filter_map sync_of) (map steps_of t.moments)) = omega (arith, in_range program plan t.world.procs p k ke, i.lengths, length-map t.moments steps_of, length-map (map steps_of t.moments) (filter_map sync_of)) in
       counted_after first (count_of t.world) (count_of (effect t.world (need program plan t.world p))) (record_of_told t) now p s i.counted (record {
-        grows = ap (λ ss. get_or ss p []) e ∙ own-at (λ ss. ss ++ s ∷ []) p [] (map syncs_of (map steps_of t.moments)) there;
-        others = λ q d. ap (λ ss. get_or ss q []) e ∙ own-else (λ ss. ss ++ s ∷ []) p q [] (map syncs_of (map steps_of t.moments)) d;
+        grows = ap (λ ss. get_or ss p []) e ∙ own-at (λ ss. ss ++ s ∷ []) p [] (map (filter_map sync_of) (map steps_of t.moments)) there;
+        others = λ q d. ap (λ ss. get_or ss q []) e ∙ own-else (λ ss. ss ++ s ∷ []) p q [] (map (filter_map sync_of) (map steps_of t.moments)) d;
         number = c.number;
         counted = c.counted;
         unchanged = c.unchanged;
@@ -164,7 +164,7 @@ module _ (program : Program) (plan : Plan) (first : Counting) where
       let m : Moment = moment_of program plan t p in
       record {
         counted = after_by t p i (kind_of_sync (need program plan t.world p)) (number_of t.world (need program plan t.world p)) refl refl (record_of_told (tell program plan t p))
-            (ap (λ xs. map syncs_of xs) (steps-change m p t.moments) ∙ record-change m.taken p (map steps_of t.moments));
+            (ap (λ xs. map (filter_map sync_of) xs) (steps-change m p t.moments) ∙ record-change m.taken p (map steps_of t.moments));
         lengths = length-change _ p t.moments ∙ i.lengths ∙ sym (length-change _ p t.world.procs);
       }
 
@@ -174,7 +174,7 @@ module _ (program : Program) (plan : Plan) (first : Counting) where
 
 -- ---- the start
 
-nothing_at : {A : Type 0} (xs : List A) (p i : ℕ) (s : Sync) → slice_get (get_or (map syncs_of (map steps_of (map (λ _. []) xs))) p []) i ≡ Some s → ⊥
+nothing_at : {A : Type 0} (xs : List A) (p i : ℕ) (s : Sync) → slice_get (get_or (map (filter_map sync_of) (map steps_of (map (λ _. []) xs))) p []) i ≡ Some s → ⊥
 nothing_at [] p i s e = none-some s e
 nothing_at (x ∷ xs) zero i s e = none-some s e
 nothing_at (x ∷ xs) (suc p) i s e = nothing_at xs p i s e

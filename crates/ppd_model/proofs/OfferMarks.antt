@@ -1,6 +1,6 @@
 -- Which statement to do is marked as offered: none but a head whose offer was the last step.
 use Rattle.std.proofs.Common.{◌≡◌, ℕ, zero, suc, ◌+◌, ℤ, Bool, true, false, nat_lt, List, [], ◌∷◌, ◌++◌, length, Option, Some, None, Ok, Err, refl, ap, sym, subst, ◌∙◌, if◌then◌else◌, inl, inr, ◌⊎◌}
-use Rattle.std.specs.Prelude.{⊤, slice_get}
+use Rattle.std.specs.Prelude.{⊤}
 use Rattle.std.proofs.lemmas.Option.{none-some}
 use Rattle.ppd_ast.specs.declared.plan.BlockKind.TheVariants as block
 use Rattle.ppd_ast.specs.declared.plan.Plan.{Plan}
@@ -9,7 +9,7 @@ use Rattle.ppd_ast.specs.declared.program.Program.{Program}
 use Rattle.ppd_ast.specs.declared.status.Status.{Status}
 use Rattle.ppd_ast.specs.declared.status.Status.TheVariants as status
 use Rattle.ppd_ast.specs.declared.status.Trap.TheVariants.{Depth}
-use Rattle.ppd_ast.specs.Lookups.{kind_of, top_of_body}
+use Rattle.ppd_ast.specs.Lookups.{kind_of, body_numbered}
 use Rattle.ppd_ast.specs.declared.limits.TheConstants.{MOST_CALLS}
 use Rattle.ppd_sem.specs.declared.asking.Pause.TheVariants.{Wants, Traps}
 use Rattle.ppd_sem.specs.declared.proc.Answer.{Answer}
@@ -74,7 +74,7 @@ module _ (program : Program) (plan : Plan) (a : Answer) (t : Todo) (ts : List To
     where
       calling : (b : Bool) → Leaves (if b then need.Trap Depth else need.Invoke (block_of plan (block.Function f)) (unit_of plan (start.Entry f)))
       calling true = inl (same_todo, tt)
-      calling false = inl (subst by_asked_deed (sym at) (todos_unmarked (top_of_body (slice_get program.bodies f)) ts rest), tt)
+      calling false = inl (subst by_asked_deed (sym at) (todos_unmarked (body_numbered program f).top ts rest), tt)
   by_deed (back value) left at = inl (subst by_asked_deed (sym at) rest, tt)
   by_deed (take sem) left at = inl (subst by_asked_deed (sym at) rest, tt)
   by_deed (give sem) left at = inl (subst by_asked_deed (sym at) rest, tt)

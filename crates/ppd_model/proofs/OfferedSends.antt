@@ -15,7 +15,7 @@ use Rattle.ppd_sem.specs.declared.proc.Proc.{Proc}
 use Rattle.ppd_sem.specs.declared.proc.Todo.{Todo}
 use Rattle.ppd_sem.specs.Asked.{Asked}
 use Rattle.ppd_sem.specs.Deed.{Deed, set_local, set_shared, clear, branch, turn, leave, invoke, back, take, give, send, receive, print, pass, finish}
-use Rattle.ppd_sem.specs.Process.{chan_of, cost, entry_of, head_deed, need_of_asked, need_of_deed, need_of_head, need_of_leaving, need_of_send, offer_of, top_cells}
+use Rattle.ppd_sem.specs.Process.{chan_of, cost, entry_of, head_deed, need_of_asked, need_of_deed, need_of_head, need_of_leaving, need_of_send, offer_of, top_frame}
 use Rattle.ppd_sem.proofs.NeedWords.{need_by_entry, need_by_offer, need_of_running}
 use Rattle.ppd_model.proofs.Deeds.{AskedOf, DeedOf, asked_of}
 use Rattle.ppd_sem.specs.Tables.{block_of, capacity_of, unit_of}
@@ -72,7 +72,7 @@ offer_offers p plan t None n h = h
 pub head_offers : (p : Program) (plan : Plan) (t : Todo) (s : Proc) → OffersSend p t.stmt (need_of_head p plan t s)
 head_offers p plan t s =
     offer_offers p plan t.stmt (offer_of p t) (need_by_entry p plan t.stmt s (entry_of p plan t) (head_deed p t s))
-    (entry_offers p plan t.stmt s (entry_of p plan t) (head_deed p t s) (asked_of p.exprs (kind_of p t.stmt) (top_cells s.frames) s.answers))
+    (entry_offers p plan t.stmt s (entry_of p plan t) (head_deed p t s) (asked_of p.exprs (kind_of p t.stmt) (top_frame s.frames).cells s.answers))
 
 pub running_offers : (p : Program) (plan : Plan) (t : Todo) (ts : List Todo) (s : Proc) → OffersSend p t.stmt (need_of_running p plan (t ∷ ts) s)
 running_offers p plan t ts s = if_offers p t.stmt (nat_lt s.budget (s.spent + cost plan (need_of_head p plan t s))) need.Budget (need_of_head p plan t s) tt (head_offers p plan t s)

@@ -1,29 +1,29 @@
 -- Two schedules with one story have one history, of the logs but for the values of units.
-use Rattle.std.proofs.Common.{◌≡◌, ℕ, ◌+◌, List, [], ◌∷◌, ◌++◌, Option, Some, None, Bool, true, false, refl, ap, sym, ◌∙◌, cond, map}
-use Rattle.std.specs.Prelude.{fold, is_none, slice_get}
-use Rattle.std.proofs.lemmas.List.{map-append}
 use Rattle.ppd_ast.specs.declared.plan.Plan.{Plan}
 use Rattle.ppd_ast.specs.declared.program.Program.{Program}
 use Rattle.ppd_ast.specs.declared.status.Status.{Status}
 use Rattle.ppd_ast.specs.declared.status.Status.TheVariants as status
 use Rattle.ppd_entry.specs.declared.entry.Entry.{Entry}
 use Rattle.ppd_entry.specs.declared.entry.Entry.TheVariants as entry
+use Rattle.ppd_model.proofs.LogWords.{logs_from}
+use Rattle.ppd_model.specs.FlowbackEdges.{edges, last}
+use Rattle.ppd_model.specs.FullTrace.{full_trace}
+use Rattle.ppd_model.specs.Intervals.{intervals, items}
+use Rattle.ppd_model.specs.Laws.{StoriesTellAll, without_values}
+use Rattle.ppd_model.specs.Logs.{Logging, begun_log, block_entries, closed_log, end_of, ends, ends_from, entries_of, log_step, loggings, rest_after, syncs, units, with_access}
+use Rattle.ppd_model.specs.Marks.{Mark, closed, opened}
+use Rattle.ppd_model.specs.NearIntervals.{near_intervals}
+use Rattle.ppd_model.specs.Races.{edges_of_story, races_among}
+use Rattle.ppd_model.specs.Record.{accesses, record_of}
+use Rattle.ppd_model.specs.Story.{Moment, Taken, steps_of, story, told, unit_started}
+use Rattle.ppd_model.specs.Synchronizations.{Sync, sync_of}
+use Rattle.ppd_sem.specs.Process.{act}
 use Rattle.ppd_sem.specs.declared.proc.Need.{Need}
 use Rattle.ppd_sem.specs.declared.proc.Need.TheVariants.{Read}
 use Rattle.ppd_sem.specs.declared.proc.Proc.{Proc}
-use Rattle.ppd_sem.specs.Process.{act}
-use Rattle.ppd_model.specs.Story.{Moment, Taken, steps_of, story, told, unit_started}
-use Rattle.ppd_model.specs.Synchronizations.{Sync, sync_of}
-use Rattle.ppd_model.specs.FullTrace.{trace_of}
-use Rattle.ppd_model.specs.Record.{accesses, record_of}
-use Rattle.ppd_model.specs.Races.{races_of}
-use Rattle.ppd_model.specs.Marks.{Mark, closed, opened}
-use Rattle.ppd_model.specs.Logs.{Logging, begun_log, closed_log, end_of, ends, ends_from, entries_of, log_step, loggings, postlogs, prelogs, rest_after, syncs, units, with_access}
-use Rattle.ppd_model.proofs.LogWords.{logs_from}
-use Rattle.ppd_model.specs.Intervals.{intervals, items}
-use Rattle.ppd_model.specs.FlowbackEdges.{edges, last}
-use Rattle.ppd_model.specs.NearIntervals.{near_intervals}
-use Rattle.ppd_model.specs.Laws.{StoriesTellAll, without_values}
+use Rattle.std.proofs.Common.{Bool, List, None, Option, Some, [], ap, cond, false, map, refl, sym, true, ℕ, ◌++◌, ◌+◌, ◌∙◌, ◌∷◌, ◌≡◌}
+use Rattle.std.proofs.lemmas.List.{map-append}
+use Rattle.std.specs.Prelude.{fold, is_none, slice_get}
 
 pub map-map : {A B C : Type 0} (f : B → C) (g : A → B) (xs : List A) → map f (map g xs) ≡ map (λ x. f (g x)) xs
 map-map f g [] = refl
@@ -40,11 +40,11 @@ bare l = record l { entries = bare_entries l.entries }
 abbrev pub bare_moment : Taken → Moment
 bare_moment x = record { taken = x; unit_values = [] }
 
-prelogs_bare : (m : Option Mark) → bare_entries (prelogs m) ≡ prelogs m
+prelogs_bare : (m : Option Mark) → bare_entries (block_entries entry.Prelog m) ≡ block_entries entry.Prelog m
 prelogs_bare None = refl
 prelogs_bare (Some m) = refl
 
-postlogs_bare : (m : Option Mark) → bare_entries (postlogs m) ≡ postlogs m
+postlogs_bare : (m : Option Mark) → bare_entries (block_entries entry.Postlog m) ≡ block_entries entry.Postlog m
 postlogs_bare None = refl
 postlogs_bare (Some m) = refl
 
@@ -77,9 +77,9 @@ module _ (program : Program) (plan : Plan) where
   entries_bare : (l : Logging) (m : Moment) → bare_entries (entries_of program plan l m) ≡ entries_of program plan (bare l) (bare_moment m.taken)
   entries_bare l m =
       let n : Need = m.taken.need in
-      let a : List Entry = prelogs (opened program plan l.proc n) in
+      let a : List Entry = block_entries entry.Prelog (opened program plan l.proc n) in
       let b : List Entry = syncs l m.taken (sync_of m.taken) in
-      let c : List Entry = postlogs (closed program plan l.proc n) in
+      let c : List Entry = block_entries entry.Postlog (closed program plan l.proc n) in
       let d : List Entry = units (unit_started n) m.unit_values in
       let b' : List Entry = syncs (bare l) m.taken (sync_of m.taken) in
       let d' : List Entry = units (unit_started n) [] in
@@ -150,10 +150,10 @@ pub one_history : StoriesTellAll
 one_history program plan budget h h' e =
     let same : map bare (loggings program plan budget h) ≡ map bare (loggings program plan budget h') = same_bare program plan budget h h' e in
     record {
-      traces = ap (λ s. trace_of program plan budget s) e;
+      traces = ap (λ s. full_trace program plan budget s) e;
       records = ap (λ s. record_of s) e;
       all_accesses = λ p. ap (λ s. accesses s p) e;
-      all_races = ap (λ s. races_of program s) e;
+      all_races = ap (λ s. races_among (edges_of_story program s)) e;
       all_intervals = λ p. ap (λ s. intervals program plan budget s p) e;
       all_items = λ p k. ap (λ s. items program plan budget s p k) e;
       all_edges = λ p k j. ap (λ s. edges program plan budget s p k j) e;

@@ -1,6 +1,6 @@
 -- In a valid program the statement round that of an event was tested before it, in its activation.
 use Rattle.std.proofs.Common.{◌≡◌, ℕ, suc, ◌+◌, ◌<◌, ◌≤◌, ℤ, Bool, true, false, List, [], ◌∷◌, ◌++◌, Option, Some, None, refl, ap, sym, subst, ◌∙◌, length, inl, inr, arith}
-use Rattle.std.specs.Prelude.{⊤, nat_eq, ◌&&◌, fold, slice_get}
+use Rattle.std.specs.Prelude.{⊤, nat_eq, ◌&&◌, fold, slice_get, option_and_then, unwrap_or}
 use Rattle.std.specs.List.{All}
 use Rattle.std.proofs.lemmas.Bool.{and_from, cases_Bool, eq-eqb}
 use Rattle.std.proofs.lemmas.Option.{slice_get_within}
@@ -11,7 +11,7 @@ use Rattle.ppd_ast.specs.declared.program.Program.{Program}
 use Rattle.ppd_ast.specs.declared.status.Status.{Status}
 use Rattle.ppd_ast.specs.Order.{StandIn}
 use Rattle.ppd_ast.specs.Valid.{IsValid}
-use Rattle.ppd_ast.specs.Lookups.{kind_of, top_of_body, parent_if}
+use Rattle.ppd_ast.specs.Lookups.{kind_of, no_body}
 use Rattle.ppd_sem.specs.declared.event.Event.{Event}
 use Rattle.ppd_sem.specs.declared.proc.Proc.{Proc}
 use Rattle.ppd_sem.specs.declared.proc.Todo.{Todo}
@@ -40,7 +40,7 @@ HasTest r tests = (y : Test) × (latest r tests ≡ Some y)
 
 -- the statement round statement s was tested, if there is one
 abbrev Stands : Program → List Test → ℕ → Type 0
-Stands program tests s = (outer : ℕ) → parent_if (slice_get program.stmts s) ≡ Some outer → HasTest outer tests
+Stands program tests s = (outer : ℕ) → option_and_then (λ x. x.parent) (slice_get program.stmts s) ≡ Some outer → HasTest outer tests
 
 -- the activations after a statement, which may return
 abbrev left_by : Bool → View → List View → List View
@@ -159,7 +159,7 @@ process_stand program n body v (i ∷ is) over stands = (
       (process_stand program n body v is (λ k d lt. over (suc k) d (omega arith)) (λ k d lt. stands (suc k) d (omega arith))),
 )
 
-start_of : (program : Program) (f : ℕ) (v : View) (o : Option Body) → IsValid program → program.functions ≤ f → slice_get program.bodies f ≡ o → AllStand program (v ∷ []) (todos (top_of_body o))
+start_of : (program : Program) (f : ℕ) (v : View) (o : Option Body) → IsValid program → program.functions ≤ f → slice_get program.bodies f ≡ o → AllStand program (v ∷ []) (todos (unwrap_or o no_body).top)
 start_of program f v None valid le e = tt
 start_of program f v (Some b) valid le e =
     let body : There (IsRunnableBody program) program.bodies f = there_at (IsRunnableBody program) program.bodies f (valid-runnable program valid).bodies (slice_get_within program.bodies f b e) in
@@ -175,7 +175,7 @@ stand_start program plan p budget valid = start_of program (program.functions + 
 -- the head stands in the top activation
 record Headed (program : Program) (acts : List Activation) (s : ℕ) : Type 0 where
   there : 0 < length acts
-  stands : (k : ℕ) → k + 1 ≡ length acts → (outer : ℕ) → parent_if (slice_get program.stmts s) ≡ Some outer → (y : Test) × (latest_at (views acts) k outer ≡ Some y)
+  stands : (k : ℕ) → k + 1 ≡ length acts → (outer : ℕ) → option_and_then (λ x. x.parent) (slice_get program.stmts s) ≡ Some outer → (y : Test) × (latest_at (views acts) k outer ≡ Some y)
 
 headed : (program : Program) (acts : List Activation) (t : Todo) (ts : List Todo) → AllStand program (views acts) (t ∷ ts) → Headed program acts t.stmt
 headed program [] t ts h = absurd h

@@ -1,22 +1,22 @@
 -- Each event of a trace is that of a step of its process, and has its parent from the steps before.
-use Rattle.std.proofs.Common.{◌≡◌, ℕ, zero, suc, ◌+◌, true, false, List, [], ◌∷◌, ◌++◌, Some, refl, ap, sym, subst, ◌∙◌, length, inl, inr, ◌⊎◌, arith}
-use Rattle.std.specs.Prelude.{fold, get_or, slice_get}
-use Rattle.std.proofs.lemmas.Bool.{cases_Bool}
 use Rattle.ppd_ast.specs.declared.plan.Plan.{Plan}
 use Rattle.ppd_ast.specs.declared.program.Program.{Program}
-use Rattle.ppd_sem.specs.declared.proc.Need.{Need}
-use Rattle.ppd_sem.specs.declared.proc.Need.TheVariants.{Read, Enter, Budget, Stopped}
-use Rattle.ppd_sem.specs.Process.{need_of, started}
-use Rattle.ppd_sem.specs.Described.{is_event}
-use Rattle.ppd_model.specs.declared.trace.TracedEvent.{TracedEvent}
-use Rattle.ppd_model.specs.FullTrace.{Tracing, begun_tracing, event_of, full_trace, trace_by, trace_step, traced_by, tracing_of}
-use Rattle.ppd_model.proofs.TraceWords.{events_from}
-use Rattle.ppd_model.specs.LocalTags.{AreOwn, HasTags}
-use Rattle.ppd_model.specs.Parents.{HasParent, IsParent, ParentsAreLatestTests}
-use Rattle.ppd_model.specs.Story.{Story, Taken, own_steps, story}
+use Rattle.ppd_model.proofs.Changes.{some}
 use Rattle.ppd_model.proofs.LocalTags.{has_begun, own_steps_told}
 use Rattle.ppd_model.proofs.Parents.{none_some, own_from, own_to, parent_of}
-use Rattle.ppd_model.proofs.Changes.{some}
+use Rattle.ppd_model.proofs.TraceWords.{events_from}
+use Rattle.ppd_model.specs.FullTrace.{Tracing, begun_tracing, event_of, full_trace, trace_by, trace_step, traced_by, tracing_of}
+use Rattle.ppd_model.specs.LocalTags.{AreOwn, HasTags}
+use Rattle.ppd_model.specs.Parents.{HasParent, IsParent, ParentsAreLatestTests}
+use Rattle.ppd_model.specs.Story.{Story, Taken, story}
+use Rattle.ppd_model.specs.declared.trace.TracedEvent.{TracedEvent}
+use Rattle.ppd_sem.specs.Described.{is_event}
+use Rattle.ppd_sem.specs.Process.{need_of, started}
+use Rattle.ppd_sem.specs.declared.proc.Need.{Need}
+use Rattle.ppd_sem.specs.declared.proc.Need.TheVariants.{Budget, Enter, Read, Stopped}
+use Rattle.std.proofs.Common.{List, Some, [], ap, arith, false, inl, inr, length, refl, subst, suc, sym, true, zero, ℕ, ◌++◌, ◌+◌, ◌∙◌, ◌∷◌, ◌≡◌, ◌⊎◌}
+use Rattle.std.proofs.lemmas.Bool.{cases_Bool}
+use Rattle.std.specs.Prelude.{fold, get_or, slice_get}
 
 at_end : {A : Type 0} (xs : List A) (y : A) (n : ℕ) (z : A) → slice_get (xs ++ y ∷ []) n ≡ Some z → (slice_get xs n ≡ Some z) ⊎ ((n ≡ length xs) × (z ≡ y))
 at_end [] y zero z e = inr (refl, sym (some e))
@@ -132,6 +132,6 @@ events_at program plan budget s p (suc i) (xs ∷ rest) =
 pub parents_found : ParentsAreLatestTests
 parents_found program plan budget h p n e is =
     let s : Story = story program plan budget h in
-    let events : get_or (full_trace program plan budget h).events p [] ≡ (tracing_of program plan budget s p (own_steps s p)).events =
-    events_at program plan budget s 0 p s.steps ∙ ap (λ m. (tracing_of program plan budget s m (own_steps s p)).events) (let z : 0 + p ≡ p = omega arith in z) in
-    has_parent program plan s p budget (own_steps s p) (own_steps_told program plan budget h p) n e (sym (ap (λ es. slice_get es n) events) ∙ is)
+    let events : get_or (full_trace program plan budget (story program plan budget h)).events p [] ≡ (tracing_of program plan budget s p (get_or s.steps p [])).events =
+    events_at program plan budget s 0 p s.steps ∙ ap (λ m. (tracing_of program plan budget s m (get_or s.steps p [])).events) (let z : 0 + p ≡ p = omega arith in z) in
+    has_parent program plan s p budget (get_or s.steps p []) (own_steps_told program plan budget h p) n e (sym (ap (λ es. slice_get es n) events) ∙ is)

@@ -1,6 +1,6 @@
 -- The control parent of an event is the latest test of its loop, else of the statement round it, else the call.
 use Rattle.std.proofs.Common.{◌≡◌, ℕ, ◌+◌, ◌<◌, ◌≤◌, ℤ, Bool, true, false, List, [], ◌∷◌, ◌++◌, Option, Some, None, refl, ap, sym, subst, ◌∙◌, length, inl, inr, ◌⊎◌, arith}
-use Rattle.std.specs.Prelude.{fold, slice_get, option_map}
+use Rattle.std.specs.Prelude.{fold, slice_get, option_map, option_and_then}
 use Rattle.std.proofs.lemmas.Bool.{cases_Bool, cases_eq, cases_lt, cond-false, cond-true, both_ways}
 use Rattle.std.proofs.lemmas.List.Sums.{fold-append}
 use Rattle.ppd_ast.specs.declared.plan.Plan.{Plan}
@@ -8,7 +8,7 @@ use Rattle.ppd_ast.specs.declared.program.Kind.{Kind}
 use Rattle.ppd_ast.specs.declared.program.Kind.TheVariants.{While}
 use Rattle.ppd_ast.specs.declared.program.Program.{Program}
 use Rattle.ppd_ast.specs.declared.status.Status.{Status}
-use Rattle.ppd_ast.specs.Lookups.{kind_of, parent_if}
+use Rattle.ppd_ast.specs.Lookups.{kind_of}
 use Rattle.ppd_ast.specs.Numbered.{is_while, is_call}
 use Rattle.ppd_sem.specs.declared.proc.Frame.{Frame}
 use Rattle.ppd_sem.specs.declared.proc.Proc.{Proc}
@@ -320,14 +320,14 @@ module _ (program : Program) (plan : Plan) (story : Story) (p : ℕ) (frames : L
         loops = r.loops;
         event = r.test.event;
         latest = subst (λ b. IsLatestTest program plan story p k s t xs r.test.event b) r.passed (to_latest s r.test (tests_are s ∙ r.test_is));
-        parent_is = ap (λ o. option_or o (option_or (of_outer (parent_if (slice_get program.stmts s)) a.tests) a.call)) r.run_is;
+        parent_is = ap (λ o. option_or o (option_or (of_outer (option_and_then (λ x. x.parent) (slice_get program.stmts s)) a.tests) a.call)) r.run_is;
       }
 
       -- where no run goes on
-      parent_is : Starts (kind_of program s) (latest s a.tests) → parent_in program s a ≡ option_or (of_outer (parent_if (slice_get program.stmts s)) a.tests) a.call
-      parent_is h = ap (λ o. option_or o (option_or (of_outer (parent_if (slice_get program.stmts s)) a.tests) a.call)) h.run_is
+      parent_is : Starts (kind_of program s) (latest s a.tests) → parent_in program s a ≡ option_or (of_outer (option_and_then (λ x. x.parent) (slice_get program.stmts s)) a.tests) a.call
+      parent_is h = ap (λ o. option_or o (option_or (of_outer (option_and_then (λ x. x.parent) (slice_get program.stmts s)) a.tests) a.call)) h.run_is
 
-      stands_in : Starts (kind_of program s) (latest s a.tests) → Inside (parent_if (slice_get program.stmts s)) a.tests a.call → StandsIn program plan story p k s t xs (parent_in program s a)
+      stands_in : Starts (kind_of program s) (latest s a.tests) → Inside (option_and_then (λ x. x.parent) (slice_get program.stmts s)) a.tests a.call → StandsIn program plan story p k s t xs (parent_in program s a)
       stands_in h i = record {
         first = never h;
         outer = i.outer;
@@ -338,7 +338,7 @@ module _ (program : Program) (plan : Plan) (story : Story) (p : ℕ) (frames : L
         parent_is = parent_is h ∙ i.parent_is;
       }
 
-      outermost : Starts (kind_of program s) (latest s a.tests) → Outside (parent_if (slice_get program.stmts s)) a.tests a.call → IsOutermost program plan story p k s t xs (parent_in program s a)
+      outermost : Starts (kind_of program s) (latest s a.tests) → Outside (option_and_then (λ x. x.parent) (slice_get program.stmts s)) a.tests a.call → IsOutermost program plan story p k s t xs (parent_in program s a)
       outermost h o = record {
         first = never h;
         untested = λ outer is event passed l. none_some (sym (tests_are outer ∙ o.untested outer is) ∙ from_latest outer event passed l);
@@ -348,7 +348,7 @@ module _ (program : Program) (plan : Plan) (story : Story) (p : ℕ) (frames : L
       is_parent : IsParent program plan story p k s t xs (parent_in program s a)
       is_parent = elim (by_kind (kind_of program s) (latest s a.tests)) [
         | inl r ↦ inl (goes_on r)
-        | inr h ↦ elim (by_outer (parent_if (slice_get program.stmts s)) a.tests a.call) [
+        | inr h ↦ elim (by_outer (option_and_then (λ x. x.parent) (slice_get program.stmts s)) a.tests a.call) [
           | inl i ↦ inr (inl (stands_in h i))
           | inr o ↦ inr (inr (outermost h o))
         ]

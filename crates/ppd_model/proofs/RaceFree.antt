@@ -1,9 +1,10 @@
 -- Where no race is listed, all accesses that conflict are ordered.
+use Rattle.std.specs.Bool.{beq}
 use Rattle.std.proofs.Common.{◌≡◌, ℕ, zero, suc, ◌+◌, ◌-◌, ◌<◌, ◌≤◌, List, [], ◌∷◌, ◌++◌, Option, Some, None, Bool, true, false, cond, not, refl, ap, sym, subst, ◌∙◌, arith, length, map, inl, inr, ◌⊎◌, ◌&&◌, ◌||◌, true≢false, eq-eqb, get_or}
 use Rattle.std.proofs.lemmas.Bool.{and_from, cases_lt, or_cases, or_left, or_right}
 use Rattle.std.proofs.lemmas.Option.{none-some}
 use Rattle.std.specs.List.{cons_option, flat_map, list_any, range_with_len}
-use Rattle.std.specs.Prelude.{IsTrue, filter, is_some, nat_eq, slice_get}
+use Rattle.std.specs.Prelude.{IsTrue, filter, is_some, nat_eq, slice_get, filter_map}
 use Rattle.ppd_ast.specs.declared.program.Program.{Program}
 use Rattle.ppd_sem.specs.declared.proc.Need.{Need}
 use Rattle.ppd_sem.specs.declared.proc.Need.TheVariants.{Read, Write}
@@ -11,11 +12,11 @@ use Rattle.ppd_model.specs.declared.graph.EdgeId.{EdgeId}
 use Rattle.ppd_model.specs.declared.graph.Race.{Race}
 use Rattle.ppd_model.specs.declared.graph.RaceKind.{RaceKind}
 use Rattle.ppd_model.specs.declared.graph.RaceKind.TheVariants.{ReadWrite, WriteRead, WriteWrite}
-use Rattle.ppd_model.specs.Story.{Story, Taken, own_steps}
-use Rattle.ppd_model.specs.Synchronizations.{Sync, sync_of, syncs_of}
+use Rattle.ppd_model.specs.Story.{Story, Taken}
+use Rattle.ppd_model.specs.Synchronizations.{Sync, sync_of}
 use Rattle.ppd_model.specs.Record.{SharedAccess, access_at, accesses, accesses_from, edge_after, record_of}
 use Rattle.ppd_model.specs.HappenedBefore.{EdgeBefore, edge, is_edge_before}
-use Rattle.ppd_model.specs.Races.{Edges, candidates, edges_of_story, first_writes, has_access, is_race, kinds, race, races_of, second_writes, writes_or_not}
+use Rattle.ppd_model.specs.Races.{Edges, candidates, edges_of_story, first_writes, has_access, is_race, kinds, race, second_writes, races_among}
 use Rattle.ppd_model.proofs.OrderWords.{own_edges}
 use Rattle.ppd_model.specs.Laws.{DoConflict, NoRaceMeansOrder}
 use Rattle.ppd_model.proofs.Tested.{In, here, there, from_zero, in_left, in_map, in_range, in_right, tests_edges}
@@ -62,11 +63,11 @@ access_edge e (Write c v) rest zero a h = inl (ap (λ o. elim o [ None ↦ e | S
 access_edge e (Write c v) rest (suc m) a h = inr (m, h)
 access_edge e n rest m a h = inr (m, h)
 
-pub edge_below : (xs : List Taken) (e m : ℕ) (a : SharedAccess) → slice_get (accesses_from e xs) m ≡ Some a → a.edge ≤ e + length (syncs_of xs)
+pub edge_below : (xs : List Taken) (e m : ℕ) (a : SharedAccess) → slice_get (accesses_from e xs) m ≡ Some a → a.edge ≤ e + length (filter_map sync_of xs)
 edge_below [] e m a h = absurd (none-some a h)
 edge_below (x ∷ xs) e m a h = elim (access_edge e x.need (accesses_from (edge_after e x) xs) m a h) [
   | inl same ↦ omega (arith, same)
-  | inr rest ↦ omega (arith, edge_below xs (edge_after e x) rest.0 a rest.1, edge_shift (sync_of x) e (syncs_of xs))
+  | inr rest ↦ omega (arith, edge_below xs (edge_after e x) rest.0 a rest.1, edge_shift (sync_of x) e (filter_map sync_of xs))
 ]
 
 process_below : (s : Story) (p m : ℕ) (a : SharedAccess) → slice_get (accesses s p) m ≡ Some a → p < length s.steps
@@ -122,14 +123,17 @@ second_is true true h = refl
 same_self : (n : ℕ) → nat_eq n n ≡ true
 same_self n = eq-eqb n n refl
 
-does_so : (a : SharedAccess) (w : Bool) → a.writes ≡ w → writes_or_not a w ≡ true
-does_so a true e = e
-does_so a false e = ap not e
+does_so : (a : SharedAccess) (w : Bool) → a.writes ≡ w → beq a.writes w ≡ true
+does_so a w e = ap (λ b. beq b w) e ∙ self w
+  where
+    self : (b : Bool) → beq b b ≡ true
+    self true = refl
+    self false = refl
 
 has_it : (s : Story) (p m c : ℕ) (a : SharedAccess) (w : Bool) → slice_get (accesses s p) m ≡ Some a → a.cell ≡ c → a.writes ≡ w → has_access s p a.edge c w ≡ true
 has_it s p m c a w h same e =
-    any_at (λ b. nat_eq b.edge a.edge && nat_eq b.cell c && writes_or_not b w) (accesses s p) m a h
-    (and_from (nat_eq a.edge a.edge && nat_eq a.cell c) (writes_or_not a w) (and_from (nat_eq a.edge a.edge) (nat_eq a.cell c) (same_self a.edge) (eq-eqb a.cell c same)) (does_so a w e))
+    any_at (λ b. nat_eq b.edge a.edge && nat_eq b.cell c && beq b.writes w) (accesses s p) m a h
+    (and_from (nat_eq a.edge a.edge && nat_eq a.cell c) (beq a.writes w) (and_from (nat_eq a.edge a.edge) (nat_eq a.cell c) (same_self a.edge) (eq-eqb a.cell c same)) (does_so a w e))
 
 clean : (a b o : Bool) → (a && b && not o) ≡ false → a ≡ true → b ≡ true → o ≡ true
 clean a b true e h k = refl
@@ -137,7 +141,7 @@ clean a b false e h k = absurd (true≢false (sym (and_from (a && b) true (and_f
 
 -- ---- no race
 
-module _ (program : Program) (s : Story) (none : races_of program s ≡ []) where
+module _ (program : Program) (s : Story) (none : races_among (edges_of_story program s) ≡ []) where
   abbrev edges : Edges
   edges = edges_of_story program s
 
@@ -156,7 +160,7 @@ module _ (program : Program) (s : Story) (none : races_of program s ≡ []) wher
       let k : RaceKind = kind_by a.writes b.writes in
       let found : is_race edges (race p a.edge q b.edge a.cell k) ≡ false = none_passes (is_race edges) (race p a.edge q b.edge a.cell k) (candidates edges) none
       (candidate_in edges p a.edge q b.edge a.cell k lt (process_below s q d.second.0 b d.second.1)
-      (omega (arith, edge_below (own_steps s p) 0 d.first.0 a d.first.1)) (omega (arith, edge_below (own_steps s q) 0 d.second.0 b d.second.1)) d.there (kind_in a.writes b.writes)) in
+      (omega (arith, edge_below (get_or s.steps p []) 0 d.first.0 a d.first.1)) (omega (arith, edge_below (get_or s.steps q []) 0 d.second.0 b d.second.1)) d.there (kind_in a.writes b.writes)) in
       let o : (is_edge_before program (record_of s) (edge p a.edge) (edge q b.edge) || is_edge_before program (record_of s) (edge q b.edge) (edge p a.edge)) ≡ true = clean
       (has_access s p a.edge a.cell (first_writes k)) (has_access s q b.edge a.cell (second_writes k))
       (is_edge_before program (record_of s) (edge p a.edge) (edge q b.edge) || is_edge_before program (record_of s) (edge q b.edge) (edge p a.edge)) found

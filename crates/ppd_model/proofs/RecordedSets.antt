@@ -1,4 +1,5 @@
 -- The sets that logs record are the cells of the accesses.
+use Rattle.std.specs.Bool.{beq}
 use Rattle.std.proofs.Common.{◌≡◌, ℕ, zero, suc, ◌+◌, ◌<◌, ◌≤◌, Bool, true, false, cond, ◌&&◌, ◌||◌, List, [], ◌∷◌, ◌++◌, Option, Some, None, refl, ap, ap₂, sym, subst, ◌∙◌, arith, length, length-append, map, get_or, inl, inr, ◌⊎◌, eq-eqb, if◌then◌else◌}
 use Rattle.std.specs.Prelude.{filter_map, fold, is_none, option_to_list, slice_get}
 use Rattle.std.specs.List.{list_any, range_with_len}
@@ -21,14 +22,13 @@ use Rattle.ppd_sem.specs.declared.proc.Proc.{Proc}
 use Rattle.ppd_sem.specs.Process.{act, need_of, started}
 use Rattle.ppd_sem.proofs.Progress.{act-stopped, need_at_status}
 use Rattle.ppd_model.specs.LocalTags.{AreOwn}
-use Rattle.ppd_model.specs.Logs.{Logging, begun_log, closed_log, ends, entries_of, log_of, log_step, loggings, postlogs, prelogs, status_of, syncs, units, with_access}
+use Rattle.ppd_model.specs.Logs.{Logging, begun_log, closed_log, ends, entries_of, log_of, log_step, loggings, status_of, syncs, units, with_access, block_entries}
 use Rattle.ppd_model.proofs.LogWords.{logs_from}
 use Rattle.ppd_model.specs.Marks.{Mark, closed, opened}
-use Rattle.ppd_model.specs.Races.{writes_or_not}
 use Rattle.ppd_model.specs.Record.{SharedAccess, access_at, accesses_from}
 use Rattle.ppd_model.specs.RecordedSets.{LogsRecordAccesses, RecordsAccesses, cells_of, sets_at_sync}
-use Rattle.ppd_model.specs.Story.{Moment, Taken, own_steps, steps_of, story, told, unit_started}
-use Rattle.ppd_model.specs.Synchronizations.{Sync, kind_of_sync, numbered, sync_of, syncs_of}
+use Rattle.ppd_model.specs.Story.{Moment, Taken, steps_of, story, told, unit_started}
+use Rattle.ppd_model.specs.Synchronizations.{Sync, kind_of_sync, numbered, sync_of}
 use Rattle.ppd_model.proofs.AccessSets.{beyond, cells-append, other_edge, picked, with_cells}
 use Rattle.ppd_model.proofs.Accesses.{accesses-append}
 use Rattle.ppd_model.proofs.Changes.{some}
@@ -61,16 +61,16 @@ sets_one l x (Some s) = refl
 -- the entries of a step before the end of its process
 abbrev body_of : Program → Plan → Logging → Moment → List Entry
 body_of program plan l m =
-    prelogs (opened program plan l.proc m.taken.need)
+    block_entries entry.Prelog (opened program plan l.proc m.taken.need)
     ++ syncs l m.taken (sync_of m.taken)
-    ++ postlogs (closed program plan l.proc m.taken.need)
+    ++ block_entries entry.Postlog (closed program plan l.proc m.taken.need)
     ++ units (unit_started m.taken.need) m.unit_values
 
 no_ends : (program : Program) (plan : Plan) (l : Logging) (m : Moment) → list_any is_end (body_of program plan l m) ≡ false
 no_ends program plan l m =
-    let a : List Entry = prelogs (opened program plan l.proc m.taken.need) in
+    let a : List Entry = block_entries entry.Prelog (opened program plan l.proc m.taken.need) in
     let b : List Entry = syncs l m.taken (sync_of m.taken) in
-    let c : List Entry = postlogs (closed program plan l.proc m.taken.need) in
+    let c : List Entry = block_entries entry.Postlog (closed program plan l.proc m.taken.need) in
     let d : List Entry = units (unit_started m.taken.need) m.unit_values in
     list_any-append is_end (a ++ b ++ c) d
     ∙ ap₂ (λ x y. x || y)
@@ -78,7 +78,7 @@ no_ends program plan l m =
     ∙ ap₂ (λ x y. x || y) (list_any-append is_end a b ∙ ap₂ (λ x y. x || y) (in_prelogs (opened program plan l.proc m.taken.need)) (in_syncs (sync_of m.taken))) (in_postlogs (closed program plan l.proc m.taken.need)))
     (in_units (unit_started m.taken.need))
   where
-    in_prelogs : (o : Option Mark) → list_any is_end (prelogs o) ≡ false
+    in_prelogs : (o : Option Mark) → list_any is_end (block_entries entry.Prelog o) ≡ false
     in_prelogs None = refl
     in_prelogs (Some x) = refl
 
@@ -86,7 +86,7 @@ no_ends program plan l m =
     in_syncs None = refl
     in_syncs (Some x) = refl
 
-    in_postlogs : (o : Option Mark) → list_any is_end (postlogs o) ≡ false
+    in_postlogs : (o : Option Mark) → list_any is_end (block_entries entry.Postlog o) ≡ false
     in_postlogs None = refl
     in_postlogs (Some x) = refl
 
@@ -97,8 +97,8 @@ no_ends program plan l m =
 -- ---- the accesses since the last synchronization
 
 -- the access of a step in this edge, picked there as a read or as a write
-picked_here : (a : SharedAccess) (e : ℕ) (w : Bool) → a.edge ≡ e → picked (a ∷ []) e w ≡ cond (writes_or_not a w) (a.cell ∷ []) []
-picked_here a e w same = ap (λ b. map (λ (x : SharedAccess). x.cell) (cond (b && writes_or_not a w) (a ∷ []) [])) (eq-eqb a.edge e same) ∙ by (writes_or_not a w)
+picked_here : (a : SharedAccess) (e : ℕ) (w : Bool) → a.edge ≡ e → picked (a ∷ []) e w ≡ cond (beq a.writes w) (a.cell ∷ []) []
+picked_here a e w same = ap (λ b. map (λ (x : SharedAccess). x.cell) (cond (b && beq a.writes w) (a ∷ []) [])) (eq-eqb a.edge e same) ∙ by (beq a.writes w)
   where
     by : (b : Bool) → map (λ (x : SharedAccess). x.cell) (cond b (a ∷ []) []) ≡ cond b (a.cell ∷ []) []
     by true = refl
@@ -162,10 +162,10 @@ map_same f g a (suc k) same = ap₂ (λ x xs. x ∷ xs) (same a (omega arith)) (
 -- after these steps the process runs, and its log has the sets so far
 record IsRunningLog (xs : List Taken) (l : Logging) : Type 0 where
   runs : l.proc.status ≡ None
-  syncs_are : filter_map sets_at_sync l.entries ≡ map (sets_of (accesses_from 0 xs)) (range_with_len 0 (length (syncs_of xs)))
+  syncs_are : filter_map sets_at_sync l.entries ≡ map (sets_of (accesses_from 0 xs)) (range_with_len 0 (length (filter_map sync_of xs)))
   no_end : list_any is_end l.entries ≡ false
-  reads : l.reads ≡ cells_of (accesses_from 0 xs) (length (syncs_of xs)) false
-  writes : l.writes ≡ cells_of (accesses_from 0 xs) (length (syncs_of xs)) true
+  reads : l.reads ≡ cells_of (accesses_from 0 xs) (length (filter_map sync_of xs)) false
+  writes : l.writes ≡ cells_of (accesses_from 0 xs) (length (filter_map sync_of xs)) true
 
 -- these entries have the sets of these accesses, up to those of edge n, which is the last
 record HasSets (accesses : List SharedAccess) (n : ℕ) (entries : List Entry) : Type 0 where
@@ -180,21 +180,21 @@ record HasSets (accesses : List SharedAccess) (n : ℕ) (entries : List Entry) :
 record IsEndedLog (xs : List Taken) (l : Logging) : Type 0 where
   status : Status
   ended : l.proc.status ≡ Some status
-  sets : HasSets (accesses_from 0 xs) (length (syncs_of xs)) l.entries
+  sets : HasSets (accesses_from 0 xs) (length (filter_map sync_of xs)) l.entries
 
 abbrev IsRecording : List Taken → Logging → Type 0
 IsRecording xs l = IsRunningLog xs l ⊎ IsEndedLog xs l
 
 -- the accesses and the edges of one step more
 record IsMore (xs : List Taken) (x : Taken) (l : Logging) : Type 0 where
-  old : (i : ℕ) → i < length (syncs_of xs) → sets_of (accesses_from 0 (xs ++ x ∷ [])) i ≡ sets_of (accesses_from 0 xs) i
-  syncs_are : map (sets_of (accesses_from 0 xs)) (range_with_len 0 (length (syncs_of xs))) ++ sets_by (sync_of x) l ≡ map (sets_of (accesses_from 0 (xs ++ x ∷ []))) (range_with_len 0 (length (syncs_of (xs ++ x ∷ []))))
-  reads : (with_access x.need l).reads ≡ cells_of (accesses_from 0 (xs ++ x ∷ [])) (length (syncs_of (xs ++ x ∷ []))) false
-  writes : (with_access x.need l).writes ≡ cells_of (accesses_from 0 (xs ++ x ∷ [])) (length (syncs_of (xs ++ x ∷ []))) true
+  old : (i : ℕ) → i < length (filter_map sync_of xs) → sets_of (accesses_from 0 (xs ++ x ∷ [])) i ≡ sets_of (accesses_from 0 xs) i
+  syncs_are : map (sets_of (accesses_from 0 xs)) (range_with_len 0 (length (filter_map sync_of xs))) ++ sets_by (sync_of x) l ≡ map (sets_of (accesses_from 0 (xs ++ x ∷ []))) (range_with_len 0 (length (filter_map sync_of (xs ++ x ∷ []))))
+  reads : (with_access x.need l).reads ≡ cells_of (accesses_from 0 (xs ++ x ∷ [])) (length (filter_map sync_of (xs ++ x ∷ []))) false
+  writes : (with_access x.need l).writes ≡ cells_of (accesses_from 0 (xs ++ x ∷ [])) (length (filter_map sync_of (xs ++ x ∷ []))) true
 
 module _ (xs : List Taken) (x : Taken) (l : Logging) where
   abbrev e : ℕ
-  e = length (syncs_of xs)
+  e = length (filter_map sync_of xs)
 
   abbrev all : List SharedAccess
   all = accesses_from 0 (xs ++ x ∷ [])
@@ -215,12 +215,12 @@ module _ (xs : List Taken) (x : Taken) (l : Logging) where
   same_sets : map (sets_of (accesses_from 0 xs)) (range_with_len 0 e) ≡ map (sets_of all) (range_with_len 0 e)
   same_sets = map_same (sets_of (accesses_from 0 xs)) (sets_of all) 0 e (λ i lt. sym (old_sets i (omega (arith, lt))))
 
-  edges_after : (o : Option Sync) → sync_of x ≡ o → length (syncs_of (xs ++ x ∷ [])) ≡ length (syncs_of xs ++ option_to_list o)
-  edges_after o is = ap length (syncs-append xs x ∙ ap (λ o. syncs_of xs ++ option_to_list o) is)
+  edges_after : (o : Option Sync) → sync_of x ≡ o → length (filter_map sync_of (xs ++ x ∷ [])) ≡ length (filter_map sync_of xs ++ option_to_list o)
+  edges_after o is = ap length (syncs-append xs x ∙ ap (λ o. filter_map sync_of xs ++ option_to_list o) is)
 
   quiet : IsNumbered x → sync_of x ≡ None → l.reads ≡ cells_of (accesses_from 0 xs) e false → l.writes ≡ cells_of (accesses_from 0 xs) e true → IsMore xs x l
   quiet numbered none reads writes =
-      let same : length (syncs_of (xs ++ x ∷ [])) ≡ e = edges_after None none ∙ ap length (append-nil (syncs_of xs)) in
+      let same : length (filter_map sync_of (xs ++ x ∷ [])) ≡ e = edges_after None none ∙ ap length (append-nil (filter_map sync_of xs)) in
       record {
         old = old_sets;
         syncs_are = ap (λ o. map (sets_of (accesses_from 0 xs)) (range_with_len 0 e) ++ sets_by o l) none ∙ append-nil (map (sets_of (accesses_from 0 xs)) (range_with_len 0 e)) ∙ same_sets
@@ -231,7 +231,7 @@ module _ (xs : List Taken) (x : Taken) (l : Logging) where
 
   synced : (s : Sync) → sync_of x ≡ Some s → BeginsAnew x.need l → l.reads ≡ cells_of (accesses_from 0 xs) e false → l.writes ≡ cells_of (accesses_from 0 xs) e true → IsMore xs x l
   synced s is b reads writes =
-      let longer : length (syncs_of (xs ++ x ∷ [])) ≡ e + 1 = edges_after (Some s) is ∙ length-append (syncs_of xs) (s ∷ []) in
+      let longer : length (filter_map sync_of (xs ++ x ∷ [])) ≡ e + 1 = edges_after (Some s) is ∙ length-append (filter_map sync_of xs) (s ∷ []) in
       let same : all ≡ accesses_from 0 xs = all_are ∙ ap (λ as'. accesses_from 0 xs ++ as') (b.none e) ∙ append-nil (accesses_from 0 xs) in
       record {
         old = old_sets;
@@ -265,7 +265,7 @@ module _ (program : Program) (plan : Plan) where
     entries_by : (o : Option Status) → status_of m.taken.need ≡ o → entries_of program plan l m ≡ body_of program plan l m ++ ends l o
     entries_by o is = ap (λ o. body_of program plan l m ++ ends l o) is
 
-    sets_now : IsRunningLog xs l → filter_map sets_at_sync (l.entries ++ entries_of program plan l m) ≡ map (sets_of (accesses_from 0 (xs ++ m.taken ∷ []))) (range_with_len 0 (length (syncs_of (xs ++ m.taken ∷ []))))
+    sets_now : IsRunningLog xs l → filter_map sets_at_sync (l.entries ++ entries_of program plan l m) ≡ map (sets_of (accesses_from 0 (xs ++ m.taken ∷ []))) (range_with_len 0 (length (filter_map sync_of (xs ++ m.taken ∷ []))))
     sets_now r =
         filter_map-append sets_at_sync l.entries (entries_of program plan l m)
         ∙ ap₂ (λ a b. a ++ b) r.syncs_are (of_step sets_at_sync sets_only program plan l m ∙ sets_one l m.taken (sync_of m.taken))
@@ -285,7 +285,7 @@ module _ (program : Program) (plan : Plan) where
     off : IsRunningLog xs l → (st : Status) → status_of m.taken.need ≡ Some st → IsRecording (xs ++ m.taken ∷ []) now
     off r st is =
         let x : Taken = m.taken in
-        let k : ℕ = length (syncs_of (xs ++ x ∷ [])) in
+        let k : ℕ = length (filter_map sync_of (xs ++ x ∷ [])) in
         let as' : List SharedAccess = accesses_from 0 (xs ++ x ∷ []) in
         let next_sets : IsMore xs x l = more xs x l counted r.reads r.writes in
         let whole : entries_of program plan l m ≡ body_of program plan l m ++ entry.End st l.rest l.reads l.writes ∷ [] = entries_by (Some st) is in
@@ -313,17 +313,17 @@ module _ (program : Program) (plan : Plan) where
         let stop : m.taken.need ≡ n.Stopped = next ∙ need_at_status program plan l.proc (Some r.status) r.ended in
         let same : (act program plan l.proc m.taken.answer) ≡ l.proc = act-stopped program plan l.proc m.taken.answer (sym next ∙ stop) in
         let nothing : entries_of program plan l m ≡ [] =
-        ap (λ k. prelogs (opened program plan l.proc k) ++ syncs l m.taken (numbered (kind_of_sync k) m.taken.number) ++ postlogs (closed program plan l.proc k) ++ units (unit_started k) m.unit_values ++ ends l (status_of k)) stop in
+        ap (λ k. block_entries entry.Prelog (opened program plan l.proc k) ++ syncs l m.taken (numbered (kind_of_sync k) m.taken.number) ++ block_entries entry.Postlog (closed program plan l.proc k) ++ units (unit_started k) m.unit_values ++ ends l (status_of k)) stop in
         let no_sync : sync_of m.taken ≡ None = ap (λ k. numbered (kind_of_sync k) m.taken.number) stop in
         let accesses : accesses_from 0 (xs ++ m.taken ∷ []) ≡ accesses_from 0 xs =
-        accesses-append 0 xs m.taken ∙ ap (λ k. accesses_from 0 xs ++ access_at (0 + length (syncs_of xs)) k) stop ∙ append-nil (accesses_from 0 xs) in
-        let edges : length (syncs_of (xs ++ m.taken ∷ [])) ≡ length (syncs_of xs) = edges_after xs m.taken l None no_sync ∙ ap length (append-nil (syncs_of xs)) in
+        accesses-append 0 xs m.taken ∙ ap (λ k. accesses_from 0 xs ++ access_at (0 + length (filter_map sync_of xs)) k) stop ∙ append-nil (accesses_from 0 xs) in
+        let edges : length (filter_map sync_of (xs ++ m.taken ∷ [])) ≡ length (filter_map sync_of xs) = edges_after xs m.taken l None no_sync ∙ ap length (append-nil (filter_map sync_of xs)) in
         inr (record {
           status = r.status;
           ended = ap (λ (s : Proc). s.status) same ∙ r.ended;
-          sets = subst (λ as'. HasSets as' (length (syncs_of (xs ++ m.taken ∷ []))) (l.entries ++ entries_of program plan l m)) (sym accesses)
+          sets = subst (λ as'. HasSets as' (length (filter_map sync_of (xs ++ m.taken ∷ []))) (l.entries ++ entries_of program plan l m)) (sym accesses)
               (subst (λ k. HasSets (accesses_from 0 xs) k (l.entries ++ entries_of program plan l m)) (sym edges)
-              (subst (λ es. HasSets (accesses_from 0 xs) (length (syncs_of xs)) es) (sym (ap (λ es. l.entries ++ es) nothing ∙ append-nil l.entries)) r.sets));
+              (subst (λ es. HasSets (accesses_from 0 xs) (length (filter_map sync_of xs)) es) (sym (ap (λ es. l.entries ++ es) nothing ∙ append-nil l.entries)) r.sets));
         })
 
     recording_step : IsRecording xs l → IsRecording (xs ++ m.taken ∷ []) now
@@ -342,7 +342,7 @@ module _ (program : Program) (plan : Plan) where
 
 -- ---- whole logs
 
-closing : (xs : List Taken) (l : Logging) → IsRecording xs l → HasSets (accesses_from 0 xs) (length (syncs_of xs)) (closed_log l)
+closing : (xs : List Taken) (l : Logging) → IsRecording xs l → HasSets (accesses_from 0 xs) (length (filter_map sync_of xs)) (closed_log l)
 closing xs l (inl r) = record {
   before = l.entries;
   status = status.Blocked;
@@ -353,7 +353,7 @@ closing xs l (inl r) = record {
   no_end = r.no_end;
 }
 closing xs l (inr r) =
-    subst (λ es. HasSets (accesses_from 0 xs) (length (syncs_of xs)) es)
+    subst (λ es. HasSets (accesses_from 0 xs) (length (filter_map sync_of xs)) es)
     (sym (ap (λ o. l.entries ++ (if is_none o then entry.End status.Blocked l.rest l.reads l.writes ∷ [] else [])) r.ended ∙ append-nil l.entries))
     r.sets
 
@@ -379,16 +379,16 @@ module _ (program : Program) (plan : Plan) (budget : ℕ) where
   sets_recorded h p entries v e =
       let found = log_found 0 (told program plan budget h).moments p entries e in
       let ms : List Moment = found.0 in
-      let same : own_steps (story program plan budget h) p ≡ steps_of ms = steps_found (told program plan budget h).moments p ms found.1 in
+      let same : get_or (story program plan budget h).steps p [] ≡ steps_of ms = steps_found (told program plan budget h).moments p ms found.1 in
       let own : AreOwn program plan (started program plan p budget) (steps_of ms) = subst (λ xs. AreOwn program plan (started program plan p budget) xs) same (own_steps_told program plan budget h p) in
       let numbered' : AreNumbered (steps_of ms) = subst AreNumbered same (steps_numbered program plan v budget h p) in
       let r : IsRecording (steps_of ms) (log_of program plan budget p ms) = recording_fold program plan [] (begun_log program plan budget p) ms (begun_recording p) own numbered' in
-      let sets : HasSets (accesses_from 0 (steps_of ms)) (length (syncs_of (steps_of ms))) (closed_log (log_of program plan budget p ms)) = closing (steps_of ms) (log_of program plan budget p ms) r in
+      let sets : HasSets (accesses_from 0 (steps_of ms)) (length (filter_map sync_of (steps_of ms))) (closed_log (log_of program plan budget p ms)) = closing (steps_of ms) (log_of program plan budget p ms) r in
       let z : 0 + p ≡ p = omega arith in
       let are : closed_log (log_of program plan budget p ms) ≡ entries = ap (λ k. closed_log (log_of program plan budget k ms)) (sym z) ∙ found.2 in
-      let all : HasSets (accesses_from 0 (own_steps (story program plan budget h) p)) (length (syncs_of (own_steps (story program plan budget h) p))) entries =
-      subst (λ es. HasSets (accesses_from 0 (own_steps (story program plan budget h) p)) (length (syncs_of (own_steps (story program plan budget h) p))) es) are
-      (subst (λ xs. HasSets (accesses_from 0 xs) (length (syncs_of xs)) (closed_log (log_of program plan budget p ms))) (sym same) sets) in
+      let all : HasSets (accesses_from 0 (get_or (story program plan budget h).steps p [])) (length (filter_map sync_of (get_or (story program plan budget h).steps p []))) entries =
+      subst (λ es. HasSets (accesses_from 0 (get_or (story program plan budget h).steps p [])) (length (filter_map sync_of (get_or (story program plan budget h).steps p []))) es) are
+      (subst (λ xs. HasSets (accesses_from 0 xs) (length (filter_map sync_of xs)) (closed_log (log_of program plan budget p ms))) (sym same) sets) in
       record { before = all.before; status = all.status; rest = all.rest; entries_are = all.entries_are; syncs_are = all.syncs_are; no_end = all.no_end }
 
 pub record_sets : LogsRecordAccesses

@@ -10,12 +10,12 @@ use Rattle.ppd_ast.specs.declared.status.Status.{Status}
 use Rattle.ppd_ast.specs.declared.status.Status.TheVariants as status
 use Rattle.ppd_entry.specs.declared.entry.Entry.{Entry}
 use Rattle.ppd_entry.specs.declared.entry.Entry.TheVariants as entry
-use Rattle.ppd_model.specs.Logs.{Logging, begun_log, closed_log, ends, entries_of, log_of, log_step, postlogs, prelogs, status_of, syncs, units}
+use Rattle.ppd_model.specs.Logs.{Logging, begun_log, closed_log, ends, entries_of, log_of, log_step, status_of, syncs, units, block_entries}
 use Rattle.ppd_model.proofs.LogWords.{logs_from}
 use Rattle.ppd_model.specs.Marks.{Mark, closed, opened}
 use Rattle.ppd_model.specs.RecordedSets.{LogsRecordSynchronizations, sync_in}
 use Rattle.ppd_model.specs.Story.{Moment, Taken, steps_of, told, unit_started}
-use Rattle.ppd_model.specs.Synchronizations.{Sync, sync_of, syncs_of}
+use Rattle.ppd_model.specs.Synchronizations.{Sync, sync_of}
 
 -- ---- a choice of entries that takes synchronizations alone
 
@@ -29,11 +29,11 @@ module _ {B : Type 0} (f : Entry → Option B) (only : IsOfSyncs f) (program : P
   not_taken : (e : Entry) → f e ≡ None → filter_map f (e ∷ []) ≡ []
   not_taken e is = ap (λ o. cons_option o []) is
 
-  no_prelog : (m : Option Mark) → filter_map f (prelogs m) ≡ []
+  no_prelog : (m : Option Mark) → filter_map f (block_entries entry.Prelog m) ≡ []
   no_prelog None = refl
   no_prelog (Some m) = not_taken (entry.Prelog m.block m.values) (only.prelog m.block m.values)
 
-  no_postlog : (m : Option Mark) → filter_map f (postlogs m) ≡ []
+  no_postlog : (m : Option Mark) → filter_map f (block_entries entry.Postlog m) ≡ []
   no_postlog None = refl
   no_postlog (Some m) = not_taken (entry.Postlog m.block m.values) (only.postlog m.block m.values)
 
@@ -48,9 +48,9 @@ module _ {B : Type 0} (f : Entry → Option B) (only : IsOfSyncs f) (program : P
   -- what it takes of the entries of a step is what it takes of the synchronization
   pub of_step : (l : Logging) (m : Moment) → filter_map f (entries_of program plan l m) ≡ filter_map f (syncs l m.taken (sync_of m.taken))
   of_step l m =
-      let a : List Entry = prelogs (opened program plan l.proc m.taken.need) in
+      let a : List Entry = block_entries entry.Prelog (opened program plan l.proc m.taken.need) in
       let b : List Entry = syncs l m.taken (sync_of m.taken) in
-      let c : List Entry = postlogs (closed program plan l.proc m.taken.need) in
+      let c : List Entry = block_entries entry.Postlog (closed program plan l.proc m.taken.need) in
       let d : List Entry = units (unit_started m.taken.need) m.unit_values in
       let e : List Entry = ends l (status_of m.taken.need) in
       filter_map-append f (a ++ b ++ c ++ d) e
@@ -82,14 +82,14 @@ module _ (program : Program) (plan : Plan) (budget : ℕ) where
   joined ss None ts = ap (λ xs. xs ++ ts) (append-nil ss)
   joined ss (Some s) ts = append_assoc ss (s ∷ []) ts
 
-  told_by : (l : Logging) (ms : List Moment) → filter_map sync_in (fold (log_step program plan) l ms).entries ≡ filter_map sync_in l.entries ++ syncs_of (steps_of ms)
+  told_by : (l : Logging) (ms : List Moment) → filter_map sync_in (fold (log_step program plan) l ms).entries ≡ filter_map sync_in l.entries ++ filter_map sync_of (steps_of ms)
   told_by l [] = sym (append-nil (filter_map sync_in l.entries))
   told_by l (m ∷ ms) =
       told_by (log_step program plan l m) ms
-      ∙ ap (λ ss. ss ++ syncs_of (steps_of ms))
+      ∙ ap (λ ss. ss ++ filter_map sync_of (steps_of ms))
       (filter_map-append sync_in l.entries (entries_of program plan l m)
       ∙ ap (λ ss. filter_map sync_in l.entries ++ ss) (of_step sync_in syncs_only program plan l m ∙ one l m.taken (sync_of m.taken)))
-      ∙ joined (filter_map sync_in l.entries) (sync_of m.taken) (syncs_of (steps_of ms))
+      ∙ joined (filter_map sync_in l.entries) (sync_of m.taken) (filter_map sync_of (steps_of ms))
 
   closing : (l : Logging) → filter_map sync_in (closed_log l) ≡ filter_map sync_in l.entries
   closing l =
@@ -100,11 +100,11 @@ module _ (program : Program) (plan : Plan) (budget : ℕ) where
       by true = refl
       by false = refl
 
-  kept_all : (p : ℕ) (moments : List (List Moment)) → map (filter_map sync_in) (map (λ l. l.entries) (logs_from program plan budget p moments)) ≡ map syncs_of (map steps_of moments)
+  kept_all : (p : ℕ) (moments : List (List Moment)) → map (filter_map sync_in) (map (λ l. l.entries) (logs_from program plan budget p moments)) ≡ map (filter_map sync_of) (map steps_of moments)
   kept_all p [] = refl
   kept_all p (ms ∷ rest) = ap₂ (λ s ss. s ∷ ss) (told_by (begun_log program plan budget p) ms) (kept_all (p + 1) rest)
 
-  closed_all : (p : ℕ) (moments : List (List Moment)) → map (filter_map sync_in) (map closed_log (logs_from program plan budget p moments)) ≡ map syncs_of (map steps_of moments)
+  closed_all : (p : ℕ) (moments : List (List Moment)) → map (filter_map sync_in) (map closed_log (logs_from program plan budget p moments)) ≡ map (filter_map sync_of) (map steps_of moments)
   closed_all p [] = refl
   closed_all p (ms ∷ rest) = ap₂ (λ s ss. s ∷ ss) (closing (log_of program plan budget p ms) ∙ told_by (begun_log program plan budget p) ms) (closed_all (p + 1) rest)
 

@@ -1,32 +1,10 @@
 -- Channels of capacity 0: counts, pairs, and the two steps of a send.
-use Rattle.std.proofs.Common.{◌≡◌, ℕ, zero, suc, ◌+◌, ◌<◌, ◌≤◌, ℤ, List, [], ◌∷◌, ◌++◌, Some, refl, ap, sym, subst, ◌∙◌, arith, length, map, inl, inr, ◌⊎◌, true≢false, eq-eqb, eqb-true}
-use Rattle.std.specs.Prelude.{IsTrue, fold, nat_eq, slice_get}
-use Rattle.std.proofs.lemmas.Bool.{and_from, and_parts}
-use Rattle.std.proofs.lemmas.List.{append-nil, append_assoc}
-use Rattle.std.proofs.lemmas.List.Sums.{fold-append}
-use Rattle.std.proofs.lemmas.Option.{none-some}
+use Rattle.ppd_ast.specs.Lookups.{body_numbered}
 use Rattle.ppd_ast.specs.declared.plan.Plan.{Plan}
 use Rattle.ppd_ast.specs.declared.program.Chan.{Chan}
 use Rattle.ppd_ast.specs.declared.program.Program.{Program}
 use Rattle.ppd_ast.specs.declared.status.SyncKind.{SyncKind}
-use Rattle.ppd_ast.specs.declared.status.SyncKind.TheVariants.{P, V, Send, Recv, Done}
-use Rattle.ppd_ast.specs.Lookups.{top_of_body}
-use Rattle.ppd_sem.specs.declared.proc.Need.{Need}
-use Rattle.ppd_sem.specs.declared.proc.Need.TheVariants as need
-use Rattle.ppd_sem.specs.declared.proc.Proc.{Proc}
-use Rattle.ppd_sem.specs.Process.{act, need_of, started, todos}
-use Rattle.ppd_sem.specs.Tables.{capacity_of}
-use Rattle.ppd_sem.specs.Passed.{next_stmt_of}
-use Rattle.ppd_model.specs.declared.state.Channel.{Channel}
-use Rattle.ppd_model.specs.Bounds.{AreEach, IsBalanced, IsBalancedChan}
-use Rattle.ppd_model.specs.LocalTags.{AreOwn}
-use Rattle.ppd_model.specs.Numbers.{count_in, count_of, sync}
-use Rattle.ppd_model.specs.Rendezvous.{ChannelsAreInTurn, Completes, CompletionsAreLedTo, CompletionsAreReceived, CompletionsLead, CompletionsWereOffered, IsInTurn, OffersAreCompleted}
-use Rattle.ppd_model.specs.Schedule.{started_world}
-use Rattle.ppd_model.specs.States.{act_on, state_of}
-use Rattle.ppd_model.specs.Story.{Taken, told}
-use Rattle.ppd_model.specs.Synchronizations.{Sync, is_number, leads, led_to}
-use Rattle.ppd_model.specs.World.{World, room_of}
+use Rattle.ppd_ast.specs.declared.status.SyncKind.TheVariants.{Done, P, Recv, Send, V}
 use Rattle.ppd_model.proofs.Balanced.{balanced}
 use Rattle.ppd_model.proofs.Changes.{some}
 use Rattle.ppd_model.proofs.Forward.{completed_below}
@@ -34,6 +12,28 @@ use Rattle.ppd_model.proofs.LocalTags.{own-before, own_steps_told}
 use Rattle.ppd_model.proofs.Numbers.{are_counted}
 use Rattle.ppd_model.proofs.OfferMarks.{AreUnmarked, HasEnded, IsUnmarked, TakesOffer, marked_step, no_completion, offer_step, over_step, unmarked_step}
 use Rattle.ppd_model.proofs.Stories.{stories_are_of_runs}
+use Rattle.ppd_model.specs.Bounds.{AreEach, IsBalanced, IsBalancedChan}
+use Rattle.ppd_model.specs.LocalTags.{AreOwn}
+use Rattle.ppd_model.specs.Numbers.{count_in, count_of, sync}
+use Rattle.ppd_model.specs.Rendezvous.{ChannelsAreInTurn, Completes, CompletionsAreLedTo, CompletionsAreReceived, CompletionsLead, CompletionsWereOffered, IsInTurn, OffersAreCompleted}
+use Rattle.ppd_model.specs.Schedule.{started_world}
+use Rattle.ppd_model.specs.States.{act_on, state_of}
+use Rattle.ppd_model.specs.Story.{Taken, told}
+use Rattle.ppd_model.specs.Synchronizations.{Sync, is_number, leads_at, led_to}
+use Rattle.ppd_model.specs.World.{World, room_of}
+use Rattle.ppd_model.specs.declared.state.Channel.{Channel}
+use Rattle.ppd_sem.specs.Passed.{next_stmt_of}
+use Rattle.ppd_sem.specs.Process.{act, need_of, started, todos}
+use Rattle.ppd_sem.specs.Tables.{capacity_of}
+use Rattle.ppd_sem.specs.declared.proc.Need.{Need}
+use Rattle.ppd_sem.specs.declared.proc.Need.TheVariants as need
+use Rattle.ppd_sem.specs.declared.proc.Proc.{Proc}
+use Rattle.std.proofs.Common.{List, Some, [], ap, arith, eq-eqb, eqb-true, inl, inr, length, map, refl, subst, suc, sym, true≢false, zero, ℕ, ℤ, ◌++◌, ◌+◌, ◌<◌, ◌∙◌, ◌∷◌, ◌≡◌, ◌≤◌, ◌⊎◌}
+use Rattle.std.proofs.lemmas.Bool.{and_from, and_parts}
+use Rattle.std.proofs.lemmas.List.{append-nil, append_assoc}
+use Rattle.std.proofs.lemmas.List.Sums.{fold-append}
+use Rattle.std.proofs.lemmas.Option.{none-some}
+use Rattle.std.specs.Prelude.{IsTrue, fold, nat_eq, slice_get}
 
 -- ---- counts
 
@@ -65,7 +65,7 @@ led (suc n) ka kb j k h = absurd (true≢false (sym h))
 pub completions_lead : CompletionsLead
 completions_lead program k o b = (to, from)
   where
-    to : IsTrue (leads program (sync Done o k) b) → (capacity_of program o ≡ 0) × (b ≡ sync Send o (k + 1))
+    to : IsTrue (leads_at program (Some (sync Done o k)) (Some b)) → (capacity_of program o ≡ 0) × (b ≡ sync Send o (k + 1))
     to h =
         let parts = and_parts (nat_eq o b.object) (is_number (led_to (capacity_of program o) Done b.kind k) b.number) h in
         let fits = (led (capacity_of program o) Done b.kind k b.number parts.1).1 refl in
@@ -74,16 +74,16 @@ completions_lead program k o b = (to, from)
         made : b.kind ≡ Send → b.object ≡ o → b.number ≡ k + 1 → b ≡ sync Send o (k + 1)
         made e f g = (λ i. record { kind = e i; object = f i; number = g i })
 
-    from : (capacity_of program o ≡ 0) × (b ≡ sync Send o (k + 1)) → IsTrue (leads program (sync Done o k) b)
+    from : (capacity_of program o ≡ 0) × (b ≡ sync Send o (k + 1)) → IsTrue (leads_at program (Some (sync Done o k)) (Some b))
     from h =
-        subst (λ (x : Sync). IsTrue (leads program (sync Done o k) x)) (sym h.1)
+        subst (λ (x : Sync). IsTrue (leads_at program (Some (sync Done o k)) (Some x))) (sym h.1)
         (and_from (nat_eq o o) (is_number (led_to (capacity_of program o) Done Send k) (k + 1)) (eq-eqb o o refl)
         (subst (λ n. IsTrue (is_number (led_to n Done Send k) (k + 1))) (sym h.0) (eq-eqb (k + 1) (k + 1) refl)))
 
 pub completions_led_to : CompletionsAreLedTo
 completions_led_to program k o a = (to, from)
   where
-    to : IsTrue (leads program a (sync Done o k)) → (capacity_of program o ≡ 0) × (a ≡ sync Recv o k)
+    to : IsTrue (leads_at program (Some a) (Some (sync Done o k))) → (capacity_of program o ≡ 0) × (a ≡ sync Recv o k)
     to h =
         let parts = and_parts (nat_eq a.object o) (is_number (led_to (capacity_of program a.object) a.kind Done a.number) k) h in
         let fits = (led (capacity_of program a.object) a.kind Done a.number k parts.1).0 refl in
@@ -93,9 +93,9 @@ completions_led_to program k o a = (to, from)
         made : a.kind ≡ Recv → a.object ≡ o → a.number ≡ k → a ≡ sync Recv o k
         made e f g = (λ i. record { kind = e i; object = f i; number = g i })
 
-    from : (capacity_of program o ≡ 0) × (a ≡ sync Recv o k) → IsTrue (leads program a (sync Done o k))
+    from : (capacity_of program o ≡ 0) × (a ≡ sync Recv o k) → IsTrue (leads_at program (Some a) (Some (sync Done o k)))
     from h =
-        subst (λ (x : Sync). IsTrue (leads program x (sync Done o k))) (sym h.1)
+        subst (λ (x : Sync). IsTrue (leads_at program (Some x) (Some (sync Done o k)))) (sym h.1)
         (and_from (nat_eq o o) (is_number (led_to (capacity_of program o) Recv Done k) k) (eq-eqb o o refl)
         (subst (λ n. IsTrue (is_number (led_to n Recv Done k) k)) (sym h.0) (eq-eqb k k refl)))
 
@@ -164,7 +164,7 @@ module _ (program : Program) (plan : Plan) (budget p : ℕ) where
   begun_unmarked (s ∷ ss) = (refl, begun_unmarked ss)
 
   begun : IsSteady []
-  begun = inr (inl (record { runs = refl; unmarked = begun_unmarked (top_of_body (slice_get program.bodies (program.functions + p))) }))
+  begun = inr (inl (record { runs = refl; unmarked = begun_unmarked (body_numbered program (program.functions + p)).top }))
 
   steady : (before after : List Taken) → AreOwn program plan (started program plan p budget) (before ++ after) → IsSteady before
   steady before after own = steady_all [] before begun (own-before program plan (started program plan p budget) before after own)

@@ -4,7 +4,7 @@ use Rattle.std.proofs.lemmas.Bool.{cases_eq, cases_lt}
 use Rattle.std.proofs.lemmas.List.{append-nil, append_assoc}
 use Rattle.std.proofs.lemmas.List.Sums.{fold-append}
 use Rattle.std.proofs.lemmas.Option.{none-some}
-use Rattle.std.specs.Prelude.{IsTrue, fold, slice_get}
+use Rattle.std.specs.Prelude.{IsTrue, fold, slice_get, filter_map}
 use Rattle.ppd_ast.specs.declared.plan.Plan.{Plan}
 use Rattle.ppd_ast.specs.declared.program.Program.{Program}
 use Rattle.ppd_sem.specs.declared.proc.Need.{Need}
@@ -15,9 +15,9 @@ use Rattle.ppd_model.specs.declared.tracing.Taken.{Taken}
 use Rattle.ppd_model.specs.World.{World, change, need, writes_cell}
 use Rattle.ppd_model.proofs.WorldWords.{need_at}
 use Rattle.ppd_model.specs.Schedule.{run, started_world}
-use Rattle.ppd_model.specs.Story.{Telling, begun, moment_of, own_steps, steps_of, story, tell, told}
+use Rattle.ppd_model.specs.Story.{Telling, begun, moment_of, steps_of, story, tell, told}
 use Rattle.ppd_model.specs.States.{states_from}
-use Rattle.ppd_model.specs.Synchronizations.{Sync, syncs_of}
+use Rattle.ppd_model.specs.Synchronizations.{Sync, sync_of}
 use Rattle.ppd_model.specs.Record.{SharedAccess, access_at, accesses, accesses_from, sync_record}
 use Rattle.ppd_model.specs.Races.{races}
 use Rattle.ppd_model.specs.HappenedBefore.{EdgeBefore, earlier, edge}
@@ -43,7 +43,7 @@ old_or_new (z ∷ xs) ys (suc i) x e = old_or_new xs ys i x e
 
 -- ---- accesses with one more step
 
-from_zero : (xs : List Taken) (x : Taken) → accesses_from 0 (xs ++ x ∷ []) ≡ accesses_from 0 xs ++ access_at (length (syncs_of xs)) x.need
+from_zero : (xs : List Taken) (x : Taken) → accesses_from 0 (xs ++ x ∷ []) ≡ accesses_from 0 xs ++ access_at (length (filter_map sync_of xs)) x.need
 from_zero xs x = accesses-append 0 xs x ∙ ap (λ k. accesses_from 0 xs ++ access_at k x.need) (omega arith)
 
 -- process q's own list after process p's step
@@ -80,7 +80,7 @@ module _ (program : Program) (plan : Plan) (budget : ℕ) where
   same_count n [] = refl
   same_count n (xs ∷ rest) = ap (λ k. suc k) (same_count (n + 1) rest)
 
-  edge_own : (g : List ℕ) (p : ℕ) → edge_in program plan budget g p ≡ length (syncs_of (own_steps (story program plan budget g) p))
+  edge_own : (g : List ℕ) (p : ℕ) → edge_in program plan budget g p ≡ length (filter_map sync_of (get_or (story program plan budget g).steps p []))
   edge_own g p = ap (λ (ss : List Sync). length ss) (record_at (story program plan budget g).steps p)
 
   taken_at : List ℕ → ℕ → Taken
@@ -118,7 +118,7 @@ module _ (program : Program) (plan : Plan) (budget : ℕ) where
         | inl s ↦ ap (λ (l : List Taken). slice_get (accesses_from 0 l) m) s ∙ e
         | inr s ↦ ap (λ (l : List Taken). slice_get (accesses_from 0 l) m) s.1
             ∙ ap (λ (l : List SharedAccess). slice_get l m) (from_zero (get_or steps q []) (taken_at g p))
-            ∙ kept_at (accesses_from 0 (get_or steps q [])) (access_at (length (syncs_of (get_or steps q []))) (taken_at g p).need) m a e
+            ∙ kept_at (accesses_from 0 (get_or steps q [])) (access_at (length (filter_map sync_of (get_or steps q []))) (taken_at g p).need) m a e
       ]
 
   grow_all : (g rest : List ℕ) (q m : ℕ) (a : SharedAccess) → slice_get (accesses (story program plan budget g) q) m ≡ Some a → slice_get (accesses (story program plan budget (g ++ rest)) q) m ≡ Some a
@@ -165,10 +165,10 @@ module _ (program : Program) (plan : Plan) (budget : ℕ) where
       ap (λ (l : List (List Taken)). slice_get (accesses_from 0 (get_or l q [])) m) (sym (steps_grow g p)) ∙ e in
       elim (grown_by (taken_at g p) p q steps) [
         | inl s ↦ lasting g p q a (all q m a (ap (λ (l : List Taken). slice_get (accesses_from 0 l) m) (sym s) ∙ now) w)
-        | inr s ↦ elim (old_or_new (accesses_from 0 (get_or steps q [])) (access_at (length (syncs_of (get_or steps q []))) (taken_at g p).need) m a
+        | inr s ↦ elim (old_or_new (accesses_from 0 (get_or steps q [])) (access_at (length (filter_map sync_of (get_or steps q []))) (taken_at g p).need) m a
             (ap (λ (l : List SharedAccess). slice_get l m) (sym (from_zero (get_or steps q []) (taken_at g p))) ∙ ap (λ (l : List Taken). slice_get (accesses_from 0 l) m) (sym s.1) ∙ now)) [
               | inl old ↦ lasting g p q a (all q m a old w)
-              | inr new ↦ let x = written_at (taken_at g p).need (length (syncs_of (get_or steps q []))) new.0 a new.1 w in record {
+              | inr new ↦ let x = written_at (taken_at g p).need (length (filter_map sync_of (get_or steps q []))) new.0 a new.1 w in record {
                 before = g;
                 after = [];
                 schedule_is = ap (λ k. g ++ k ∷ []) (sym s.0);

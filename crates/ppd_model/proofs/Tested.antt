@@ -1,5 +1,5 @@
 -- The tests of happened-before answer the relations, both ways.
-use Rattle.std.proofs.Common.{◌≡◌, ℕ, zero, suc, ◌+◌, ◌<◌, List, [], ◌∷◌, ◌++◌, Option, Some, None, Bool, false, refl, ap, sym, subst, arith, eq-eqb, lt-ltb, ltb-true, ne_eqb, ◌&&◌, ◌||◌, length, map, get_or, inl, inr, ◌⊎◌, true≢false, ◌∙◌}
+use Rattle.std.proofs.Common.{◌≡◌, ℕ, zero, suc, ◌+◌, ◌<◌, List, [], ◌∷◌, ◌++◌, Option, Some, None, Bool, true, false, refl, ap, sym, subst, arith, eq-eqb, lt-ltb, ltb-true, ne_eqb, ◌&&◌, ◌||◌, length, map, get_or, inl, inr, ◌⊎◌, true≢false, ◌∙◌}
 use Rattle.std.specs.Prelude.{IsTrue, is_some, nat_eq, nat_lt, slice_get}
 use Rattle.std.specs.List.{range_with_len}
 use Rattle.std.proofs.lemmas.Bool.{and_from, and_parts, cases_eq, cond-false, cond-true, or_cases, or_left, or_right}
@@ -7,7 +7,7 @@ use Rattle.ppd_ast.specs.declared.program.Program.{Program}
 use Rattle.ppd_model.specs.declared.graph.NodeId.{NodeId}
 use Rattle.ppd_model.specs.Synchronizations.{Sync, leads_at}
 use Rattle.ppd_model.specs.declared.graph.EdgeId.{EdgeId}
-use Rattle.ppd_model.specs.HappenedBefore.{Before, EdgeBefore, across as across_to, closed_through, direct, earlier, ends_before, is_before, is_direct, is_edge_before, node, nodes, sync_at, through}
+use Rattle.ppd_model.specs.HappenedBefore.{Before, EdgeBefore, across as across_to, closed_through, direct, earlier, is_before, is_direct, is_edge_before, node, sync_at, through}
 use Rattle.ppd_model.proofs.OrderWords.{is_next, nodes_from}
 use Rattle.ppd_model.specs.Laws.{IsTestOfBefore, IsTestOfEdges}
 
@@ -114,8 +114,8 @@ is_node_from p (suc q) i (xs ∷ rest) h =
     in_right (node (p + suc q) i) (map (node p) (range_with_len 0 (length xs))) (nodes_from (p + 1) rest)
     (subst (λ x. In (node x i) (nodes_from (p + 1) rest)) e (is_node_from (p + 1) q i rest h))
 
-is_node : (syncs : List (List Sync)) (a : NodeId) → IsTrue (is_some (sync_at syncs a)) → In a (nodes syncs)
-is_node syncs a h = let e : 0 + a.process ≡ a.process = omega arith in subst (λ p. In (node p a.sync) (nodes syncs)) e (is_node_from 0 a.process a.sync syncs h)
+is_node : (syncs : List (List Sync)) (a : NodeId) → IsTrue (is_some (sync_at syncs a)) → In a (nodes_from 0 syncs)
+is_node syncs a h = let e : 0 + a.process ≡ a.process = omega arith in subst (λ p. In (node p a.sync) (nodes_from 0 syncs)) e (is_node_from 0 a.process a.sync syncs h)
 
 -- ---- both ways
 
@@ -137,9 +137,9 @@ before_there program syncs a b (through {b = m} h k) = before_there program sync
 
 tested : (program : Program) (syncs : List (List Sync)) (a b : NodeId) → Before program syncs a b → IsTrue (is_before program syncs a b)
 unfolding IsClosedAt
-tested program syncs a b (direct d) = grows (is_direct program syncs) (nodes syncs) a b d
+tested program syncs a b (direct d) = grows (is_direct program syncs) (nodes_from 0 syncs) a b d
 tested program syncs a b (through {b = m} h k) =
-    closed_in (is_direct program syncs) (nodes syncs) m (is_node syncs m (before_there program syncs a m h)) a b
+    closed_in (is_direct program syncs) (nodes_from 0 syncs) m (is_node syncs m (before_there program syncs a m h)) a b
     (tested program syncs a m h) (tested program syncs m b k)
 
 found_in : (program : Program) (syncs : List (List Sync)) (ns : List NodeId) (a b : NodeId) → IsTrue (closed_through (is_direct program syncs) ns a b) → Before program syncs a b
@@ -152,29 +152,43 @@ found_in program syncs (n ∷ ns) a b h =
     ]
 
 pub tests_before : IsTestOfBefore
-tests_before program syncs a b = (found_in program syncs (nodes syncs) a b, tested program syncs a b)
+tests_before program syncs a b = (found_in program syncs (nodes_from 0 syncs) a b, tested program syncs a b)
+
+-- where the test says of nothing that it is before itself, nothing is, and the other way
+pub none_before_itself : (program : Program) (syncs : List (List Sync)) → ((a : NodeId) → is_before program syncs a a ≡ false) → (a : NodeId) → Before program syncs a a → ⊥
+none_before_itself program syncs never a h = true≢false (sym ((tests_before program syncs a a).1 h) ∙ never a)
+
+pub none_is_before_itself : (program : Program) (syncs : List (List Sync)) → ((a : NodeId) → Before program syncs a a → ⊥) → (a : NodeId) → is_before program syncs a a ≡ false
+none_is_before_itself program syncs never a = by (is_before program syncs a a) refl
+  where
+    by : (t : Bool) → is_before program syncs a a ≡ t → t ≡ false
+    by true e = absurd (never a ((tests_before program syncs a a).0 e))
+    by false e = refl
 
 -- ---- edges
 
-ends_found : (program : Program) (syncs : List (List Sync)) (a b : EdgeId) (j : ℕ) → (a.process ≡ b.process → ⊥) → b.edge ≡ j → IsTrue (ends_before program syncs a.process a.edge b.process j) → EdgeBefore program syncs a b
-ends_found program syncs a b zero d e h = absurd (true≢false (sym h))
+ends_found : (program : Program) (syncs : List (List Sync)) (a b : EdgeId) (j : ℕ) → (a.process ≡ b.process → ⊥) → b.edge ≡ j → IsTrue (is_edge_before program syncs a (record b { edge = j })) → EdgeBefore program syncs a b
+ends_found program syncs a b zero d e h = absurd (true≢false (sym h ∙ cond-false (nat_eq a.process b.process) (nat_lt a.edge 0) false (ne_eqb a.process b.process d)))
 ends_found program syncs a b (suc j) d e h =
     let next : b.edge ≡ j + 1 = omega (arith, e) in
-    across_to d j next (found_in program syncs (nodes syncs) (node a.process a.edge) (node b.process j) h)
+    let way : Bool = is_before program syncs (node a.process a.edge) (node b.process j) in
+    across_to d j next (found_in program syncs (nodes_from 0 syncs) (node a.process a.edge) (node b.process j)
+    (sym (cond-false (nat_eq a.process b.process) (nat_lt a.edge (suc j)) way (ne_eqb a.process b.process d)) ∙ h))
 
 edge_found : (program : Program) (syncs : List (List Sync)) (a b : EdgeId) → IsTrue (is_edge_before program syncs a b) → EdgeBefore program syncs a b
 edge_found program syncs a b h = elim (cases_eq a.process b.process) [
-  | inl e ↦ earlier e (ltb-true a.edge b.edge (sym (cond-true (nat_eq a.process b.process) (nat_lt a.edge b.edge) (ends_before program syncs a.process a.edge b.process b.edge) (eq-eqb a.process b.process e)) ∙ h))
-  | inr d ↦ ends_found program syncs a b b.edge d refl (sym (cond-false (nat_eq a.process b.process) (nat_lt a.edge b.edge) (ends_before program syncs a.process a.edge b.process b.edge) (ne_eqb a.process b.process d)) ∙ h)
+  | inl e ↦ earlier e (ltb-true a.edge b.edge (sym (cond-true (nat_eq a.process b.process) (nat_lt a.edge b.edge) _ (eq-eqb a.process b.process e)) ∙ h))
+  | inr d ↦ ends_found program syncs a b b.edge d refl h
 ]
 
 edge_tested : (program : Program) (syncs : List (List Sync)) (a b : EdgeId) → EdgeBefore program syncs a b → IsTrue (is_edge_before program syncs a b)
 edge_tested program syncs a b (earlier e lt) =
-    cond-true (nat_eq a.process b.process) (nat_lt a.edge b.edge) (ends_before program syncs a.process a.edge b.process b.edge) (eq-eqb a.process b.process e) ∙ lt-ltb a.edge b.edge lt
+    cond-true (nat_eq a.process b.process) (nat_lt a.edge b.edge) _ (eq-eqb a.process b.process e) ∙ lt-ltb a.edge b.edge lt
 edge_tested program syncs a b (across_to d j e h) =
     let next : b.edge ≡ suc j = omega (arith, e) in
-    cond-false (nat_eq a.process b.process) (nat_lt a.edge b.edge) (ends_before program syncs a.process a.edge b.process b.edge) (ne_eqb a.process b.process d)
-    ∙ ap (λ n. ends_before program syncs a.process a.edge b.process n) next ∙ tested program syncs (node a.process a.edge) (node b.process j) h
+    ap (λ n. is_edge_before program syncs a (record b { edge = n })) next
+    ∙ (cond-false (nat_eq a.process b.process) (nat_lt a.edge (suc j)) _ (ne_eqb a.process b.process d)
+    ∙ tested program syncs (node a.process a.edge) (node b.process j) h)
 
 pub tests_edges : IsTestOfEdges
 tests_edges program syncs a b = (edge_found program syncs a b, edge_tested program syncs a b)

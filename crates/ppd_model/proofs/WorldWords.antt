@@ -2,7 +2,7 @@
 use Rattle.std.specs.Option.{option_map_or}
 use Rattle.std.specs.List.{range_with_len}
 use Rattle.std.specs.Prelude.{◌+◌, [], ℕ, ℤ, List, Option, Bool, false, map, length, get_or, option_map, nat_lt, pos, count_by}
-use Rattle.ppd_model.specs.World.{room, answer, change, effect, World}
+use Rattle.ppd_model.specs.World.{answer, change, effect, World, room_of}
 use Rattle.ppd_ast.specs.declared.program.Program.{Program}
 use Rattle.ppd_ast.specs.declared.plan.Plan.{Plan}
 use Rattle.ppd_sem.specs.declared.proc.Need.{Need}
@@ -21,7 +21,7 @@ can_take o = option_map_or (λ (x : Counts). nat_lt x.taken x.given) o false
 
 -- there is room for one more
 abbrev pub can_send : Option Channel → Bool
-can_send o = option_map_or (λ (x : Channel). nat_lt (length x.sent) (room x)) o false
+can_send o = option_map_or (λ (x : Channel). nat_lt (length x.sent) (room_of x.capacity x)) o false
 
 -- fewer were completed than received
 abbrev pub can_complete : Option Channel → Bool

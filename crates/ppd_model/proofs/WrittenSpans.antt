@@ -1,39 +1,39 @@
 -- The entries of a process's intervals are of the steps that opened and left them.
-use Rattle.std.proofs.Common.{◌≡◌, ℕ, zero, suc, ◌+◌, ◌<◌, ◌≤◌, Bool, true, false, List, [], ◌∷◌, ◌++◌, Option, Some, None, refl, ap, ap₂, sym, subst, ◌∙◌, arith, length, inl, inr, ◌⊎◌, length-append, true≢false, if◌then◌else◌}
-use Rattle.std.specs.Prelude.{drop, fold, is_none, slice_get, get_or}
-use Rattle.std.proofs.lemmas.List.{append-nil, append_assoc}
-use Rattle.std.proofs.lemmas.List.Sums.{fold-append}
-use Rattle.std.proofs.lemmas.Option.{none-some}
 use Rattle.ppd_ast.specs.declared.plan.Plan.{Plan}
 use Rattle.ppd_ast.specs.declared.program.Program.{Program}
 use Rattle.ppd_ast.specs.declared.status.Status.{Status}
 use Rattle.ppd_ast.specs.declared.status.Status.TheVariants as status
 use Rattle.ppd_entry.specs.declared.entry.Entry.{Entry}
 use Rattle.ppd_entry.specs.declared.entry.Entry.TheVariants as entry
-use Rattle.ppd_sem.specs.Described.{frame_of, is_event}
-use Rattle.ppd_sem.specs.Process.{act, started}
-use Rattle.ppd_sem.specs.declared.proc.Need.{Need}
-use Rattle.ppd_sem.specs.declared.proc.Need.TheVariants as n
-use Rattle.ppd_sem.specs.declared.proc.Proc.{Proc}
-use Rattle.ppd_model.specs.declared.trace.EventId.{EventId}
-use Rattle.ppd_model.specs.Bounds.{AreEach}
-use Rattle.ppd_model.specs.Extents.{Extending, Extent, extend, extents}
+use Rattle.ppd_model.proofs.Balanced.{each_change}
+use Rattle.ppd_model.proofs.Changes.{some}
+use Rattle.ppd_model.proofs.CountedOn.{kept_at, last_at}
 use Rattle.ppd_model.proofs.ExtentWords.{begun_extents, ended_by, left_by as extents_left}
-use Rattle.ppd_model.specs.FullTrace.{Tag, me_in, top_tags}
-use Rattle.ppd_model.specs.Intervals.{own, nested, Span, Split, begun_split, change_first, control_by, innermost, is_closed, left_by, split_of, split_step, with_marks, with_own, with_part, with_step}
+use Rattle.ppd_model.proofs.Extents.{IsIn, WasBefore, ended_before, entry_number, last_by, running_going}
 use Rattle.ppd_model.proofs.IntervalWords.{begin_if, end_if}
-use Rattle.ppd_model.specs.Logs.{Logging, begun_log, closed_log, ends, entries_of, log_of, log_step, postlogs, prelogs, status_of, syncs, units}
+use Rattle.ppd_model.proofs.Items.{own_keeps, split_found, step_keeps}
+use Rattle.ppd_model.proofs.RecordedSets.{steps_found}
+use Rattle.ppd_model.specs.Bounds.{AreEach}
+use Rattle.ppd_model.specs.Extents.{Extent, Indexing, extend, extents}
+use Rattle.ppd_model.specs.FullTrace.{Tag, me_in, top_tags}
+use Rattle.ppd_model.specs.Intervals.{Span, Split, begun_split, change_first, control_by, innermost, left_by, nested, own, split_of, split_step, with_marks, with_own, with_part, with_step}
+use Rattle.ppd_model.specs.Logs.{Logging, begun_log, block_entries, closed_log, ends, entries_of, log_of, log_step, status_of, syncs, units}
 use Rattle.ppd_model.specs.Marks.{Mark, closed, opened}
 use Rattle.ppd_model.specs.Story.{Moment, Story, Taken, steps_of, story, told, unit_started}
 use Rattle.ppd_model.specs.Synchronizations.{Sync, sync_of}
 use Rattle.ppd_model.specs.World.{change}
 use Rattle.ppd_model.specs.Written.{IntervalsAreOfSteps, IsEndAt, IsOfSteps, IsWrittenBy}
-use Rattle.ppd_model.proofs.Changes.{some}
-use Rattle.ppd_model.proofs.CountedOn.{kept_at, last_at}
-use Rattle.ppd_model.proofs.Extents.{IsIn, WasBefore, ended_before, entry_number, last_by, running_going}
-use Rattle.ppd_model.proofs.Items.{own_keeps, split_found, step_keeps}
-use Rattle.ppd_model.proofs.RecordedSets.{steps_found}
-use Rattle.ppd_model.proofs.Balanced.{each_change}
+use Rattle.ppd_model.specs.declared.trace.EventId.{EventId}
+use Rattle.ppd_sem.specs.Described.{frame_of, is_event}
+use Rattle.ppd_sem.specs.Process.{act, started}
+use Rattle.ppd_sem.specs.declared.proc.Need.{Need}
+use Rattle.ppd_sem.specs.declared.proc.Need.TheVariants as n
+use Rattle.ppd_sem.specs.declared.proc.Proc.{Proc}
+use Rattle.std.proofs.Common.{Bool, List, None, Option, Some, [], ap, ap₂, arith, false, if◌then◌else◌, inl, inr, length, length-append, refl, subst, suc, sym, true, true≢false, zero, ℕ, ◌++◌, ◌+◌, ◌<◌, ◌∙◌, ◌∷◌, ◌≡◌, ◌≤◌, ◌⊎◌}
+use Rattle.std.proofs.lemmas.List.{append-nil, append_assoc}
+use Rattle.std.proofs.lemmas.List.Sums.{fold-append}
+use Rattle.std.proofs.lemmas.Option.{none-some}
+use Rattle.std.specs.Prelude.{drop, fold, get_or, is_none, is_some, slice_get}
 
 -- ---- two lists with each pair related
 
@@ -72,12 +72,12 @@ each_both R f g go (suc k) (x ∷ xs) (y ∷ ys) h = (h.0, each_both R f g go k 
 
 module _ (IsOf : ℕ → ℕ → Type 0) (IsEnd : ℕ → Type 0) where
   abbrev IsBoth : Span → Extent → Type 0
-  IsBoth i x = (is_closed i ≡ x.closed) × IsOfSteps IsOf IsEnd i x
+  IsBoth i x = (is_some i.closed ≡ x.closed) × IsOfSteps IsOf IsEnd i x
 
-  record AreTied (now : ℕ) (x : Split) (y : Extending) : Type 0 where
+  record AreTied (now : ℕ) (x : Split) (y : Indexing Extent) : Type 0 where
     running : x.running ≡ y.running
     edges : length x.edges ≡ now
-    each : AreEach IsBoth x.spans y.extents
+    each : AreEach IsBoth x.spans y.intervals
 
   first_tied : (f : Span → Span) → ((i : Span) (z : Extent) → IsBoth i z → IsBoth (f i) z) → (ks : List ℕ) (spans : List Span) (xs : List Extent) → AreEach IsBoth spans xs → AreEach IsBoth (change_first f ks spans) xs
   first_tied f go [] spans xs h = h
@@ -86,37 +86,37 @@ module _ (IsOf : ℕ → ℕ → Type 0) (IsEnd : ℕ → Type 0) where
   more_steps : (i : Span) (z : Extent) → IsBoth i z → IsBoth (record i { steps = i.steps + 1 }) z
   more_steps i z r = (r.0, record { opened = r.1.opened; closed = r.1.closed; going = r.1.going })
 
-  step_tied : (now : ℕ) (need : Need) (x : Split) (y : Extending) → AreTied now x y → AreTied now (with_step need x) y
+  step_tied : (now : ℕ) (need : Need) (x : Split) (y : Indexing Extent) → AreTied now x y → AreTied now (with_step need x) y
   step_tied now n.Budget x y h = h
   step_tied now n.Stopped x y h = h
-  step_tied now need x y h = record { running = h.running; edges = h.edges; each = first_tied (λ i. record i { steps = i.steps + 1 }) more_steps x.running x.spans y.extents h.each }
+  step_tied now need x y h = record { running = h.running; edges = h.edges; each = first_tied (λ i. record i { steps = i.steps + 1 }) more_steps x.running x.spans y.intervals h.each }
 
-  own_tied : (now : ℕ) (need : Need) (x : Split) (y : Extending) → AreTied now x y → AreTied now (with_own need x) y
+  own_tied : (now : ℕ) (need : Need) (x : Split) (y : Indexing Extent) → AreTied now x y → AreTied now (with_own need x) y
   own_tied now need x y h = by (is_event need)
     where
       by : (b : Bool) → AreTied now (if b then innermost (with_part (own (length x.trace.events))) x else x) y
       by true = record {
         running = h.running;
         edges = h.edges;
-        each = first_tied (with_part (own (length x.trace.events))) (λ i z r. (r.0, record { opened = r.1.opened; closed = r.1.closed; going = r.1.going })) x.running x.spans y.extents h.each;
+        each = first_tied (with_part (own (length x.trace.events))) (λ i z r. (r.0, record { opened = r.1.opened; closed = r.1.closed; going = r.1.going })) x.running x.spans y.intervals h.each;
       }
       by false = h
 
-  begin_tied : (now : ℕ) (o : Option Mark) (frame : ℕ) (control : Option EventId) (x : Split) (y : Extending) → ((m : Mark) → o ≡ Some m → IsOf now y.entry) → AreTied now x y → AreTied now (begin_if o frame control x) (fold extend y (prelogs o))
+  begin_tied : (now : ℕ) (o : Option Mark) (frame : ℕ) (control : Option EventId) (x : Split) (y : Indexing Extent) → ((m : Mark) → o ≡ Some m → IsOf now y.entry) → AreTied now x y → AreTied now (begin_if o frame control x) (fold extend y (block_entries entry.Prelog o))
   begin_tied now None frame control x y of h = h
   begin_tied now (Some m) frame control x y of h =
-      let outer : AreEach IsBoth (change_first (with_part (nested (length x.spans))) x.running x.spans) y.extents =
-      first_tied (with_part (nested (length x.spans))) (λ i z r. (r.0, record { opened = r.1.opened; closed = r.1.closed; going = r.1.going })) x.running x.spans y.extents h.each in
+      let outer : AreEach IsBoth (change_first (with_part (nested (length x.spans))) x.running x.spans) y.intervals =
+      first_tied (with_part (nested (length x.spans))) (λ i z r. (r.0, record { opened = r.1.opened; closed = r.1.closed; going = r.1.going })) x.running x.spans y.intervals h.each in
       record {
-        running = ap₂ (λ k ks. k ∷ ks) (each_length IsBoth x.spans y.extents h.each) h.running;
+        running = ap₂ (λ k ks. k ∷ ks) (each_length IsBoth x.spans y.intervals h.each) h.running;
         edges = h.edges;
-        each = each_end IsBoth (change_first (with_part (nested (length x.spans))) x.running x.spans) y.extents _ _ outer (
+        each = each_end IsBoth (change_first (with_part (nested (length x.spans))) x.running x.spans) y.intervals _ _ outer (
           refl,
           record { opened = inr (subst (λ k. IsOf k y.entry) (sym h.edges) (of m refl)); closed = λ k e. absurd (none-some k e); going = λ e j f. absurd (none-some j f) },
         );
       }
 
-  end_tied : (now : ℕ) (o : Option Mark) (tags : List Tag) (x : Split) (y : Extending) → ((m : Mark) → o ≡ Some m → IsOf now y.entry) → AreTied now x y → AreTied now (end_if o tags x) (fold extend y (postlogs o))
+  end_tied : (now : ℕ) (o : Option Mark) (tags : List Tag) (x : Split) (y : Indexing Extent) → ((m : Mark) → o ≡ Some m → IsOf now y.entry) → AreTied now x y → AreTied now (end_if o tags x) (fold extend y (block_entries entry.Postlog o))
   end_tied now None tags x y of h = h
   end_tied now (Some m) tags x y of h = record {
     running = ap (λ ks. drop 1 ks) h.running;
@@ -124,22 +124,22 @@ module _ (IsOf : ℕ → ℕ → Type 0) (IsEnd : ℕ → Type 0) where
     each = by x.running h.running;
   }
     where
-      by : (ks : List ℕ) → ks ≡ y.running → AreEach IsBoth (change_first (λ i. record i { closed = Some (length x.edges); values = m.values; left = tags }) ks x.spans) (extents_left y.entry y.running y.extents)
-      by [] e = subst (λ rs. AreEach IsBoth x.spans (extents_left y.entry rs y.extents)) e h.each
+      by : (ks : List ℕ) → ks ≡ y.running → AreEach IsBoth (change_first (λ i. record i { closed = Some (length x.edges); values = m.values; left = tags }) ks x.spans) (extents_left y.entry y.running y.intervals)
+      by [] e = subst (λ rs. AreEach IsBoth x.spans (extents_left y.entry rs y.intervals)) e h.each
       by (k ∷ ks) e =
-          subst (λ rs. AreEach IsBoth (change (λ i. record i { closed = Some (length x.edges); values = m.values; left = tags }) k x.spans) (extents_left y.entry rs y.extents)) e
+          subst (λ rs. AreEach IsBoth (change (λ i. record i { closed = Some (length x.edges); values = m.values; left = tags }) k x.spans) (extents_left y.entry rs y.intervals)) e
           (each_both IsBoth (λ i. record i { closed = Some (length x.edges); values = m.values; left = tags }) (λ z. record z { last = Some y.entry; closed = true })
           (λ i z r. (
             refl,
             record { opened = r.1.opened; closed = λ c f. (y.entry, refl, subst (λ j. IsOf j y.entry) (sym h.edges ∙ some f) (of m refl)); going = λ f. absurd (none-some (length x.edges) (sym f)) },
           ))
-          k x.spans y.extents h.each)
+          k x.spans y.intervals h.each)
 
-  sync_tied : (now : ℕ) (l : Logging) (t : Taken) (o : Option Sync) (x : Split) (y : Extending) → AreTied now x y → AreTied now x (fold extend y (syncs l t o))
+  sync_tied : (now : ℕ) (l : Logging) (t : Taken) (o : Option Sync) (x : Split) (y : Indexing Extent) → AreTied now x y → AreTied now x (fold extend y (syncs l t o))
   sync_tied now l t None x y h = h
   sync_tied now l t (Some s) x y h = record { running = h.running; edges = h.edges; each = h.each }
 
-  unit_tied : (now : ℕ) (u : Option ℕ) (values : List _) (x : Split) (y : Extending) → AreTied now x y → AreTied now x (fold extend y (units u values))
+  unit_tied : (now : ℕ) (u : Option ℕ) (values : List _) (x : Split) (y : Indexing Extent) → AreTied now x y → AreTied now x (fold extend y (units u values))
   unit_tied now None values x y h = h
   unit_tied now (Some u) values x y h = record { running = h.running; edges = h.edges; each = h.each }
 
@@ -154,19 +154,19 @@ module _ (IsOf : ℕ → ℕ → Type 0) (IsEnd : ℕ → Type 0) where
         r.0,
         record {
           opened = r.1.opened;
-          closed = λ c e. absurd (true≢false (sym (ap (λ (o : Option ℕ). is_closed (record i { closed = o })) e) ∙ r.0 ∙ going k z (inl refl) at));
+          closed = λ c e. absurd (true≢false (sym (ap (λ (o : Option ℕ). is_some (record i { closed = o }).closed) e) ∙ r.0 ∙ going k z (inl refl) at));
           going = λ e m f. subst IsEnd (some f) end;
         },
       ))
       h)
 
-  stop_tied : (now : ℕ) (l : Logging) (o : Option Status) (x : Split) (y : Extending) → ((k : ℕ) (e : Extent) → IsIn k y.running → slice_get y.extents k ≡ Some e → e.closed ≡ false) → ((s : Status) → o ≡ Some s → IsEnd y.entry) → AreTied now x y → AreTied now x (fold extend y (ends l o))
+  stop_tied : (now : ℕ) (l : Logging) (o : Option Status) (x : Split) (y : Indexing Extent) → ((k : ℕ) (e : Extent) → IsIn k y.running → slice_get y.intervals k ≡ Some e → e.closed ≡ false) → ((s : Status) → o ≡ Some s → IsEnd y.entry) → AreTied now x y → AreTied now x (fold extend y (ends l o))
   stop_tied now l None x y going end h = h
-  stop_tied now l (Some s) x y going end h = record { running = h.running; edges = h.edges; each = ended_tied y.entry y.running x.spans y.extents going (end s refl) h.each }
+  stop_tied now l (Some s) x y going end h = record { running = h.running; edges = h.edges; each = ended_tied y.entry y.running x.spans y.intervals going (end s refl) h.each }
 
   -- ---- one step
 
-  abbrev at : List Entry → Extending
+  abbrev at : List Entry → Indexing Extent
   at es = fold extend begun_extents es
 
   onto : (now : ℕ) (x : Split) (es more : List Entry) → AreTied now x (fold extend (at es) more) → AreTied now x (at (es ++ more))
@@ -174,20 +174,20 @@ module _ (IsOf : ℕ → ℕ → Type 0) (IsEnd : ℕ → Type 0) where
 
   -- a step does not both enter and leave a block
   two_marks : (now : ℕ) (es : List Entry) (l : Logging) (t : Taken) (a b : Option Mark) (frame : ℕ) (control : Option EventId) (tags : List Tag) (x : Split)
-      → (a ≡ None) ⊎ (b ≡ None) → ((m : Mark) → a ≡ Some m → IsOf now (length es)) → ((m : Mark) → b ≡ Some m → IsOf now (length ((es ++ prelogs a) ++ syncs l t (sync_of t))))
-      → AreTied now x (at es) → AreTied now (begin_if a frame control (end_if b tags x)) (at (((es ++ prelogs a) ++ syncs l t (sync_of t)) ++ postlogs b))
+      → (a ≡ None) ⊎ (b ≡ None) → ((m : Mark) → a ≡ Some m → IsOf now (length es)) → ((m : Mark) → b ≡ Some m → IsOf now (length ((es ++ block_entries entry.Prelog a) ++ syncs l t (sync_of t))))
+      → AreTied now x (at es) → AreTied now (begin_if a frame control (end_if b tags x)) (at (((es ++ block_entries entry.Prelog a) ++ syncs l t (sync_of t)) ++ block_entries entry.Postlog b))
   two_marks now es l t None b frame control tags x e o c h =
       let one : AreTied now x (at (es ++ [])) = onto now x es [] h in
       let two : AreTied now x (at ((es ++ []) ++ syncs l t (sync_of t))) = onto now x (es ++ []) (syncs l t (sync_of t)) (sync_tied now l t (sync_of t) x (at (es ++ [])) one) in
-      onto now (end_if b tags x) ((es ++ []) ++ syncs l t (sync_of t)) (postlogs b)
+      onto now (end_if b tags x) ((es ++ []) ++ syncs l t (sync_of t)) (block_entries entry.Postlog b)
       (end_tied now b tags x (at ((es ++ []) ++ syncs l t (sync_of t))) (λ m f. subst (λ j. IsOf now j) (sym (entry_number ((es ++ []) ++ syncs l t (sync_of t)))) (c m f)) two)
   two_marks now es l t (Some k) None frame control tags x e o c h =
       let y : Split = begin_if (Some k) frame control x in
-      let one : AreTied now y (at (es ++ prelogs (Some k))) =
-      onto now y es (prelogs (Some k)) (begin_tied now (Some k) frame control x (at es) (λ m f. subst (λ j. IsOf now j) (sym (entry_number es)) (o m f)) h) in
-      let two : AreTied now y (at ((es ++ prelogs (Some k)) ++ syncs l t (sync_of t))) =
-      onto now y (es ++ prelogs (Some k)) (syncs l t (sync_of t)) (sync_tied now l t (sync_of t) y (at (es ++ prelogs (Some k))) one) in
-      onto now y ((es ++ prelogs (Some k)) ++ syncs l t (sync_of t)) [] two
+      let one : AreTied now y (at (es ++ block_entries entry.Prelog (Some k))) =
+      onto now y es (block_entries entry.Prelog (Some k)) (begin_tied now (Some k) frame control x (at es) (λ m f. subst (λ j. IsOf now j) (sym (entry_number es)) (o m f)) h) in
+      let two : AreTied now y (at ((es ++ block_entries entry.Prelog (Some k)) ++ syncs l t (sync_of t))) =
+      onto now y (es ++ block_entries entry.Prelog (Some k)) (syncs l t (sync_of t)) (sync_tied now l t (sync_of t) y (at (es ++ block_entries entry.Prelog (Some k))) one) in
+      onto now y ((es ++ block_entries entry.Prelog (Some k)) ++ syncs l t (sync_of t)) [] two
   two_marks now es l t (Some k) (Some m) frame control tags x e o c h = elim e [ inl f ↦ absurd (none-some k (sym f)) | inr f ↦ absurd (none-some m (sym f)) ]
 
 one_mark : (program : Program) (plan : Plan) (s : Proc) (need : Need) → (opened program plan s need ≡ None) ⊎ (closed program plan s need ≡ None)
@@ -200,11 +200,11 @@ in_order es a b c d e =
     sym (append_assoc es (a ++ b ++ c ++ d) e)
     ∙ ap (λ z. z ++ e) (sym (append_assoc es (a ++ b ++ c) d) ∙ ap (λ z. z ++ d) (sym (append_assoc es (a ++ b) c) ∙ ap (λ z. z ++ c) (sym (append_assoc es a b))))
 
-one_at_least : (o : Option Mark) (m : Mark) → o ≡ Some m → length (postlogs o) ≡ 1
+one_at_least : (o : Option Mark) (m : Mark) → o ≡ Some m → length (block_entries entry.Postlog o) ≡ 1
 one_at_least None m e = absurd (none-some m e)
 one_at_least (Some k) m e = refl
 
-one_prelog : (o : Option Mark) (m : Mark) → o ≡ Some m → length (prelogs o) ≡ 1
+one_prelog : (o : Option Mark) (m : Mark) → o ≡ Some m → length (block_entries entry.Prelog o) ≡ 1
 one_prelog None m e = absurd (none-some m e)
 one_prelog (Some k) m e = refl
 
@@ -262,9 +262,9 @@ module _ (program : Program) (plan : Plan) (budget p : ℕ) (story' : Story) (al
       let l : Logging = log_of program plan budget p done in
       let need : Need = m.taken.need in
       let es : List Entry = l.entries in
-      let a : List Entry = prelogs (opened program plan l.proc need) in
+      let a : List Entry = block_entries entry.Prelog (opened program plan l.proc need) in
       let b : List Entry = syncs l m.taken (sync_of m.taken) in
-      let c : List Entry = postlogs (closed program plan l.proc need) in
+      let c : List Entry = block_entries entry.Postlog (closed program plan l.proc need) in
       let d : List Entry = units (unit_started need) m.unit_values in
       let ending : List Entry = ends l (status_of need) in
       let whole : es ++ entries_of program plan l m ≡ ((((es ++ a) ++ b) ++ c) ++ d) ++ ending = in_order es a b c d ending in
@@ -362,9 +362,9 @@ module _ (program : Program) (plan : Plan) (budget p : ℕ) (story' : Story) (al
       by true e =
           let blocked : Entry = entry.End status.Blocked log.rest log.reads log.writes in
           let is : closed_log log ≡ log.entries ++ blocked ∷ [] = ap (λ c. log.entries ++ (if c then blocked ∷ [] else [])) e in
-          let y : Extending = fold extend begun_extents log.entries in
+          let y : Indexing Extent = fold extend begun_extents log.entries in
           let number : y.entry ≡ length log.entries = entry_number log.entries in
-          let old : AreEach (IsBoth IsOf IsAnyEnd) spans y.extents = each_more (IsBoth IsOf IsKeptEnd) (IsBoth IsOf IsAnyEnd) (wider (blocked ∷ []) is) spans y.extents h in
+          let old : AreEach (IsBoth IsOf IsAnyEnd) spans y.intervals = each_more (IsBoth IsOf IsKeptEnd) (IsBoth IsOf IsAnyEnd) (wider (blocked ∷ []) is) spans y.intervals h in
           let end : IsAnyEnd y.entry = subst IsAnyEnd (sym number) (
             record {
               status = status.Blocked;
@@ -376,8 +376,8 @@ module _ (program : Program) (plan : Plan) (budget p : ℕ) (story' : Story) (al
             inl refl,
           ) in
           subst (λ es. AreEach (IsBoth IsOf IsAnyEnd) spans (extents es)) (sym is)
-          (subst (λ z. AreEach (IsBoth IsOf IsAnyEnd) spans z.extents) (sym (fold-append extend begun_extents log.entries (blocked ∷ [])))
-          (ended_tied IsOf IsAnyEnd y.entry y.running spans y.extents (running_going log.entries) end old))
+          (subst (λ z. AreEach (IsBoth IsOf IsAnyEnd) spans z.intervals) (sym (fold-append extend begun_extents log.entries (blocked ∷ [])))
+          (ended_tied IsOf IsAnyEnd y.entry y.running spans y.intervals (running_going log.entries) end old))
       by false e =
           let is : closed_log log ≡ log.entries ++ [] = ap (λ c. log.entries ++ (if c then entry.End status.Blocked log.rest log.reads log.writes ∷ [] else [])) e in
           subst (λ es. AreEach (IsBoth IsOf IsAnyEnd) spans (extents es)) (sym (is ∙ append-nil log.entries))

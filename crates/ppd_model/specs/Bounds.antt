@@ -9,7 +9,7 @@ use Rattle.ppd_sem.specs.declared.proc.Need.TheVariants.{P, V, Send, Offer, Done
 use Rattle.ppd_sem.specs.declared.proc.Proc.{Proc}
 use Rattle.ppd_sem.specs.Measure.{measure}
 use Rattle.ppd_model.specs.Schedule.{run}
-use Rattle.ppd_model.specs.World.{World, Channel, Counts, need, room, step, writes_cell}
+use Rattle.ppd_model.specs.World.{World, Channel, Counts, need, step, writes_cell, room_of}
 
 -- ---- what a step changes
 
@@ -79,7 +79,7 @@ pub record IsBalancedChan (c : Chan) (x : Channel) : Type 0 where
   pub capacity : x.capacity ≡ c.capacity
   pub completed : x.completed ≤ x.received
   pub received : x.received ≤ length x.sent
-  pub sent : length x.sent ≤ room x
+  pub sent : length x.sent ≤ room_of x.capacity x
 
 -- the counts of all semaphores and channels of the program
 pub record IsBalanced (program : Program) (w : World) : Type 0 where

@@ -1,15 +1,16 @@
 -- Where the intervals of a process stand in its log: a prelog and its postlog, properly nested.
-use Rattle.std.specs.Prelude.{◌≡◌, ℕ, ◌+◌, ℤ, Bool, true, false, List, [], ◌∷◌, ◌++◌, drop, fold, length, map, slice_get, Option, Some, None}
 use Rattle.ppd_ast.specs.declared.plan.Plan.{Plan}
 use Rattle.ppd_ast.specs.declared.program.Program.{Program}
+pub use Rattle.ppd_entry.specs.IntervalLogs.{Indexing}
+use Rattle.ppd_entry.specs.IntervalLogs.{begun_indexing, indexed}
 use Rattle.ppd_entry.specs.declared.entry.Entry.{Entry}
 use Rattle.ppd_entry.specs.declared.entry.Entry.TheVariants as entry
-use Rattle.ppd_entry.specs.IntervalLogs.{indexed}
-use Rattle.ppd_model.specs.World.{change}
-use Rattle.ppd_model.specs.Story.{story}
 use Rattle.ppd_model.specs.Bounds.{AreEach}
+use Rattle.ppd_model.specs.Intervals.{Span, Split, change_first, splits}
 use Rattle.ppd_model.specs.Logs.{Logging, closed_log, loggings}
-use Rattle.ppd_model.specs.Intervals.{Span, Split, change_first, is_closed, splits}
+use Rattle.ppd_model.specs.Story.{story}
+use Rattle.ppd_model.specs.World.{change}
+use Rattle.std.specs.Prelude.{Bool, List, None, Option, Some, [], drop, false, fold, is_some, length, map, slice_get, true, ℕ, ℤ, ◌++◌, ◌+◌, ◌∷◌, ◌≡◌}
 
 -- ---- what matches
 
@@ -68,43 +69,35 @@ pub record Extent : Type 0 where
   pub last : Option ℕ
   pub closed : Bool
 
--- the intervals so far, the numbers of those that are running with the innermost first, and the number
--- of the next entry
-pub record Extending : Type 0 where
-  pub extents : List Extent
-  pub running : List ℕ
-  pub entry : ℕ
-
-abbrev pub first_of : List ℕ → Option ℕ
-first_of [] = None
-first_of (k ∷ ks) = Some k
-
--- what an entry adds: a postlog leaves the innermost interval, and an end stands inside all that are running
-abbrev pub extend_by : Extending → Entry → Extending
-extend_by x (entry.Prelog b values) =
-    record x {
-      extents = x.extents
-          ++ (record { block = b; parent = first_of x.running; prelog = x.entry; last = None; closed = false }) ∷ [];
-      running = length x.extents ∷ x.running;
-    }
-extend_by x (entry.Postlog b values) =
-    record x {
-      extents = change_first (λ (i : Extent). record i { last = Some x.entry; closed = true }) x.running x.extents;
-      running = drop 1 x.running;
-    }
-extend_by x (entry.End status rest reads writes) =
-    record x {
-      extents = fold (λ ys k. change (λ (i : Extent). record i { last = Some x.entry }) k ys) x.extents x.running;
-    }
-extend_by x e = x
-
--- one more entry
-abbrev pub extend : Extending → Entry → Extending
-extend x e = record (extend_by x e) { entry = x.entry + 1 }
+-- one more entry: a prelog begins an interval, a postlog leaves the innermost one, and an end stands inside all that
+-- are running
+abbrev pub extend : Indexing Extent → Entry → Indexing Extent
+extend x e =
+    let left : Extent → Extent = λ i. record i { last = Some x.entry; closed = true } in
+    let ended : Extent → Extent = λ i. record i { last = Some x.entry } in
+    let after : Indexing Extent = elim e [
+      | entry.Prelog b values ↦ record x {
+        intervals = x.intervals ++ (record {
+          block = b;
+          parent = slice_get x.running 0;
+          prelog = x.entry;
+          last = None;
+          closed = false;
+        }) ∷ [];
+        running = length x.intervals ∷ x.running;
+      }
+      | entry.Unit u values ↦ x
+      | entry.Sync kind object number value reads writes ↦ x
+      | entry.Postlog b values ↦
+          record x { intervals = change_first left x.running x.intervals; running = drop 1 x.running }
+      | entry.End status rest reads writes ↦
+          record x { intervals = fold (λ ys k. change ended k ys) x.intervals x.running }
+    ] in
+    record after { entry = x.entry + 1 }
 
 -- the intervals of a process's entries
 abbrev pub extents : List Entry → List Extent
-extents entries = (fold extend (record { extents = []; running = []; entry = 0 }) entries).extents
+extents entries = (fold extend begun_indexing entries).intervals
 
 -- ---- what they are
 
@@ -126,8 +119,8 @@ ExtentsAreIndexed =
 -- an interval of a story and one of a log: of one block, directly inside the same interval, and both left or not
 pub record IsSameInterval (i : Span) (x : Extent) : Type 0 where
   pub block : i.block ≡ x.block
-  pub round : first_of i.round ≡ x.parent
-  pub closed : is_closed i ≡ x.closed
+  pub round : slice_get i.round 0 ≡ x.parent
+  pub closed : is_some i.closed ≡ x.closed
 
 -- the intervals of a process's own steps are those of its log, in order
 pub record AreOfLog (x : Split) (kept closed : List Entry) : Type 0 where

@@ -1,5 +1,7 @@
 -- The flowback edges of an item: where what it read, was left, was given and was let run by came from.
 use Rattle.std.specs.Prelude.{ℕ, ℤ, pos, List, [], ◌∷◌, ◌++◌, map, zip, get_or, slice_get, Option, Some, None, option_map, option_and_then}
+use Rattle.ppd_sem.specs.declared.event.Spot.{Spot}
+use Rattle.std.specs.Option.{option_map_or}
 use Rattle.ppd_sem.specs.Blocks.{block_kind, postlog_cells}
 use Rattle.ppd_ast.specs.declared.plan.BlockKind.{BlockKind}
 use Rattle.ppd_ast.specs.declared.plan.BlockKind.TheVariants as block
@@ -20,16 +22,6 @@ use Rattle.ppd_model.specs.Story.{Story}
 use Rattle.ppd_model.specs.FullTrace.{Tag}
 use Rattle.ppd_model.specs.Intervals.{Part, own, nested, Span, Split, splits, ref}
 
--- where a value came from
-abbrev pub from_writer : List Split → Tag → Origin
-from_writer xs None = origin.Initial
-from_writer xs (Some e) = ref xs e
-
--- where control came from
-abbrev pub from_parent : List Split → Option EventId → Origin
-from_parent xs None = origin.Entry
-from_parent xs (Some e) = ref xs e
-
 -- ---- of an event
 
 -- an edge without spot and value
@@ -45,35 +37,35 @@ sync_edges xs k None = []
 -- the reads in order, each from the event that last wrote the place, the synchronization, and control
 abbrev pub edges_of_event : Program → List Split → TracedEvent → List FlowEdge
 edges_of_event program xs e =
-    map (λ r. record { kind = Read; spot = Some r.0.spot; value = Some r.0.value; from = from_writer xs r.1 })
-    (zip e.event.reads e.writers)
+    map (λ r. record {
+      kind = Read;
+      spot = Some r.0.spot;
+      value = Some r.0.value;
+      from = option_map_or (ref xs) r.1 origin.Initial;
+    }) (zip e.event.reads e.writers)
     ++ sync_edges xs (kind_of program e.event.stmt) e.paired
-    ++ bare_edge Control (from_parent xs e.parent) ∷ []
+    ++ bare_edge Control (option_map_or (ref xs) e.parent origin.Entry) ∷ []
 
 -- ---- of an interval
 
--- one for each local cell of a loop's postlog
-abbrev pub left_edges : List Split → ℕ → List ℕ → List ℤ → List Tag → List FlowEdge
-left_edges xs frame (c ∷ cs) (v ∷ vs) (w ∷ ws) =
-    record { kind = Left; spot = Some (Local frame c); value = Some v; from = from_writer xs w }
-    ∷ left_edges xs frame cs vs ws
-left_edges xs frame cs vs ws = []
+-- an edge for each value of a postlog, with its spot, if it has one, and from the event that last wrote it
+abbrev pub value_edges : List Split → EdgeKind → List (Option Spot) → List ℤ → List Tag → List FlowEdge
+value_edges xs kind (s ∷ ss) (v ∷ vs) (w ∷ ws) =
+    record { kind = kind; spot = s; value = Some v; from = option_map_or (ref xs) w origin.Initial }
+    ∷ value_edges xs kind ss vs ws
+value_edges xs kind ss vs ws = []
 
--- one for a returned value
-abbrev pub returned_edges : List Split → List ℤ → List Tag → List FlowEdge
-returned_edges xs (v ∷ vs) (w ∷ ws) =
-    record { kind = Returned; spot = None; value = Some v; from = from_writer xs w } ∷ []
-returned_edges xs vs ws = []
-
--- what a loop left, or what a function returned
+-- what a loop left, one for each local cell of its postlog, or what a function returned
 abbrev pub result_edges : Plan → List Split → BlockKind → Span → List FlowEdge
-result_edges plan xs (block.Loop s) i = left_edges xs i.frame (postlog_cells plan i.block) i.values i.left
-result_edges plan xs kind i = returned_edges xs i.values i.left
+result_edges plan xs (block.Loop s) i =
+    value_edges xs Left (map (λ c. Some (Local i.frame c)) (postlog_cells plan i.block)) i.values i.left
+result_edges plan xs kind i = value_edges xs Returned (None ∷ []) i.values i.left
 
 -- what the interval brought, and control
 abbrev pub edges_of_nested : Plan → List Split → Span → List FlowEdge
 edges_of_nested plan xs i =
-    result_edges plan xs (block_kind plan i.block) i ++ bare_edge Control (from_parent xs i.control) ∷ []
+    result_edges plan xs (block_kind plan i.block) i
+    ++ bare_edge Control (option_map_or (ref xs) i.control origin.Entry) ∷ []
 
 -- ---- of an item
 
@@ -95,4 +87,5 @@ edges program plan budget story p k j =
 -- the last value of a shared cell, and where it was written
 abbrev pub last : Program → Plan → ℕ → Story → ℕ → ℤ × Origin
 last program plan budget story c =
-    (get_or story.cells c (pos 0), from_writer (splits program plan budget story) (get_or story.writers c None))
+    let xs = splits program plan budget story in
+    (get_or story.cells c (pos 0), option_map_or (ref xs) (get_or story.writers c None) origin.Initial)

@@ -1,34 +1,33 @@
 -- The events of a schedule: each with the writers of what it read, its control parent and its pair.
-use Rattle.std.specs.Prelude.{ℕ, zero, suc, ◌+◌, ◌-◌, nat_eq, ℤ, Bool, false, not, List, [], ◌∷◌, ◌++◌, map, fold, find, drop, length, get_or, replicate, slice_set, slice_get, Option, Some, None, option_map, Ok, if◌then◌else◌, option_and_then}
-use Rattle.std.specs.List.{enumerate_from}
-use Rattle.std.specs.Option.{option_map_or, option_or}
+use Rattle.ppd_ast.specs.Lookups.{body_numbered, kind_of}
+use Rattle.ppd_ast.specs.declared.plan.Plan.{Plan}
 use Rattle.ppd_ast.specs.declared.program.Kind.{Kind}
 use Rattle.ppd_ast.specs.declared.program.Kind.TheVariants.{If, While}
 use Rattle.ppd_ast.specs.declared.program.Program.{Program}
-use Rattle.ppd_ast.specs.declared.plan.Plan.{Plan}
-use Rattle.ppd_ast.specs.Lookups.{kind_of, parent_if}
-use Rattle.ppd_sem.specs.declared.event.Access.{Access}
-use Rattle.ppd_sem.specs.declared.event.Event.{Event}
-use Rattle.ppd_sem.specs.declared.event.Spot.{Spot}
-use Rattle.ppd_sem.specs.declared.event.Spot.TheVariants.{Local, Shared}
-use Rattle.ppd_sem.specs.declared.proc.Need.{Need}
-use Rattle.ppd_sem.specs.declared.proc.Need.TheVariants.{Read, Enter, Trap, Budget, Stopped}
-use Rattle.ppd_sem.specs.declared.proc.Proc.{Proc}
-use Rattle.ppd_sem.specs.declared.proc.Todo.{Todo}
-use Rattle.ppd_sem.specs.Ask.{is_zero}
-use Rattle.ppd_sem.specs.Asked.{Asked}
-use Rattle.ppd_sem.specs.Deed.{Deed, set_local, clear, invoke, back, receive}
-use Rattle.ppd_sem.specs.Described.{described}
-use Rattle.ppd_sem.specs.Process.{act, head_deed, into_of, started, top_call}
-use Rattle.ppd_sem.specs.Runs.{size_if}
+use Rattle.ppd_model.specs.Story.{Story, Taken}
+use Rattle.ppd_model.specs.Synchronizations.{leading_from, sync_of}
 use Rattle.ppd_model.specs.declared.trace.EventId.{EventId}
 use Rattle.ppd_model.specs.declared.trace.Trace.{Trace}
 use Rattle.ppd_model.specs.declared.trace.TracedEvent.{TracedEvent}
 pub use Rattle.ppd_model.specs.declared.tracing.Activation.{Activation}
 pub use Rattle.ppd_model.specs.declared.tracing.Test.{Test}
 pub use Rattle.ppd_model.specs.declared.tracing.Tracing.{Tracing}
-use Rattle.ppd_model.specs.Story.{Taken, Story, story}
-use Rattle.ppd_model.specs.Synchronizations.{paired_of}
+use Rattle.ppd_sem.specs.Asked.{Asked}
+use Rattle.ppd_sem.specs.Deed.{Deed, back, clear, invoke, receive, set_local}
+use Rattle.ppd_sem.specs.Described.{described}
+use Rattle.ppd_sem.specs.Process.{act, head_deed, into_at, started, top_frame}
+use Rattle.ppd_sem.specs.declared.event.Access.{Access}
+use Rattle.ppd_sem.specs.declared.event.Event.{Event}
+use Rattle.ppd_sem.specs.declared.event.Spot.{Spot}
+use Rattle.ppd_sem.specs.declared.event.Spot.TheVariants.{Local, Shared}
+use Rattle.ppd_sem.specs.declared.proc.Need.{Need}
+use Rattle.ppd_sem.specs.declared.proc.Need.TheVariants.{Budget, Enter, Read, Stopped, Trap}
+use Rattle.ppd_sem.specs.declared.proc.Proc.{Proc}
+use Rattle.ppd_sem.specs.declared.proc.Todo.{Todo}
+use Rattle.std.specs.List.{enumerate_from}
+use Rattle.std.specs.Option.{option_map_or, option_or}
+use Rattle.std.specs.Ordering.{int_eq}
+use Rattle.std.specs.Prelude.{Bool, List, None, Ok, Option, Some, [], drop, false, find, fold, get_or, if◌then◌else◌, length, map, nat_eq, not, option_and_then, option_map, pos, replicate, slice_get, slice_set, suc, zero, ℕ, ℤ, ◌++◌, ◌+◌, ◌-◌, ◌∷◌}
 
 -- the event that last wrote a place, and None for its start value
 abbrev pub Tag : Type 0
@@ -41,20 +40,16 @@ abbrev pub top_tags : List Activation → List Tag
 top_tags [] = []
 top_tags (x ∷ xs) = x.tags
 
--- the tag of a place that is read: of a shared one that of the next answer
-abbrev pub tag_at : List Tag → List Tag → Spot → Tag
-tag_at locals answers (Local frame c) = get_or locals c None
-tag_at locals answers (Shared c) = get_or answers 0 None
+-- the tag of a place that is read, and the answers that are left: a shared one takes the next answer with its tag
+abbrev pub tag_past : List Tag → List Tag → Spot → Tag × List Tag
+tag_past locals answers (Local frame c) = (get_or locals c None, answers)
+tag_past locals answers (Shared c) = (get_or answers 0 None, drop 1 answers)
 
--- a shared read takes its answer
-abbrev pub answers_past : List Tag → Spot → List Tag
-answers_past answers (Local frame c) = answers
-answers_past answers (Shared c) = drop 1 answers
-
--- the tags of reads in their order: a shared one has the next answer's
+-- the tags of reads in their order
 abbrev pub tags_of : List Tag → List Tag → List Access → List Tag
 tags_of locals answers [] = []
-tags_of locals answers (a ∷ as') = tag_at locals answers a.spot ∷ tags_of locals (answers_past answers a.spot) as'
+tags_of locals answers (a ∷ as') =
+    (tag_past locals answers a.spot).0 ∷ tags_of locals (tag_past locals answers a.spot).1 as'
 
 -- ---- the tags of what is written
 
@@ -72,14 +67,9 @@ all_tagged base (suc n) me xs = tagged (base + n) me (all_tagged base n me xs)
 abbrev pub called : Program → ℕ → ℕ → Option EventId → Activation
 called program f count me = record {
   call = me;
-  tags = replicate count me ++ replicate (size_if (slice_get program.bodies f) - count) None;
+  tags = replicate count me ++ replicate ((body_numbered program f).cells - count) None;
   tests = [];
 }
-
--- the local that receives the value of the top frame
-abbrev pub into_at : Program → Option ℕ → Option ℕ
-into_at program None = None
-into_at program (Some c) = into_of (kind_of program c)
 
 -- the receiving local has the tag of the return, where there are a local and a value
 abbrev pub tagged_into : Option ℕ → Option ℤ → Tag → List Activation → List Activation
@@ -92,7 +82,7 @@ tagged_by program s me (Ok (set_local c v, left)) xs = tagged c me xs
 tagged_by program s me (Ok (clear base len, left)) xs = all_tagged base len me xs
 tagged_by program s me (Ok (invoke f values into, left)) xs = called program f (length values) me ∷ xs
 tagged_by program s me (Ok (back value, left)) xs =
-    tagged_into (into_at program (top_call s.frames)) value me (drop 1 xs)
+    tagged_into (into_at program (top_frame s.frames).call) value me (drop 1 xs)
 tagged_by program s me (Ok (receive chan into, left)) xs = tagged into me xs
 tagged_by program s me asked xs = xs
 
@@ -116,7 +106,7 @@ of_run k x = None
 -- the control parent of statement s in its activation
 abbrev pub parent_in : Program → ℕ → Activation → Option EventId
 parent_in program s x =
-    let outer = parent_if (slice_get program.stmts s) in
+    let outer = option_and_then (λ x. x.parent) (slice_get program.stmts s) in
     let by_outer = option_and_then (λ o. option_map (λ y. y.event) (latest o x.tests)) outer in
     option_or (of_run (kind_of program s) (latest s x.tests)) (option_or by_outer x.call)
 
@@ -130,7 +120,7 @@ parent_at program (x ∷ xs) (t ∷ ts) = parent_in program t.stmt x
 -- a value that is there and not 0
 abbrev pub is_passed : Option ℤ → Bool
 is_passed None = false
-is_passed (Some v) = not (is_zero v)
+is_passed (Some v) = not (int_eq v (pos 0))
 
 -- the tests of an activation with one more, where the statement is an `If` or a `While`
 abbrev pub tests_after : Kind → ℕ → EventId → Option ℤ → List Test → List Test
@@ -162,7 +152,7 @@ traced_by program story x t e = record {
   event = e;
   writers = tags_of (top_tags t.activations) t.answers e.reads;
   parent = parent_at program t.activations t.proc.todo;
-  paired = paired_of program story x;
+  paired = leading_from program (sync_of x) 0 story.steps;
 }
 
 -- a step that finishes or traps a statement
@@ -205,11 +195,7 @@ abbrev pub tracing_of : Program → Plan → ℕ → Story → ℕ → List Take
 tracing_of program plan budget story p steps =
     fold (trace_step program plan story p) (begun_tracing (started program plan p budget)) steps
 
--- the trace of a story
-abbrev pub trace_of : Program → Plan → ℕ → Story → Trace
-trace_of program plan budget story =
+-- the full trace of a story: the events of each process
+abbrev pub full_trace : Program → Plan → ℕ → Story → Trace
+full_trace program plan budget story =
     record { events = map (λ e. (tracing_of program plan budget story e.0 e.1).events) (enumerate_from 0 story.steps) }
-
--- the full trace of a schedule
-abbrev pub full_trace : Program → Plan → ℕ → List ℕ → Trace
-full_trace program plan budget h = trace_of program plan budget (story program plan budget h)

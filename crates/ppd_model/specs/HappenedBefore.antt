@@ -14,13 +14,9 @@ node p i = record { process = p; sync = i }
 abbrev pub edge : ℕ → ℕ → EdgeId
 edge p i = record { process = p; edge = i }
 
--- the synchronizations of process p
-abbrev pub own_syncs : List (List Sync) → ℕ → List Sync
-own_syncs syncs p = get_or syncs p []
-
 -- the synchronization of this name, if it is there
 abbrev pub sync_at : List (List Sync) → NodeId → Option Sync
-sync_at syncs a = slice_get (own_syncs syncs a.process) a.sync
+sync_at syncs a = slice_get (get_or syncs a.process []) a.sync
 
 -- b is there and the next of its process, or a leads to it by its number
 abbrev pub is_direct : Program → List (List Sync) → NodeId → NodeId → Bool
@@ -47,21 +43,14 @@ abbrev pub closed_through : {A : Type 0} → (A → A → Bool) → List A → A
 closed_through r [] a b = r a b
 closed_through r (n ∷ ns) a b = closed_through r ns a b || (closed_through r ns a n && closed_through r ns n b)
 
--- every synchronization of the record
-abbrev pub nodes : List (List Sync) → List NodeId
-nodes syncs = flat_map (λ e. map (node e.0) (range_with_len 0 (length e.1))) (enumerate_from 0 syncs)
-
--- does a happen before b
+-- does a happen before b, through any synchronizations of the record
 abbrev pub is_before : Program → List (List Sync) → NodeId → NodeId → Bool
-is_before program syncs a b = closed_through (is_direct program syncs) (nodes syncs) a b
-
--- the end of edge i of process p is before the beginning of an edge of process q
-abbrev pub ends_before : Program → List (List Sync) → ℕ → ℕ → ℕ → ℕ → Bool
-ends_before program syncs p i q zero = false
-ends_before program syncs p i q (suc j) = is_before program syncs (node p i) (node q j)
+is_before program syncs a b =
+    let nodes = flat_map (λ e. map (node e.0) (range_with_len 0 (length e.1))) (enumerate_from 0 syncs) in
+    closed_through (is_direct program syncs) nodes a b
 
 -- is edge a before edge b
 abbrev pub is_edge_before : Program → List (List Sync) → EdgeId → EdgeId → Bool
 is_edge_before program syncs a b =
     if nat_eq a.process b.process then nat_lt a.edge b.edge
-    else ends_before program syncs a.process a.edge b.process b.edge
+    else elim b.edge [ zero ↦ false | suc j ↦ is_before program syncs (node a.process a.edge) (node b.process j) ]

@@ -157,7 +157,7 @@ abbrev pub splits : Program → Plan → ℕ → Story → List Split
 splits program plan budget story =
     map (λ e. split_of program plan budget story e.0 e.1) (enumerate_from 0 story.steps)
 
--- ---- an interval
+-- ---- intervals
 
 -- the intervals of a process that is there
 abbrev pub spans_in : Option Split → List Span
@@ -168,16 +168,13 @@ spans_in (Some x) = x.spans
 abbrev pub intervals : Program → Plan → ℕ → Story → ℕ → List Span
 intervals program plan budget story p = spans_in (slice_get (splits program plan budget story) p)
 
--- the interval has a postlog
-abbrev pub is_closed : Span → Bool
-is_closed i = is_some i.closed
-
 -- ---- items
 
 -- the item that a part is, if its event or interval is there
 abbrev pub item_of : Split → Part → List Item
 item_of x (own n) = option_map_or (λ e. item.Own e.event ∷ []) (slice_get x.trace.events n) []
-item_of x (nested m) = option_map_or (λ i. item.Nested m i.block i.values (is_closed i) ∷ []) (slice_get x.spans m) []
+item_of x (nested m) =
+    option_map_or (λ i. item.Nested m i.block i.values (is_some i.closed) ∷ []) (slice_get x.spans m) []
 
 -- the items of an interval
 abbrev pub items_of : Split → Span → List Item

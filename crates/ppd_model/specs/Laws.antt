@@ -1,28 +1,28 @@
 -- Laws of the definitions, which hold of every program, plan, budget and schedule.
-use Rattle.std.specs.Prelude.{◌≡◌, ℕ, ◌<◌, ◌≤◌, ℤ, pos, false, ◌||◌, ◌⊎◌, ◌↔◌, List, [], ◌∷◌, ◌++◌, fold, map, length, get_or, slice_get, Some, None, IsTrue, ⊤}
-use Rattle.std.specs.Option.{option_map_or}
 use Rattle.ppd_ast.specs.declared.plan.Plan.{Plan}
 use Rattle.ppd_ast.specs.declared.program.Program.{Program}
 use Rattle.ppd_entry.specs.declared.entry.Entry.{Entry}
 use Rattle.ppd_entry.specs.declared.entry.Entry.TheVariants as entry
-use Rattle.ppd_sem.specs.declared.proc.Need.TheVariants.{Write}
+use Rattle.ppd_model.specs.FlowbackEdges.{edges, last}
+use Rattle.ppd_model.specs.FullTrace.{full_trace, tracing_of}
+use Rattle.ppd_model.specs.HappenedBefore.{Before, EdgeBefore, edge, is_before, is_edge_before, node, sync_at}
+use Rattle.ppd_model.specs.Intervals.{intervals, items, split_of}
+use Rattle.ppd_model.specs.Logs.{close, closed_logs, log_step, loggings}
+use Rattle.ppd_model.specs.NearIntervals.{near_intervals}
+use Rattle.ppd_model.specs.Numbers.{IsCounted, count_of}
+use Rattle.ppd_model.specs.Races.{edges_of_story, races, races_among}
+use Rattle.ppd_model.specs.Record.{SharedAccess, accesses, record_of, sync_record}
+use Rattle.ppd_model.specs.Schedule.{run, started_world}
+use Rattle.ppd_model.specs.States.{state_of, states}
+use Rattle.ppd_model.specs.Story.{Moment, Story, Taken, Telling, begun, moment_of, next_event, number_of, story, tell, told, unit_started, values_of_unit, writers_after}
+use Rattle.ppd_model.specs.Synchronizations.{Sync}
+use Rattle.ppd_model.specs.World.{World, answer, change, need, step, writes_cell}
 use Rattle.ppd_model.specs.declared.graph.EdgeId.{EdgeId}
 use Rattle.ppd_model.specs.declared.graph.NodeId.{NodeId}
 use Rattle.ppd_model.specs.declared.trace.EventId.{EventId}
-use Rattle.ppd_model.specs.World.{World, answer, change, need, step, writes_cell}
-use Rattle.ppd_model.specs.Schedule.{run, started_world}
-use Rattle.ppd_model.specs.Story.{Moment, Story, Taken, Telling, begun, moment_of, next_event, number_of, story, tell, told, unit_started, values_of_unit, writers_after}
-use Rattle.ppd_model.specs.States.{state_of, states}
-use Rattle.ppd_model.specs.Synchronizations.{Sync}
-use Rattle.ppd_model.specs.FullTrace.{full_trace, tracing_of}
-use Rattle.ppd_model.specs.Record.{SharedAccess, accesses, record_of, sync_record}
-use Rattle.ppd_model.specs.HappenedBefore.{Before, EdgeBefore, edge, is_before, is_edge_before, node, own_syncs, sync_at}
-use Rattle.ppd_model.specs.Numbers.{IsCounted, count_of}
-use Rattle.ppd_model.specs.Races.{races, races_of}
-use Rattle.ppd_model.specs.Logs.{close, closed_logs, log_step, loggings}
-use Rattle.ppd_model.specs.Intervals.{intervals, items, split_of}
-use Rattle.ppd_model.specs.FlowbackEdges.{edges, last}
-use Rattle.ppd_model.specs.NearIntervals.{near_intervals}
+use Rattle.ppd_sem.specs.declared.proc.Need.TheVariants.{Write}
+use Rattle.std.specs.Option.{option_map_or}
+use Rattle.std.specs.Prelude.{IsTrue, List, None, Some, [], false, fold, get_or, length, map, pos, slice_get, ℕ, ℤ, ⊤, ◌++◌, ◌<◌, ◌||◌, ◌↔◌, ◌∷◌, ◌≡◌, ◌≤◌, ◌⊎◌}
 
 -- ---- one more step
 
@@ -93,7 +93,8 @@ without_values e = e
 
 -- all that is found in two schedules is the same, of the logs but for the values of units
 pub record HasOneHistory (program : Program) (plan : Plan) (budget : ℕ) (h h' : List ℕ) : Type 0 where
-  pub traces : full_trace program plan budget h ≡ full_trace program plan budget h'
+  pub traces : full_trace program plan budget (story program plan budget h)
+      ≡ full_trace program plan budget (story program plan budget h')
   pub records : sync_record program plan budget h ≡ sync_record program plan budget h'
   pub all_accesses : (p : ℕ) → accesses (story program plan budget h) p ≡ accesses (story program plan budget h') p
   pub all_races : races program plan budget h ≡ races program plan budget h'
@@ -138,9 +139,9 @@ IsTestOfEdges =
 
 -- no synchronization ends the last edge of process p, which is before no edge
 pub record IsOpenEnded (program : Program) (syncs : List (List Sync)) (p : ℕ) : Type 0 where
-  pub no_end : sync_at syncs (node p (length (own_syncs syncs p))) ≡ None
-  pub before_none : (q j : ℕ) → j ≤ length (own_syncs syncs q)
-      → EdgeBefore program syncs (edge p (length (own_syncs syncs p))) (edge q j) → ⊥
+  pub no_end : sync_at syncs (node p (length (get_or syncs p []))) ≡ None
+  pub before_none : (q j : ℕ) → j ≤ length (get_or syncs q [])
+      → EdgeBefore program syncs (edge p (length (get_or syncs p []))) (edge q j) → ⊥
 
 -- so it is with the last edge of every process
 abbrev pub LastEdgesAreOpen : Type 0
@@ -169,7 +170,8 @@ pub record DoConflict (s : Story) (p q : ℕ) (a b : SharedAccess) : Type 0 wher
 -- where no race is listed, all accesses that conflict are ordered by their edges
 abbrev pub NoRaceMeansOrder : Type 0
 NoRaceMeansOrder =
-    (program : Program) (s : Story) → races_of program s ≡ [] → (p q : ℕ) (a b : SharedAccess) → DoConflict s p q a b
+    (program : Program) (s : Story) → races_among (edges_of_story program s) ≡ []
+    → (p q : ℕ) (a b : SharedAccess) → DoConflict s p q a b
     → EdgeBefore program (record_of s) (edge p a.edge) (edge q b.edge)
     ⊎ EdgeBefore program (record_of s) (edge q b.edge) (edge p a.edge)
 

@@ -1,20 +1,20 @@
 -- The events that write the local cells of a process, and the tags that the cells then have.
-use Rattle.std.specs.Prelude.{◌≡◌, ℕ, ◌+◌, ◌-◌, ◌<◌, ◌≤◌, nat_eq, ℤ, Bool, true, false, ◌&&◌, ◌||◌, ◌⊎◌, List, [], ◌∷◌, ◌++◌, map, fold, length, get_or, Option, Some, None, Ok, ⊤, if◌then◌else◌}
-use Rattle.std.specs.List.{list_any}
 use Rattle.ppd_ast.specs.declared.plan.Plan.{Plan}
 use Rattle.ppd_ast.specs.declared.program.Program.{Program}
+use Rattle.ppd_model.specs.FullTrace.{Activation, Tag, Tracing, begun_tracing, event_of, me_in, tag_past, top_tags, trace_step, tracing_of}
+use Rattle.ppd_model.specs.Story.{Story, Taken, story}
+use Rattle.ppd_sem.specs.Asked.{Asked}
+use Rattle.ppd_sem.specs.Deed.{Deed, back}
+use Rattle.ppd_sem.specs.Described.{frame_of, is_event}
+use Rattle.ppd_sem.specs.Process.{act, head_deed, into_at, need_of, started, top_frame}
+use Rattle.ppd_sem.specs.Runs.{sizes}
 use Rattle.ppd_sem.specs.declared.event.Spot.{Spot}
 use Rattle.ppd_sem.specs.declared.event.Spot.TheVariants.{Local, Shared}
 use Rattle.ppd_sem.specs.declared.proc.Frame.{Frame}
 use Rattle.ppd_sem.specs.declared.proc.Proc.{Proc}
 use Rattle.ppd_sem.specs.declared.proc.Todo.{Todo}
-use Rattle.ppd_sem.specs.Asked.{Asked}
-use Rattle.ppd_sem.specs.Deed.{Deed, back}
-use Rattle.ppd_sem.specs.Described.{frame_of, is_event}
-use Rattle.ppd_sem.specs.Process.{act, head_deed, need_of, started, top_call}
-use Rattle.ppd_sem.specs.Runs.{sizes}
-use Rattle.ppd_model.specs.FullTrace.{Activation, Tag, Tracing, begun_tracing, event_of, into_at, me_in, tag_at, top_tags, trace_step, tracing_of}
-use Rattle.ppd_model.specs.Story.{Story, Taken, own_steps, story}
+use Rattle.std.specs.List.{list_any}
+use Rattle.std.specs.Prelude.{Bool, List, None, Ok, Option, Some, [], false, fold, get_or, if◌then◌else◌, length, map, nat_eq, true, ℕ, ℤ, ⊤, ◌&&◌, ◌++◌, ◌+◌, ◌-◌, ◌<◌, ◌||◌, ◌∷◌, ◌≡◌, ◌≤◌, ◌⊎◌}
 
 -- ---- activations by their numbers
 
@@ -56,7 +56,7 @@ is_into into value c = false
 -- the statement returns a value, which the cell of the activation below the top one receives
 abbrev pub is_received_by : Program → List Frame → ℕ → ℕ → Asked Deed → Bool
 is_received_by program frames k c (Ok (back value, left)) =
-    nat_eq (k + 2) (length frames) && is_into (into_at program (top_call frames)) value c
+    nat_eq (k + 2) (length frames) && is_into (into_at program (top_frame frames).call) value c
 is_received_by program frames k c asked = false
 
 -- the head statement does so
@@ -107,7 +107,7 @@ AreOwn program plan s (x ∷ xs) =
 abbrev pub StoriesTellOwnSteps : Type 0
 StoriesTellOwnSteps =
     (program : Program) (plan : Plan) (budget : ℕ) (h : List ℕ) (p : ℕ)
-    → AreOwn program plan (started program plan p budget) (own_steps (story program plan budget h) p)
+    → AreOwn program plan (started program plan p budget) (get_or (story program plan budget h).steps p [])
 
 -- through these steps the activation goes on, and none writes the cell
 abbrev pub IsSteady : Program → Plan → ℕ → ℕ → Proc → List Taken → Type 0
@@ -175,7 +175,7 @@ LocalTagsAreLastWrites =
 abbrev pub SchedulesTagLastWrites : Type 0
 SchedulesTagLastWrites =
     (program : Program) (plan : Plan) (budget : ℕ) (h : List ℕ) (p : ℕ) (before after : List Taken)
-    → own_steps (story program plan budget h) p ≡ before ++ after
+    → get_or (story program plan budget h).steps p [] ≡ before ++ after
     → HasLocalTags program plan (story program plan budget h) p (begun_tracing (started program plan p budget))
     (tracing_of program plan budget (story program plan budget h) p before) before
 
@@ -183,4 +183,4 @@ SchedulesTagLastWrites =
 abbrev pub ReadsAreOfTheTop : Type 0
 ReadsAreOfTheTop =
     (xs : List Activation) (answers : List Tag) (frame c : ℕ)
-    → tag_at (top_tags xs) answers (Local frame c) ≡ local_tag xs (length xs - 1) c
+    → (tag_past (top_tags xs) answers (Local frame c)).0 ≡ local_tag xs (length xs - 1) c

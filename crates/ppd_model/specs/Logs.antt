@@ -28,15 +28,10 @@ pub use Rattle.ppd_model.specs.declared.state.Logging.{Logging}
 
 -- ---- the entries of one step
 
--- the prelog of a block that is entered
-abbrev pub prelogs : Option Mark → List Entry
-prelogs None = []
-prelogs (Some m) = entry.Prelog m.block m.values ∷ []
-
--- the postlog of a block that is left
-abbrev pub postlogs : Option Mark → List Entry
-postlogs None = []
-postlogs (Some m) = entry.Postlog m.block m.values ∷ []
+-- the entry of a block that is entered, a prelog, or of one that is left, a postlog
+abbrev pub block_entries : (ℕ → List ℤ → Entry) → Option Mark → List Entry
+block_entries log None = []
+block_entries log (Some m) = log m.block m.values ∷ []
 
 -- the unit that starts, with its values
 abbrev pub units : Option ℕ → List ℤ → List Entry
@@ -70,9 +65,9 @@ ends l (Some s) = entry.End s l.rest l.reads l.writes ∷ []
 -- a block that is entered or left or a synchronization, the unit that starts then, and the end
 abbrev pub entries_of : Program → Plan → Logging → Moment → List Entry
 entries_of program plan l m =
-    prelogs (opened program plan l.proc m.taken.need)
+    block_entries entry.Prelog (opened program plan l.proc m.taken.need)
     ++ syncs l m.taken (sync_of m.taken)
-    ++ postlogs (closed program plan l.proc m.taken.need)
+    ++ block_entries entry.Postlog (closed program plan l.proc m.taken.need)
     ++ units (unit_started m.taken.need) m.unit_values
     ++ ends l (status_of m.taken.need)
 
@@ -145,18 +140,13 @@ closed_log l =
 abbrev pub closed_logs : Program → Plan → ℕ → List ℕ → Logs
 closed_logs program plan budget h = record { lists = map closed_log (loggings program plan budget h) }
 
--- the last statement of a body
-abbrev pub last_of : Option Body → ℕ
-last_of None = 0
-last_of (Some b) = b.end - 1
-
 -- how a process ended, with the statement that would come next or else the last one of the body: one that is still
 -- running is blocked
 abbrev pub end_of : Option Body → Proc → ProcEnd
 end_of body s =
     record {
       status = unwrap_or s.status status.Blocked;
-      stmt = option_map_or (λ t. t.stmt) (slice_get s.todo 0) (last_of body);
+      stmt = option_map_or (λ t. t.stmt) (slice_get s.todo 0) (option_map_or (λ b. b.end - 1) body 0);
       steps = s.steps;
       prints = s.prints;
     }

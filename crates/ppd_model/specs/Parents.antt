@@ -1,20 +1,20 @@
 -- The control parent of an event, told by the events that were before it in its activation.
-use Rattle.std.specs.Prelude.{◌≡◌, ℕ, ◌+◌, ◌<◌, ◌≤◌, nat_eq, Bool, true, false, ◌&&◌, ◌⊎◌, List, [], ◌∷◌, ◌++◌, fold, length, get_or, slice_get, Option, Some, None, ⊤}
+use Rattle.ppd_ast.specs.Lookups.{kind_of}
+use Rattle.ppd_ast.specs.Numbered.{is_call, is_while}
+use Rattle.ppd_ast.specs.Valid.{IsValid}
 use Rattle.ppd_ast.specs.declared.plan.Plan.{Plan}
 use Rattle.ppd_ast.specs.declared.program.Kind.{Kind}
 use Rattle.ppd_ast.specs.declared.program.Kind.TheVariants.{If, While}
 use Rattle.ppd_ast.specs.declared.program.Program.{Program}
-use Rattle.ppd_ast.specs.Valid.{IsValid}
-use Rattle.ppd_ast.specs.Lookups.{kind_of, parent_if}
-use Rattle.ppd_ast.specs.Numbered.{is_call, is_while}
-use Rattle.ppd_sem.specs.declared.proc.Proc.{Proc}
-use Rattle.ppd_sem.specs.declared.proc.Todo.{Todo}
-use Rattle.ppd_sem.specs.Process.{act, started}
-use Rattle.ppd_sem.specs.Described.{is_event}
+use Rattle.ppd_model.specs.FullTrace.{Tracing, begun_tracing, event_of, full_trace, is_passed, me_in, trace_step}
+use Rattle.ppd_model.specs.Story.{Story, Taken, story}
 use Rattle.ppd_model.specs.declared.trace.EventId.{EventId}
 use Rattle.ppd_model.specs.declared.trace.TracedEvent.{TracedEvent}
-use Rattle.ppd_model.specs.FullTrace.{Tracing, begun_tracing, event_of, full_trace, is_passed, me_in, trace_step}
-use Rattle.ppd_model.specs.Story.{Story, Taken, own_steps, story}
+use Rattle.ppd_sem.specs.Described.{is_event}
+use Rattle.ppd_sem.specs.Process.{act, started}
+use Rattle.ppd_sem.specs.declared.proc.Proc.{Proc}
+use Rattle.ppd_sem.specs.declared.proc.Todo.{Todo}
+use Rattle.std.specs.Prelude.{Bool, List, None, Option, Some, [], false, fold, get_or, length, nat_eq, option_and_then, slice_get, true, ℕ, ⊤, ◌&&◌, ◌++◌, ◌+◌, ◌<◌, ◌∷◌, ◌≡◌, ◌≤◌, ◌⊎◌}
 
 -- ---- the steps that test
 
@@ -110,7 +110,7 @@ pub record StandsIn (program : Program) (plan : Plan) (story : Story) (p k s : �
     (parent : Option EventId) : Type 0 where
   pub first : IsFirst program plan story p k s t steps
   pub outer : ℕ
-  pub outer_is : parent_if (slice_get program.stmts s) ≡ Some outer
+  pub outer_is : option_and_then (λ x. x.parent) (slice_get program.stmts s) ≡ Some outer
   pub event : EventId
   pub passed : Bool
   pub latest : IsLatestTest program plan story p k outer t steps event passed
@@ -120,7 +120,8 @@ pub record StandsIn (program : Program) (plan : Plan) (story : Story) (p k s : �
 pub record IsOutermost (program : Program) (plan : Plan) (story : Story) (p k s : ℕ) (t : Tracing)
     (steps : List Taken) (parent : Option EventId) : Type 0 where
   pub first : IsFirst program plan story p k s t steps
-  pub untested : (outer : ℕ) → parent_if (slice_get program.stmts s) ≡ Some outer → (event : EventId) (passed : Bool)
+  pub untested : (outer : ℕ) → option_and_then (λ x. x.parent) (slice_get program.stmts s) ≡ Some outer
+      → (event : EventId) (passed : Bool)
       → IsLatestTest program plan story p k outer t steps event passed → ⊥
   pub call : IsBegunBy program plan story p k t steps parent ⊎ IsFromStart program plan k t steps parent
 
@@ -150,16 +151,16 @@ pub record HasParent (program : Program) (plan : Plan) (story : Story) (p : ℕ)
 abbrev pub ParentsAreLatestTests : Type 0
 ParentsAreLatestTests =
     (program : Program) (plan : Plan) (budget : ℕ) (h : List ℕ) (p n : ℕ) (e : TracedEvent)
-    → slice_get (get_or (full_trace program plan budget h).events p []) n ≡ Some e
+    → slice_get (get_or (full_trace program plan budget (story program plan budget h)).events p []) n ≡ Some e
     → HasParent program plan (story program plan budget h) p (begun_tracing (started program plan p budget))
-    (own_steps (story program plan budget h) p) n e
+    (get_or (story program plan budget h).steps p []) n e
 
 -- ---- valid programs
 
 -- statement q stands in statement s, directly or in one that does
 pub data IsInside (program : Program) (s : ℕ) : ℕ → Type 0 where
-  directly : {q : ℕ} → parent_if (slice_get program.stmts q) ≡ Some s → IsInside program s q
-  deeper : {q : ℕ} (r : ℕ) → parent_if (slice_get program.stmts q) ≡ Some r → IsInside program s r
+  directly : {q : ℕ} → option_and_then (λ x. x.parent) (slice_get program.stmts q) ≡ Some s → IsInside program s q
+  deeper : {q : ℕ} (r : ℕ) → option_and_then (λ x. x.parent) (slice_get program.stmts q) ≡ Some r → IsInside program s r
       → IsInside program s q
 
 -- each event of these steps in activation k is of a statement that stands in statement s
@@ -182,7 +183,7 @@ pub record HasTestedOuter (program : Program) (plan : Plan) (story : Story) (p :
     (before : List Taken) (taken : Taken) : Type 0 where
   pub activation : 0 < length (traced_to program plan story p t before).proc.frames
   pub tested : (k outer : ℕ) → k + 1 ≡ length (traced_to program plan story p t before).proc.frames
-      → parent_if (slice_get program.stmts
+      → option_and_then (λ x. x.parent) (slice_get program.stmts
       (event_of program plan (traced_to program plan story p t before).proc taken
       (traced_to program plan story p t before).proc.todo).stmt) ≡ Some outer
       → IsTested program plan story p k outer t before
@@ -192,7 +193,8 @@ abbrev pub OutersAreTested : Type 0
 OutersAreTested =
     (program : Program) (plan : Plan) (budget : ℕ) (h : List ℕ) (p : ℕ) (before : List Taken) (taken : Taken)
     (after : List Taken)
-    → IsValid program → own_steps (story program plan budget h) p ≡ before ++ taken ∷ after → is_event taken.need ≡ true
+    → IsValid program → get_or (story program plan budget h).steps p [] ≡ before ++ taken ∷ after
+    → is_event taken.need ≡ true
     → HasTestedOuter program plan (story program plan budget h) p
     (begun_tracing (started program plan p budget)) before taken
 
@@ -202,7 +204,7 @@ abbrev pub LoopRunsStayInside : Type 0
 LoopRunsStayInside =
     (program : Program) (plan : Plan) (budget : ℕ) (h : List ℕ) (p : ℕ) (before after : List Taken) (k s : ℕ)
     (event : EventId)
-    → IsValid program → own_steps (story program plan budget h) p ≡ before ++ after
+    → IsValid program → get_or (story program plan budget h).steps p [] ≡ before ++ after
     → is_while (kind_of program s) ≡ true
     → (l : IsLatestTest program plan (story program plan budget h) p k s
     (begun_tracing (started program plan p budget)) before event true)
@@ -215,7 +217,7 @@ LoopRunsStayInside =
 pub record IsOfTopList (program : Program) (plan : Plan) (story : Story) (p k s : ℕ) (t : Tracing)
     (steps : List Taken) (parent : Option EventId) : Type 0 where
   pub first : IsFirst program plan story p k s t steps
-  pub top : parent_if (slice_get program.stmts s) ≡ None
+  pub top : option_and_then (λ x. x.parent) (slice_get program.stmts s) ≡ None
   pub call : IsBegunBy program plan story p k t steps parent ⊎ IsFromStart program plan k t steps parent
 
 -- an event is of the top activation, and its parent is the test of a loop's run that goes on, or that of
@@ -233,6 +235,6 @@ pub record HasValidParent (program : Program) (plan : Plan) (story : Story) (p :
 abbrev pub ValidParents : Type 0
 ValidParents =
     (program : Program) (plan : Plan) (budget : ℕ) (h : List ℕ) (p n : ℕ) (e : TracedEvent) → IsValid program
-    → slice_get (get_or (full_trace program plan budget h).events p []) n ≡ Some e
+    → slice_get (get_or (full_trace program plan budget (story program plan budget h)).events p []) n ≡ Some e
     → HasValidParent program plan (story program plan budget h) p (begun_tracing (started program plan p budget))
-    (own_steps (story program plan budget h) p) n e
+    (get_or (story program plan budget h).steps p []) n e

@@ -1,6 +1,8 @@
 -- The races among edges, all and only, in order: of two processes, neither before the other, over a cell that one of
 -- them writes. Those of a story, and of a schedule, are the races among its edges.
-use Rattle.std.specs.Prelude.{ℕ, ◌+◌, ◌-◌, nat_eq, Bool, true, false, ◌&&◌, ◌||◌, not, List, [], ◌∷◌, map, filter, length}
+use Rattle.ppd_model.specs.Synchronizations.{sync_of}
+use Rattle.std.specs.Bool.{beq}
+use Rattle.std.specs.Prelude.{ℕ, ◌+◌, ◌-◌, nat_eq, Bool, true, false, ◌&&◌, ◌||◌, not, List, [], ◌∷◌, map, filter, length, get_or, filter_map}
 use Rattle.std.specs.List.{list_any, flat_map, range_with_len}
 use Rattle.ppd_ast.specs.declared.program.Program.{Program}
 use Rattle.ppd_ast.specs.declared.plan.Plan.{Plan}
@@ -8,9 +10,8 @@ use Rattle.ppd_model.specs.declared.graph.EdgeId.{EdgeId}
 use Rattle.ppd_model.specs.declared.graph.Race.{Race}
 use Rattle.ppd_model.specs.declared.graph.RaceKind.{RaceKind}
 use Rattle.ppd_model.specs.declared.graph.RaceKind.TheVariants.{ReadWrite, WriteRead, WriteWrite}
-use Rattle.ppd_model.specs.Story.{Story, story, own_steps}
-use Rattle.ppd_model.specs.Synchronizations.{syncs_of}
-use Rattle.ppd_model.specs.Record.{SharedAccess, accesses, record_of}
+use Rattle.ppd_model.specs.Story.{Story, story}
+use Rattle.ppd_model.specs.Record.{accesses, record_of}
 use Rattle.ppd_model.specs.HappenedBefore.{edge, is_edge_before}
 
 -- the first process writes in a race of this kind
@@ -70,30 +71,21 @@ races_among e = filter (is_race e) (candidates e)
 
 -- ---- of a story
 
--- the access is a write, or is a read
-abbrev pub writes_or_not : SharedAccess → Bool → Bool
-writes_or_not a true = a.writes
-writes_or_not a false = not a.writes
-
 -- process p has an access of this cell in edge i, a write or a read
 abbrev pub has_access : Story → ℕ → ℕ → ℕ → Bool → Bool
 has_access s p i cell writes =
-    list_any (λ a. nat_eq a.edge i && nat_eq a.cell cell && writes_or_not a writes) (accesses s p)
+    list_any (λ a. nat_eq a.edge i && nat_eq a.cell cell && beq a.writes writes) (accesses s p)
 
--- its edges: each process has one more than it has synchronizations
+-- the edges of a story: each process has one more than it has synchronizations
 abbrev pub edges_of_story : Program → Story → Edges
 edges_of_story program s = record {
   processes = length s.steps;
   cells = length s.cells;
-  count = λ p. length (syncs_of (own_steps s p)) + 1;
+  count = λ p. length (filter_map sync_of (get_or s.steps p [])) + 1;
   accesses = λ a cell writes. has_access s a.process a.edge cell writes;
   before = is_edge_before program (record_of s);
 }
 
--- the races of a story
-abbrev pub races_of : Program → Story → List Race
-races_of program s = races_among (edges_of_story program s)
-
 -- the races of a schedule
 abbrev pub races : Program → Plan → ℕ → List ℕ → List Race
-races program plan budget h = races_of program (story program plan budget h)
+races program plan budget h = races_among (edges_of_story program (story program plan budget h))

@@ -1,15 +1,15 @@
 -- The record of a schedule, its synchronizations by process, and the accesses to shared cells between them.
-use Rattle.std.specs.Prelude.{ℕ, ◌+◌, Bool, true, false, List, [], ◌∷◌, ◌++◌, map, is_some, if◌then◌else◌}
+use Rattle.std.specs.Prelude.{ℕ, ◌+◌, Bool, true, false, List, [], ◌∷◌, ◌++◌, map, is_some, if◌then◌else◌, get_or, filter_map}
 use Rattle.ppd_ast.specs.declared.program.Program.{Program}
 use Rattle.ppd_ast.specs.declared.plan.Plan.{Plan}
 use Rattle.ppd_sem.specs.declared.proc.Need.{Need}
 use Rattle.ppd_sem.specs.declared.proc.Need.TheVariants.{Read, Write}
-use Rattle.ppd_model.specs.Story.{Taken, Story, story, own_steps}
-use Rattle.ppd_model.specs.Synchronizations.{Sync, sync_of, syncs_of}
+use Rattle.ppd_model.specs.Story.{Taken, Story, story}
+use Rattle.ppd_model.specs.Synchronizations.{Sync, sync_of}
 
 -- the synchronizations of each process in order
 abbrev pub record_of : Story → List (List Sync)
-record_of s = map syncs_of s.steps
+record_of s = map (filter_map sync_of) s.steps
 
 -- the record of a schedule
 abbrev pub sync_record : Program → Plan → ℕ → List ℕ → List (List Sync)
@@ -40,4 +40,4 @@ accesses_from edge (x ∷ xs) = access_at edge x.need ++ accesses_from (edge_aft
 
 -- the accesses of process p, also those of statements that never finished
 abbrev pub accesses : Story → ℕ → List SharedAccess
-accesses s p = accesses_from 0 (own_steps s p)
+accesses s p = accesses_from 0 (get_or s.steps p [])

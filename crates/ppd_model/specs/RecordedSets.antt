@@ -1,5 +1,6 @@
 -- What logs record of a run: its synchronizations, and the shared cells that each internal edge accesses.
-use Rattle.std.specs.Prelude.{◌≡◌, ℕ, ◌<◌, nat_eq, Bool, true, false, ◌&&◌, List, [], ◌∷◌, ◌++◌, map, filter, filter_map, fold, length, slice_get, Option, Some, None}
+use Rattle.std.specs.Bool.{beq}
+use Rattle.std.specs.Prelude.{◌≡◌, ℕ, ◌<◌, nat_eq, Bool, true, false, ◌&&◌, List, [], ◌∷◌, ◌++◌, map, filter, filter_map, fold, length, slice_get, Option, Some, None, get_or}
 use Rattle.std.specs.List.{list_any, range_with_len}
 use Rattle.std.specs.List.Sorted.{IsStrictlyIncreasing}
 use Rattle.ppd_ast.specs.Valid.{IsValid}
@@ -11,11 +12,11 @@ use Rattle.ppd_entry.specs.declared.entry.Entry.{Entry}
 use Rattle.ppd_entry.specs.declared.entry.Entry.TheVariants as entry
 use Rattle.ppd_entry.specs.declared.entry.Logs.{Logs}
 use Rattle.ppd_entry.specs.Entries.{is_end}
-use Rattle.ppd_model.specs.Story.{Story, own_steps, story}
-use Rattle.ppd_model.specs.Synchronizations.{Sync, syncs_of}
+use Rattle.ppd_model.specs.Story.{Story, story}
+use Rattle.ppd_model.specs.Synchronizations.{Sync, sync_of}
 use Rattle.ppd_model.specs.Record.{SharedAccess, accesses, sync_record}
 use Rattle.ppd_model.specs.Numbers.{sync}
-use Rattle.ppd_model.specs.Races.{has_access, writes_or_not}
+use Rattle.ppd_model.specs.Races.{has_access}
 use Rattle.ppd_model.specs.Logs.{closed_logs, kept_logs}
 
 -- ---- synchronizations
@@ -47,7 +48,7 @@ rising cells = fold (λ set c. with_cell c set) [] cells
 
 -- the cells of the accesses of one edge that are reads, or that are writes
 abbrev pub cells_of : List SharedAccess → ℕ → Bool → List ℕ
-cells_of xs i writes = rising (map (λ a. a.cell) (filter (λ a. nat_eq a.edge i && writes_or_not a writes) xs))
+cells_of xs i writes = rising (map (λ a. a.cell) (filter (λ a. nat_eq a.edge i && beq a.writes writes) xs))
 
 -- the cells that process p reads, or writes, in its edge i
 abbrev pub cells_in : Story → ℕ → ℕ → Bool → List ℕ
@@ -81,7 +82,7 @@ sets_at_sync e = None
 
 -- the last edge of process p: as many as it did synchronizations
 abbrev pub last_edge : Story → ℕ → ℕ
-last_edge s p = length (syncs_of (own_steps s p))
+last_edge s p = length (filter_map sync_of (get_or s.steps p []))
 
 -- the synchronizations have the sets of the edges that they end, in order, and the only End, which
 -- stands last, those of the last edge

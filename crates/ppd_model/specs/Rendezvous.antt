@@ -1,6 +1,6 @@
 -- Channels of capacity 0: the counts of a channel, what a completion leads to and comes from, and that
 -- an offer and its completion are the steps of one statement, one straight after the other.
-use Rattle.std.specs.Prelude.{◌≡◌, ℕ, ◌+◌, ◌≤◌, ℤ, ◌⊎◌, ◌↔◌, IsTrue, List, [], ◌∷◌, ◌++◌, length, slice_get, Option, Some}
+use Rattle.std.specs.Prelude.{◌≡◌, ℕ, ◌+◌, ◌≤◌, ℤ, ◌⊎◌, ◌↔◌, IsTrue, List, [], ◌∷◌, ◌++◌, length, slice_get, Option, Some, get_or}
 use Rattle.ppd_ast.specs.declared.plan.Plan.{Plan}
 use Rattle.ppd_ast.specs.declared.program.Program.{Program}
 use Rattle.ppd_ast.specs.declared.status.SyncKind.TheVariants.{Send, Recv, Done}
@@ -10,9 +10,9 @@ use Rattle.ppd_sem.specs.Passed.{next_stmt_of}
 use Rattle.ppd_model.specs.declared.graph.NodeId.{NodeId}
 use Rattle.ppd_model.specs.World.{World, Channel}
 use Rattle.ppd_model.specs.Schedule.{run}
-use Rattle.ppd_model.specs.Story.{Taken, own_steps, story}
+use Rattle.ppd_model.specs.Story.{Taken, story}
 use Rattle.ppd_model.specs.States.{state_of}
-use Rattle.ppd_model.specs.Synchronizations.{Sync, leads}
+use Rattle.ppd_model.specs.Synchronizations.{Sync, leads_at}
 use Rattle.ppd_model.specs.Record.{sync_record}
 use Rattle.ppd_model.specs.HappenedBefore.{sync_at}
 use Rattle.ppd_model.specs.Numbers.{sync}
@@ -38,13 +38,14 @@ ChannelsAreInTurn =
 abbrev pub CompletionsLead : Type 0
 CompletionsLead =
     (program : Program) (k o : ℕ) (b : Sync)
-    → IsTrue (leads program (sync Done o k) b) ↔ ((capacity_of program o ≡ 0) × (b ≡ sync Send o (k + 1)))
+    → IsTrue (leads_at program (Some (sync Done o k)) (Some b))
+    ↔ ((capacity_of program o ≡ 0) × (b ≡ sync Send o (k + 1)))
 
 -- to completion k leads receive k of its channel, of capacity 0, and nothing else
 abbrev pub CompletionsAreLedTo : Type 0
 CompletionsAreLedTo =
     (program : Program) (k o : ℕ) (a : Sync)
-    → IsTrue (leads program a (sync Done o k)) ↔ ((capacity_of program o ≡ 0) × (a ≡ sync Recv o k))
+    → IsTrue (leads_at program (Some a) (Some (sync Done o k))) ↔ ((capacity_of program o ≡ 0) × (a ≡ sync Recv o k))
 
 -- in a schedule each completion has its receive
 abbrev pub CompletionsAreReceived : Type 0
@@ -76,7 +77,7 @@ abbrev pub OffersAreCompleted : Type 0
 OffersAreCompleted =
     (program : Program) (plan : Plan) (budget : ℕ) (h : List ℕ) (p : ℕ) (before : List Taken) (x y : Taken)
     (after : List Taken) (c : ℕ) (v : ℤ)
-    → own_steps (story program plan budget h) p ≡ before ++ x ∷ y ∷ after → x.need ≡ need.Offer c v
+    → get_or (story program plan budget h).steps p [] ≡ before ++ x ∷ y ∷ after → x.need ≡ need.Offer c v
     → Completes program plan budget p before x y c ⊎ (y.need ≡ need.Budget)
 
 -- before a completion the process took its offer
@@ -84,6 +85,6 @@ abbrev pub CompletionsWereOffered : Type 0
 CompletionsWereOffered =
     (program : Program) (plan : Plan) (budget : ℕ) (h : List ℕ) (p : ℕ) (before : List Taken) (y : Taken)
     (after : List Taken) (c u : ℕ)
-    → own_steps (story program plan budget h) p ≡ before ++ y ∷ after → y.need ≡ need.Done c u
+    → get_or (story program plan budget h).steps p [] ≡ before ++ y ∷ after → y.need ≡ need.Done c u
     → (earlier : List Taken) × (x : Taken) × (before ≡ earlier ++ x ∷ [])
     × Completes program plan budget p earlier x y c

@@ -3,7 +3,6 @@ use Rattle.std.specs.Prelude.{ℕ, ◌+◌, ℤ, pos, List, [], ◌∷◌, ◌++
 use Rattle.std.specs.Option.{option_map_or}
 use Rattle.ppd_ast.specs.declared.program.Program.{Program}
 use Rattle.ppd_ast.specs.declared.plan.Plan.{Plan}
-use Rattle.ppd_ast.specs.declared.plan.Unit.{Unit as UnitOf}
 use Rattle.ppd_sem.specs.declared.proc.Need.{Need}
 use Rattle.ppd_sem.specs.declared.proc.Need.TheVariants.{Read, Write, Enter, Leave, Invoke, Back, P, V, Send, Offer, Done, Recv}
 use Rattle.ppd_sem.specs.Described.{is_event}
@@ -30,13 +29,9 @@ pub record Telling : Type 0 where
 abbrev pub steps_of : List Moment → List Taken
 steps_of moments = map (λ m. m.taken) moments
 
--- what process p did so far
-abbrev pub own_moments : Telling → ℕ → List Moment
-own_moments t p = get_or t.moments p []
-
 -- the next event of process p
 abbrev pub next_event : Telling → ℕ → EventId
-next_event t p = record { process = p; number = count_by (λ m. is_event m.taken.need) (own_moments t p) }
+next_event t p = record { process = p; number = count_by (λ m. is_event m.taken.need) (get_or t.moments p []) }
 
 -- the number that a synchronization takes: the new count of its kind and object
 abbrev pub number_of : World → Need → Option ℕ
@@ -66,14 +61,10 @@ unit_started (Done c u) = Some u
 unit_started (Recv c u) = Some u
 unit_started need = None
 
--- the cells of a unit that is there
-abbrev pub cells_of_unit : Option UnitOf → List ℕ
-cells_of_unit None = []
-cells_of_unit (Some u) = u.cells
-
 -- the values of a unit's cells
 abbrev pub values_of_unit : Plan → List ℤ → ℕ → List ℤ
-values_of_unit plan shared u = map (λ c. get_or shared c (pos 0)) (cells_of_unit (slice_get plan.units u))
+values_of_unit plan shared u =
+    map (λ c. get_or shared c (pos 0)) (option_map_or (λ u. u.cells) (slice_get plan.units u) [])
 
 -- the next step of process p, with the values of its unit as they stand after it
 abbrev pub moment_of : Program → Plan → Telling → ℕ → Moment
@@ -112,7 +103,3 @@ abbrev pub story : Program → Plan → ℕ → List ℕ → Story
 story program plan budget h =
     let t = told program plan budget h in
     record { steps = map steps_of t.moments; cells = t.world.shared; writers = t.writers }
-
--- the steps of process p
-abbrev pub own_steps : Story → ℕ → List Taken
-own_steps s p = get_or s.steps p []

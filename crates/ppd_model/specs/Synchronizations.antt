@@ -1,5 +1,5 @@
 -- The synchronizations of each process, and which of them lead to which by their numbers.
-use Rattle.std.specs.Prelude.{ℕ, zero, suc, ◌+◌, nat_eq, Bool, false, ◌&&◌, List, [], ◌∷◌, filter_map, Option, Some, None, if◌then◌else◌}
+use Rattle.std.specs.Prelude.{ℕ, zero, suc, ◌+◌, nat_eq, Bool, false, ◌&&◌, List, [], ◌∷◌, Option, Some, None, if◌then◌else◌}
 use Rattle.std.specs.Option.{option_map_or}
 use Rattle.ppd_ast.specs.declared.program.Program.{Program}
 use Rattle.ppd_ast.specs.declared.status.SyncKind.{SyncKind}
@@ -9,7 +9,7 @@ use Rattle.ppd_sem.specs.declared.proc.Need.{Need}
 use Rattle.ppd_sem.specs.declared.proc.Need.TheVariants as need
 use Rattle.ppd_sem.specs.Described.{is_event}
 use Rattle.ppd_model.specs.declared.trace.EventId.{EventId}
-use Rattle.ppd_model.specs.Story.{Taken, Story}
+use Rattle.ppd_model.specs.Story.{Taken}
 
 -- a synchronization: the number is that among those of its kind and object
 pub record Sync : Type 0 where
@@ -36,10 +36,6 @@ numbered k number = None
 abbrev pub sync_of : Taken → Option Sync
 sync_of x = numbered (kind_of_sync x.need) x.number
 
--- the synchronizations among these steps, in order
-abbrev pub syncs_of : List Taken → List Sync
-syncs_of steps = filter_map sync_of steps
-
 -- ---- pairs
 
 -- the number of the second kind to which number k of the first kind leads: V k to P k, send k to
@@ -57,15 +53,11 @@ led_to capacity a b k = None
 abbrev pub is_number : Option ℕ → ℕ → Bool
 is_number o k = option_map_or (λ n. nat_eq n k) o false
 
--- a leads to b: their objects are one, and their numbers fit
-abbrev pub leads : Program → Sync → Sync → Bool
-leads program a b =
+-- both are there, and the first leads to the second: their objects are one, and their numbers fit
+abbrev pub leads_at : Program → Option Sync → Option Sync → Bool
+leads_at program (Some a) (Some b) =
     nat_eq a.object b.object
     && option_map_or (λ n. nat_eq n b.number) (led_to (capacity_of program a.object) a.kind b.kind a.number) false
-
--- both are there, and the first leads to the second
-abbrev pub leads_at : Program → Option Sync → Option Sync → Bool
-leads_at program (Some a) (Some b) = leads program a b
 leads_at program a b = false
 
 -- the number of the event among these steps that leads to b, where the next event has number n
@@ -75,13 +67,9 @@ leading_in program b n (x ∷ xs) =
     if leads_at program (sync_of x) b then Some n
     else leading_in program b (if is_event x.need then n + 1 else n) xs
 
--- the same among the steps of the processes from number p on
+-- the event whose synchronization leads to b, found by the numbers among the steps of the processes from number p on
 abbrev pub leading_from : Program → Option Sync → ℕ → List (List Taken) → Option EventId
 leading_from program b p [] = None
 leading_from program b p (steps ∷ rest) =
     option_map_or (λ n. Some (record { process = p; number = n })) (leading_in program b 0 steps)
     (leading_from program b (p + 1) rest)
-
--- the event whose synchronization leads to that of a step, found by the numbers
-abbrev pub paired_of : Program → Story → Taken → Option EventId
-paired_of program story x = leading_from program (sync_of x) 0 story.steps

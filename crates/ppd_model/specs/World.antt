@@ -9,6 +9,7 @@ use Rattle.ppd_sem.specs.declared.proc.Answer.{Answer}
 use Rattle.ppd_sem.specs.declared.proc.Answer.TheVariants.{Value, Go}
 use Rattle.ppd_sem.specs.declared.proc.Proc.{Proc}
 use Rattle.ppd_sem.specs.Process.{need_of, act}
+pub use Rattle.ppd_entry.specs.Changed.{change}
 pub use Rattle.ppd_model.specs.declared.state.Counts.{Counts}
 pub use Rattle.ppd_model.specs.declared.state.Channel.{Channel}
 
@@ -26,16 +27,13 @@ abbrev pub room_of : ℕ → Channel → ℕ
 room_of zero c = c.completed + 1
 room_of (suc n) c = c.received + suc n
 
-abbrev pub room : Channel → ℕ
-room c = room_of c.capacity c
-
 -- a step of this need can be taken: of a semaphore that was given more often than taken, to a channel that has room,
 -- and on one of which fewer sends were completed than received, or fewer values received than sent
 abbrev pub can : World → Need → Bool
 can w Stopped = false
 can w (P s u) = option_map_or (λ (x : Counts). nat_lt x.taken x.given) (slice_get w.sems s) false
-can w (Send c v u) = option_map_or (λ x. nat_lt (length x.sent) (room x)) (slice_get w.chans c) false
-can w (Offer c v) = option_map_or (λ x. nat_lt (length x.sent) (room x)) (slice_get w.chans c) false
+can w (Send c v u) = option_map_or (λ x. nat_lt (length x.sent) (room_of x.capacity x)) (slice_get w.chans c) false
+can w (Offer c v) = option_map_or (λ x. nat_lt (length x.sent) (room_of x.capacity x)) (slice_get w.chans c) false
 can w (Done c u) = option_map_or (λ (x : Channel). nat_lt x.completed x.received) (slice_get w.chans c) false
 can w (Recv c u) = option_map_or (λ (x : Channel). nat_lt x.received (length x.sent)) (slice_get w.chans c) false
 can w need = true
@@ -57,26 +55,40 @@ answer w (Recv c u) =
     Value (option_map_or (λ x. get_or x.sent x.received (pos 0)) (slice_get w.chans c) (pos 0))
 answer w need = Go
 
--- a list with one element changed
-abbrev pub change : {A : Type 0} → (A → A) → ℕ → List A → List A
-change f i [] = []
-change f zero (x ∷ xs) = f x ∷ xs
-change f (suc i) (x ∷ xs) = x ∷ change f i xs
-
 -- a step of this need writes cell c
 abbrev pub writes_cell : ℕ → Need → Bool
 writes_cell c (Write d v) = nat_eq d c
 writes_cell c need = false
 
+-- a semaphore taken once more
+abbrev pub one_taken : Counts → Counts
+one_taken x = record x { taken = x.taken + 1 }
+
+-- a semaphore given once more
+abbrev pub one_given : Counts → Counts
+one_given x = record x { given = x.given + 1 }
+
+-- a channel with one more value
+abbrev pub with_value : ℤ → Channel → Channel
+with_value v x = record x { sent = x.sent ++ v ∷ [] }
+
+-- a channel from which one more was received
+abbrev pub one_received : Channel → Channel
+one_received x = record x { received = x.received + 1 }
+
+-- a channel on which one more send was completed
+abbrev pub one_completed : Channel → Channel
+one_completed x = record x { completed = x.completed + 1 }
+
 -- the shared state after a step of this need
 abbrev pub effect : World → Need → World
 effect w (Write c v) = record w { shared = slice_set w.shared c v }
-effect w (P s u) = record w { sems = change (λ (x : Counts). record x { taken = x.taken + 1 }) s w.sems }
-effect w (V s u) = record w { sems = change (λ (x : Counts). record x { given = x.given + 1 }) s w.sems }
-effect w (Send c v u) = record w { chans = change (λ (x : Channel). record x { sent = x.sent ++ v ∷ [] }) c w.chans }
-effect w (Offer c v) = record w { chans = change (λ (x : Channel). record x { sent = x.sent ++ v ∷ [] }) c w.chans }
-effect w (Done c u) = record w { chans = change (λ (x : Channel). record x { completed = x.completed + 1 }) c w.chans }
-effect w (Recv c u) = record w { chans = change (λ (x : Channel). record x { received = x.received + 1 }) c w.chans }
+effect w (P s u) = record w { sems = change one_taken s w.sems }
+effect w (V s u) = record w { sems = change one_given s w.sems }
+effect w (Send c v u) = record w { chans = change (with_value v) c w.chans }
+effect w (Offer c v) = record w { chans = change (with_value v) c w.chans }
+effect w (Done c u) = record w { chans = change one_completed c w.chans }
+effect w (Recv c u) = record w { chans = change one_received c w.chans }
 effect w need = w
 
 -- process p takes its step

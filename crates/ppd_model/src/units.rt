@@ -1,12 +1,13 @@
-ghost use Rattle.std.specs.Prelude.{◌≡◌, slice_get};
-ghost use Rattle.ppd_model.specs.Story.{cells_of_unit, unit_started as unit_started_of};
+ghost use Rattle.std.specs.Option.{option_map_or};
+ghost use Rattle.std.specs.Prelude.{◌≡◌, slice_get, []};
+ghost use Rattle.ppd_model.specs.Story.{unit_started as unit_started_of};
 
 use ppd_ast::Plan;
 use ppd_sem::Need;
 
 /// The shared cells of a unit, and none past the plan's units.
 pub fn unit_cells(plan: &Plan, unit: u16) -> &[u16]
-    ensures { result.now ≡ cells_of_unit (slice_get plan.now.units unit) }
+    ensures { result.now ≡ option_map_or (λ u. u.cells) (slice_get plan.now.units unit) [] }
 {
     match plan.units.as_slice().get(unit as usize) {
         Some(unit) => unit.cells.as_slice(),

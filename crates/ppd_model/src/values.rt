@@ -1,6 +1,5 @@
 ghost use Rattle.std.specs.Prelude.{◌≡◌, get_or, map, option_to_list, pos, IfOk};
 ghost use Rattle.ppd_model.specs.Marks.{closed, marked};
-ghost use Rattle.ppd_sem.specs.Ask.{cell_of};
 ghost use Rattle.ppd_sem.specs.Runs.{IsRunnable, IsRunning};
 
 use ppd_ast::{Memory, Nums, Plan, Program};
@@ -19,7 +18,7 @@ pub fn value_at(values: &[i64], place: usize) -> i64
 
 /// The values at these places, 0 for each past the end. `Memory` is want of memory.
 pub fn values_at(alloc: Global, values: &[i64], places: &[u16]) -> Result<Nums, Memory>
-    ensures { IfOk result (λ found. found ≡ map (cell_of values.now) places.now) }
+    ensures { IfOk result (λ found. found ≡ map (λ c. get_or values.now c (pos 0)) places.now) }
 {
     let mut found = Nums::new(alloc);
     for place in places {

@@ -59,7 +59,7 @@ is_operator _ _ = false
 
 -- one more construct is open; one more than the limit stands for all above it
 abbrev pub deeper : At → At
-deeper a = record { depth = if nat_le a.depth MOST_OPEN then a.depth + 1 else a.depth; inside = a.inside }
+deeper a = record a { depth = if nat_le a.depth MOST_OPEN then a.depth + 1 else a.depth }
 
 abbrev pub inside : At → At
 inside a = record { depth = a.depth; inside = true }

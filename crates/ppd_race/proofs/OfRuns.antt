@@ -1,4 +1,6 @@
 -- The races of the logs of a run are those of the run.
+use Rattle.ppd_model.specs.Synchronizations.{sync_of}
+use Rattle.std.specs.Bool.{beq}
 use Rattle.std.proofs.Common.{◌≡◌, ℕ, zero, suc, ◌+◌, ◌<◌, ◌≤◌, List, [], ◌∷◌, ◌++◌, Some, Bool, true, false, refl, ap, sym, subst, ◌∙◌, arith, length, map, get_or, filter_map, ne_eqb, inl, inr, ◌&&◌, ◌||◌}
 use Rattle.std.specs.Prelude.{nat_eq, slice_get}
 use Rattle.std.specs.List.{list_any, range_with_len}
@@ -10,11 +12,10 @@ use Rattle.ppd_ast.specs.Members.{has}
 use Rattle.ppd_model.specs.declared.graph.EdgeId.{EdgeId}
 use Rattle.ppd_model.specs.HappenedBefore.{is_edge_before}
 use Rattle.ppd_model.specs.Logs.{closed_logs}
-use Rattle.ppd_model.specs.Races.{edges_of_story, has_access, races, writes_or_not}
+use Rattle.ppd_model.specs.Races.{edges_of_story, has_access, races}
 use Rattle.ppd_model.specs.Record.{SharedAccess, accesses, record_of}
 use Rattle.ppd_model.specs.RecordedSets.{cells_in, last_edge, record_in, sync_in}
 use Rattle.ppd_model.specs.Story.{story}
-use Rattle.ppd_model.specs.Synchronizations.{syncs_of}
 use Rattle.ppd_model.proofs.AccessSets.{accesses_there, cells_are}
 use Rattle.ppd_model.proofs.Prefixes.{objects_stay}
 use Rattle.ppd_model.proofs.RecordedSyncs.{record_syncs}
@@ -23,7 +24,7 @@ use Rattle.ppd_race_found.specs.LogRecord.{no_sets, edge_sets_in}
 use Rattle.ppd_race_found.proofs.ClosedSets.{row_sets, run_sets}
 use Rattle.ppd_race_found.proofs.Timed.{at_end, at_front, length_more}
 use Rattle.ppd_race_found.proofs.Leads.{length_mapped}
-use Rattle.ppd_race.specs.Races.{AreCellsThere, IsThere, RunRacesAreOfLogs, cells_by, edges_of_logs, races_of_logs}
+use Rattle.ppd_race.specs.Races.{AreCellsThere, IsThere, RunRacesAreOfLogs, cells_by, edges_of_logs, races_among}
 use Rattle.ppd_race.proofs.Alike.{alike_race}
 
 count_range : {A : Type 0} (f : ℕ → A) (a n : ℕ) → length (map f (range_with_len a n)) ≡ n
@@ -78,9 +79,9 @@ module _ (program : Program) (plan : Plan) (budget : ℕ) (h : List ℕ) (valid 
   size = (objects_stay program plan budget h).cells
 
   beyond : (p i c : ℕ) (w : Bool) → length program.starts ≤ c → has_access (story program plan budget h) p i c w ≡ false
-  beyond p i c w le = none_any (λ (a : SharedAccess). nat_eq a.edge i && nat_eq a.cell c && writes_or_not a w) (accesses (story program plan budget h) p) (λ m a e.
+  beyond p i c w le = none_any (λ (a : SharedAccess). nat_eq a.edge i && nat_eq a.cell c && beq a.writes w) (accesses (story program plan budget h) p) (λ m a e.
       let below = accesses_there program plan budget h p m a valid e in
-      ap (λ b. nat_eq a.edge i && b && writes_or_not a w) (ne_eqb a.cell c (λ same. absurd (omega (arith, same, below, le)))) ∙ and_between (nat_eq a.edge i) (writes_or_not a w))
+      ap (λ b. nat_eq a.edge i && b && beq a.writes w) (ne_eqb a.cell c (λ same. absurd (omega (arith, same, below, le)))) ∙ and_between (nat_eq a.edge i) (beq a.writes w))
 
   records : record_in (closed_logs program plan budget h) ≡ record_of (story program plan budget h)
   records = (record_syncs program plan budget h).closed
@@ -88,10 +89,10 @@ module _ (program : Program) (plan : Plan) (budget : ℕ) (h : List ℕ) (valid 
   pub cells_there : AreCellsThere program (closed_logs program plan budget h)
   cells_there a c w le x = access a c w x ∙ beyond a.process a.edge c w le
 
-  pub run_races : races_of_logs program (closed_logs program plan budget h) ≡ races program plan budget h
+  pub run_races : races_among (edges_of_logs program (closed_logs program plan budget h)) ≡ races program plan budget h
   run_races =
       alike_race (edges_of_logs program (closed_logs program plan budget h)) (edges_of_story program (story program plan budget h)) (record {
-        processes = sym (length_mapped (filter_map sync_in) (closed_logs program plan budget h).lists) ∙ ap length records ∙ length_mapped syncs_of (story program plan budget h).steps;
+        processes = sym (length_mapped (filter_map sync_in) (closed_logs program plan budget h).lists) ∙ ap length records ∙ length_mapped (filter_map sync_of) (story program plan budget h).steps;
         count = count;
         accesses = access;
         before = λ a b x y. ap (λ r. is_edge_before program r a b) records;

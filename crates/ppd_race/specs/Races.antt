@@ -10,7 +10,8 @@ use Rattle.ppd_model.specs.declared.graph.EdgeId.{EdgeId}
 use Rattle.ppd_model.specs.declared.graph.Race.{Race}
 use Rattle.ppd_model.specs.HappenedBefore.{is_edge_before}
 use Rattle.ppd_model.specs.Logs.{closed_logs}
-use Rattle.ppd_model.specs.Races.{Edges, races, races_among}
+use Rattle.ppd_model.specs.Races.{Edges, races}
+pub use Rattle.ppd_model.specs.Races.{races_among}
 use Rattle.ppd_model.specs.RecordedSets.{record_in}
 use Rattle.ppd_race_found.specs.SyncGraph.{SyncGraph}
 use Rattle.ppd_race_found.specs.EdgeSets.{EdgeSets}
@@ -65,20 +66,16 @@ GraphRacesAreOfLogs =
     → AreCellsThere program logs
     → races_among (edges_of_graph g) ≡ races_among (edges_of_logs program logs)
 
--- the races of logs, all and only, in order
-abbrev pub races_of_logs : Program → Logs → List Race
-races_of_logs program logs = races_among (edges_of_logs program logs)
-
 -- the list is that of every logs of which the graph is the graph
 abbrev pub AreRacesOf : SyncGraph → List Race → Type 0
 AreRacesOf g races =
     (program : Program) (logs : Logs) → IsGraphOf program logs g → length program.starts ≤ most_cells
-    → AreCellsThere program logs → races ≡ races_of_logs program logs
+    → AreCellsThere program logs → races ≡ races_among (edges_of_logs program logs)
 
 -- the races of the logs of a schedule, whole or not, are those of the schedule, and its logs name cells of the
 -- program alone
 abbrev pub RunRacesAreOfLogs : Type 0
 RunRacesAreOfLogs =
     (program : Program) (plan : Plan) (budget : ℕ) (h : List ℕ) → IsValid program
-    → (races_of_logs program (closed_logs program plan budget h) ≡ races program plan budget h)
+    → (races_among (edges_of_logs program (closed_logs program plan budget h)) ≡ races program plan budget h)
     × AreCellsThere program (closed_logs program plan budget h)

@@ -1,10 +1,10 @@
 -- The guided schedule of the record of a whole schedule without a race is whole and has its story.
+use Rattle.std.specs.Prelude.{get_or}
 use Rattle.std.proofs.Common.{◌≡◌, ℕ, List, [], Some, Bool, true, false, refl, ap, sym, subst, ◌∙◌, arith, length, take_all}
 use Rattle.ppd_ast.specs.declared.plan.Plan.{Plan}
 use Rattle.ppd_ast.specs.declared.program.Program.{Program}
 use Rattle.ppd_model.specs.declared.tracing.Story.{Story}
 use Rattle.ppd_model.specs.Agreement.{Agree}
-use Rattle.ppd_model.specs.HappenedBefore.{own_syncs}
 use Rattle.ppd_model.specs.Laws.{begins}
 use Rattle.ppd_model.specs.Prefixes.{Good, told_to}
 use Rattle.ppd_model.specs.Races.{races}
@@ -67,7 +67,7 @@ module _ (program : Program) (plan : Plan) (budget : ℕ) where
 
     come : Comes (run_of program plan budget h w.last w.runs) (run_of program plan budget g last_world ends.runs)
     come =
-        comes (run_of program plan budget h w.last w.runs) (sheet (own_syncs syncs))
+        comes (run_of program plan budget h w.last w.runs) (sheet (λ q. get_or syncs q []))
         (recorded program plan budget h w syncs refl)
         (run_ordered program plan budget h w none)
         (final program plan budget h w)

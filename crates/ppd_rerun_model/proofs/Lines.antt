@@ -1,6 +1,6 @@
 -- A program's lines: more on other lines leaves a line free, and a record of a schedule has each entry once.
 use Rattle.std.proofs.Common.{◌≡◌, ℕ, zero, suc, ◌+◌, ◌<◌, ◌≤◌, List, [], ◌∷◌, Option, Some, None, Bool, true, refl, ap, ap₂, sym, subst, ◌∙◌, arith, length, eqb-true, eq-eqb, true≢false, nat_eq, ◌&&◌}
-use Rattle.std.specs.Prelude.{IsTrue, slice_get}
+use Rattle.std.specs.Prelude.{IsTrue, slice_get, get_or}
 use Rattle.std.proofs.lemmas.Bool.{and_from, and_parts}
 use Rattle.std.proofs.lemmas.Option.{none-some}
 use Rattle.ppd_ast.specs.declared.plan.Plan.{Plan}
@@ -9,7 +9,7 @@ use Rattle.ppd_ast.specs.declared.status.SyncKind.{SyncKind}
 use Rattle.ppd_ast.specs.declared.status.SyncKind.TheVariants.{P, V, Send, Recv, Done}
 use Rattle.ppd_entry.specs.Entries.{same_kind}
 use Rattle.ppd_model.specs.declared.graph.NodeId.{NodeId}
-use Rattle.ppd_model.specs.HappenedBefore.{node, own_syncs}
+use Rattle.ppd_model.specs.HappenedBefore.{node}
 use Rattle.ppd_model.specs.Numbers.{IsCounted, count_of, sync}
 use Rattle.ppd_model.specs.Record.{sync_record}
 use Rattle.ppd_model.specs.Schedule.{started_world}
@@ -64,11 +64,11 @@ there_is (x ∷ xs) (suc i) h = there_is xs i (omega (arith, h))
 pub entry_is : (x : s.Sync) (l : Line) (n : ℕ) → line_in (Some x) ≡ l → x.number ≡ n → x ≡ sync l.0 l.1 n
 entry_is x l n a b = ap₂ (λ (y : Line) (m : ℕ). sync y.0 y.1 m) a b
 
-pub once : (program : Program) (plan : Plan) (budget : ℕ) (h : List ℕ) → IsOnce (sheet (own_syncs (sync_record program plan budget h)))
+pub once : (program : Program) (plan : Plan) (budget : ℕ) (h : List ℕ) → IsOnce (sheet (λ q. get_or (sync_record program plan budget h) q []))
 once program plan budget h p q i j hi hj line number =
     let syncs : List (List s.Sync) = sync_record program plan budget h in
-    let x = there_is (own_syncs syncs p) i hi in
-    let y = there_is (own_syncs syncs q) j hj in
+    let x = there_is (get_or syncs p []) i hi in
+    let y = there_is (get_or syncs q []) j hj in
     let line2 : line_in (Some x.0) ≡ line_in (Some y.0) = sym (ap line_in x.1) ∙ line ∙ ap line_in y.1 in
     let number2 : x.0.number ≡ y.0.number = sym (ap number_at x.1) ∙ number ∙ ap number_at y.1 in
     let same : x.0 ≡ y.0 = entry_is x.0 (line_in (Some y.0)) y.0.number line2 number2 in

@@ -8,7 +8,6 @@ use Rattle.ppd_ast.specs.declared.plan.Plan.{Plan}
 use Rattle.ppd_ast.specs.declared.program.Program.{Program}
 use Rattle.ppd_sem.specs.declared.proc.Need.{Need}
 use Rattle.ppd_model.specs.declared.trace.EventId.{EventId}
-use Rattle.ppd_model.specs.HappenedBefore.{own_syncs}
 use Rattle.ppd_model.specs.Laws.{begins}
 use Rattle.ppd_model.specs.Numbers.{count_of, sync}
 use Rattle.ppd_model.specs.Prefixes.{Good, told_to}
@@ -73,7 +72,7 @@ IsNow t w o = o ≡ None
 
 -- what is left of a record where the steps of t were taken
 abbrev AreLeft : List (List s.Sync) → Telling → List (List s.Sync) → Type 0
-AreLeft syncs t left = (q : ℕ) → get_or left q [] ≡ drop (synced_in ((view t).hist q)) (own_syncs syncs q)
+AreLeft syncs t left = (q : ℕ) → get_or left q [] ≡ drop (synced_in ((view t).hist q)) (get_or syncs q [])
 
 module _ (program : Program) (plan : Plan) (budget : ℕ) where
   module _ (t : Telling) (p : ℕ) (g : Good program plan budget t) (can : enabled program plan t.world p ≡ true) where
@@ -112,16 +111,16 @@ module _ (program : Program) (plan : Plan) (budget : ℕ) where
   synced_after t p g can = ap synced_in (is_step program plan budget t p g can).hist_own ∙ (lawful program plan budget).counted p ((view t).hist p) _ _
 
   left_own : (syncs : List (List s.Sync)) (t : Telling) (p : ℕ) (left : List (List s.Sync)) → Good program plan budget t → enabled program plan t.world p ≡ true → AreLeft syncs t left
-      → get_or (option_map_or (λ taken. change (drop 1) p left) (sync_of_next program plan t.world p) left) p [] ≡ drop (synced_in ((view (tell program plan t p)).hist p)) (own_syncs syncs p)
+      → get_or (option_map_or (λ taken. change (drop 1) p left) (sync_of_next program plan t.world p) left) p [] ≡ drop (synced_in ((view (tell program plan t p)).hist p)) (get_or syncs p [])
   left_own syncs t p left g can hyp = of_want (wants_of (machine program plan budget) (view t) p) refl (sync_of_next program plan t.world p) (now_is t p g can)
     where
-      ticked : (w : Want Line Tagged) → wants_of (machine program plan budget) (view t) p ≡ w → drop (tick w (synced_in ((view t).hist p))) (own_syncs syncs p) ≡ drop (synced_in ((view (tell program plan t p)).hist p)) (own_syncs syncs p)
-      ticked w is = ap (λ (n : ℕ). drop n (own_syncs syncs p)) (sym (synced_after t p g can ∙ ap (λ (x : Want Line Tagged). tick x (synced_in ((view t).hist p))) is))
+      ticked : (w : Want Line Tagged) → wants_of (machine program plan budget) (view t) p ≡ w → drop (tick w (synced_in ((view t).hist p))) (get_or syncs p []) ≡ drop (synced_in ((view (tell program plan t p)).hist p)) (get_or syncs p [])
+      ticked w is = ap (λ (n : ℕ). drop n (get_or syncs p [])) (sym (synced_after t p g can ∙ ap (λ (x : Want Line Tagged). tick x (synced_in ((view t).hist p))) is))
 
-      stays : (o : Option s.Sync) → o ≡ None → get_or (option_map_or (λ taken. change (drop 1) p left) o left) p [] ≡ drop (synced_in ((view t).hist p)) (own_syncs syncs p)
+      stays : (o : Option s.Sync) → o ≡ None → get_or (option_map_or (λ taken. change (drop 1) p left) o left) p [] ≡ drop (synced_in ((view t).hist p)) (get_or syncs p [])
       stays o now = ap (λ (x : Option s.Sync). get_or (option_map_or (λ taken. change (drop 1) p left) x left) p []) now ∙ hyp p
 
-      of_want : (w : Want Line Tagged) → wants_of (machine program plan budget) (view t) p ≡ w → (o : Option s.Sync) → IsNow t w o → get_or (option_map_or (λ taken. change (drop 1) p left) o left) p [] ≡ drop (synced_in ((view (tell program plan t p)).hist p)) (own_syncs syncs p)
+      of_want : (w : Want Line Tagged) → wants_of (machine program plan budget) (view t) p ≡ w → (o : Option s.Sync) → IsNow t w o → get_or (option_map_or (λ taken. change (drop 1) p left) o left) p [] ≡ drop (synced_in ((view (tell program plan t p)).hist p)) (get_or syncs p [])
       of_want Stop is o now = stays o now ∙ ticked Stop is
       of_want Local is o now = stays o now ∙ ticked Local is
       of_want (Read x) is o now = stays o now ∙ ticked (Read x) is
@@ -130,7 +129,7 @@ module _ (program : Program) (plan : Plan) (budget : ℕ) where
           ap (λ (x : Option s.Sync). get_or (option_map_or (λ taken. change (drop 1) p left) x left) p []) now
           ∙ one_off p left
           ∙ ap (λ (xs : List s.Sync). drop 1 xs) (hyp p)
-          ∙ drop_one (synced_in ((view t).hist p)) (own_syncs syncs p)
+          ∙ drop_one (synced_in ((view t).hist p)) (get_or syncs p [])
           ∙ ticked (Sync l v) is
 
   left_else : (o : Option s.Sync) (p q : ℕ) (left : List (List s.Sync)) → (q ≡ p → ⊥) → get_or (option_map_or (λ taken. change (drop 1) p left) o left) q [] ≡ get_or left q []
@@ -141,12 +140,12 @@ module _ (program : Program) (plan : Plan) (budget : ℕ) where
       → AreLeft syncs (tell program plan t p) (option_map_or (λ taken. change (drop 1) p left) (sync_of_next program plan t.world p) left)
   left_more syncs t p left g can hyp q = elim (cases_eq q p) [
     | inl is ↦
-        subst (λ (x : ℕ). get_or (option_map_or (λ taken. change (drop 1) p left) (sync_of_next program plan t.world p) left) x [] ≡ drop (synced_in ((view (tell program plan t p)).hist x)) (own_syncs syncs x)) (sym is)
+        subst (λ (x : ℕ). get_or (option_map_or (λ taken. change (drop 1) p left) (sync_of_next program plan t.world p) left) x [] ≡ drop (synced_in ((view (tell program plan t p)).hist x)) (get_or syncs x [])) (sym is)
         (left_own syncs t p left g can hyp)
     | inr d ↦
         left_else (sync_of_next program plan t.world p) p q left d
         ∙ hyp q
-        ∙ ap (λ h. drop (synced_in h) (own_syncs syncs q)) (sym ((is_step program plan budget t p g can).hist_other q d))
+        ∙ ap (λ h. drop (synced_in h) (get_or syncs q [])) (sym ((is_step program plan budget t p g can).hist_other q d))
   ]
 
   -- ---- the schedule
@@ -170,7 +169,7 @@ module _ (program : Program) (plan : Plan) (budget : ℕ) where
       left : AreLeft syncs (told_to program plan budget schedule i) (state i).left
 
     at_time : (i : ℕ) → i ≤ length schedule → IsAt i
-    at_time zero top = record { world = refl; left = λ q. ap (λ (n : ℕ). drop n (own_syncs syncs q)) (sym (fresh program plan budget q)) }
+    at_time zero top = record { world = refl; left = λ q. ap (λ (n : ℕ). drop n (get_or syncs q [])) (sym (fresh program plan budget q)) }
     at_time (suc i) top =
         let here : IsAt i = at_time i (omega arith) in
         let p : ℕ = get_or schedule i 0 in
@@ -184,19 +183,19 @@ module _ (program : Program) (plan : Plan) (budget : ℕ) where
               ap (λ (x : Guiding). get_or x.left q []) guides
               ∙ ap (λ (w : World). get_or (option_map_or (λ taken. change (drop 1) p (state i).left) (sync_of_next program plan w p) (state i).left) q []) (sym here.world)
               ∙ left_more syncs t p (state i).left (good_to program plan budget schedule i) can here.left q
-              ∙ ap (λ (x : Telling). drop (synced_in ((view x).hist q)) (own_syncs syncs q)) (sym tells);
+              ∙ ap (λ (x : Telling). drop (synced_in ((view x).hist q)) (get_or syncs q [])) (sym tells);
         }
 
     -- what is next of the record
-    next_is : (i : ℕ) → IsAt i → (p : ℕ) → slice_get (get_or (state i).left p []) 0 ≡ slice_get (own_syncs syncs p) (synced_in ((view (told_to program plan budget schedule i)).hist p))
+    next_is : (i : ℕ) → IsAt i → (p : ℕ) → slice_get (get_or (state i).left p []) 0 ≡ slice_get (get_or syncs p []) (synced_in ((view (told_to program plan budget schedule i)).hist p))
     next_is i here p =
         ap (λ (xs : List s.Sync). slice_get xs 0) (here.left p)
-        ∙ first_left (synced_in ((view (told_to program plan budget schedule i)).hist p)) (own_syncs syncs p)
+        ∙ first_left (synced_in ((view (told_to program plan budget schedule i)).hist p)) (get_or syncs p [])
 
     -- a synchronization that is taken is the next one
     entry : (i : ℕ) (l : Line) (v : Tagged) → i < length schedule
         → wants_of (machine program plan budget) (view (told_to program plan budget schedule i)) (get_or schedule i 0) ≡ Sync l v
-        → slice_get (own_syncs syncs (get_or schedule i 0)) (synced_in ((view (told_to program plan budget schedule i)).hist (get_or schedule i 0)))
+        → slice_get (get_or syncs (get_or schedule i 0) []) (synced_in ((view (told_to program plan budget schedule i)).hist (get_or schedule i 0)))
         ≡ Some (sync l.0 l.1 (suc (count_of (told_to program plan budget schedule i).world l.0 l.1)))
     entry i l v lt is =
         let here : IsAt i = at_time i (omega arith) in
@@ -231,16 +230,16 @@ module _ (program : Program) (plan : Plan) (budget : ℕ) where
           (subst (λ (w : Want Line Tagged). Enabled (machine program plan budget) (view all_told) w) (want_is program plan budget all_told p good_last) free)
 
       -- the test of the last state is that of what is told
-      not_let : is_let (sync_of_next program plan all_told.world p) (slice_get (own_syncs syncs p) place) ≡ false
-      not_let = both (enabled program plan all_told.world p) (is_let (sync_of_next program plan all_told.world p) (slice_get (own_syncs syncs p) place)) can_last
+      not_let : is_let (sync_of_next program plan all_told.world p) (slice_get (get_or syncs p []) place) ≡ false
+      not_let = both (enabled program plan all_told.world p) (is_let (sync_of_next program plan all_told.world p) (slice_get (get_or syncs p []) place)) can_last
           (ap₂ (λ (w : World) (o : Option s.Sync). enabled program plan w p && is_let (sync_of_next program plan w p) o) last_at.world (sym (next_is (length schedule) last_at p))
           ∙ ap (λ (h : List ℕ). may_step program plan (fold (guide program plan) (guiding program plan budget syncs) h) p) (take_all (length schedule) schedule (omega arith))
           ∙ ends.stops p)
 
       not_none : sync_of_next program plan all_told.world p ≡ None → ⊥
-      not_none none = true≢false (sym (ap (λ (o : Option s.Sync). is_let o (slice_get (own_syncs syncs p) place)) none) ∙ not_let)
+      not_none none = true≢false (sym (ap (λ (o : Option s.Sync). is_let o (slice_get (get_or syncs p []) place)) none) ∙ not_let)
 
-      waits_by : (w : Want Line Tagged) → wants_of (machine program plan budget) (view all_told) p ≡ w → IsNow all_told w (sync_of_next program plan all_told.world p) → Waits (machine program plan budget) (view all_told) (sheet (own_syncs syncs)) p
+      waits_by : (w : Want Line Tagged) → wants_of (machine program plan budget) (view all_told) p ≡ w → IsNow all_told w (sync_of_next program plan all_told.world p) → Waits (machine program plan budget) (view all_told) (sheet (λ q. get_or syncs q [])) p
       waits_by Stop is now = absurd (not_none now)
       waits_by Local is now = absurd (not_none now)
       waits_by (Read x) is now = absurd (not_none now)
@@ -250,27 +249,27 @@ module _ (program : Program) (plan : Plan) (budget : ℕ) where
         value = v;
         is = is;
         other = λ there line number.
-            let x = there_is (own_syncs syncs p) place there in
+            let x = there_is (get_or syncs p []) place there in
             let same : x.0 ≡ sync l.0 l.1 (suc (count_of all_told.world l.0 l.1)) =
             entry_is x.0 l (suc (count_of all_told.world l.0 l.1)) (sym (ap line_in x.1) ∙ line) (sym (ap number_at x.1) ∙ number) in
-            let lets : is_let (sync_of_next program plan all_told.world p) (slice_get (own_syncs syncs p) place) ≡ true =
+            let lets : is_let (sync_of_next program plan all_told.world p) (slice_get (get_or syncs p []) place) ≡ true =
             ap₂ (λ (o o2 : Option s.Sync). is_let o o2) now (x.1 ∙ ap (λ (y : s.Sync). Some y) same) ∙ let_self (sync l.0 l.1 (suc (count_of all_told.world l.0 l.1))) in
             true≢false (sym lets ∙ not_let);
       }
 
       -- who could still take a step is at another synchronization than the next one
-      waits : Waits (machine program plan budget) (view all_told) (sheet (own_syncs syncs)) p
+      waits : Waits (machine program plan budget) (view all_told) (sheet (λ q. get_or syncs q [])) p
       waits = waits_by (wants_of (machine program plan budget) (view all_told) p) refl (now_is all_told p good_last can_last)
 
     -- ---- a run that is guided
 
-    pub guided_run : (e : run_from program plan (started_world program plan budget) (guided program plan budget syncs) ≡ Some (guided_end program plan budget syncs).world) → IsGuided (run_of program plan budget (guided program plan budget syncs) (guided_end program plan budget syncs).world e) (sheet (own_syncs syncs))
+    pub guided_run : (e : run_from program plan (started_world program plan budget) (guided program plan budget syncs) ≡ Some (guided_end program plan budget syncs).world) → IsGuided (run_of program plan budget (guided program plan budget syncs) (guided_end program plan budget syncs).world e) (sheet (λ q. get_or syncs q []))
     unfolding run_of
     guided_run e = record {
       takes = record {
         lines = λ i l v lt is. ap line_in (entry i l v lt is);
         numbers = λ i l v lt is. ap number_at (entry i l v lt is);
-        there = λ i l v lt is. within (own_syncs syncs (get_or schedule i 0)) (synced_in ((view (told_to program plan budget schedule i)).hist (get_or schedule i 0))) (sync l.0 l.1 (suc (count_of (told_to program plan budget schedule i).world l.0 l.1))) (entry i l v lt is);
+        there = λ i l v lt is. within (get_or syncs (get_or schedule i 0) []) (synced_in ((view (told_to program plan budget schedule i)).hist (get_or schedule i 0))) (sync l.0 l.1 (suc (count_of (told_to program plan budget schedule i).world l.0 l.1))) (entry i l v lt is);
       };
       stops = λ p free. waits p free;
     }

@@ -27,30 +27,30 @@ use Rattle.ppd_rerun_model.specs.declared.verdict.Verdict.{Verdict}
 use Rattle.ppd_rerun_model.specs.declared.verdict.Verdict.TheVariants as verdict
 use Rattle.ppd_rerun_model.specs.Guided.{guided}
 use Rattle.ppd_rerun_model.specs.Laws.{IsGuidedAlike, RerunsSayYes, VerdictsAreOne}
-use Rattle.ppd_rerun_model.specs.Verdicts.{HasRecordOf, IsFirstOther, IsSame, IsVerdict, Matches, guided_by}
+use Rattle.ppd_rerun_model.specs.Verdicts.{HasRecordOf, IsSame, IsVerdict, Matches}
 use Rattle.ppd_rerun_model.proofs.Guided.{schedules_agree}
 
 -- ---- one verdict
 
 module _ (program : Program) (plan : Plan) (budget : ℕ) (logs : Logs) where
   abbrev g : List ℕ
-  g = guided_by program plan budget logs
+  g = guided program plan budget (record_in logs)
 
   -- of two first ones neither comes before the other
-  first_once : (p k q m : ℕ) → IsFirstOther program plan budget logs g p k → IsFirstOther program plan budget logs g q m → verdict.No (Interval p k) ≡ verdict.No (Interval q m)
+  first_once : (p k q m : ℕ) → IsVerdict program plan budget logs (verdict.No (Interval p k)) → IsVerdict program plan budget logs (verdict.No (Interval q m)) → verdict.No (Interval p k) ≡ verdict.No (Interval q m)
   first_once p k q m a b =
       ⊎_elim
-      (λ (lt : p < q). absurd (a.other (b.processes p k lt)))
+      (λ (lt : p < q). absurd (a.1 (b.2 p k lt)))
       (λ (ge : q ≤ p).
       ⊎_elim
-      (λ (lt : q < p). absurd (b.other (a.processes q m lt)))
+      (λ (lt : q < p). absurd (b.1 (a.2 q m lt)))
       (λ (ge2 : p ≤ q).
       let same : p ≡ q = omega arith in
       ⊎_elim
-      (λ (lt : k < m). absurd (a.other (subst (λ (x : ℕ). IsSame program plan budget logs g x k) (sym same) (b.intervals k lt))))
+      (λ (lt : k < m). absurd (a.1 (subst (λ (x : ℕ). IsSame program plan budget logs g x k) (sym same) (b.3 k lt))))
       (λ (ge3 : m ≤ k).
       ⊎_elim
-      (λ (lt : m < k). absurd (b.other (subst (λ (x : ℕ). IsSame program plan budget logs g x m) same (a.intervals m lt))))
+      (λ (lt : m < k). absurd (b.1 (subst (λ (x : ℕ). IsSame program plan budget logs g x m) same (a.3 m lt))))
       (λ (ge4 : k ≤ m).
       let same2 : k ≡ m = omega arith in
       ap₂ (λ (x y : ℕ). verdict.No (Interval x y)) same same2)
@@ -69,13 +69,13 @@ module _ (program : Program) (plan : Plan) (budget : ℕ) (logs : Logs) where
   pub one : (a b : Verdict) → IsVerdict program plan budget logs a → IsVerdict program plan budget logs b → a ≡ b
   one (verdict.Yes h) (verdict.Yes h2) a b = ap (λ (x : List ℕ). verdict.Yes x) (a.0 ∙ sym b.0)
   one (verdict.Yes h) (verdict.No (Record n)) a b = absurd (b.1 (follows h a))
-  one (verdict.Yes h) (verdict.No (Interval q m)) a b = absurd (b.1.other (same_in h a q m))
+  one (verdict.Yes h) (verdict.No (Interval q m)) a b = absurd (b.1 (same_in h a q m))
   one (verdict.No (Record n)) (verdict.Yes h) a b = absurd (a.1 (follows h b))
   one (verdict.No (Record n)) (verdict.No (Record n2)) a b = ap (λ (x : ℕ). verdict.No (Record x)) (a.0 ∙ sym b.0)
   one (verdict.No (Record n)) (verdict.No (Interval q m)) a b = absurd (a.1 b.0)
-  one (verdict.No (Interval p k)) (verdict.Yes h) a b = absurd (a.1.other (same_in h b p k))
+  one (verdict.No (Interval p k)) (verdict.Yes h) a b = absurd (a.1 (same_in h b p k))
   one (verdict.No (Interval p k)) (verdict.No (Record n)) a b = absurd (b.1 a.0)
-  one (verdict.No (Interval p k)) (verdict.No (Interval q m)) a b = first_once p k q m a.1 b.1
+  one (verdict.No (Interval p k)) (verdict.No (Interval q m)) a b = first_once p k q m a b
 
 pub verdicts_are_one : VerdictsAreOne
 verdicts_are_one program plan budget logs a b x y = one program plan budget logs a b x y
@@ -100,7 +100,7 @@ module _ (program : Program) (policy : Policy) (budget : ℕ) (h : List ℕ) (v 
   kept = closed_logs program plan budget h
 
   abbrev again : List ℕ
-  again = guided_by program plan budget kept
+  again = guided program plan budget (record_in kept)
 
   -- the record in the logs is the schedule's
   recorded : record_in kept ≡ sync_record program plan budget h

@@ -1,4 +1,5 @@
 -- The laws of guided schedules and of verdicts.
+use Rattle.ppd_model.specs.RecordedSets.{record_in}
 use Rattle.std.specs.Prelude.{◌≡◌, ℕ, true, false, List, [], fold}
 use Rattle.ppd_ast.specs.Valid.{IsValid}
 use Rattle.ppd_ast.specs.declared.plan.Plan.{Plan}
@@ -17,7 +18,7 @@ use Rattle.std.specs.Prelude.{Some}
 use Rattle.ppd_rerun_model.specs.declared.verdict.Verdict.{Verdict}
 use Rattle.ppd_rerun_model.specs.declared.verdict.Verdict.TheVariants as verdict
 use Rattle.ppd_rerun_model.specs.Guided.{Guiding, guide, guided, guiding, may_step}
-use Rattle.ppd_rerun_model.specs.Verdicts.{IsVerdict, guided_by}
+use Rattle.ppd_rerun_model.specs.Verdicts.{IsVerdict}
 
 -- what the guided schedule of a record comes to
 abbrev pub guided_end : Program → Plan → ℕ → List (List Sync) → Guiding
@@ -59,5 +60,5 @@ RerunsSayYes =
     (program : Program) (policy : Policy) (budget : ℕ) (h : List ℕ) → IsValid program
     → IsWhole program (plan_of program policy) budget h → races program (plan_of program policy) budget h ≡ []
     → IsVerdict program (plan_of program policy) budget (closed_logs program (plan_of program policy) budget h)
-    (verdict.Yes (guided_by program (plan_of program policy) budget
-    (closed_logs program (plan_of program policy) budget h)))
+    (verdict.Yes (guided program (plan_of program policy) budget
+    (record_in (closed_logs program (plan_of program policy) budget h))))

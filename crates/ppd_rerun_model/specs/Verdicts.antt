@@ -18,10 +18,6 @@ use Rattle.ppd_rerun_model.specs.declared.verdict.Verdict.{Verdict}
 use Rattle.ppd_rerun_model.specs.declared.verdict.Verdict.TheVariants as verdict
 use Rattle.ppd_rerun_model.specs.Guided.{guided}
 
--- the guided schedule of what is recorded in logs
-abbrev pub guided_by : Program → Plan → ℕ → Logs → List ℕ
-guided_by program plan budget logs = guided program plan budget (record_in logs)
-
 -- the schedule is whole, and its record is that of the logs
 pub record HasRecordOf (program : Program) (plan : Plan) (budget : ℕ) (logs : Logs) (h : List ℕ) : Type 0 where
   pub whole : IsWhole program plan budget h
@@ -39,22 +35,19 @@ IsSame program plan budget logs h p k =
     Matches (replay_of program plan budget (interval_log plan (get_or logs.lists p []) k))
     (items_of_interval program plan budget (story program plan budget h) p k)
 
--- interval k of process p is the first, by process and number, that is not so
-pub record IsFirstOther (program : Program) (plan : Plan) (budget : ℕ) (logs : Logs) (h : List ℕ) (p k : ℕ) : Type 0 where
-  pub other : IsSame program plan budget logs h p k → ⊥
-  pub processes : (q m : ℕ) → q < p → IsSame program plan budget logs h q m
-  pub intervals : (m : ℕ) → m < k → IsSame program plan budget logs h p m
-
 -- the verdict on logs. Yes: the schedule is the guided one, it is whole with the record of the logs, and every interval
 -- is the same. No, for the record: so many steps were taken, and the guided schedule is not whole or has another
--- record. No, for an interval: the record is followed, and this interval is the first other one
+-- record. No, for an interval: the record is followed, and this interval is the first, by process and number, that is
+-- not the same
 abbrev pub IsVerdict : Program → Plan → ℕ → Logs → Verdict → Type 0
 IsVerdict program plan budget logs (verdict.Yes h) =
-    (h ≡ guided_by program plan budget logs) × HasRecordOf program plan budget logs h
+    (h ≡ guided program plan budget (record_in logs)) × HasRecordOf program plan budget logs h
     × ((p k : ℕ) → IsSame program plan budget logs h p k)
 IsVerdict program plan budget logs (verdict.No (Record taken)) =
-    (taken ≡ length (guided_by program plan budget logs))
-    × (HasRecordOf program plan budget logs (guided_by program plan budget logs) → ⊥)
+    (taken ≡ length (guided program plan budget (record_in logs)))
+    × (HasRecordOf program plan budget logs (guided program plan budget (record_in logs)) → ⊥)
 IsVerdict program plan budget logs (verdict.No (Interval p k)) =
-    HasRecordOf program plan budget logs (guided_by program plan budget logs)
-    × IsFirstOther program plan budget logs (guided_by program plan budget logs) p k
+    let h = guided program plan budget (record_in logs) in
+    HasRecordOf program plan budget logs h × (IsSame program plan budget logs h p k → ⊥)
+    × ((q m : ℕ) → q < p → IsSame program plan budget logs h q m)
+    × ((m : ℕ) → m < k → IsSame program plan budget logs h p m)

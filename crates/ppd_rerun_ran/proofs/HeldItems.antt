@@ -1,6 +1,6 @@
 -- What is held of a process, step by step, is what the story has.
 use Rattle.std.proofs.Common.{◌≡◌, ℕ, zero, suc, ◌+◌, Bool, true, false, List, [], ◌∷◌, ◌++◌, Option, Some, None, refl, ap, ap₂, sym, ◌∙◌, arith, length, map, if◌then◌else◌}
-use Rattle.std.specs.Prelude.{drop, fold, option_map, slice_get}
+use Rattle.std.specs.Prelude.{drop, fold, option_map, slice_get, is_some}
 use Rattle.std.specs.List.{flat_map}
 use Rattle.std.proofs.lemmas.List.{length-map, map-append}
 use Rattle.std.proofs.lemmas.Option.{none-some, slice_get-map}
@@ -17,7 +17,7 @@ use Rattle.ppd_model.specs.declared.trace.EventId.{EventId}
 use Rattle.ppd_model.specs.declared.trace.TracedEvent.{TracedEvent}
 use Rattle.ppd_model.specs.declared.tracing.Tracing.{Tracing}
 use Rattle.ppd_model.specs.FullTrace.{Tag, event_of, me_in, top_tags, trace_by}
-use Rattle.ppd_model.specs.Intervals.{Span, Split, own, nested, begun_split, change_first, control_by, innermost, is_closed, item_of, items, left_by, new_span, split_of, split_step, with_marks, with_own, with_part, with_step}
+use Rattle.ppd_model.specs.Intervals.{Span, Split, own, nested, begun_split, change_first, control_by, innermost, item_of, items, left_by, new_span, split_of, split_step, with_marks, with_own, with_part, with_step}
 use Rattle.ppd_model.proofs.IntervalWords.{begin_if, end_if, items_at, items_in, splits_from}
 use Rattle.ppd_model.specs.Intervals as s
 use Rattle.ppd_model.proofs.IntervalWords as words
@@ -39,7 +39,7 @@ part_of (own n) = Own n
 part_of (nested n) = Nested n
 
 abbrev pub bare : Span → Kept
-bare i = record { block = i.block; parts = map part_of i.parts; values = i.values; closed = is_closed i }
+bare i = record { block = i.block; parts = map part_of i.parts; values = i.values; closed = is_some i.closed }
 
 abbrev pub bare_event : TracedEvent → Event
 bare_event e = e.event
@@ -54,7 +54,7 @@ abbrev pub course_of : Split → Course
 course_of x = record { proc = x.trace.proc; held = held_of x }
 
 one_part : (part : s.Part) (i : Span) → bare (with_part part i) ≡ with_one (part_of part) (bare i)
-one_part part i = ap (λ (ps : List Part). record { block = i.block; parts = ps; values = i.values; closed = is_closed i }) (map-append part_of i.parts (part ∷ []))
+one_part part i = ap (λ (ps : List Part). record { block = i.block; parts = ps; values = i.values; closed = is_some i.closed }) (map-append part_of i.parts (part ∷ []))
 
 -- ---- lists
 

@@ -2,7 +2,7 @@
 use Rattle.std.specs.Option.{option_map_or}
 use Rattle.std.proofs.Common.{◌≡◌, ℕ, zero, suc, ◌+◌, ◌-◌, ◌<◌, true, List, [], ◌∷◌, ◌++◌, Option, Some, None, Result, Ok, Err, OnOk, refl, ap, ap₂, sym, subst, ◌∙◌, arith, length, map, drop, get_or, inl, inr, length-append}
 use Rattle.std.specs.List.{range_with_len}
-use Rattle.std.specs.Prelude.{fold, option_map, option_to_list, slice_get, unwrap_or}
+use Rattle.std.specs.Prelude.{fold, option_map, option_to_list, slice_get, unwrap_or, filter_map}
 use Rattle.std.proofs.lemmas.Bool.{cases_eq, false≢true}
 use Rattle.std.proofs.lemmas.List.{append_assoc, append-nil, length-map, map-append}
 use Rattle.std.proofs.lemmas.List.FromFn.{map-range_with_len_more}
@@ -21,7 +21,6 @@ use Rattle.ppd_sem.proofs.TableWords.{or_zero}
 use Rattle.ppd_model.specs.declared.tracing.Taken.{Taken}
 use Rattle.ppd_model.specs.declared.state.Logging.{Logging}
 use Rattle.ppd_model.specs.FullTrace.{event_of}
-use Rattle.ppd_model.specs.HappenedBefore.{own_syncs}
 use Rattle.ppd_model.specs.Laws.{logged_moment}
 use Rattle.ppd_model.specs.Marks.{closed}
 use Rattle.ppd_model.specs.Record.{sync_record}
@@ -29,7 +28,7 @@ use Rattle.ppd_model.specs.RecordedSets.{record_in}
 use Rattle.ppd_model.specs.Schedule.{IsOver, run, started_world}
 use Rattle.ppd_model.specs.States.{act_on, states_from}
 use Rattle.ppd_model.specs.Story.{Telling, moment_of, steps_of, story, told}
-use Rattle.ppd_model.specs.Synchronizations.{Sync, sync_of, syncs_of}
+use Rattle.ppd_model.specs.Synchronizations.{Sync, sync_of}
 use Rattle.ppd_model.specs.World.{World, can, change, enabled}
 use Rattle.ppd_model.proofs.WorldWords.{need_at}
 use Rattle.ppd_model.proofs.Changes.{length-change, own-at, own-else, some}
@@ -179,7 +178,7 @@ module _ (program : Program) (plan : Plan) (budget : ℕ) where
   -- there are records of just the processes
   pub record_count : (h : List ℕ) → length (sync_record program plan budget h) ≡ length (told program plan budget h).world.procs
   record_count h =
-      length-map (story program plan budget h).steps syncs_of
+      length-map (story program plan budget h).steps (filter_map sync_of)
       ∙ sym (ap (λ (xs : List Proc). length xs) (states_told program plan budget h) ∙ states_count 0 (story program plan budget h).steps)
 
   pub held_count : (h : List ℕ) → length (helds program plan budget h) ≡ length (told program plan budget h).world.procs
@@ -192,8 +191,8 @@ module _ (program : Program) (plan : Plan) (budget : ℕ) where
       ≡ change (λ ss. ss ++ option_to_list (sync_of_next program plan (told program plan budget h).world p)) p (sync_record program plan budget h)
   record_more h p =
       let x : Taken = (moment_of program plan (told program plan budget h) p).taken in
-      ap (λ lists. map syncs_of lists) (stories_grow program plan budget h p).steps_are
-      ∙ map_change syncs_of (λ xs. xs ++ x ∷ []) (λ ss. ss ++ option_to_list (sync_of x)) p (story program plan budget h).steps (λ xs. syncs-append xs x)
+      ap (λ lists. map (filter_map sync_of) lists) (stories_grow program plan budget h p).steps_are
+      ∙ map_change (filter_map sync_of) (λ xs. xs ++ x ∷ []) (λ ss. ss ++ option_to_list (sync_of x)) p (story program plan budget h).steps (λ xs. syncs-append xs x)
 
   taken_own : (record' left : List (List Sync)) (p : ℕ) (o : Option Sync) → p < length record' → is_let o (slice_get (get_or left p []) 0) ≡ true
       → get_or (change (λ ss. ss ++ option_to_list o) p record') p [] ++ get_or (option_map_or (λ taken. change (drop 1) p left) o left) p [] ≡ get_or record' p [] ++ get_or left p []
@@ -214,13 +213,13 @@ module _ (program : Program) (plan : Plan) (budget : ℕ) where
 
   taken_more : (h : List ℕ) (p : ℕ) (left : List (List Sync)) (q : ℕ) → p < length (told program plan budget h).world.procs
       → is_let (sync_of_next program plan (told program plan budget h).world p) (slice_get (get_or left p []) 0) ≡ true
-      → own_syncs (sync_record program plan budget (h ++ p ∷ [])) q ++ own_syncs (option_map_or (λ taken. change (drop 1) p left) (sync_of_next program plan (told program plan budget h).world p) left) q
-      ≡ own_syncs (sync_record program plan budget h) q ++ own_syncs left q
+      → get_or (sync_record program plan budget (h ++ p ∷ [])) q [] ++ get_or (option_map_or (λ taken. change (drop 1) p left) (sync_of_next program plan (told program plan budget h).world p) left) q []
+      ≡ get_or (sync_record program plan budget h) q [] ++ get_or left q []
   taken_more h p left q lt e =
       let o : Option Sync = sync_of_next program plan (told program plan budget h).world p in
       let old : List (List Sync) = sync_record program plan budget h in
       let there : p < length old = let n : length old ≡ length (told program plan budget h).world.procs = record_count h in omega arith in
-      ap (λ (xs : List (List Sync)). own_syncs xs q ++ own_syncs (option_map_or (λ taken. change (drop 1) p left) o left) q) (record_more h p)
+      ap (λ (xs : List (List Sync)). get_or xs q [] ++ get_or (option_map_or (λ taken. change (drop 1) p left) o left) q []) (record_more h p)
       ∙ elim (cases_eq q p) [
         | inl is ↦
             subst (λ (x : ℕ). get_or (change (λ ss. ss ++ option_to_list o) p old) x [] ++ get_or (option_map_or (λ taken. change (drop 1) p left) o left) x [] ≡ get_or old x [] ++ get_or left x []) (sym is)
@@ -253,8 +252,8 @@ module _ (program : Program) (plan : Plan) (budget : ℕ) where
     };
     lists = ap (λ (g : Guiding). length g.left) goes ∙ left_count (sync_of_next r.program r.plan r.world p) p left ∙ come.lists;
     taken = λ q.
-        ap (λ (g : Guiding). own_syncs (sync_record program plan budget (h ++ p ∷ [])) q ++ own_syncs g.left q) goes
-        ∙ ap (λ (o : Option Sync). own_syncs (sync_record program plan budget (h ++ p ∷ [])) q ++ own_syncs (option_map_or (λ taken. change (drop 1) p left) o left) q) next_is
+        ap (λ (g : Guiding). get_or (sync_record program plan budget (h ++ p ∷ [])) q [] ++ get_or g.left q []) goes
+        ∙ ap (λ (o : Option Sync). get_or (sync_record program plan budget (h ++ p ∷ [])) q [] ++ get_or (option_map_or (λ taken. change (drop 1) p left) o left) q []) next_is
         ∙ taken_more h p left q there lets
         ∙ come.taken q;
     held_is =
@@ -291,7 +290,7 @@ module _ (program : Program) (plan : Plan) (budget : ℕ) where
       lets : is_let (sync_of_next program plan (told program plan budget h).world p) (slice_get (get_or left p []) 0) ≡ true
       lets = ap (λ (o : Option Sync). is_let o (slice_get (get_or left p []) 0)) (sym next_is) ∙ chosen_let r.program r.plan (state r left) p may
 
-  none_taken : (procs : List Proc) (q : ℕ) → get_or (map syncs_of (map steps_of (map (λ _. []) procs))) q [] ≡ []
+  none_taken : (procs : List Proc) (q : ℕ) → get_or (map (filter_map sync_of) (map steps_of (map (λ _. []) procs))) q [] ≡ []
   none_taken [] q = refl
   none_taken (s ∷ procs) zero = refl
   none_taken (s ∷ procs) (suc q) = none_taken procs q
@@ -301,7 +300,7 @@ module _ (program : Program) (plan : Plan) (budget : ℕ) where
   come_begun r left held is e = record {
     run = is;
     lists = refl;
-    taken = λ q. ap (λ (xs : List Sync). xs ++ own_syncs left q) (none_taken (started_world program plan budget).procs q);
+    taken = λ q. ap (λ (xs : List Sync). xs ++ get_or left q []) (none_taken (started_world program plan budget).procs q);
     held_is = e;
   }
 
@@ -321,8 +320,8 @@ module _ (program : Program) (plan : Plan) (budget : ℕ) where
     follows (o, u) = record {
       whole = record { last = r.world; runs = runs_in r h come.run; over = over_is o };
       record_is = alike (sync_record program plan budget h) (record_in logs) (count ∙ sym u.count_is ∙ come.lists)
-          (λ q. sym (append-nil (own_syncs (sync_record program plan budget h) q))
-          ∙ ap (λ (xs : List Sync). own_syncs (sync_record program plan budget h) q ++ xs) (sym (u.empty q))
+          (λ q. sym (append-nil (get_or (sync_record program plan budget h) q []))
+          ∙ ap (λ (xs : List Sync). get_or (sync_record program plan budget h) q [] ++ xs) (sym (u.empty q))
           ∙ come.taken q);
     }
 
@@ -331,8 +330,8 @@ module _ (program : Program) (plan : Plan) (budget : ℕ) where
       over_back (subst (λ (w : World). IsOver program plan w) (some (sym f.whole.runs ∙ runs_in r h come.run)) f.whole.over),
       record {
         count_is = come.lists ∙ sym (ap (λ (xs : List (List Sync)). length xs) f.record_is) ∙ count;
-        empty = λ q. nothing_more (own_syncs (sync_record program plan budget h) q) (own_syncs left q) (own_syncs (record_in logs) q) (come.taken q)
-            (ap (λ (xs : List (List Sync)). own_syncs xs q) f.record_is);
+        empty = λ q. nothing_more (get_or (sync_record program plan budget h) q []) (get_or left q []) (get_or (record_in logs) q []) (come.taken q)
+            (ap (λ (xs : List (List Sync)). get_or xs q []) f.record_is);
       },
     )
 

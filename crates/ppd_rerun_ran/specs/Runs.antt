@@ -1,19 +1,20 @@
 -- What a guided run comes to, with what is held of its processes.
+use Rattle.ppd_rerun_model.specs.Guided.{guided}
+use Rattle.ppd_model.specs.RecordedSets.{record_in}
 use Rattle.std.specs.Bool.{Decides}
 use Rattle.std.specs.List.{range_with_len}
-use Rattle.std.specs.Prelude.{◌≡◌, ℕ, ◌++◌, List, length, map, slice_get, Some}
+use Rattle.std.specs.Prelude.{◌≡◌, ℕ, ◌++◌, List, length, map, slice_get, Some, get_or, []}
 use Rattle.ppd_ast.specs.declared.plan.Plan.{Plan}
 use Rattle.ppd_ast.specs.declared.program.Program.{Program}
 use Rattle.ppd_entry.specs.declared.entry.Logs.{Logs}
 use Rattle.ppd_sem.specs.declared.proc.Proc.{Proc}
-use Rattle.ppd_model.specs.HappenedBefore.{own_syncs}
 use Rattle.ppd_model.specs.Laws.{logged_moment}
 use Rattle.ppd_model.specs.Record.{sync_record}
 use Rattle.ppd_model.specs.Story.{story}
 use Rattle.ppd_model.specs.Synchronizations.{Sync}
 use Rattle.ppd_model.specs.World.{change}
 use Rattle.ppd_world.specs.Running.{IsHeld, Running}
-use Rattle.ppd_rerun_model.specs.Verdicts.{HasRecordOf, guided_by}
+use Rattle.ppd_rerun_model.specs.Verdicts.{HasRecordOf}
 use Rattle.ppd_rerun_ran.specs.declared.ran.Ran.{Ran}
 use Rattle.ppd_rerun_ran.specs.Holding.{Holding, begun_held, courses, hold_step}
 use Rattle.ppd_rerun_ran.specs.Seeing.{seen}
@@ -37,11 +38,11 @@ pub record HasCome (program : Program) (plan : Plan) (budget : ℕ) (syncs : Lis
     (left : List (List Sync)) (held : List Holding) : Type 0 where
   pub run : IsHeld program plan budget r h
   pub lists : length left ≡ length syncs
-  pub taken : (q : ℕ) → own_syncs (sync_record program plan budget h) q ++ own_syncs left q ≡ own_syncs syncs q
+  pub taken : (q : ℕ) → get_or (sync_record program plan budget h) q [] ++ get_or left q [] ≡ get_or syncs q []
   pub held_is : held ≡ helds program plan budget h
 
 -- the guided run of these logs
 pub record IsRan (program : Program) (plan : Plan) (budget : ℕ) (logs : Logs) (ran : Ran) : Type 0 where
-  pub schedule_is : ran.schedule ≡ guided_by program plan budget logs
+  pub schedule_is : ran.schedule ≡ guided program plan budget (record_in logs)
   pub follows : Decides ran.follows (HasRecordOf program plan budget logs ran.schedule)
   pub held_is : map seen ran.held.items ≡ helds program plan budget ran.schedule

@@ -1,7 +1,8 @@
 -- The shared reads of an evaluation are exactly the answers that it takes.
 use Rattle.std.proofs.Common.{◌≡◌, ℕ, ℤ, pos, neg_ℤ, Bool, true, false, List, [], ◌∷◌, ◌++◌, Some, None, Result, Ok, Err, refl, ap, sym, ◌∙◌, subst, if◌then◌else◌}
-use Rattle.std.specs.Prelude.{not as negated}
+use Rattle.std.specs.Prelude.{not as negated, get_or}
 use Rattle.std.proofs.lemmas.List.{append_assoc, append-nil, map-append}
+use Rattle.std.specs.Ordering.{int_eq}
 use Rattle.ppd_ast.specs.declared.program.Expr.{Expr}
 use Rattle.ppd_ast.specs.declared.program.Kind.{Kind}
 use Rattle.ppd_ast.specs.declared.program.Kind.TheVariants as kind
@@ -13,12 +14,12 @@ use Rattle.ppd_sem.specs.declared.asking.Pause.TheVariants.{Wants, Traps}
 use Rattle.ppd_sem.specs.declared.event.Access.{Access}
 use Rattle.ppd_sem.specs.declared.event.Spot.{Spot}
 use Rattle.ppd_sem.specs.declared.event.Spot.TheVariants as spot
-use Rattle.ppd_sem.specs.Ask.{ask, calc, cell_of, checked, element, is_zero, truth}
+use Rattle.ppd_sem.specs.Ask.{ask, calc, checked, element, truth}
 use Rattle.ppd_sem.specs.Asked.{Asked, and_then, gives, lift, once, read_shared}
 use Rattle.ppd_sem.specs.Consumed.{ComesOf, Takes, WantsInTurn, shared_of, shared_with, values_read}
 use Rattle.ppd_sem.specs.Deed.{Deed, set_local, set_shared, clear, branch, turn, leave, invoke, back, take, give, send, receive, print, pass, finish, ask_all, ask_deed, ask_stored}
 use Rattle.ppd_sem.specs.Laws.{ReadsAreAnswers}
-use Rattle.ppd_sem.specs.Reads.{ask_place, local_read, reads_of, reads_of_all, reads_of_kind, reads_of_stored, shared_read}
+use Rattle.ppd_sem.specs.Reads.{ask_place, reads_of, reads_of_all, reads_of_kind, reads_of_stored, shared_read, local_accesses}
 
 -- ---- lists of shared reads
 
@@ -174,29 +175,29 @@ at_place frame i base len cells answers next bring h n =
 
 takes : (frame : ℕ) (t : Term) (cells answers : List ℤ) → Takes (ask t cells) answers (shared_of (reads_of frame t cells answers))
 takes frame (const v) cells answers = gives_takes v answers
-takes frame (local c) cells answers = gives_takes (cell_of cells c) answers
+takes frame (local c) cells answers = gives_takes (get_or cells c (pos 0)) answers
 takes frame (local_at base len i) cells answers =
-    at_place frame i base len cells answers (λ c left. gives left (cell_of cells c)) (λ c left. local_read frame cells c) (takes frame i cells answers) (λ c left. gives_takes (cell_of cells c) left)
+    at_place frame i base len cells answers (λ c left. gives left (get_or cells c (pos 0))) (λ c left. local_accesses frame c (get_or cells c (pos 0) ∷ [])) (takes frame i cells answers) (λ c left. gives_takes (get_or cells c (pos 0)) left)
 takes frame (shared c) cells answers = read_takes c answers
 takes frame (shared_at base len i) cells answers =
     at_place frame i base len cells answers (λ c left. read_shared left c) (λ c left. shared_read c left) (takes frame i cells answers) (λ c left. read_takes c left)
 takes frame (neg a) cells answers =
     then_plain (ask a cells) (λ x left. lift left (checked (neg_ℤ x))) answers (shared_of (reads_of frame a cells answers)) (takes frame a cells answers) (λ x left. lift_takes (checked (neg_ℤ x)) left)
 takes frame (not a) cells answers =
-    then_plain (ask a cells) (λ x left. gives left (truth (is_zero x))) answers (shared_of (reads_of frame a cells answers)) (takes frame a cells answers) (λ x left. gives_takes (truth (is_zero x)) left)
+    then_plain (ask a cells) (λ x left. gives left (truth (int_eq x (pos 0)))) answers (shared_of (reads_of frame a cells answers)) (takes frame a cells answers) (λ x left. gives_takes (truth (int_eq x (pos 0))) left)
 takes frame (two op a b) cells answers =
     then_reads (ask a cells) (λ x left. and_then (ask b cells left) (λ y left. lift left (calc op x y))) answers (reads_of frame a cells answers) (λ x left. reads_of frame b cells left) (takes frame a cells answers)
     (λ x left. then_plain (ask b cells) (λ y left. lift left (calc op x y)) left (shared_of (reads_of frame b cells left)) (takes frame b cells left) (λ y left. lift_takes (calc op x y) left))
 takes frame (and a b) cells answers =
-    then_reads (ask a cells) (λ x left. if is_zero x then gives left (pos 0) else and_then (ask b cells left) (λ y left. gives left (truth (negated (is_zero y))))) answers (reads_of frame a cells answers)
-    (λ x left. if is_zero x then [] else reads_of frame b cells left) (takes frame a cells answers)
-    (λ x left. if_takes (is_zero x) (λ l. gives l (pos 0)) (λ l. and_then (ask b cells l) (λ y left. gives left (truth (negated (is_zero y))))) left [] (reads_of frame b cells left) (gives_takes (pos 0) left)
-    (then_plain (ask b cells) (λ y left. gives left (truth (negated (is_zero y)))) left (shared_of (reads_of frame b cells left)) (takes frame b cells left) (λ y left. gives_takes (truth (negated (is_zero y))) left)))
+    then_reads (ask a cells) (λ x left. if int_eq x (pos 0) then gives left (pos 0) else and_then (ask b cells left) (λ y left. gives left (truth (negated (int_eq y (pos 0)))))) answers (reads_of frame a cells answers)
+    (λ x left. if int_eq x (pos 0) then [] else reads_of frame b cells left) (takes frame a cells answers)
+    (λ x left. if_takes (int_eq x (pos 0)) (λ l. gives l (pos 0)) (λ l. and_then (ask b cells l) (λ y left. gives left (truth (negated (int_eq y (pos 0)))))) left [] (reads_of frame b cells left) (gives_takes (pos 0) left)
+    (then_plain (ask b cells) (λ y left. gives left (truth (negated (int_eq y (pos 0))))) left (shared_of (reads_of frame b cells left)) (takes frame b cells left) (λ y left. gives_takes (truth (negated (int_eq y (pos 0)))) left)))
 takes frame (or a b) cells answers =
-    then_reads (ask a cells) (λ x left. if is_zero x then and_then (ask b cells left) (λ y left. gives left (truth (negated (is_zero y)))) else gives left (pos 1)) answers (reads_of frame a cells answers)
-    (λ x left. if is_zero x then reads_of frame b cells left else []) (takes frame a cells answers)
-    (λ x left. if_takes (is_zero x) (λ l. and_then (ask b cells l) (λ y left. gives left (truth (negated (is_zero y))))) (λ l. gives l (pos 1)) left (reads_of frame b cells left) []
-    (then_plain (ask b cells) (λ y left. gives left (truth (negated (is_zero y)))) left (shared_of (reads_of frame b cells left)) (takes frame b cells left) (λ y left. gives_takes (truth (negated (is_zero y))) left))
+    then_reads (ask a cells) (λ x left. if int_eq x (pos 0) then and_then (ask b cells left) (λ y left. gives left (truth (negated (int_eq y (pos 0))))) else gives left (pos 1)) answers (reads_of frame a cells answers)
+    (λ x left. if int_eq x (pos 0) then reads_of frame b cells left else []) (takes frame a cells answers)
+    (λ x left. if_takes (int_eq x (pos 0)) (λ l. and_then (ask b cells l) (λ y left. gives left (truth (negated (int_eq y (pos 0)))))) (λ l. gives l (pos 1)) left (reads_of frame b cells left) []
+    (then_plain (ask b cells) (λ y left. gives left (truth (negated (int_eq y (pos 0))))) left (shared_of (reads_of frame b cells left)) (takes frame b cells left) (λ y left. gives_takes (truth (negated (int_eq y (pos 0)))) left))
     (gives_takes (pos 1) left))
 
 takes_all : (frame : ℕ) (es : List Expr) (as' : List ℕ) (cells answers : List ℤ) → Takes (ask_all es as' cells) answers (shared_of (reads_of_all frame es as' cells answers))
@@ -227,8 +228,8 @@ module _ (frame : ℕ) (es : List Expr) (cells answers : List ℤ) where
   statement_takes (kind.Set (target.Shared c) e) = valued e (λ v. set_shared c v)
   statement_takes (kind.Set (target.SharedAt base len i) e) = takes_stored frame (term es i) (term es e) base len set_shared cells answers
   statement_takes (kind.Zero base len) = gives_takes (clear base len) answers
-  statement_takes (kind.If e first second) = valued e (λ v. branch (if is_zero v then second else first))
-  statement_takes (kind.While e body) = valued e (λ v. if is_zero v then leave else turn body)
+  statement_takes (kind.If e first second) = valued e (λ v. branch (if int_eq v (pos 0) then second else first))
+  statement_takes (kind.While e body) = valued e (λ v. if int_eq v (pos 0) then leave else turn body)
   statement_takes (kind.Call f arguments into) =
       then_plain (ask_all es arguments cells) (λ vs left. gives left (invoke f vs into)) answers (shared_of (reads_of_all frame es arguments cells answers)) (takes_all frame es arguments cells answers) (λ vs left. gives_takes (invoke f vs into) left)
   statement_takes (kind.Return None) = gives_takes (back None) answers
@@ -239,8 +240,8 @@ module _ (frame : ℕ) (es : List Expr) (cells answers : List ℤ) where
   statement_takes (kind.Recv c into) = gives_takes (receive c into) answers
   statement_takes (kind.Print e) = valued e (λ v. print v)
   statement_takes (kind.Assert e) =
-      then_plain (ask (term es e) cells) (λ v left. if is_zero v then Err (Traps trap.Assert) else gives left pass) answers (shared_of (reads_of frame (term es e) cells answers)) (takes frame (term es e) cells answers)
-      (λ v left. asserted (is_zero v) left)
+      then_plain (ask (term es e) cells) (λ v left. if int_eq v (pos 0) then Err (Traps trap.Assert) else gives left pass) answers (shared_of (reads_of frame (term es e) cells answers)) (takes frame (term es e) cells answers)
+      (λ v left. asserted (int_eq v (pos 0)) left)
   statement_takes kind.End = gives_takes finish answers
 
 pub reads_taken : ReadsAreAnswers

@@ -1,11 +1,12 @@
 -- Words of the proofs for the parts of an event and of what a step passes.
 use Rattle.std.specs.Option.{option_map_or}
 use Rattle.std.specs.Result.{result_ok}
-use Rattle.std.specs.Prelude.{◌||◌, [], if◌then◌else◌, ℕ, ℤ, List, Option, None, Result, Ok, Err, Bool, not, option_map, option_and_then, take_while, int_div}
-use Rattle.ppd_sem.specs.Ask.{is_in_64_bits, is_zero}
+use Rattle.std.specs.Prelude.{◌||◌, [], if◌then◌else◌, ℕ, ℤ, List, Option, None, Result, Ok, Err, Bool, not, option_map, option_and_then, take_while, int_div, pos}
+use Rattle.std.specs.Ordering.{int_eq}
+use Rattle.ppd_sem.specs.Ask.{is_in_64_bits}
 use Rattle.ppd_ast.specs.declared.status.Trap.{Trap}
 use Rattle.ppd_ast.specs.declared.status.Trap.TheVariants.{Overflow, Zero}
-use Rattle.ppd_sem.specs.Asked.{Asked, outcome}
+use Rattle.ppd_sem.specs.Asked.{Asked}
 use Rattle.ppd_sem.specs.Described.{ends_body, is_in_loop, is_block, frame_of, writes_of_deed, trap_of, writes_by, valued, value_at, evaluates}
 use Rattle.ppd_ast.specs.declared.program.Program.{Program}
 use Rattle.ppd_ast.specs.declared.plan.Plan.{Plan}
@@ -18,12 +19,12 @@ use Rattle.ppd_sem.specs.declared.event.Access.{Access}
 use Rattle.ppd_sem.specs.declared.event.Event.{Event}
 use Rattle.ppd_sem.specs.Deed.{Deed}
 use Rattle.ppd_sem.specs.Reads.{reads_of_kind}
-use Rattle.ppd_sem.specs.Process.{top_cells, top_body, head_deed}
+use Rattle.ppd_sem.specs.Process.{head_deed, top_frame}
 use Rattle.ppd_sem.specs.Passed.{arguments_by, result_by}
 
 -- z, where y is not 0 and the quotient has 64 bits
 abbrev pub divided : ℤ → ℤ → ℤ → Result ℤ Trap
-divided x y z = if is_zero y then Err Zero else if is_in_64_bits (int_div x y) then Ok z else Err Overflow
+divided x y z = if int_eq y (pos 0) then Err Zero else if is_in_64_bits (int_div x y) then Ok z else Err Overflow
 
 -- what is to do in the top frame, up to the statement that ends its body
 abbrev pub top_todo : Program → List Todo → List Todo
@@ -31,7 +32,7 @@ top_todo program todo = take_while (λ t. not (ends_body (kind_of program t.stmt
 
 -- the top frame is that of an interval
 abbrev pub has_interval : Program → Plan → Proc → Bool
-has_interval program plan s = is_in_loop program s.todo || is_block plan (top_body s.frames)
+has_interval program plan s = is_in_loop program s.todo || is_block plan (top_frame s.frames).body
 
 -- the value that evaluation comes to, if it comes to one
 abbrev pub value_if : Asked ℤ → Option ℤ
@@ -47,18 +48,18 @@ event_at program plan a need s t = record {
   stmt = t.stmt;
   reads = if evaluates need
       then reads_of_kind (frame_of program plan s) program.exprs (kind_of program t.stmt)
-      (top_cells s.frames) s.answers else [];
+      (top_frame s.frames).cells s.answers else [];
   writes = writes_by (trap_of need) (frame_of program plan s) a (head_deed program t s);
   value = if evaluates need
-      then value_at program.exprs (top_cells s.frames) s.answers (valued (kind_of program t.stmt)) else None;
+      then value_at program.exprs (top_frame s.frames).cells s.answers (valued (kind_of program t.stmt)) else None;
   number = None;
   trap = trap_of need;
 }
 
 -- the values with which a head statement calls
 abbrev pub arguments_of_head : Program → Proc → Option Todo → List ℤ
-arguments_of_head program s o = option_map_or (λ t. arguments_by (outcome (head_deed program t s))) o []
+arguments_of_head program s o = option_map_or (λ t. arguments_by (head_deed program t s)) o []
 
 -- the value that a head statement returns, if any
 abbrev pub result_of_head : Program → Proc → Option Todo → Option ℤ
-result_of_head program s o = option_and_then (λ t. result_by (outcome (head_deed program t s))) o
+result_of_head program s o = option_and_then (λ t. result_by (head_deed program t s)) o

@@ -1,7 +1,7 @@
 -- A step leaves a process state of the program.
 use Rattle.std.proofs.Common.{◌≡◌, ℕ, zero, suc, ◌+◌, ◌-◌, ◌<◌, ◌≤◌, ◌^◌, ℤ, pos, Bool, true, false, nat_lt, List, [], ◌∷◌, ◌++◌, length, Option, Some, None, Result, Ok, Err, refl, ap, sym, ◌∙◌, subst, arith, if◌then◌else◌}
-use Rattle.std.specs.Prelude.{OnOk, OnErr, replicate, slice_get}
-use Rattle.std.specs.List.{All}
+use Rattle.std.specs.Prelude.{OnOk, OnErr, replicate, slice_get, slice_set, unwrap_or}
+use Rattle.std.specs.List.{All, range_with_len}
 use Rattle.std.proofs.lemmas.Bool.Decides.{nat_tests}
 use Rattle.std.proofs.lemmas.List.{length-set, length-append, length-replicate}
 use Rattle.ppd_ast.specs.Table.{EachAt}
@@ -11,7 +11,7 @@ use Rattle.ppd_ast.specs.declared.program.Kind.{Kind}
 use Rattle.ppd_ast.specs.declared.program.Program.{Program}
 use Rattle.ppd_ast.specs.declared.status.Status.{Status}
 use Rattle.ppd_ast.specs.declared.status.Status.TheVariants as status
-use Rattle.ppd_ast.specs.Lookups.{kind_of, top_of_body}
+use Rattle.ppd_ast.specs.Lookups.{kind_of, body_numbered, no_body}
 use Rattle.ppd_ast.proofs.Vocabulary.{kind_of_stmt}
 use Rattle.ppd_ast.specs.declared.limits.TheConstants.{MOST_CALLS}
 use Rattle.ppd_sem.specs.declared.asking.Pause.TheVariants.{Wants, Traps}
@@ -23,9 +23,9 @@ use Rattle.ppd_sem.specs.declared.proc.Proc.{Proc}
 use Rattle.ppd_sem.specs.declared.proc.Todo.{Todo}
 use Rattle.ppd_sem.specs.Asked.{Asked}
 use Rattle.ppd_sem.specs.Deed.{Deed, set_local, set_shared, clear, branch, turn, leave, invoke, back, take, give, send, receive, print, pass, finish, ask_deed}
-use Rattle.ppd_sem.specs.Process.{act, act_by_asked, act_by_deed, act_by_need, charged, clear_cells, clear_top, cost, head_deed, into_of, need_of, need_of_head, receive_at, returned, returned_from, todos, top_cells, within_budget, write_top}
+use Rattle.ppd_sem.specs.Process.{act, act_by_asked, act_by_deed, act_by_need, charged, cost, head_deed, into_of, need_of, need_of_head, receive_at, returned, todos, within_budget, on_top, top_frame, into_at, with_values}
 use Rattle.ppd_sem.proofs.NeedWords.{act_at, cells_for}
-use Rattle.ppd_sem.specs.Runs.{AreOfFunction, AreOver, IsCallable, IsInner, RunsOver, IsRunnable, IsRunnableStmt, IsRunning, LeadsOn, left_by, returns, size_if, size_of, sizes, stmt_size}
+use Rattle.ppd_sem.specs.Runs.{AreOfFunction, AreOver, IsCallable, IsInner, RunsOver, IsRunnable, IsRunnableStmt, IsRunning, LeadsOn, left_by, returns, size_of, sizes, stmt_size}
 use Rattle.ppd_sem.proofs.Offers.{CompletesSend, head_completes, send_stays}
 use Rattle.ppd_sem.proofs.Progress.{SamePurse, asked_purse, need_at_status, need_at_todo, stays_at}
 use Rattle.ppd_sem.proofs.OfKind.{IsDeedOf, OfAsked, asked_holds, goes_first, goes_second, invokes, goes_round}
@@ -64,7 +64,7 @@ leads_at p n s h over =
     let kind : found.0.kind ≡ kind_of p s = sym (ap kind_of_stmt found.1) in
     subst (λ (m : ℕ). LeadsOn p m (kind_of p s)) size (subst (λ (k : Kind). LeadsOn p (size_of p found.0.body) k) kind found.2.leads)
 
-body_small : (bodies : List Body) (i : ℕ) → EachAt (λ _ b. b.cells < 2 ^ 16) bodies → size_if (slice_get bodies i) < 2 ^ 16
+body_small : (bodies : List Body) (i : ℕ) → EachAt (λ _ b. b.cells < 2 ^ 16) bodies → (unwrap_or (slice_get bodies i) no_body).cells < 2 ^ 16
 body_small [] i h = omega arith
 body_small (b ∷ bs) zero h = h 0 b (omega arith)
 body_small (b ∷ bs) (suc i) h = body_small bs i (λ k d lt. h (suc k) d (omega arith))
@@ -81,15 +81,15 @@ pub record Shape (p : Program) (ns : List ℕ) (ts : List Todo) : Type 0 where
 pub sized : (p : Program) (ms ns : List ℕ) (ts : List Todo) → ns ≡ ms → Shape p ms ts → Shape p ns ts
 sized p ms ns ts e h = subst (λ (l : List ℕ). Shape p l ts) (sym e) h
 
-sizes-write : (c : ℕ) (v : ℤ) (frames : List Frame) → sizes (write_top c v frames) ≡ sizes frames
+sizes-write : (c : ℕ) (v : ℤ) (frames : List Frame) → sizes (on_top (λ cells. slice_set cells c v) frames) ≡ sizes frames
 sizes-write c v [] = refl
 sizes-write c v (f ∷ fs) = ap (λ n. n ∷ sizes fs) (length-set f.cells c v)
 
-pub length-clear : (base len : ℕ) (cells : List ℤ) → length (clear_cells base len cells) ≡ length cells
+pub length-clear : (base len : ℕ) (cells : List ℤ) → length (with_values (range_with_len base len) (replicate len (pos 0)) cells) ≡ length cells
 length-clear base zero cells = refl
-length-clear base (suc n) cells = length-set (clear_cells base n cells) (base + n) (pos 0) ∙ length-clear base n cells
+length-clear base (suc n) cells = length-clear (base + 1) n (slice_set cells base (pos 0)) ∙ length-set cells base (pos 0)
 
-sizes-clear : (base len : ℕ) (frames : List Frame) → sizes (clear_top base len frames) ≡ sizes frames
+sizes-clear : (base len : ℕ) (frames : List Frame) → sizes (on_top (with_values (range_with_len base len) (replicate len (pos 0))) frames) ≡ sizes frames
 sizes-clear base len [] = refl
 sizes-clear base len (f ∷ fs) = ap (λ n. n ∷ sizes fs) (length-clear base len f.cells)
 
@@ -98,11 +98,11 @@ sizes-receive None value frames = refl
 sizes-receive (Some c) None frames = refl
 sizes-receive (Some c) (Some v) frames = sizes-write c v frames
 
-sizes-returned : (p : Program) (call : Option ℕ) (value : Option ℤ) (frames : List Frame) → sizes (returned_from p call value frames) ≡ sizes frames
+sizes-returned : (p : Program) (call : Option ℕ) (value : Option ℤ) (frames : List Frame) → sizes (receive_at (into_at p call) value frames) ≡ sizes frames
 sizes-returned p None value frames = refl
 sizes-returned p (Some c) value frames = sizes-receive (into_of (kind_of p c)) value frames
 
-pub cells_count : (o : Option Body) (values : List ℤ) → length values ≤ size_if o → length (cells_for o values) ≡ size_if o
+pub cells_count : (o : Option Body) (values : List ℤ) → length values ≤ (unwrap_or o no_body).cells → length (cells_for o values) ≡ (unwrap_or o no_body).cells
 cells_count None values h = omega arith
 cells_count (Some b) values h =
     let n : ℕ = b.cells - length values in
@@ -140,9 +140,9 @@ deed_shape p a t ts d s f fs run e h shape = by d h
     same still = sized p (sizes (f ∷ fs)) (sizes s.frames) ts (ap sizes e) (stays p (length f.cells) (sizes fs) t ts still whole)
 
     by : (d : Deed) → DeedFits p (length f.cells) (kind_of p t.stmt) d → Shape p (sizes (act_by_deed p a t ts d s).frames) (act_by_deed p a t ts d s).todo
-    by (set_local c v) h = sized p (sizes s.frames) (sizes (write_top c v s.frames)) ts (sizes-write c v s.frames) (same h)
+    by (set_local c v) h = sized p (sizes s.frames) (sizes (on_top (λ cells. slice_set cells c v) s.frames)) ts (sizes-write c v s.frames) (same h)
     by (set_shared c v) h = same h
-    by (clear base len) h = sized p (sizes s.frames) (sizes (clear_top base len s.frames)) ts (sizes-clear base len s.frames) (same h)
+    by (clear base len) h = sized p (sizes s.frames) (sizes (on_top (with_values (range_with_len base len) (replicate len (pos 0))) s.frames)) ts (sizes-clear base len s.frames) (same h)
     by (branch stmts) h =
         let after : Shape p (sizes (f ∷ fs)) ts = stays p (length f.cells) (sizes fs) t ts h.0 whole in
         let over : AreOver p (sizes (f ∷ fs)) (todos stmts ++ ts) = inner_over p (length f.cells) (sizes fs) stmts ts h.1 after.todo in
@@ -154,7 +154,7 @@ deed_shape p a t ts d s f fs run e h shape = by d h
     by (invoke g values into) h =
         let after : Shape p (sizes s.frames) ts = same h.0 in
         let count : length (cells_for (slice_get p.bodies g) values) ≡ size_of p g = cells_count (slice_get p.bodies g) values h.1.arguments in
-        let stmts : List ℕ = top_of_body (slice_get p.bodies g) in
+        let stmts : List ℕ = (body_numbered p g).top in
         let over : AreOver p (size_of p g ∷ sizes s.frames) (todos stmts ++ ts) = function_over p (size_of p g) (sizes s.frames) stmts ts h.1.top after.todo in
         let small : All (λ n. n < 2 ^ 16) (size_of p g ∷ sizes s.frames) = small_cons (size_of p g) (sizes s.frames) (size_small p g run) after.sizes in
         sized p (size_of p g ∷ sizes s.frames) (length (cells_for (slice_get p.bodies g) values) ∷ sizes s.frames) (todos stmts ++ ts) (ap (λ n. n ∷ sizes s.frames) count) record { todo = over; sizes = small }
@@ -170,7 +170,7 @@ deed_shape p a t ts d s f fs run e h shape = by d h
     by (take sem) h = same h
     by (give sem) h = same h
     by (send chan v) h = same h
-    by (receive chan c) h = sized p (sizes s.frames) (sizes (write_top c _ s.frames)) ts (sizes-write c _ s.frames) (same h)
+    by (receive chan c) h = sized p (sizes s.frames) (sizes (on_top (λ cells. slice_set cells c _) s.frames)) ts (sizes-write c _ s.frames) (same h)
     by (print v) h = same h
     by pass h = same h
     by finish h = same h
@@ -189,8 +189,8 @@ head_shape p a t ts s [] run e d shape = absurd shape.todo
 head_shape p a t ts s (f ∷ fs) run e d shape =
     let k : Kind = kind_of p t.stmt in
     let leads : LeadsOn p (length f.cells) k = leads_at p (length f.cells) t.stmt run shape.todo.0 in
-    let fit : OfAsked (DeedFits p (length f.cells) k) (ask_deed p.exprs k (top_cells s.frames) s.answers) =
-    asked_holds p.exprs (top_cells s.frames) s.answers (DeedFits p (length f.cells) k) k
+    let fit : OfAsked (DeedFits p (length f.cells) k) (ask_deed p.exprs k (top_frame s.frames).cells s.answers) =
+    asked_holds p.exprs (top_frame s.frames).cells s.answers (DeedFits p (length f.cells) k) k
     (λ d is. deed_fits p (length f.cells) k d is leads) in
     asked_shape p a t ts (head_deed p t s) s f fs run e d fit (sized p (sizes (f ∷ fs)) (sizes s.frames) (t ∷ ts) (ap sizes e) shape)
 

@@ -5,6 +5,7 @@ use Rattle.std.proofs.lemmas.Bool.Decides.{Decides-int_eq, nat_tests}
 use Rattle.std.proofs.lemmas.Int.{ints, quot-rem, rem_below}
 use Rattle.std.proofs.lemmas.List.{append-nil}
 use Rattle.std.proofs.lemmas.Nat.{div_below}
+use Rattle.std.specs.Ordering.{int_eq}
 use Rattle.ppd_ast.specs.declared.plan.Plan.{Plan}
 use Rattle.ppd_ast.specs.declared.program.Kind.TheVariants as kind
 use Rattle.ppd_ast.specs.declared.program.Program.{Program}
@@ -16,12 +17,12 @@ use Rattle.ppd_sem.specs.declared.asking.Pause.TheVariants.{Traps}
 use Rattle.ppd_sem.specs.declared.proc.Need.TheVariants as need
 use Rattle.ppd_sem.specs.declared.proc.Proc.{Proc}
 use Rattle.ppd_sem.specs.declared.proc.Todo.{Todo}
-use Rattle.ppd_sem.specs.Ask.{ask, checked, element, is_in_64_bits, is_zero}
+use Rattle.ppd_sem.specs.Ask.{ask, checked, element, is_in_64_bits}
 use Rattle.ppd_sem.proofs.EventWords.{divided}
 use Rattle.ppd_sem.specs.Asked.{Asked, and_then, gives, once}
 use Rattle.ppd_sem.specs.Deed.{Deed, ask_all, ask_deed, ask_stored, invoke, set_local, set_shared}
 use Rattle.ppd_sem.specs.Laws.{ArgumentsComeFirst, ArithmeticIsExact, DividesTowardZero, Has64Bits, IndexComesFirst, IsExactOrOverflow, NeedsAreThere, StepsEnd, StopsEarly, ValidCanRun, ValidIsNumbered, least}
-use Rattle.ppd_sem.specs.Process.{act, chan_of, entry_of, head_deed, loop_of, need_of_asked, need_of_call, need_of_head, offer_of, top_cells}
+use Rattle.ppd_sem.specs.Process.{act, chan_of, entry_of, head_deed, loop_of, need_of_asked, need_of_head, offer_of, top_frame, need_of_deed}
 use Rattle.ppd_sem.proofs.NeedWords.{need_by_entry, need_by_offer}
 use Rattle.ppd_sem.specs.Reads.{ask_place, reads_of, reads_of_stored}
 use Rattle.ppd_sem.proofs.Progress.{act-falls, act-stopped, act-within}
@@ -88,12 +89,12 @@ quotient_fits (negsuc a) (negsuc (suc b)) h some not =
     let few : suc a / suc (suc b) < 2 ^ 63 = div_below (suc a) (suc (suc b)) (2 ^ 63) (omega arith) (omega arith) in
     grind (arith, nat_tests)
 
-not_zero_by : (y : ℤ) (b : Bool) → is_zero y ≡ b → y ≢ pos 0 → b ≡ false
+not_zero_by : (y : ℤ) (b : Bool) → int_eq y (pos 0) ≡ b → y ≢ pos 0 → b ≡ false
 not_zero_by y false e some = refl
 not_zero_by y true e some = absurd (some ((Decides-int_eq y (pos 0)).0 e))
 
-not_zero : (y : ℤ) → y ≢ pos 0 → is_zero y ≡ false
-not_zero y some = not_zero_by y (is_zero y) refl some
+not_zero : (y : ℤ) → y ≢ pos 0 → int_eq y (pos 0) ≡ false
+not_zero y some = not_zero_by y (int_eq y (pos 0)) refl some
 
 size_of_some : (y : ℤ) → y ≢ pos 0 → 0 < unsigned_abs y
 size_of_some (pos zero) some = absurd (some refl)
@@ -159,14 +160,14 @@ and_stops a b cells answers left h = rw h refl
 
 and_unread : (frame : ℕ) (a b : Term) (cells answers left : List ℤ) → ask a cells answers ≡ Ok (pos 0, left) → reads_of frame (and a b) cells answers ≡ reads_of frame a cells answers
 and_unread frame a b cells answers left h =
-    ap (λ r. reads_of frame a cells answers ++ once r (λ x left. if is_zero x then [] else reads_of frame b cells left)) h ∙ append-nil (reads_of frame a cells answers)
+    ap (λ r. reads_of frame a cells answers ++ once r (λ x left. if int_eq x (pos 0) then [] else reads_of frame b cells left)) h ∙ append-nil (reads_of frame a cells answers)
 
 or_stops : (a b : Term) (cells answers left : List ℤ) (x : ℤ) → x ≢ pos 0 → ask a cells answers ≡ Ok (x, left) → ask (or a b) cells answers ≡ Ok (pos 1, left)
 or_stops a b cells answers left x some h = rw (h, not_zero x some) refl
 
 or_unread : (frame : ℕ) (a b : Term) (cells answers left : List ℤ) (x : ℤ) → x ≢ pos 0 → ask a cells answers ≡ Ok (x, left) → reads_of frame (or a b) cells answers ≡ reads_of frame a cells answers
 or_unread frame a b cells answers left x some h =
-    ap (λ r. reads_of frame a cells answers ++ once r (λ x left. if is_zero x then reads_of frame b cells left else [])) h ∙
+    ap (λ r. reads_of frame a cells answers ++ once r (λ x left. if int_eq x (pos 0) then reads_of frame b cells left else [])) h ∙
     ap (λ z. reads_of frame a cells answers ++ (if z then reads_of frame b cells left else [])) (not_zero x some) ∙
     append-nil (reads_of frame a cells answers)
 
@@ -195,23 +196,23 @@ no_offer program t f arguments into k = ap (λ k. if t.offered then chan_of k el
     same true = refl
     same false = refl
 
-call_deed : (program : Program) (t : Todo) (s : Proc) (f : ℕ) (arguments : List ℕ) (into : Option ℕ) (r : Asked (List ℤ)) → kind_of program t.stmt ≡ kind.Call f arguments into → ask_all program.exprs arguments (top_cells s.frames) s.answers ≡ r → head_deed program t s ≡ and_then r (λ vs left. gives left (invoke f vs into))
+call_deed : (program : Program) (t : Todo) (s : Proc) (f : ℕ) (arguments : List ℕ) (into : Option ℕ) (r : Asked (List ℤ)) → kind_of program t.stmt ≡ kind.Call f arguments into → ask_all program.exprs arguments (top_frame s.frames).cells s.answers ≡ r → head_deed program t s ≡ and_then r (λ vs left. gives left (invoke f vs into))
 call_deed program t s f arguments into r k h =
-    ap (λ k. ask_deed program.exprs k (top_cells s.frames) s.answers) k ∙ ap (λ r. and_then r (λ vs left. gives left (invoke f vs into))) h
+    ap (λ k. ask_deed program.exprs k (top_frame s.frames).cells s.answers) k ∙ ap (λ r. and_then r (λ vs left. gives left (invoke f vs into))) h
 
-call_need : (program : Program) (plan : Plan) (t : Todo) (s : Proc) (f : ℕ) (arguments : List ℕ) (into : Option ℕ) (r : Asked (List ℤ)) → kind_of program t.stmt ≡ kind.Call f arguments into → ask_all program.exprs arguments (top_cells s.frames) s.answers ≡ r → need_of_head program plan t s ≡ need_of_asked program plan t.stmt s (and_then r (λ vs left. gives left (invoke f vs into)))
+call_need : (program : Program) (plan : Plan) (t : Todo) (s : Proc) (f : ℕ) (arguments : List ℕ) (into : Option ℕ) (r : Asked (List ℤ)) → kind_of program t.stmt ≡ kind.Call f arguments into → ask_all program.exprs arguments (top_frame s.frames).cells s.answers ≡ r → need_of_head program plan t s ≡ need_of_asked program plan t.stmt s (and_then r (λ vs left. gives left (invoke f vs into)))
 call_need program plan t s f arguments into r k h =
     ap (λ o. need_by_offer plan t.stmt o (need_by_entry program plan t.stmt s (entry_of program plan t) (head_deed program t s))) (no_offer program t f arguments into k) ∙
     ap (λ o. need_by_entry program plan t.stmt s o (head_deed program t s)) (no_entry program plan t f arguments into k) ∙
     ap (λ d. need_of_asked program plan t.stmt s d) (call_deed program t s f arguments into r k h)
 
-deep_call : (plan : Plan) (f : ℕ) (s : Proc) → MOST_CALLS < s.below + length s.frames → need_of_call plan f s ≡ need.Trap Depth
-deep_call plan f s h = let test : nat_lt MOST_CALLS (s.below + length s.frames) ≡ true = grind (arith, nat_tests) in rw test refl
+deep_call : (program : Program) (plan : Plan) (t f : ℕ) (values : List ℤ) (into : Option ℕ) (s : Proc) → MOST_CALLS < s.below + length s.frames → need_of_deed program plan t s (invoke f values into) ≡ need.Trap Depth
+deep_call program plan t f values into s h = let test : nat_lt MOST_CALLS (s.below + length s.frames) ≡ true = grind (arith, nat_tests) in rw test refl
 
 pub arguments_first : ArgumentsComeFirst
 arguments_first = record {
   lacking = λ program plan t s f arguments into p k h. call_need program plan t s f arguments into (Err p) k h;
-  too_deep = λ program plan t s f arguments into values left k h deep. call_need program plan t s f arguments into (Ok (values, left)) k h ∙ deep_call plan f s deep;
+  too_deep = λ program plan t s f arguments into values left k h deep. call_need program plan t s f arguments into (Ok (values, left)) k h ∙ deep_call program plan t.stmt f values into s deep;
 }
 
 -- ---- steps

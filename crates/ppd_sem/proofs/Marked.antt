@@ -17,7 +17,7 @@ use Rattle.ppd_sem.specs.declared.proc.Todo.{Todo}
 use Rattle.ppd_sem.specs.Asked.{Asked}
 use Rattle.ppd_sem.specs.Deed.{Deed, set_local, set_shared, clear, branch, turn, leave, invoke, back, take, give, send, receive, print, pass, finish}
 use Rattle.ppd_sem.specs.Offers.{HasNoOffer, OffersAtHead}
-use Rattle.ppd_sem.specs.Process.{chan_of, cost, entry_of, head_deed, need_of_asked, need_of_deed, need_of_head, need_of_leaving, need_of_send, offer_of, todos, top_cells}
+use Rattle.ppd_sem.specs.Process.{chan_of, cost, entry_of, head_deed, need_of_asked, need_of_deed, need_of_head, need_of_leaving, need_of_send, offer_of, todos, top_frame}
 use Rattle.ppd_sem.proofs.NeedWords.{need_by_entry, need_by_offer, need_by_status, need_of_running}
 use Rattle.ppd_sem.specs.Tables.{capacity_of}
 use Rattle.ppd_sem.proofs.Offers.{DoneSuch, entry_done, if_done}
@@ -127,7 +127,7 @@ head_offer : (p : Program) (plan : Plan) (t : Todo) (s : Proc) → OfferFits (ki
 head_offer p plan t s =
     marked_offer (kind_of p t.stmt) plan t.stmt (offer_of p t) (need_by_entry p plan t.stmt s (entry_of p plan t) (head_deed p t s))
     (entry_offer (kind_of p t.stmt) p plan t.stmt s (entry_of p plan t) (head_deed p t s)
-    (asked_holds p.exprs (top_cells s.frames) s.answers (SendFits (kind_of p t.stmt)) (kind_of p t.stmt) (send_fits (kind_of p t.stmt))))
+    (asked_holds p.exprs (top_frame s.frames).cells s.answers (SendFits (kind_of p t.stmt)) (kind_of p t.stmt) (send_fits (kind_of p t.stmt))))
 
 pub running_offer : (p : Program) (plan : Plan) (t : Todo) (ts : List Todo) (s : Proc) → OfferFits (kind_of p t.stmt) (need_of_running p plan (t ∷ ts) s)
 running_offer p plan t ts s = if_offer (kind_of p t.stmt) (nat_lt s.budget (s.spent + cost plan (need_of_head p plan t s))) Budget (need_of_head p plan t s) tt (head_offer p plan t s)

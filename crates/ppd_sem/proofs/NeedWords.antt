@@ -6,7 +6,6 @@ use Rattle.ppd_ast.specs.declared.program.Body.{Body}
 use Rattle.ppd_ast.specs.declared.program.Program.{Program}
 use Rattle.ppd_ast.specs.declared.plan.Plan.{Plan}
 use Rattle.ppd_ast.specs.declared.status.Status.{Status}
-use Rattle.ppd_ast.specs.Lookups.{top_of_body}
 use Rattle.ppd_sem.specs.declared.proc.Need.{Need}
 use Rattle.ppd_sem.specs.declared.proc.Need.TheVariants.{Enter, Done, Stopped}
 use Rattle.ppd_sem.specs.declared.proc.Answer.{Answer}
@@ -16,6 +15,7 @@ use Rattle.ppd_sem.specs.Asked.{Asked}
 use Rattle.ppd_sem.specs.Deed.{Deed}
 use Rattle.ppd_sem.specs.Tables.{unit_of}
 use Rattle.ppd_ast.specs.declared.plan.Start.TheVariants as start
+use Rattle.ppd_ast.specs.Lookups.{body_numbered}
 
 -- a send whose offer was taken is completed, and asks for nothing more
 abbrev pub need_by_offer : Plan → ℕ → Option ℕ → Need → Need
@@ -48,7 +48,7 @@ act_at program plan a todo s =
 abbrev pub started_in : Program → ℕ → ℕ → Proc
 started_in program body budget = record {
   frames = new_frame program body [] None ∷ [];
-  todo = todos (top_of_body (slice_get program.bodies body));
+  todo = todos (body_numbered program body).top;
   answers = [];
   below = 0;
   budget = budget;

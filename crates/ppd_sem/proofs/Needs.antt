@@ -1,9 +1,10 @@
 -- The cell or object that a need of a valid program names is there.
 use Rattle.std.proofs.Common.{◌≡◌, ℕ, zero, suc, ◌+◌, ◌<◌, ◌≤◌, ℤ, pos, negsuc, neg_ℤ, Bool, true, false, nat_lt, List, [], ◌∷◌, length, Option, Some, None, Result, Ok, Err, refl, subst, arith, if◌then◌else◌}
-use Rattle.std.specs.Prelude.{not as negated, slice_get, ⊤}
+use Rattle.std.specs.Prelude.{not as negated, slice_get, ⊤, get_or}
 use Rattle.std.specs.List.{All}
 use Rattle.std.proofs.lemmas.Bool.Decides.{nat_tests}
 use Rattle.std.proofs.lemmas.Option.{none-some, slice_get_within}
+use Rattle.std.specs.Ordering.{int_eq}
 use Rattle.ppd_ast.specs.declared.plan.Plan.{Plan}
 use Rattle.ppd_ast.specs.declared.program.Body.{Body}
 use Rattle.ppd_ast.specs.declared.program.Expr.{Expr}
@@ -30,11 +31,11 @@ use Rattle.ppd_sem.specs.declared.proc.Need.{Need}
 use Rattle.ppd_sem.specs.declared.proc.Need.TheVariants as need
 use Rattle.ppd_sem.specs.declared.proc.Proc.{Proc}
 use Rattle.ppd_sem.specs.declared.proc.Todo.{Todo}
-use Rattle.ppd_sem.specs.Ask.{ask, calc, cell_of, checked, element, is_zero, truth}
+use Rattle.ppd_sem.specs.Ask.{ask, calc, checked, element, truth}
 use Rattle.ppd_sem.specs.Asked.{Asked, and_then, gives, lift, read_shared}
 use Rattle.ppd_sem.specs.Deed.{Deed, set_local, set_shared, clear, branch, turn, leave, invoke, back, take, give, send, receive, print, pass, finish, ask_all, ask_deed, ask_stored}
 use Rattle.ppd_sem.specs.Laws.{NamesThere}
-use Rattle.ppd_sem.specs.Process.{chan_of, cost, entry_of, head_deed, need_of, need_of_asked, need_of_deed, need_of_head, need_of_leaving, need_of_send, offer_of, top_cells}
+use Rattle.ppd_sem.specs.Process.{chan_of, cost, entry_of, head_deed, need_of, need_of_asked, need_of_deed, need_of_head, need_of_leaving, need_of_send, offer_of, top_frame}
 use Rattle.ppd_sem.proofs.NeedWords.{need_by_entry, need_by_offer, need_by_status, need_of_running}
 use Rattle.ppd_sem.specs.Tables.{capacity_of}
 use Rattle.ppd_sem.proofs.Offers.{offer_there}
@@ -106,8 +107,8 @@ asks : (n : ℕ) (t : Term) (cells answers : List ℤ) → SharedBelow n t → G
 asks n (const v) cells answers h = tt
 asks n (local c) cells answers h = tt
 asks n (local_at base len i) cells answers h =
-    then_gives n free free (ask i cells answers) (λ at left. and_then (lift left (element base len at)) (λ c left. gives left (cell_of cells c))) (asks n i cells answers h)
-    (λ at left u. then_gives n free free (lift left (element base len at)) (λ c left. gives left (cell_of cells c)) (lift_gives n left (element base len at)) (λ c left u. tt))
+    then_gives n free free (ask i cells answers) (λ at left. and_then (lift left (element base len at)) (λ c left. gives left (get_or cells c (pos 0)))) (asks n i cells answers h)
+    (λ at left u. then_gives n free free (lift left (element base len at)) (λ c left. gives left (get_or cells c (pos 0))) (lift_gives n left (element base len at)) (λ c left u. tt))
 asks n (shared c) cells answers h = read_gives n c answers h
 asks n (shared_at base len i) cells answers h =
     then_gives n free free (ask i cells answers) (λ at left. and_then (lift left (element base len at)) (λ c left. read_shared left c)) (asks n i cells answers h.1)
@@ -115,18 +116,18 @@ asks n (shared_at base len i) cells answers h =
 asks n (neg a) cells answers h =
     then_gives n free free (ask a cells answers) (λ x left. lift left (checked (neg_ℤ x))) (asks n a cells answers h) (λ x left u. lift_gives n left (checked (neg_ℤ x)))
 asks n (not a) cells answers h =
-    then_gives n free free (ask a cells answers) (λ x left. gives left (truth (is_zero x))) (asks n a cells answers h) (λ x left u. tt)
+    then_gives n free free (ask a cells answers) (λ x left. gives left (truth (int_eq x (pos 0)))) (asks n a cells answers h) (λ x left u. tt)
 asks n (two op a b) cells answers h =
     then_gives n free free (ask a cells answers) (λ x left. and_then (ask b cells left) (λ y left. lift left (calc op x y))) (asks n a cells answers h.0)
     (λ x left u. then_gives n free free (ask b cells left) (λ y left. lift left (calc op x y)) (asks n b cells left h.1) (λ y left u. lift_gives n left (calc op x y)))
 asks n (and a b) cells answers h =
-    then_gives n free free (ask a cells answers) (λ x left. if is_zero x then gives left (pos 0) else and_then (ask b cells left) (λ y left. gives left (truth (negated (is_zero y))))) (asks n a cells answers h.0)
-    (λ x left u. if_gives n free (is_zero x) (gives left (pos 0)) (and_then (ask b cells left) (λ y left. gives left (truth (negated (is_zero y))))) tt
-    (then_gives n free free (ask b cells left) (λ y left. gives left (truth (negated (is_zero y)))) (asks n b cells left h.1) (λ y left u. tt)))
+    then_gives n free free (ask a cells answers) (λ x left. if int_eq x (pos 0) then gives left (pos 0) else and_then (ask b cells left) (λ y left. gives left (truth (negated (int_eq y (pos 0)))))) (asks n a cells answers h.0)
+    (λ x left u. if_gives n free (int_eq x (pos 0)) (gives left (pos 0)) (and_then (ask b cells left) (λ y left. gives left (truth (negated (int_eq y (pos 0)))))) tt
+    (then_gives n free free (ask b cells left) (λ y left. gives left (truth (negated (int_eq y (pos 0))))) (asks n b cells left h.1) (λ y left u. tt)))
 asks n (or a b) cells answers h =
-    then_gives n free free (ask a cells answers) (λ x left. if is_zero x then and_then (ask b cells left) (λ y left. gives left (truth (negated (is_zero y)))) else gives left (pos 1)) (asks n a cells answers h.0)
-    (λ x left u. if_gives n free (is_zero x) (and_then (ask b cells left) (λ y left. gives left (truth (negated (is_zero y))))) (gives left (pos 1))
-    (then_gives n free free (ask b cells left) (λ y left. gives left (truth (negated (is_zero y)))) (asks n b cells left h.1) (λ y left u. tt)) tt)
+    then_gives n free free (ask a cells answers) (λ x left. if int_eq x (pos 0) then and_then (ask b cells left) (λ y left. gives left (truth (negated (int_eq y (pos 0))))) else gives left (pos 1)) (asks n a cells answers h.0)
+    (λ x left u. if_gives n free (int_eq x (pos 0)) (and_then (ask b cells left) (λ y left. gives left (truth (negated (int_eq y (pos 0)))))) (gives left (pos 1))
+    (then_gives n free free (ask b cells left) (λ y left. gives left (truth (negated (int_eq y (pos 0))))) (asks n b cells left h.1) (λ y left u. tt)) tt)
 
 asks_all : (n : ℕ) (es : List Expr) (as' : List ℕ) (cells answers : List ℤ) → All (λ e. SharedBelow n (term es e)) as' → Gives n free (ask_all es as' cells answers)
 asks_all n es [] cells answers h = tt
@@ -213,8 +214,8 @@ module _ (p : Program) (cells answers : List ℤ) where
   deeds (kind.Set (target.Shared c) e) h = valued e (λ v left. gives left (set_shared c v)) h.uses (λ v left. h.writes)
   deeds (kind.Set (target.SharedAt base len i) e) h = stored p (length p.starts) (λ c. c < length p.starts) (term p.exprs i) (term p.exprs e) base len set_shared cells answers (h.uses 0 0 (omega arith)) (h.uses 1 0 (omega arith)) (λ at left. element_gives (length p.starts) base len at left h.writes) (λ c v q. q)
   deeds (kind.Zero base len) h = tt
-  deeds (kind.If e first second) h = valued e (λ v left. gives left (branch (if is_zero v then second else first))) h.uses (λ v left. tt)
-  deeds (kind.While e body) h = valued e (λ v left. gives left (if is_zero v then leave else turn body)) h.uses (λ v left. turned p (is_zero v) body)
+  deeds (kind.If e first second) h = valued e (λ v left. gives left (branch (if int_eq v (pos 0) then second else first))) h.uses (λ v left. tt)
+  deeds (kind.While e body) h = valued e (λ v left. gives left (if int_eq v (pos 0) then leave else turn body)) h.uses (λ v left. turned p (int_eq v (pos 0)) body)
   deeds (kind.Call f args into) h = then_gives (length p.starts) free (DeedThere p) (ask_all p.exprs args cells answers) (λ vs left. gives left (invoke f vs into)) (asks_all (length p.starts) p.exprs args cells answers h.uses) (λ vs left u. tt)
   deeds (kind.Return None) h = tt
   deeds (kind.Return (Some e)) h = valued e (λ v left. gives left (back (Some v))) h.uses (λ v left. tt)
@@ -223,7 +224,7 @@ module _ (p : Program) (cells answers : List ℤ) where
   deeds (kind.Send c e) h = valued e (λ v left. gives left (send c v)) h.uses (λ v left. h.object)
   deeds (kind.Recv c into) h = h.object
   deeds (kind.Print e) h = valued e (λ v left. gives left (print v)) h.uses (λ v left. tt)
-  deeds (kind.Assert e) h = valued e (λ v left. if is_zero v then Err (Traps trap.Assert) else gives left pass) h.uses (λ v left. if_gives (length p.starts) (DeedThere p) (is_zero v) (Err (Traps trap.Assert)) (gives left pass) tt tt)
+  deeds (kind.Assert e) h = valued e (λ v left. if int_eq v (pos 0) then Err (Traps trap.Assert) else gives left pass) h.uses (λ v left. if_gives (length p.starts) (DeedThere p) (int_eq v (pos 0)) (Err (Traps trap.Assert)) (gives left pass) tt tt)
   deeds kind.End h = tt
 
 -- ---- needs
@@ -280,7 +281,7 @@ send_there p k c is h = absurd (none-some c is)
 head_need : (p : Program) (plan : Plan) (t : Todo) (s : Proc) → IsValid p → NamesThere p (need_of_head p plan t s)
 head_need p plan t s v =
     offered_need p plan t.stmt (offer_of p t) _ (λ c e. send_there p (kind_of p t.stmt) c (offer_there t.offered (chan_of (kind_of p t.stmt)) c e) (kind_at p t.stmt (slice_get p.stmts t.stmt) v refl).object)
-    (entered_need p plan t.stmt s (entry_of p plan t) (head_deed p t s) (deeds p (top_cells s.frames) s.answers (kind_of p t.stmt) (kind_at p t.stmt (slice_get p.stmts t.stmt) v refl)))
+    (entered_need p plan t.stmt s (entry_of p plan t) (head_deed p t s) (deeds p (top_frame s.frames).cells s.answers (kind_of p t.stmt) (kind_at p t.stmt (slice_get p.stmts t.stmt) v refl)))
 
 running_need : (p : Program) (plan : Plan) (ts : List Todo) (s : Proc) → IsValid p → NamesThere p (need_of_running p plan ts s)
 running_need p plan [] s v = tt

@@ -2,6 +2,7 @@
 use Rattle.std.proofs.Common.{◌≡◌, ℕ, suc, ◌+◌, ◌<◌, ◌≤◌, ℤ, pos, negsuc, Bool, true, false, nat_lt, List, [], ◌∷◌, length, Option, Some, None, Ok, Err, refl, ap, arith, if◌then◌else◌}
 use Rattle.std.specs.Prelude.{⊤}
 use Rattle.std.proofs.lemmas.Bool.{ltb-true}
+use Rattle.std.specs.Ordering.{int_eq}
 use Rattle.ppd_ast.specs.Term.{Term, term}
 use Rattle.ppd_ast.specs.declared.program.Expr.{Expr}
 use Rattle.ppd_ast.specs.declared.program.Kind.{Kind}
@@ -9,7 +10,7 @@ use Rattle.ppd_ast.specs.declared.program.Kind.TheVariants as kind
 use Rattle.ppd_ast.specs.declared.program.Target.TheVariants as target
 use Rattle.ppd_ast.specs.declared.status.Trap.TheVariants as trap
 use Rattle.ppd_sem.specs.declared.asking.Pause.TheVariants.{Traps}
-use Rattle.ppd_sem.specs.Ask.{ask, element, is_zero}
+use Rattle.ppd_sem.specs.Ask.{ask, element}
 use Rattle.ppd_sem.specs.Asked.{Asked, and_then, gives, lift}
 use Rattle.ppd_sem.specs.Deed.{Deed, set_local, set_shared, clear, branch, turn, leave, invoke, back, take, give, send, receive, print, pass, finish, ask_all, ask_deed, ask_stored}
 
@@ -127,11 +128,11 @@ module _ (es : List Expr) (cells answers : List ℤ) where
       (λ c v there. shares_element v there.0 there.1)
   deed_of (kind.Zero base len) = clears
   deed_of (kind.If e first second) =
-      valued (kind.If e first second) (term es e) cells answers (λ v. branch (if is_zero v then second else first))
-      (λ v. chosen e first second (is_zero v))
+      valued (kind.If e first second) (term es e) cells answers (λ v. branch (if int_eq v (pos 0) then second else first))
+      (λ v. chosen e first second (int_eq v (pos 0)))
   deed_of (kind.While e body) =
-      valued (kind.While e body) (term es e) cells answers (λ v. if is_zero v then leave else turn body)
-      (λ v. turned e body (is_zero v))
+      valued (kind.While e body) (term es e) cells answers (λ v. if int_eq v (pos 0) then leave else turn body)
+      (λ v. turned e body (int_eq v (pos 0)))
   deed_of (kind.Call f arguments into) =
       then_so (Counted (length arguments)) (IsDeedOf (kind.Call f arguments into))
       (ask_all es arguments cells answers) (λ vs left. gives left (invoke f vs into))
@@ -146,8 +147,8 @@ module _ (es : List Expr) (cells answers : List ℤ) where
   deed_of (kind.Print e) = valued (kind.Print e) (term es e) cells answers (λ v. print v) (λ v. prints v)
   deed_of (kind.Assert e) =
       then_any (IsDeedOf (kind.Assert e)) (ask (term es e) cells answers)
-      (λ v left. if is_zero v then Err (Traps trap.Assert) else gives left pass)
-      (λ v left. asserted e (is_zero v) left)
+      (λ v left. if int_eq v (pos 0) then Err (Traps trap.Assert) else gives left pass)
+      (λ v left. asserted e (int_eq v (pos 0)) left)
   deed_of kind.End = finishes
 
   -- what holds of each deed of its kind holds of it

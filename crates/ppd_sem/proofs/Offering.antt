@@ -1,13 +1,13 @@
 -- An offer and its completion are two steps of one statement, with no step of its process between them.
 use Rattle.std.proofs.Common.{◌≡◌, ◌⊎◌, ℕ, ◌+◌, ℤ, Bool, true, false, nat_lt, List, [], ◌∷◌, drop, Option, Some, None, Ok, Err, refl, ap, sym, ◌∙◌, subst, inl, inr, true≢false, if◌then◌else◌}
-use Rattle.std.specs.Prelude.{IsSome, is_some, slice_get, ⊤}
+use Rattle.std.specs.Prelude.{IsSome, is_some, ⊤}
 use Rattle.std.proofs.lemmas.Option.{same_Some}
 use Rattle.ppd_ast.specs.declared.plan.Plan.{Plan}
 use Rattle.ppd_ast.specs.declared.plan.Start.TheVariants as start
 use Rattle.ppd_ast.specs.declared.program.Program.{Program}
 use Rattle.ppd_ast.specs.declared.status.Status.{Status}
 use Rattle.ppd_ast.specs.declared.status.Status.TheVariants as status
-use Rattle.ppd_ast.specs.Lookups.{kind_of, top_of_body}
+use Rattle.ppd_ast.specs.Lookups.{kind_of, body_numbered}
 use Rattle.ppd_sem.specs.declared.asking.Pause.TheVariants.{Wants, Traps}
 use Rattle.ppd_sem.specs.declared.proc.Answer.{Answer}
 use Rattle.ppd_sem.specs.declared.proc.Need.{Need}
@@ -40,7 +40,7 @@ module _ (p : Program) (plan : Plan) (a : Answer) (t : Todo) (ts : List Todo) (u
   deed_unoffered (branch stmts) s = unoffered_before stmts ts later
   deed_unoffered (turn stmts) s = unoffered_before stmts (t ∷ ts) (with_unoffered t ts unmarked later)
   deed_unoffered leave s = later
-  deed_unoffered (invoke f values into) s = unoffered_before (top_of_body (slice_get p.bodies f)) ts later
+  deed_unoffered (invoke f values into) s = unoffered_before (body_numbered p f).top ts later
   deed_unoffered (back value) s = later
   deed_unoffered (take sem) s = later
   deed_unoffered (give sem) s = later
@@ -233,7 +233,7 @@ module _ (p : Program) (plan : Plan) (s : Proc) (a : Answer) where
 
 pub offers_completed : OffersAreCompleted
 offers_completed = record {
-  starts = λ p plan q budget. unoffered_todos (top_of_body (slice_get p.bodies (p.functions + q)));
+  starts = λ p plan q budget. unoffered_todos (body_numbered p (p.functions + q)).top;
   stays = λ p plan s a h. heads_by p plan s a (step_case p plan a s s.status s.todo refl refl h);
   completed = λ p plan s a t c v next e. completed_by p plan s a s.status s.todo t c v refl refl next e;
   offered = λ p plan s a c u h e. offered_by p plan s a c u e (step_case p plan a s s.status s.todo refl refl h);

@@ -6,21 +6,21 @@ use Rattle.ppd_ast.specs.declared.program.Program.{Program}
 use Rattle.ppd_sem.specs.declared.proc.Frame.{Frame}
 use Rattle.ppd_sem.specs.declared.proc.Proc.{Proc}
 use Rattle.ppd_sem.specs.declared.proc.Todo.{Todo}
-use Rattle.ppd_sem.specs.Process.{top_cells}
 use Rattle.ppd_sem.specs.Runs.{AreOver, IsHead, RunsOver, IsRunnable, IsRunning, sizes}
+use Rattle.ppd_sem.specs.Process.{top_frame}
 
-over_at : (program : Program) (frames : List Frame) (todo : List Todo) (t : Todo) → AreOver program (sizes frames) todo → slice_get todo 0 ≡ Some t → RunsOver program (length (top_cells frames)) t.stmt
+over_at : (program : Program) (frames : List Frame) (todo : List Todo) (t : Todo) → AreOver program (sizes frames) todo → slice_get todo 0 ≡ Some t → RunsOver program (length (top_frame frames).cells) t.stmt
 over_at program frames [] t h e = absurd cc
 over_at program [] (x ∷ xs) t h e = absurd h
 over_at program (f ∷ fs) (x ∷ xs) t h e =
     let is : x ≡ t = cc in
     subst (λ (y : Todo). RunsOver program (length f.cells) y.stmt) is h.0
 
-cells_at : (frames : List Frame) → All (λ n. n < 2 ^ 16) (sizes frames) → length (top_cells frames) < 2 ^ 16
+cells_at : (frames : List Frame) → All (λ n. n < 2 ^ 16) (sizes frames) → length (top_frame frames).cells < 2 ^ 16
 cells_at [] h = omega arith
 cells_at (f ∷ fs) h = h 0 0 (omega arith)
 
-pub head_over : (program : Program) (s : Proc) (t : Todo) → IsRunning program s → slice_get s.todo 0 ≡ Some t → RunsOver program (length (top_cells s.frames)) t.stmt
+pub head_over : (program : Program) (s : Proc) (t : Todo) → IsRunning program s → slice_get s.todo 0 ≡ Some t → RunsOver program (length (top_frame s.frames).cells) t.stmt
 head_over program s t h e = over_at program s.frames s.todo t h.todo e
 
 -- the head statement of a process that runs

@@ -16,10 +16,10 @@ use Rattle.ppd_sem.specs.declared.proc.Proc.{Proc}
 use Rattle.ppd_sem.specs.declared.proc.Todo.{Todo}
 use Rattle.ppd_sem.specs.Ask.{ask}
 use Rattle.ppd_sem.specs.Asked.{Asked, and_then, gives}
-use Rattle.ppd_sem.specs.Blocks.{frames_past, head_stmt, postlog_cells, skipped, write_all}
+use Rattle.ppd_sem.specs.Blocks.{frames_past, head_stmt, postlog_cells, skipped}
 use Rattle.ppd_sem.specs.Deed.{Deed, back, ask_deed}
 use Rattle.ppd_sem.specs.Entries.{Begins}
-use Rattle.ppd_sem.specs.Process.{chan_of, cost, into_of, loop_of, need_of, need_of_asked, need_of_head, top_cells, within_budget}
+use Rattle.ppd_sem.specs.Process.{chan_of, cost, into_of, loop_of, need_of, need_of_asked, need_of_head, within_budget, on_top, top_frame, with_values}
 use Rattle.ppd_sem.proofs.NeedWords.{need_by_entry, need_by_offer}
 use Rattle.ppd_sem.specs.Runs.{AreOver, IsRunning, returns, sizes}
 use Rattle.ppd_sem.proofs.Begun.{length-with_values}
@@ -31,7 +31,7 @@ use Rattle.ppd_sem.proofs.Progress.{need_at_status, need_at_todo}
 
 -- the head's need, by the kind of its statement
 abbrev by_kind : Program → Plan → Todo → Proc → Kind → Need
-by_kind p plan t s k = need_by_offer plan t.stmt (if t.offered then chan_of k else None) (need_by_entry p plan t.stmt s (if t.entered then None else loop_of plan t.stmt k) (ask_deed p.exprs k (top_cells s.frames) s.answers))
+by_kind p plan t s k = need_by_offer plan t.stmt (if t.offered then chan_of k else None) (need_by_entry p plan t.stmt s (if t.entered then None else loop_of plan t.stmt k) (ask_deed p.exprs k (top_frame s.frames).cells s.answers))
 
 none_begins : (p : Program) (plan : Plan) (t : ℕ) (s : Proc) (o e : Bool) (asked : Asked Deed) → (Begins (need_of_asked p plan t s asked) → ⊥) → Begins (need_by_offer plan t (if o then None else None) (need_by_entry p plan t s (if e then None else None) asked)) → ⊥
 none_begins p plan t s true true asked h g = h g
@@ -45,10 +45,10 @@ returned_begins p plan t s (Err (Wants c)) h = h
 returned_begins p plan t s (Err (Traps x)) h = h
 
 stays_by : (p : Program) (plan : Plan) (t : Todo) (s : Proc) (k : Kind) → Begins (by_kind p plan t s k) → returns k ≡ false
-stays_by p plan t s (kind.Return None) h = absurd (none_begins p plan t.stmt s t.offered t.entered (ask_deed p.exprs (kind.Return None) (top_cells s.frames) s.answers) (λ g. g) h)
+stays_by p plan t s (kind.Return None) h = absurd (none_begins p plan t.stmt s t.offered t.entered (ask_deed p.exprs (kind.Return None) (top_frame s.frames).cells s.answers) (λ g. g) h)
 stays_by p plan t s (kind.Return (Some e)) h =
-    absurd (none_begins p plan t.stmt s t.offered t.entered (ask_deed p.exprs (kind.Return (Some e)) (top_cells s.frames) s.answers)
-    (returned_begins p plan t.stmt s (ask (term p.exprs e) (top_cells s.frames) s.answers)) h)
+    absurd (none_begins p plan t.stmt s t.offered t.entered (ask_deed p.exprs (kind.Return (Some e)) (top_frame s.frames).cells s.answers)
+    (returned_begins p plan t.stmt s (ask (term p.exprs e) (top_frame s.frames).cells s.answers)) h)
 stays_by p plan t s (kind.Set x e) h = refl
 stays_by p plan t s (kind.Zero base len) h = refl
 stays_by p plan t s (kind.If e first second) h = refl
@@ -74,7 +74,7 @@ begins_stays p plan t ts s r d h =
 
 -- ---- frames
 
-sizes-write_all : (cs : List ℕ) (vs : List ℤ) (frames : List Frame) → sizes (write_all cs vs frames) ≡ sizes frames
+sizes-write_all : (cs : List ℕ) (vs : List ℤ) (frames : List Frame) → sizes (on_top (with_values cs vs) frames) ≡ sizes frames
 sizes-write_all cs vs [] = refl
 sizes-write_all cs vs (f ∷ fs) = ap (λ (n : ℕ). n ∷ sizes fs) (length-with_values cs vs f.cells)
 

@@ -1,12 +1,12 @@
 -- A change of a vector's last item is a change of the stack's top.
 use Rattle.std.proofs.Common.{◌≡◌, ℕ, zero, suc, ◌+◌, ◌-◌, ◌<◌, ℤ, List, [], ◌∷◌, ◌++◌, length, drop, reverse, get_or, Some, refl, ap, sym, ◌∙◌, arith}
-use Rattle.std.specs.Prelude.{slice_get, slice_set}
+use Rattle.std.specs.Prelude.{slice_get, slice_set, replicate, pos}
 use Rattle.std.proofs.Math.ListN.{set}
 use Rattle.std.proofs.lemmas.List.{get_or-reverse, reverse-append, length-reverse}
 use Rattle.std.proofs.lemmas.Option.{slice_get-get_or}
+use Rattle.std.specs.List.{range_with_len}
 use Rattle.ppd_sem.specs.declared.proc.Frame.{Frame}
-use Rattle.ppd_sem.specs.Blocks.{with_values, write_all}
-use Rattle.ppd_sem.specs.Process.{clear_cells, clear_top, write_top}
+use Rattle.ppd_sem.specs.Process.{on_top, with_values}
 
 abbrev change : {A : Type 0} → (A → A) → List A → List A
 change g [] = []
@@ -37,31 +37,31 @@ topped {A} xs n x h =
     head [] h = absurd (omega arith)
     head (y ∷ ys) h = refl
 
-write_is : (c : ℕ) (v : ℤ) (frames : List Frame) → change (λ f. record f { cells = slice_set f.cells c v }) frames ≡ write_top c v frames
+write_is : (c : ℕ) (v : ℤ) (frames : List Frame) → change (λ f. record f { cells = slice_set f.cells c v }) frames ≡ on_top (λ cells. slice_set cells c v) frames
 write_is c v [] = refl
 write_is c v (f ∷ fs) = refl
 
-clear_is : (base len : ℕ) (frames : List Frame) → change (λ f. record f { cells = clear_cells base len f.cells }) frames ≡ clear_top base len frames
+clear_is : (base len : ℕ) (frames : List Frame) → change (λ f. record f { cells = with_values (range_with_len base len) (replicate len (pos 0)) f.cells }) frames ≡ on_top (with_values (range_with_len base len) (replicate len (pos 0))) frames
 clear_is base len [] = refl
 clear_is base len (f ∷ fs) = refl
 
-pub written : (c : ℕ) (v : ℤ) (items : List Frame) (n : ℕ) (f : Frame) (cells : List ℤ) → n + 1 ≡ length items → f ≡ get_or items n f → cells ≡ slice_set f.cells c v → reverse (set items n record { body = f.body; cells = cells; call = f.call }) ≡ write_top c v (reverse items)
+pub written : (c : ℕ) (v : ℤ) (items : List Frame) (n : ℕ) (f : Frame) (cells : List ℤ) → n + 1 ≡ length items → f ≡ get_or items n f → cells ≡ slice_set f.cells c v → reverse (set items n record { body = f.body; cells = cells; call = f.call }) ≡ on_top (λ cells. slice_set cells c v) (reverse items)
 written c v items n f cells h is new =
     let g : Frame → Frame = λ f. record f { cells = slice_set f.cells c v } in
     let same : record { body = f.body; cells = cells; call = f.call } ≡ g (get_or items n f) = ap (λ l. record f { cells = l }) new ∙ ap g is in
     ap (λ x. reverse (set items n x)) same ∙ last_changed g items n f h ∙ write_is c v (reverse items)
 
-pub cleared : (base len : ℕ) (items : List Frame) (n : ℕ) (f : Frame) (cells : List ℤ) → n + 1 ≡ length items → f ≡ get_or items n f → cells ≡ clear_cells base len f.cells → reverse (set items n record { body = f.body; cells = cells; call = f.call }) ≡ clear_top base len (reverse items)
+pub cleared : (base len : ℕ) (items : List Frame) (n : ℕ) (f : Frame) (cells : List ℤ) → n + 1 ≡ length items → f ≡ get_or items n f → cells ≡ with_values (range_with_len base len) (replicate len (pos 0)) f.cells → reverse (set items n record { body = f.body; cells = cells; call = f.call }) ≡ on_top (with_values (range_with_len base len) (replicate len (pos 0))) (reverse items)
 cleared base len items n f cells h is new =
-    let g : Frame → Frame = λ f. record f { cells = clear_cells base len f.cells } in
+    let g : Frame → Frame = λ f. record f { cells = with_values (range_with_len base len) (replicate len (pos 0)) f.cells } in
     let same : record { body = f.body; cells = cells; call = f.call } ≡ g (get_or items n f) = ap (λ l. record f { cells = l }) new ∙ ap g is in
     ap (λ x. reverse (set items n x)) same ∙ last_changed g items n f h ∙ clear_is base len (reverse items)
 
-all_is : (cs : List ℕ) (vs : List ℤ) (frames : List Frame) → change (λ f. record f { cells = with_values cs vs f.cells }) frames ≡ write_all cs vs frames
+all_is : (cs : List ℕ) (vs : List ℤ) (frames : List Frame) → change (λ f. record f { cells = with_values cs vs f.cells }) frames ≡ on_top (with_values cs vs) frames
 all_is cs vs [] = refl
 all_is cs vs (f ∷ fs) = refl
 
-pub all_written : (cs : List ℕ) (vs : List ℤ) (items : List Frame) (n : ℕ) (f : Frame) (cells : List ℤ) → n + 1 ≡ length items → f ≡ get_or items n f → cells ≡ with_values cs vs f.cells → reverse (set items n record { body = f.body; cells = cells; call = f.call }) ≡ write_all cs vs (reverse items)
+pub all_written : (cs : List ℕ) (vs : List ℤ) (items : List Frame) (n : ℕ) (f : Frame) (cells : List ℤ) → n + 1 ≡ length items → f ≡ get_or items n f → cells ≡ with_values cs vs f.cells → reverse (set items n record { body = f.body; cells = cells; call = f.call }) ≡ on_top (with_values cs vs) (reverse items)
 all_written cs vs items n f cells h is new =
     let g : Frame → Frame = λ f. record f { cells = with_values cs vs f.cells } in
     let same : record { body = f.body; cells = cells; call = f.call } ≡ g (get_or items n f) = ap (λ l. record f { cells = l }) new ∙ ap g is in

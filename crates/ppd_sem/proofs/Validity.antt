@@ -1,11 +1,11 @@
 -- The processes of a valid program can run.
 use Rattle.std.proofs.Common.{◌≡◌, ℕ, zero, suc, ◌+◌, ◌-◌, ◌<◌, ◌≤◌, ◌^◌, Bool, true, false, nat_eq, nat_le, List, [], ◌∷◌, ◌++◌, length, get_or, Option, Some, None, refl, ap, sym, ◌∙◌, subst, arith}
-use Rattle.std.specs.Prelude.{cond, IsSome, IsSomeAnd, IsTrue, slice_get}
+use Rattle.std.specs.Prelude.{cond, IsSome, IsSomeAnd, IsTrue, slice_get, unwrap_or}
 use Rattle.std.specs.List.{All, count_by, flat_map, range_with_len}
 use Rattle.std.proofs.lemmas.Bool.Decides.{nat_tests}
 use Rattle.std.proofs.lemmas.List.Sums.{sum_by-append}
 use Rattle.std.proofs.lemmas.Option.{slice_get-get_or, slice_get_within}
-use Rattle.ppd_ast.specs.Cells.{AreParams, CoverCells, NamesWhole, WritesWhole, after, size}
+use Rattle.ppd_ast.specs.Cells.{AreParams, CoverCells, NamesWhole, WritesWhole, after}
 use Rattle.ppd_ast.specs.Order.{StandIn, inner, preorder}
 use Rattle.ppd_ast.proofs.Vocabulary.{inner_at}
 use Rattle.ppd_ast.specs.Term.{Term, const, local, local_at, shared, shared_at, neg, not, two, and, or, term}
@@ -21,12 +21,12 @@ use Rattle.ppd_ast.specs.declared.program.Program.{Program}
 use Rattle.ppd_ast.specs.declared.program.Stmt.{Stmt}
 use Rattle.ppd_ast.specs.declared.program.Target.TheVariants as target
 use Rattle.ppd_ast.specs.declared.program.Var.{Var}
-use Rattle.ppd_ast.specs.Lookups.{kind_of, top_of_body}
+use Rattle.ppd_ast.specs.Lookups.{kind_of, body_numbered, no_body}
 use Rattle.ppd_ast.proofs.Vocabulary.{kind_of_stmt}
 use Rattle.ppd_ast.proofs.ValidLaws.{valid_body, some_and, array_below, scalar_below}
 use Rattle.ppd_ast.proofs.BareValid.{some_and_is}
 use Rattle.ppd_ast.specs.declared.limits.TheConstants.{MOST_SHARED_CELLS, MOST_FUNCTIONS, MOST_LOCAL_CELLS, MOST_NESTING, MOST_PROCESSES, MOST_STATEMENTS}
-use Rattle.ppd_sem.specs.Runs.{AreOfFunction, AreUses, IsCallable, IsInner, IsNumbered, RunsOver, IsRunnable, IsRunnableBody, IsRunnableStmt, IsUse, LeadsOn, returns, size_if, size_of, stmt_size}
+use Rattle.ppd_sem.specs.Runs.{AreOfFunction, AreUses, IsCallable, IsInner, IsNumbered, RunsOver, IsRunnable, IsRunnableBody, IsRunnableStmt, IsUse, LeadsOn, returns, size_of, stmt_size}
 use Rattle.ppd_sem.specs.Within.{IsWithin}
 use Rattle.ppd_sem.proofs.Kept.{There, there_at}
 
@@ -242,7 +242,7 @@ pub function_top : (p : Program) (j : ℕ) (b : Body) → IsValid p → slice_ge
 function_top p j b v e pr h = of_function p b.cells b.top over rets once last
   where
     size : size_of p j ≡ b.cells
-    size = ap size_if e
+    size = ap (λ o. (unwrap_or o no_body).cells) e
 
     over : All (RunsOver p b.cells) b.top
     over = each_of (λ i. IsSomeAnd (slice_get p.stmts i) (λ s. (s.parent ≡ None) × (s.body ≡ j))) (RunsOver p b.cells) b.top (λ i g. over_of p None j b.cells i size g) h.top
@@ -319,22 +319,22 @@ params_fit locals zero n h ls = omega arith
 params_fit locals (suc k) n h ls =
     let at = some_and (λ (v : Var). (v.base ≡ k) × (v.len ≡ None)) (slice_get locals k) (h k (omega arith)) in
     let within : after at.0 ≤ n = get_at (λ (v : Var). after v ≤ n) locals k at.0 ls.within at.1 in
-    let one : size at.0.len ≡ 1 = ap size at.2.1 in
+    let one : unwrap_or at.0.len 1 ≡ 1 = ap (λ o. unwrap_or o 1) at.2.1 in
     let base : at.0.base ≡ k = at.2.0 in
     omega arith
 
 callable : (p : Program) (f count : ℕ) (g : Body) → IsValid p → f < p.functions → slice_get p.bodies f ≡ Some g → count ≡ g.params → IsCallable p f count
 callable p f count g v lt e n =
     let valid : IsValidBody p f g = valid_body p f g v e in
-    let size : size_of p f ≡ g.cells = ap size_if e in
+    let size : size_of p f ≡ g.cells = ap (λ o. (unwrap_or o no_body).cells) e in
     let fit : g.params ≤ g.cells = params_fit g.locals g.params g.cells valid.params valid.cells in
     let test : nat_le p.functions f ≡ false = grind (arith, nat_tests) in
     let top : AreOfFunction p g.cells g.top = function_top p f g v e (valid.process ∙ test) valid in
-    let there : AreOfFunction p g.cells (top_of_body (slice_get p.bodies f)) = subst (λ (ss : List ℕ). AreOfFunction p g.cells ss) (sym (ap top_of_body e)) top in
+    let there : AreOfFunction p g.cells (body_numbered p f).top = subst (λ (ss : List ℕ). AreOfFunction p g.cells ss) (sym (ap (λ o. (unwrap_or o no_body).top) e)) top in
     record {
       there = slice_get_within p.bodies f g e;
       arguments = omega arith;
-      top = subst (λ (m : ℕ). AreOfFunction p m (top_of_body (slice_get p.bodies f))) (sym size) there;
+      top = subst (λ (m : ℕ). AreOfFunction p m (body_numbered p f).top) (sym size) there;
     }
 
 leads_of : (p : Program) (k body n : ℕ) (s : Kind) → IsValid p → size_of p body ≡ n → StandIn p.stmts (Some k) body (inner s) → CallsRightly p s → LeadsOn p n s
@@ -369,7 +369,7 @@ valid-runnable p v = record {
     stmt k s h =
         let at = some_and (λ (b : Body). IsValidKind p b k s.kind) (slice_get p.bodies s.body) h.kind in
         let valid : IsValidBody p s.body at.0 = valid_body p s.body at.0 v at.1 in
-        let size : size_of p s.body ≡ at.0.cells = ap size_if at.1 in
+        let size : size_of p s.body ≡ at.0.cells = ap (λ o. (unwrap_or o no_body).cells) at.1 in
         let frame : at.0.cells ≤ MOST_LOCAL_CELLS = valid.frame in
         let uses : AreUses p.exprs at.0.cells s.kind = uses_of p at.0 s.kind small (omega arith) v.cells valid.cells at.2.uses at.2.writes in
         record {
@@ -382,7 +382,7 @@ valid-runnable p v = record {
         let frame : b.cells ≤ MOST_LOCAL_CELLS = h.frame in
         record {
           cells = omega arith;
-          top = λ from. each_of (λ i. IsSomeAnd (slice_get p.stmts i) (λ s. (s.parent ≡ None) × (s.body ≡ j))) (IsInner p b.cells) b.top (λ i g. process_of p j b.cells i b v (ap size_if e) e (process from) g) h.top;
+          top = λ from. each_of (λ i. IsSomeAnd (slice_get p.stmts i) (λ s. (s.parent ≡ None) × (s.body ≡ j))) (IsInner p b.cells) b.top (λ i g. process_of p j b.cells i b v (ap (λ o. (unwrap_or o no_body).cells) e) e (process from) g) h.top;
         }
       where
         process : p.functions ≤ j → b.process ≡ true

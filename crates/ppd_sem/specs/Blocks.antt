@@ -1,19 +1,19 @@
 -- Look-ups of a block in a plan, a process state that begins at a block, and one that goes past a block
 -- without running it.
-use Rattle.std.specs.Prelude.{ℕ, ℤ, Bool, true, false, List, [], ◌∷◌, drop, slice_set, slice_get, None}
+use Rattle.std.specs.Prelude.{ℕ, ℤ, Bool, true, false, List, [], ◌∷◌, drop, slice_get, None}
 use Rattle.std.specs.Option.{option_map_or}
 use Rattle.ppd_ast.specs.declared.plan.BlockKind.{BlockKind}
 use Rattle.ppd_ast.specs.declared.plan.BlockKind.TheVariants as block
 use Rattle.ppd_ast.specs.declared.plan.Plan.{Plan}
 use Rattle.ppd_ast.specs.declared.plan.Start.TheVariants as start
 use Rattle.ppd_ast.specs.declared.program.Program.{Program}
-use Rattle.ppd_ast.specs.Lookups.{kind_of, top_of_body, body_of_stmt}
+use Rattle.ppd_ast.specs.Lookups.{kind_of, body_of, body_numbered}
 use Rattle.ppd_sem.specs.declared.proc.Frame.{Frame}
 use Rattle.ppd_sem.specs.declared.proc.Need.{Need}
 use Rattle.ppd_sem.specs.declared.proc.Need.TheVariants.{Enter}
 use Rattle.ppd_sem.specs.declared.proc.Proc.{Proc}
 use Rattle.ppd_sem.specs.declared.proc.Todo.{Todo}
-use Rattle.ppd_sem.specs.Process.{charged, into_of, need_of, new_frame, receive_at, todos}
+use Rattle.ppd_sem.specs.Process.{charged, into_of, need_of, new_frame, receive_at, todos, on_top, with_values}
 pub use Rattle.ppd_sem.specs.Tables.{prelog_cells, postlog_cells}
 use Rattle.ppd_sem.specs.Tables.{unit_of}
 
@@ -30,21 +30,16 @@ is_function kind = false
 
 -- ---- at a block
 
--- the cells with these values written at these numbers
-abbrev pub with_values : List ℕ → List ℤ → List ℤ → List ℤ
-with_values (c ∷ cs) (v ∷ vs) cells = with_values cs vs (slice_set cells c v)
-with_values cs vs cells = cells
-
 -- the body that the block's code stands in
 abbrev pub block_body : Program → BlockKind → ℕ
 block_body program (block.Function f) = f
 block_body program (block.Process b) = b
-block_body program (block.Loop s) = body_of_stmt (slice_get program.stmts s)
+block_body program (block.Loop s) = body_of program s
 
 -- what is to do in the block: its body's statements, or the loop, which is entered
 abbrev pub block_todo : Program → BlockKind → List Todo
 block_todo program (block.Loop s) = record { stmt = s; entered = true; offered = false } ∷ []
-block_todo program kind = todos (top_of_body (slice_get program.bodies (block_body program kind)))
+block_todo program kind = todos (body_numbered program (block_body program kind)).top
 
 -- the unit of the block's own start
 abbrev pub block_unit : Plan → BlockKind → ℕ
@@ -71,11 +66,6 @@ at_block program plan b values depth budget =
 
 -- ---- past a block
 
--- the top frame with these values written
-abbrev pub write_all : List ℕ → List ℤ → List Frame → List Frame
-write_all cs vs [] = []
-write_all cs vs (f ∷ fs) = record f { cells = with_values cs vs f.cells } ∷ fs
-
 -- the statement of the head
 abbrev pub head_stmt : List Todo → ℕ
 head_stmt [] = 0
@@ -84,7 +74,7 @@ head_stmt (t ∷ ts) = t.stmt
 -- the frames after a loop, whose postlog has local cells, or after a call, whose postlog has the
 -- value that it returned, if any
 abbrev pub frames_past : Program → Plan → List ℤ → Need → Proc → List Frame
-frames_past program plan values (Enter b u) s = write_all (postlog_cells plan b) values s.frames
+frames_past program plan values (Enter b u) s = on_top (with_values (postlog_cells plan b) values) s.frames
 frames_past program plan values need s =
     receive_at (into_of (kind_of program (head_stmt s.todo))) (slice_get values 0) s.frames
 

@@ -1,5 +1,6 @@
 -- What a statement does once all its values are there.
-use Rattle.std.specs.Prelude.{ℕ, ℤ, List, [], ◌∷◌, Option, Some, None, Err, if◌then◌else◌}
+use Rattle.std.specs.Prelude.{ℕ, ℤ, List, [], ◌∷◌, Option, Some, None, Err, if◌then◌else◌, pos}
+use Rattle.std.specs.Ordering.{int_eq}
 use Rattle.ppd_ast.specs.declared.program.Target.TheVariants.{Local, LocalAt, Shared, SharedAt}
 use Rattle.ppd_ast.specs.declared.program.Expr.{Expr}
 use Rattle.ppd_ast.specs.declared.program.Kind.{Kind}
@@ -8,7 +9,7 @@ use Rattle.ppd_ast.specs.Term.{Term, term}
 use Rattle.ppd_ast.specs.declared.status.Trap.TheVariants as trap
 use Rattle.ppd_sem.specs.Asked.{Asked, gives, and_then, lift}
 use Rattle.ppd_sem.specs.declared.asking.Pause.TheVariants.{Traps}
-use Rattle.ppd_sem.specs.Ask.{ask, element, is_zero}
+use Rattle.ppd_sem.specs.Ask.{ask, element}
 
 pub data Deed : Type 0 where
   set_local : ℕ → ℤ → Deed
@@ -53,9 +54,9 @@ ask_deed es (Set (SharedAt base len i) e) cells answers =
 ask_deed es (Zero base len) cells answers = gives answers (clear base len)
 ask_deed es (If e then_list else_list) cells answers =
     and_then (ask (term es e) cells answers)
-    (λ v left. gives left (branch (if is_zero v then else_list else then_list)))
+    (λ v left. gives left (branch (if int_eq v (pos 0) then else_list else then_list)))
 ask_deed es (While e body) cells answers =
-    and_then (ask (term es e) cells answers) (λ v left. gives left (if is_zero v then leave else turn body))
+    and_then (ask (term es e) cells answers) (λ v left. gives left (if int_eq v (pos 0) then leave else turn body))
 ask_deed es (Call function arguments into) cells answers =
     and_then (ask_all es arguments cells answers) (λ vs left. gives left (invoke function vs into))
 ask_deed es (Return None) cells answers = gives answers (back None)
@@ -67,5 +68,6 @@ ask_deed es (Send c e) cells answers = and_then (ask (term es e) cells answers) 
 ask_deed es (Recv c into) cells answers = gives answers (receive c into)
 ask_deed es (Print e) cells answers = and_then (ask (term es e) cells answers) (λ v left. gives left (print v))
 ask_deed es (Assert e) cells answers =
-    and_then (ask (term es e) cells answers) (λ v left. if is_zero v then Err (Traps trap.Assert) else gives left pass)
+    and_then (ask (term es e) cells answers)
+    (λ v left. if int_eq v (pos 0) then Err (Traps trap.Assert) else gives left pass)
 ask_deed es End cells answers = gives answers finish

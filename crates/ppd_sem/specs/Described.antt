@@ -1,5 +1,5 @@
 -- The event of a process's next step, from the process's own state alone.
-use Rattle.std.specs.Prelude.{ℕ, zero, suc, ◌+◌, ℤ, pos, Bool, true, false, ◌||◌, not, List, [], ◌∷◌, ◌++◌, take_while, Option, Some, None, is_some, option_map, if◌then◌else◌}
+use Rattle.std.specs.Prelude.{ℕ, ◌+◌, ℤ, pos, Bool, true, false, ◌||◌, not, List, [], ◌∷◌, ◌++◌, take_while, Option, Some, None, is_some, option_map, if◌then◌else◌, replicate}
 use Rattle.std.specs.List.{list_any}
 use Rattle.std.specs.Option.{option_map_or}
 use Rattle.std.specs.Result.{result_ok}
@@ -23,9 +23,9 @@ use Rattle.ppd_sem.specs.declared.event.Spot.TheVariants as spot
 use Rattle.ppd_sem.specs.Asked.{Asked}
 use Rattle.ppd_sem.specs.Ask.{ask}
 use Rattle.ppd_sem.specs.Deed.{Deed, set_local, set_shared, clear, invoke, receive}
-use Rattle.ppd_sem.specs.Reads.{reads_of_kind}
+use Rattle.ppd_sem.specs.Reads.{reads_of_kind, local_accesses}
 use Rattle.ppd_sem.specs.Tables.{block_of}
-use Rattle.ppd_sem.specs.Process.{top_cells, top_body, head_deed, need_of, value_of}
+use Rattle.ppd_sem.specs.Process.{head_deed, need_of, value_of, top_frame}
 
 -- ---- the frame of the innermost interval is 0, one that it called is 1
 
@@ -44,29 +44,17 @@ is_block plan body = is_some (block_of plan (block.Function body)) || is_some (b
 
 -- the top frame is that of an interval where a block loop runs in it, or its body is a block
 abbrev pub frame_of : Program → Plan → Proc → ℕ
-frame_of program plan s = if is_in_loop program s.todo || is_block plan (top_body s.frames) then 0 else 1
+frame_of program plan s = if is_in_loop program s.todo || is_block plan (top_frame s.frames).body then 0 else 1
 
 -- ---- writes and value
 
-abbrev pub local_write : ℕ → ℕ → ℤ → Access
-local_write frame c v = record { spot = spot.Local frame c; value = v }
-
-abbrev pub cleared : ℕ → ℕ → ℕ → List Access
-cleared frame base zero = []
-cleared frame base (suc n) = cleared frame base n ++ local_write frame (base + n) (pos 0) ∷ []
-
--- the values of the parameters from cell c on
-abbrev pub parameters : ℕ → ℕ → List ℤ → List Access
-parameters frame c [] = []
-parameters frame c (v ∷ vs) = local_write frame c v ∷ parameters frame (c + 1) vs
-
 -- a return has no write: its value is written by the caller's receiving local
 abbrev pub writes_of_deed : ℕ → Answer → Deed → List Access
-writes_of_deed frame a (set_local c v) = local_write frame c v ∷ []
+writes_of_deed frame a (set_local c v) = local_accesses frame c (v ∷ [])
 writes_of_deed frame a (set_shared c v) = record { spot = spot.Shared c; value = v } ∷ []
-writes_of_deed frame a (clear base len) = cleared frame base len
-writes_of_deed frame a (invoke f values into) = parameters (frame + 1) 0 values
-writes_of_deed frame a (receive chan into) = local_write frame into (value_of a) ∷ []
+writes_of_deed frame a (clear base len) = local_accesses frame base (replicate len (pos 0))
+writes_of_deed frame a (invoke f values into) = local_accesses (frame + 1) 0 values
+writes_of_deed frame a (receive chan into) = local_accesses frame into (value_of a ∷ [])
 writes_of_deed frame a deed = []
 
 -- the trap of a step
@@ -116,10 +104,10 @@ described program plan s t a =
       stmt = t.stmt;
       reads = if evaluates need
           then reads_of_kind (frame_of program plan s) program.exprs (kind_of program t.stmt)
-          (top_cells s.frames) s.answers else [];
+          (top_frame s.frames).cells s.answers else [];
       writes = writes_by (trap_of need) (frame_of program plan s) a (head_deed program t s);
       value = if evaluates need
-          then value_at program.exprs (top_cells s.frames) s.answers (valued (kind_of program t.stmt)) else None;
+          then value_at program.exprs (top_frame s.frames).cells s.answers (valued (kind_of program t.stmt)) else None;
       number = None;
       trap = trap_of need;
     }

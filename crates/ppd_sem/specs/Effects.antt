@@ -14,7 +14,7 @@ use Rattle.ppd_sem.specs.declared.proc.Todo.{Todo}
 use Rattle.ppd_sem.specs.Asked.{once}
 use Rattle.ppd_sem.specs.Ask.{ask}
 use Rattle.ppd_sem.specs.Deed.{Deed, set_local, set_shared, clear, branch, turn, leave, invoke, back, take, give, send, receive, print, pass, finish}
-use Rattle.ppd_sem.specs.Process.{top_cells}
+use Rattle.ppd_sem.specs.Process.{top_frame}
 
 -- the arguments of a call
 abbrev pub arguments_of : Kind → List ℕ
@@ -64,10 +64,10 @@ HasRange e = ⊤
 
 -- the deed of the head statement
 abbrev pub head_deed_of : Program → Todo → Proc → Effect → Deed
-head_deed_of program t s e = deed_of program.exprs (kind_of program t.stmt) (top_cells s.frames) s.answers e
+head_deed_of program t s e = deed_of program.exprs (kind_of program t.stmt) (top_frame s.frames).cells s.answers e
 
 abbrev pub head_deed_if : Program → Todo → Proc → Result Effect Pause → Result Deed Pause
-head_deed_if program t s r = deed_if program.exprs (kind_of program t.stmt) (top_cells s.frames) s.answers r
+head_deed_if program t s r = deed_if program.exprs (kind_of program t.stmt) (top_frame s.frames).cells s.answers r
 
 -- the values of arguments that are all there
 abbrev pub given_if : List ℤ → Result (Unit {0}) Pause → Result (List ℤ) Pause

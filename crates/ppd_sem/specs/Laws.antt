@@ -27,7 +27,7 @@ use Rattle.ppd_sem.specs.Deed.{ask_all, ask_deed}
 use Rattle.ppd_sem.specs.Consumed.{Takes, shared_of}
 use Rattle.ppd_sem.specs.Measure.{measure}
 use Rattle.ppd_sem.specs.Offers.{Completes, HasNoOffer, IsAtOneStatement, Offers, OffersAtHead}
-use Rattle.ppd_sem.specs.Process.{act, need_of, need_of_head, need_of_pause, started, top_cells}
+use Rattle.ppd_sem.specs.Process.{act, need_of, need_of_asked, need_of_head, started, top_frame}
 use Rattle.ppd_sem.specs.Reads.{reads_of, reads_of_kind}
 use Rattle.ppd_sem.specs.Passed.{next_stmt_of}
 use Rattle.ppd_sem.specs.Runs.{IsNumbered, IsRunnable}
@@ -122,11 +122,11 @@ pub record ReadsAreAnswers : Type 0 where
 pub record ArgumentsComeFirst : Type 0 where
   pub lacking : (program : Program) (plan : Plan) (t : Todo) (s : Proc) (f : ℕ) (arguments : List ℕ)
       (into : Option ℕ) (p : Pause) → kind_of program t.stmt ≡ kind.Call f arguments into
-      → ask_all program.exprs arguments (top_cells s.frames) s.answers ≡ Err p
-      → need_of_head program plan t s ≡ need_of_pause p
+      → ask_all program.exprs arguments (top_frame s.frames).cells s.answers ≡ Err p
+      → need_of_head program plan t s ≡ need_of_asked program plan t.stmt s (Err p)
   pub too_deep : (program : Program) (plan : Plan) (t : Todo) (s : Proc) (f : ℕ) (arguments : List ℕ)
       (into : Option ℕ) (values left : List ℤ) → kind_of program t.stmt ≡ kind.Call f arguments into
-      → ask_all program.exprs arguments (top_cells s.frames) s.answers ≡ Ok (values, left)
+      → ask_all program.exprs arguments (top_frame s.frames).cells s.answers ≡ Ok (values, left)
       → MOST_CALLS < s.below + length s.frames → need_of_head program plan t s ≡ need.Trap Depth
 
 -- ---- programs and steps

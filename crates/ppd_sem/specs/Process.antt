@@ -1,6 +1,7 @@
 -- The state of one process: what its next step needs, and the state after that step.
 use Rattle.std.specs.Prelude.{ℕ, ◌+◌, ◌-◌, nat_lt, ℤ, pos, List, [], ◌∷◌, ◌++◌, map, true, false, zero, suc, length, drop, replicate, slice_set, slice_get, unwrap_or, Option, Some, None, Ok, Err, if◌then◌else◌}
 use Rattle.std.specs.Option.{option_map_or}
+use Rattle.std.specs.List.{range_with_len}
 use Rattle.ppd_ast.specs.declared.program.Kind.{Kind}
 use Rattle.ppd_ast.specs.declared.program.Kind.TheVariants as kind
 use Rattle.ppd_ast.specs.declared.program.Program.{Program}
@@ -9,7 +10,7 @@ use Rattle.ppd_ast.specs.declared.plan.Start.TheVariants as start
 use Rattle.ppd_ast.specs.declared.plan.BlockKind.TheVariants as block
 use Rattle.ppd_ast.specs.declared.status.Trap.TheVariants as trap
 use Rattle.ppd_ast.specs.declared.status.Status.TheVariants as status
-use Rattle.ppd_ast.specs.Lookups.{kind_of, top_of_body}
+use Rattle.ppd_ast.specs.Lookups.{kind_of, body_numbered}
 use Rattle.ppd_ast.specs.declared.limits.TheConstants.{MOST_CALLS}
 use Rattle.ppd_sem.specs.declared.proc.Need.{Need}
 use Rattle.ppd_sem.specs.declared.proc.Need.TheVariants.{Read, Write, Plain, Enter, Leave, Invoke, Back, P, V, Send, Offer, Done, Recv, End, Trap, Budget, Stopped}
@@ -18,7 +19,6 @@ use Rattle.ppd_sem.specs.declared.proc.Answer.TheVariants.{Value, Go}
 use Rattle.ppd_sem.specs.declared.proc.Frame.{Frame}
 use Rattle.ppd_sem.specs.declared.proc.Todo.{Todo}
 use Rattle.ppd_sem.specs.declared.proc.Proc.{Proc}
-use Rattle.ppd_sem.specs.declared.asking.Pause.{Pause}
 use Rattle.ppd_sem.specs.declared.asking.Pause.TheVariants.{Wants, Traps}
 use Rattle.ppd_sem.specs.Asked.{Asked}
 use Rattle.ppd_sem.specs.Deed.{Deed, set_local, set_shared, clear, branch, turn, leave, invoke, back, take, give, send, receive, print, finish, ask_deed}
@@ -26,22 +26,14 @@ use Rattle.ppd_sem.specs.Tables.{capacity_of, block_of, unit_of, prelog_cells, p
 
 -- ---- the head
 
-abbrev pub top_cells : List Frame → List ℤ
-top_cells [] = []
-top_cells (f ∷ fs) = f.cells
-
-abbrev pub top_body : List Frame → ℕ
-top_body [] = 0
-top_body (f ∷ fs) = f.body
-
--- the call that began the top frame, if this process state has the frame below it
-abbrev pub top_call : List Frame → Option ℕ
-top_call [] = None
-top_call (f ∷ fs) = f.call
+-- the top frame: its body, its cells, and the call that began it, if this process state has the frame below it
+abbrev pub top_frame : List Frame → Frame
+top_frame [] = record { body = 0; cells = []; call = None }
+top_frame (f ∷ fs) = f
 
 -- what the head statement asks for, or what it does once its values are there
 abbrev pub head_deed : Program → Todo → Proc → Asked Deed
-head_deed program t s = ask_deed program.exprs (kind_of program t.stmt) (top_cells s.frames) s.answers
+head_deed program t s = ask_deed program.exprs (kind_of program t.stmt) (top_frame s.frames).cells s.answers
 
 -- ---- the need
 
@@ -49,12 +41,6 @@ head_deed program t s = ask_deed program.exprs (kind_of program t.stmt) (top_cel
 abbrev pub call_unit : Plan → Option ℕ → Option ℕ
 call_unit plan None = None
 call_unit plan (Some c) = Some (unit_of plan (start.After c))
-
--- a call, which is too deep where the most are open: those of the first frame, and one for each frame above it
-abbrev pub need_of_call : Plan → ℕ → Proc → Need
-need_of_call plan f s =
-    if nat_lt MOST_CALLS (s.below + length s.frames) then Trap trap.Depth
-    else Invoke (block_of plan (block.Function f)) (unit_of plan (start.Entry f))
 
 -- a loop that ends, by its block
 abbrev pub need_of_leaving : Plan → ℕ → Option ℕ → Need
@@ -66,27 +52,27 @@ abbrev pub need_of_send : Plan → ℕ → (capacity chan : ℕ) → ℤ → Nee
 need_of_send plan t zero chan value = Offer chan value
 need_of_send plan t (suc n) chan value = Send chan value (unit_of plan (start.After t))
 
--- t is the statement
+-- t is the statement; a call is too deep where the most are open: those of the first frame, and one for each frame
+-- above it
 abbrev pub need_of_deed : Program → Plan → ℕ → Proc → Deed → Need
 need_of_deed program plan t s (set_shared c v) = Write c v
 need_of_deed program plan t s leave = need_of_leaving plan t (block_of plan (block.Loop t))
-need_of_deed program plan t s (invoke f values into) = need_of_call plan f s
+need_of_deed program plan t s (invoke f values into) =
+    if nat_lt MOST_CALLS (s.below + length s.frames) then Trap trap.Depth
+    else Invoke (block_of plan (block.Function f)) (unit_of plan (start.Entry f))
 need_of_deed program plan t s (back value) =
-    Back (block_of plan (block.Function (top_body s.frames))) (call_unit plan (top_call s.frames))
+    Back (block_of plan (block.Function (top_frame s.frames).body)) (call_unit plan (top_frame s.frames).call)
 need_of_deed program plan t s (take sem) = P sem (unit_of plan (start.After t))
 need_of_deed program plan t s (give sem) = V sem (unit_of plan (start.After t))
 need_of_deed program plan t s (send chan value) = need_of_send plan t (capacity_of program chan) chan value
 need_of_deed program plan t s (receive chan into) = Recv chan (unit_of plan (start.After t))
-need_of_deed program plan t s finish = End (unwrap_or (block_of plan (block.Process (top_body s.frames))) 0)
+need_of_deed program plan t s finish = End (unwrap_or (block_of plan (block.Process (top_frame s.frames).body)) 0)
 need_of_deed program plan t s deed = Plain
-
-abbrev pub need_of_pause : Pause → Need
-need_of_pause (Wants cell) = Read cell
-need_of_pause (Traps t) = Trap t
 
 abbrev pub need_of_asked : Program → Plan → ℕ → Proc → Asked Deed → Need
 need_of_asked program plan t s (Ok p) = need_of_deed program plan t s p.0
-need_of_asked program plan t s (Err pause) = need_of_pause pause
+need_of_asked program plan t s (Err (Wants cell)) = Read cell
+need_of_asked program plan t s (Err (Traps reason)) = Trap reason
 
 -- the block of a loop that the process has yet to enter
 abbrev pub loop_of : Plan → ℕ → Kind → Option ℕ
@@ -146,17 +132,15 @@ need_of program plan s =
 abbrev pub todos : List ℕ → List Todo
 todos stmts = map (λ s. record { stmt = s; entered = false; offered = false }) stmts
 
-abbrev pub write_top : ℕ → ℤ → List Frame → List Frame
-write_top c v [] = []
-write_top c v (f ∷ fs) = record f { cells = slice_set f.cells c v } ∷ fs
+-- the frames with this done to the cells of the top one
+abbrev pub on_top : (List ℤ → List ℤ) → List Frame → List Frame
+on_top change [] = []
+on_top change (f ∷ fs) = record f { cells = change f.cells } ∷ fs
 
-abbrev pub clear_cells : ℕ → ℕ → List ℤ → List ℤ
-clear_cells base zero cells = cells
-clear_cells base (suc n) cells = slice_set (clear_cells base n cells) (base + n) (pos 0)
-
-abbrev pub clear_top : ℕ → ℕ → List Frame → List Frame
-clear_top base len [] = []
-clear_top base len (f ∷ fs) = record f { cells = clear_cells base len f.cells } ∷ fs
+-- the cells with these values written at these numbers
+abbrev pub with_values : List ℕ → List ℤ → List ℤ → List ℤ
+with_values (c ∷ cs) (v ∷ vs) cells = with_values cs vs (slice_set cells c v)
+with_values cs vs cells = cells
 
 -- the parameters' values, and zeros
 abbrev pub new_frame : Program → ℕ → List ℤ → Option ℕ → Frame
@@ -171,18 +155,19 @@ abbrev pub into_of : Kind → Option ℕ
 into_of (kind.Call f arguments into) = into
 into_of k = None
 
-abbrev pub receive_at : Option ℕ → Option ℤ → List Frame → List Frame
-receive_at (Some c) (Some v) frames = write_top c v frames
-receive_at into value frames = frames
+-- the local that receives the value of a call, if there is a call
+abbrev pub into_at : Program → Option ℕ → Option ℕ
+into_at program None = None
+into_at program (Some c) = into_of (kind_of program c)
 
-abbrev pub returned_from : Program → Option ℕ → Option ℤ → List Frame → List Frame
-returned_from program None value fs = fs
-returned_from program (Some c) value fs = receive_at (into_of (kind_of program c)) value fs
+abbrev pub receive_at : Option ℕ → Option ℤ → List Frame → List Frame
+receive_at (Some c) (Some v) frames = on_top (λ cells. slice_set cells c v) frames
+receive_at into value frames = frames
 
 -- the frames after a return, which writes the receiving local of the caller
 abbrev pub returned : Program → Option ℤ → List Frame → List Frame
 returned program value [] = []
-returned program value (f ∷ fs) = returned_from program f.call value fs
+returned program value (f ∷ fs) = receive_at (into_at program f.call) value fs
 
 -- ---- the step
 
@@ -192,17 +177,20 @@ value_of Go = pos 0
 
 -- t is the head, and ts what is to do after it
 abbrev pub act_by_deed : Program → Answer → Todo → List Todo → Deed → Proc → Proc
-act_by_deed program a t ts (set_local c v) s = record s { todo = ts; frames = write_top c v s.frames }
-act_by_deed program a t ts (clear base len) s = record s { todo = ts; frames = clear_top base len s.frames }
+act_by_deed program a t ts (set_local c v) s =
+    record s { todo = ts; frames = on_top (λ cells. slice_set cells c v) s.frames }
+act_by_deed program a t ts (clear base len) s =
+    record s { todo = ts; frames = on_top (with_values (range_with_len base len) (replicate len (pos 0))) s.frames }
 act_by_deed program a t ts (branch stmts) s = record s { todo = todos stmts ++ ts }
 act_by_deed program a t ts (turn stmts) s = record s { todo = todos stmts ++ t ∷ ts }
 act_by_deed program a t ts (invoke f values into) s =
     record s {
-      todo = todos (top_of_body (slice_get program.bodies f)) ++ ts;
+      todo = todos (body_numbered program f).top ++ ts;
       frames = new_frame program f values (Some t.stmt) ∷ s.frames;
     }
 act_by_deed program a t ts (back value) s = record s { todo = ts; frames = returned program value s.frames }
-act_by_deed program a t ts (receive chan into) s = record s { todo = ts; frames = write_top into (value_of a) s.frames }
+act_by_deed program a t ts (receive chan into) s =
+    record s { todo = ts; frames = on_top (λ cells. slice_set cells into (value_of a)) s.frames }
 act_by_deed program a t ts (print v) s = record s { todo = ts; prints = s.prints ++ v ∷ [] }
 act_by_deed program a t ts finish s = record s { todo = ts; status = Some status.Ended }
 act_by_deed program a t ts deed s = record s { todo = ts }
@@ -240,7 +228,7 @@ started program plan process budget =
     let body = program.functions + process in
     record {
       frames = new_frame program body [] None ∷ [];
-      todo = todos (top_of_body (slice_get program.bodies body));
+      todo = todos (body_numbered program body).top;
       answers = [];
       below = 0;
       budget = budget;

@@ -13,12 +13,12 @@ use Rattle.ppd_ast.specs.declared.program.Target.{Target}
 use Rattle.ppd_ast.specs.declared.program.Target.TheVariants as target
 use Rattle.ppd_ast.specs.declared.limits.TheConstants.{MOST_CALLS}
 use Rattle.ppd_ast.specs.declared.plan.Plan.{Plan}
-use Rattle.ppd_ast.specs.Lookups.{kind_of, top_of_body}
+use Rattle.ppd_ast.specs.Lookups.{kind_of, body_numbered}
 use Rattle.ppd_sem.specs.declared.proc.Frame.{Frame}
 use Rattle.ppd_sem.specs.declared.proc.Proc.{Proc}
 use Rattle.ppd_sem.specs.declared.proc.Todo.{Todo}
-use Rattle.ppd_sem.specs.Process.{top_cells}
 use Rattle.ppd_sem.specs.Within.{IsWithin}
+use Rattle.ppd_sem.specs.Process.{top_frame}
 
 -- an expression that is there, over a frame of n cells
 pub record IsUse (es : List Expr) (n : ℕ) (e : ℕ) : Type 0 where
@@ -54,13 +54,9 @@ abbrev pub returns : Kind → Bool
 returns (kind.Return value) = true
 returns k = false
 
-abbrev pub size_if : Option Body → ℕ
-size_if None = 0
-size_if (Some b) = b.cells
-
 -- the cells of a frame of this body
 abbrev pub size_of : Program → ℕ → ℕ
-size_of program body = size_if (slice_get program.bodies body)
+size_of program body = (body_numbered program body).cells
 
 abbrev pub stmt_size : Program → Option Stmt → ℕ
 stmt_size program None = 0
@@ -86,7 +82,7 @@ AreOfFunction program n (s ∷ t ∷ ss) = IsInner program n s × AreOfFunction 
 pub record IsCallable (program : Program) (f count : ℕ) : Type 0 where
   pub there : f < length program.bodies
   pub arguments : count ≤ size_of program f
-  pub top : AreOfFunction program (size_of program f) (top_of_body (slice_get program.bodies f))
+  pub top : AreOfFunction program (size_of program f) (body_numbered program f).top
 
 -- where a statement over frames of n cells leads
 abbrev pub LeadsOn : Program → ℕ → Kind → Type 0
@@ -149,5 +145,5 @@ pub record IsRunning (program : Program) (s : Proc) : Type 0 where
 pub record IsHead (program : Program) (s : Proc) (t : Todo) : Type 0 where
   pub runnable : IsRunnable program
   pub first : slice_get s.todo 0 ≡ Some t
-  pub cells : length (top_cells s.frames) < 2 ^ 16
-  pub over : RunsOver program (length (top_cells s.frames)) t.stmt
+  pub cells : length (top_frame s.frames).cells < 2 ^ 16
+  pub over : RunsOver program (length (top_frame s.frames).cells) t.stmt

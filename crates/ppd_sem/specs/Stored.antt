@@ -1,5 +1,6 @@
 -- What a statement evaluates, and what it does by the value.
-use Rattle.std.specs.Prelude.{ℕ, ℤ, List, None, Some, Result, Ok, Err, true, false, if◌then◌else◌}
+use Rattle.std.specs.Prelude.{ℕ, ℤ, List, None, Some, Result, Ok, Err, true, false, if◌then◌else◌, pos}
+use Rattle.std.specs.Ordering.{int_eq}
 use Rattle.ppd_ast.specs.declared.program.Expr.{Expr}
 use Rattle.ppd_ast.specs.declared.program.Kind.{Kind}
 use Rattle.ppd_ast.specs.declared.program.Kind.TheVariants as kind
@@ -12,7 +13,6 @@ use Rattle.ppd_sem.specs.declared.asking.Pause.TheVariants.{Traps}
 use Rattle.ppd_sem.specs.declared.effect.Effect.{Effect}
 use Rattle.ppd_sem.specs.declared.effect.Effect.TheVariants as effect
 use Rattle.ppd_sem.specs.Asked.{Asked, gives}
-use Rattle.ppd_sem.specs.Ask.{is_zero}
 use Rattle.ppd_sem.specs.Reads.{ask_place}
 
 -- the cell of a target, whose index is tested
@@ -30,11 +30,11 @@ stored (target.SharedAt base len i) c v = effect.SetShared c v
 
 -- what a statement does by the value of its one expression, where it is no assignment and no call
 abbrev pub by_value : Kind → ℤ → Result Effect Pause
-by_value (kind.If e first second) v = Ok (effect.Branch (if is_zero v then false else true))
-by_value (kind.While e body) v = Ok (if is_zero v then effect.Leave else effect.Turn)
+by_value (kind.If e first second) v = Ok (effect.Branch (if int_eq v (pos 0) then false else true))
+by_value (kind.While e body) v = Ok (if int_eq v (pos 0) then effect.Leave else effect.Turn)
 by_value (kind.Send c e) v = Ok (effect.Send c v)
 by_value (kind.Print e) v = Ok (effect.Print v)
-by_value (kind.Assert e) v = if is_zero v then Err (Traps trap.Assert) else Ok effect.Pass
+by_value (kind.Assert e) v = if int_eq v (pos 0) then Err (Traps trap.Assert) else Ok effect.Pass
 by_value k v = Ok (effect.Back (Some v))
 
 -- what a statement does that evaluates nothing

@@ -2,8 +2,8 @@ ghost use Rattle.std.specs.Prelude.{◌≡◌, ◌≤◌, IfOk, None, [], ◌∷
 ghost use Rattle.ppd_ast.specs.declared.limits.TheConstants.{MOST_CALLS};
 ghost use Rattle.ppd_ast.specs.Valid.{IsValid};
 ghost use Rattle.ppd_ast.specs.ValidPlan.{IsValidPlan};
-ghost use Rattle.ppd_sem.specs.Blocks.{at_block as at_block_of, block_todo as todo_of_block, with_values};
-ghost use Rattle.ppd_sem.specs.Process.{new_frame as new_frame_of};
+ghost use Rattle.ppd_sem.specs.Blocks.{at_block as at_block_of, block_todo as todo_of_block};
+ghost use Rattle.ppd_sem.specs.Process.{new_frame as new_frame_of, with_values};
 ghost use Rattle.ppd_sem.specs.Runs.{IsRunning};
 
 use crate::blocks::{block_body, block_kind, prelog_cells, write_values};

@@ -1,6 +1,7 @@
 ghost use Rattle.std.specs.Prelude.{◌≡◌};
-ghost use Rattle.ppd_sem.specs.Blocks.{block_body as body_of_block, block_kind as kind_of_block, block_unit as unit_of_block, postlog_cells as postlog_cells_of, prelog_cells as prelog_cells_of, with_values};
+ghost use Rattle.ppd_sem.specs.Blocks.{block_body as body_of_block, block_kind as kind_of_block, block_unit as unit_of_block, postlog_cells as postlog_cells_of, prelog_cells as prelog_cells_of};
 ghost use Rattle.ppd_sem.specs.Runs.{IsNumbered};
+ghost use Rattle.ppd_sem.specs.Process.{with_values};
 
 use crate::tables::find_unit;
 use ppd_ast::{BlockKind, Nums, Plan, Program, Start};

@@ -1,9 +1,9 @@
-ghost use Rattle.std.specs.Prelude.{◌≡◌, ◌+◌, ◌<◌, ◌≤◌, ◌^◌, true, Some, None, if◌then◌else◌, [], ◌∷◌, length, slice_get, IfOk, IsSomeAnd};
+ghost use Rattle.std.specs.Prelude.{◌≡◌, ◌+◌, ◌<◌, ◌≤◌, ◌^◌, true, Some, None, if◌then◌else◌, [], ◌∷◌, length, slice_get, IfOk, IsSomeAnd, replicate, pos};
 ghost use Rattle.ppd_ast.specs.Lookups.{kind_of};
-ghost use Rattle.ppd_sem.specs.Described.{cleared as cleared_of, described, evaluates as evaluates_of, ends_body as ends_body_of, frame_of as frame_number, is_block as is_block_of, is_event as is_event_of, is_in_loop as is_in_loop_of, local_write as local_write_of, parameters as parameters_of, trap_of as trap_of_need, value_at, valued as valued_of, writes_by, writes_of_deed};
+ghost use Rattle.ppd_sem.specs.Described.{described, evaluates as evaluates_of, ends_body as ends_body_of, frame_of as frame_number, is_block as is_block_of, is_event as is_event_of, is_in_loop as is_in_loop_of, trap_of as trap_of_need, value_at, valued as valued_of, writes_by, writes_of_deed};
 ghost use Rattle.ppd_sem.specs.Effects.{HasRange, head_deed_of};
-ghost use Rattle.ppd_sem.specs.Process.{head_deed, need_of, top_cells as top_cells_of};
-ghost use Rattle.ppd_sem.specs.Reads.{reads_of_kind};
+ghost use Rattle.ppd_sem.specs.Process.{head_deed, need_of, top_frame};
+ghost use Rattle.ppd_sem.specs.Reads.{reads_of_kind, local_accesses};
 ghost use Rattle.ppd_sem.specs.Runs.{IsHead, IsNumbered, IsRunnable, IsRunning};
 
 use crate::asking::ask;
@@ -67,7 +67,7 @@ fn frame_of(program: &Program, plan: &Plan, proc: &Proc) -> u8
 }
 
 fn local_write(frame: u8, cell: u16, value: i64) -> Access
-    ensures { result ≡ local_write_of frame cell value }
+    ensures { result ∷ [] ≡ local_accesses frame cell (value ∷ []) }
 {
     let spot = Spot::Local { frame, cell };
     Access { spot, value }
@@ -83,9 +83,10 @@ fn one(alloc: Global, access: Access) -> Result<Seq<Access>, Memory>
 }
 
 /// The writes of zeros to these cells.
+#[tactic(auto, using(crate::proofs::Zeros::one_more_accessed))]
 fn cleared(alloc: Global, frame: u8, base: u16, len: u16) -> Result<Seq<Access>, Memory>
     requires { base + len < 2 ^ 16 }
-    ensures { IfOk result (λ writes. writes ≡ cleared_of frame base len) }
+    ensures { IfOk result (λ writes. writes ≡ local_accesses frame base (replicate len (pos 0))) }
 {
     let mut writes = Seq::new(alloc);
     for index in 0..len {
@@ -97,7 +98,7 @@ fn cleared(alloc: Global, frame: u8, base: u16, len: u16) -> Result<Seq<Access>,
 /// The writes of a call's arguments to its parameters.
 fn parameters(alloc: Global, frame: u8, values: &[i64]) -> Result<Seq<Access>, Memory>
     requires { length values.now < 2 ^ 16 }
-    ensures { IfOk result (λ writes. writes ≡ parameters_of frame 0 values.now) }
+    ensures { IfOk result (λ writes. writes ≡ local_accesses frame 0 values.now) }
 {
     let mut writes = Seq::new(alloc);
     for index in 0..values.len() {
@@ -188,7 +189,7 @@ fn head_reads(
         (λ reads. reads
         ≡ reads_of_kind frame program.now.exprs
         (kind_of program.now todo.stmt)
-        (top_cells_of proc.now.frames) proc.now.answers) }
+        (top_frame proc.now.frames).cells proc.now.answers) }
 {
     let mut reads = Seq::new(alloc);
     push_kind_reads(
@@ -207,7 +208,7 @@ fn head_reads(
 fn head_value(program: &Program, proc: &Proc, todo: Todo) -> Option<i64>
     requires { IsHead program.now proc.now todo }
     ensures { result
-        ≡ value_at program.now.exprs (top_cells_of proc.now.frames)
+        ≡ value_at program.now.exprs (top_frame proc.now.frames).cells
         proc.now.answers (valued_of (kind_of program.now todo.stmt)) }
 {
     let value = valued(kind_at(program, todo.stmt))?;
@@ -254,7 +255,7 @@ fn step_reads(
         ≡ (if evaluates_of need
         then reads_of_kind frame program.now.exprs
         (kind_of program.now todo.stmt)
-        (top_cells_of proc.now.frames) proc.now.answers else [])) }
+        (top_frame proc.now.frames).cells proc.now.answers else [])) }
 {
     if evaluates(need) {
         head_reads(alloc, program, proc, todo, frame)
@@ -268,7 +269,7 @@ fn step_value(program: &Program, proc: &Proc, todo: Todo, need: Need) -> Option<
     requires { IsHead program.now proc.now todo }
     ensures { result
         ≡ (if evaluates_of need
-        then value_at program.now.exprs (top_cells_of proc.now.frames)
+        then value_at program.now.exprs (top_frame proc.now.frames).cells
         proc.now.answers (valued_of (kind_of program.now todo.stmt)) else None) }
 {
     if evaluates(need) {

@@ -1,6 +1,7 @@
-ghost use Rattle.std.specs.Prelude.{◌≡◌, ◌+◌, ◌<◌, ◌^◌, IfOk, ◌+ℤ◌, ◌-ℤ◌, ◌*ℤ◌, neg_ℤ};
+ghost use Rattle.std.specs.Prelude.{◌≡◌, ◌+◌, ◌<◌, ◌^◌, IfOk, ◌+ℤ◌, ◌-ℤ◌, ◌*ℤ◌, neg_ℤ, pos};
+ghost use Rattle.std.specs.Ordering.{int_eq};
 ghost use Rattle.ppd_sem.specs.Asked.{paused};
-ghost use Rattle.ppd_sem.specs.Ask.{is_zero as is_zero_of, truth as truth_of, checked, calc as calc_of, element as element_of};
+ghost use Rattle.ppd_sem.specs.Ask.{truth as truth_of, checked, calc as calc_of, element as element_of};
 
 use crate::asking::Pause;
 use ppd_ast::{Op, Trap};
@@ -69,7 +70,7 @@ fn result_of(op: Op, x: i64, y: i64) -> Result<i64, Trap>
 }
 
 pub(crate) fn is_zero(x: i64) -> bool
-    ensures { result ≡ is_zero_of x }
+    ensures { result ≡ int_eq x (pos 0) }
 {
     x == 0
 }

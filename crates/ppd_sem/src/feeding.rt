@@ -3,7 +3,7 @@ ghost use Rattle.ppd_ast.specs.declared.status.Status.TheVariants as status;
 ghost use Rattle.ppd_ast.specs.Lookups.{kind_of};
 ghost use Rattle.ppd_sem.specs.Effects.{arguments_of, given, head_deed_of};
 ghost use Rattle.ppd_sem.specs.Feeding.{finished, hold_at, invoked};
-ghost use Rattle.ppd_sem.specs.Process.{act, act_by_asked, act_by_deed, act_by_need, charged, cost as cost_of, head_deed, need_of, todos, top_cells as top_cells_of};
+ghost use Rattle.ppd_sem.specs.Process.{act, act_by_asked, act_by_deed, act_by_need, charged, cost as cost_of, head_deed, need_of, todos, top_frame};
 ghost use Rattle.ppd_sem.specs.Runs.{IsHead, IsNumbered, IsRunnable, IsRunning};
 
 use crate::asking::Pause;
@@ -33,7 +33,7 @@ pub(crate) fn argument_values(program: &Program, todo: Todo, proc: &Proc) -> Res
     ensures values { IfOk result
         (λ values. values
         ≡ given program.now.exprs (arguments_of (kind_of program.now todo.stmt))
-        (top_cells_of proc.now.frames) proc.now.answers) }
+        (top_frame proc.now.frames).cells proc.now.answers) }
 {
     let mut values = Nums::new(proc.frames.allocator());
     push_values(

@@ -1,6 +1,7 @@
-ghost use Rattle.std.specs.Prelude.{◌≡◌, ◌<◌, None, Some};
+ghost use Rattle.std.specs.Prelude.{◌≡◌, ◌<◌, None, Some, slice_set, replicate, pos};
+ghost use Rattle.std.specs.List.{range_with_len};
 ghost use Rattle.ppd_ast.specs.Lookups.{kind_of};
-ghost use Rattle.ppd_sem.specs.Process.{clear_cells as clear_cells_of, clear_top as clear_top_of, into_of, receive_at as receive_at_of, returned, returned_from, write_top as write_top_of};
+ghost use Rattle.ppd_sem.specs.Process.{into_of, receive_at as receive_at_of, returned, on_top, into_at as into_at_of, with_values};
 
 use crate::proc::Frame;
 use crate::stack::Stack;
@@ -8,7 +9,7 @@ use ppd_ast::{Kind, Nums, Program};
 
 /// Writes a cell of the top frame.
 pub(crate) fn write_top(frames: &mut Stack<Frame>, cell: u16, value: i64)
-    ensures { frames.new ≡ write_top_of cell value frames.old }
+    ensures { frames.new ≡ on_top (λ cells. slice_set cells cell value) frames.old }
 {
     let count = frames.items.len();
     if count > 0 {
@@ -16,8 +17,9 @@ pub(crate) fn write_top(frames: &mut Stack<Frame>, cell: u16, value: i64)
     }
 }
 
+#[tactic(auto, using(crate::proofs::Zeros::zeros_written))]
 fn clear_cells(cells: &mut Nums, base: u16, len: u16)
-    ensures { cells.new ≡ clear_cells_of base len cells.old }
+    ensures { cells.new ≡ with_values (range_with_len base len) (replicate len (pos 0)) cells.old }
 {
     for index in 0..len {
         cells.set(base as usize + index as usize, 0);
@@ -26,7 +28,7 @@ fn clear_cells(cells: &mut Nums, base: u16, len: u16)
 
 /// Writes 0 to these cells of the top frame.
 pub(crate) fn clear_top(frames: &mut Stack<Frame>, base: u16, len: u16)
-    ensures { frames.new ≡ clear_top_of base len frames.old }
+    ensures { frames.new ≡ on_top (with_values (range_with_len base len) (replicate len (pos 0))) frames.old }
 {
     let count = frames.items.len();
     if count > 0 {
@@ -56,7 +58,7 @@ pub(crate) fn receive_at(frames: &mut Stack<Frame>, into: Option<u16>, value: Op
 }
 
 fn return_to(program: &Program, frames: &mut Stack<Frame>, call: Option<u32>, value: Option<i64>)
-    ensures { frames.new ≡ returned_from program.now call value frames.old }
+    ensures { frames.new ≡ receive_at_of (into_at_of program.now call) value frames.old }
 {
     if let Some(call) = call {
         receive_at(frames, into_at(program, call), value);

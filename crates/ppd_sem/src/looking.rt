@@ -1,11 +1,13 @@
-ghost use Rattle.std.specs.Prelude.{◌≡◌, ◌<◌, Some, None, length, slice_get, IfOk, unwrap_or};
+ghost use Rattle.std.specs.Prelude.{◌≡◌, ◌<◌, Some, None, length, slice_get, IfOk, unwrap_or, ℕ, ℤ, List, Option};
 ghost use Rattle.ppd_ast.specs.declared.plan.BlockKind.TheVariants.{Function, Loop, Process};
 ghost use Rattle.ppd_sem.specs.declared.proc.Need.TheVariants.{Back, End};
 ghost use Rattle.ppd_sem.specs.Asked.{outcome};
 ghost use Rattle.ppd_sem.specs.Effects.{HasRange, head_deed_if, head_deed_of};
-ghost use Rattle.ppd_sem.specs.Process.{call_unit as call_unit_of, entry_of, head_deed, need_of, need_of_call, need_of_deed, need_of_head, need_of_leaving, need_of_pause, need_of_send, offer_of, top_body, top_call, top_cells as top_cells_of};
+ghost use Rattle.ppd_sem.specs.Process.{call_unit as call_unit_of, entry_of, head_deed, need_of, need_of_deed, need_of_head, need_of_leaving, need_of_send, offer_of, top_frame};
 ghost use Rattle.ppd_sem.specs.Tables.{block_of, capacity_of};
 ghost use Rattle.ppd_sem.specs.Runs.{IsHead, IsNumbered, IsRunnable, IsRunning};
+ghost use Rattle.ppd_ast.specs.declared.program.Program.{Program};
+ghost use Rattle.ppd_sem.specs.Deed.{invoke};
 
 use crate::asking::Pause;
 use crate::cost::within_budget;
@@ -18,7 +20,7 @@ use ppd_ast::{BlockKind, Kind, Plan, Program, Start, Trap};
 
 /// The body of the top frame.
 pub(crate) fn body_of(frames: &Stack<Frame>) -> u16
-    ensures { result ≡ top_body frames.now }
+    ensures { result ≡ (top_frame frames.now).body }
 {
     match frames.top() {
         Some(frame) => frame.body,
@@ -27,7 +29,7 @@ pub(crate) fn body_of(frames: &Stack<Frame>) -> u16
 }
 
 fn call_of(frames: &Stack<Frame>) -> Option<u32>
-    ensures { result ≡ top_call frames.now }
+    ensures { result ≡ (top_frame frames.now).call }
 {
     match frames.top() {
         Some(frame) => frame.call,
@@ -37,7 +39,7 @@ fn call_of(frames: &Stack<Frame>) -> Option<u32>
 
 /// The cells of the top frame.
 pub(crate) fn top_cells(frames: &Stack<Frame>) -> &[i64]
-    ensures { result.now ≡ top_cells_of frames.now }
+    ensures { result.now ≡ (top_frame frames.now).cells }
 {
     match frames.top() {
         Some(frame) => frame.cells.as_slice(),
@@ -69,18 +71,10 @@ pub(crate) fn head_effect(program: &Program, todo: Todo, proc: &Proc) -> Result<
     )
 }
 
-fn paused_need(pause: Pause) -> Need
-    ensures { result ≡ need_of_pause pause }
-{
-    match pause {
-        Pause::Wants(cell) => Need::Read(cell),
-        Pause::Traps(trap) => Need::Trap(trap),
-    }
-}
-
 fn call_need(plan: &Plan, function: u16, proc: &Proc) -> Need
     requires plan { IsNumbered plan.now }
-    ensures { result ≡ need_of_call plan.now function proc.now }
+    ensures { (program : Program) (stmt : ℕ) (values : List ℤ) (into : Option ℕ)
+        → result ≡ need_of_deed program plan.now stmt proc.now (invoke function values into) }
 {
     let below = proc.below as usize;
     if proc.frames.len() > MOST_CALLS || below + proc.frames.len() > MOST_CALLS {
@@ -118,7 +112,8 @@ fn call_unit(plan: &Plan, call: Option<u32>) -> Option<u16>
 fn return_need(plan: &Plan, frames: &Stack<Frame>) -> Need
     requires plan { IsNumbered plan.now }
     ensures { result
-        ≡ Back (block_of plan.now (Function (top_body frames.now))) (call_unit_of plan.now (top_call frames.now)) }
+        ≡ Back (block_of plan.now (Function (top_frame frames.now).body))
+        (call_unit_of plan.now (top_frame frames.now).call) }
 {
     Need::Back {
         block: find_block(plan, BlockKind::Function(body_of(frames))),
@@ -246,7 +241,8 @@ fn head_need(program: &Program, plan: &Plan, todo: Todo, proc: &Proc) -> Need
     }
     match head_effect(program, todo, proc) {
         Ok(effect) => effect_need(program, plan, todo, proc, effect),
-        Err(pause) => paused_need(pause),
+        Err(Pause::Wants(cell)) => Need::Read(cell),
+        Err(Pause::Traps(trap)) => Need::Trap(trap),
     }
 }
 

@@ -1,7 +1,6 @@
 ghost use Rattle.std.specs.Prelude.{◌≡◌, slice_get, Some, IfOk, option_to_list};
 ghost use Rattle.ppd_sem.specs.Passed.{arguments_at, arguments_by, deed_at, deed_if_there, deed_of_head, next_stmt_of, result_at, result_by};
-ghost use Rattle.ppd_sem.specs.Asked.{outcome};
-ghost use Rattle.ppd_sem.specs.Process.{head_deed, top_cells as top_cells_of};
+ghost use Rattle.ppd_sem.specs.Process.{head_deed, top_frame};
 ghost use Rattle.ppd_sem.specs.Runs.{IsHead, IsRunnable, IsRunning};
 
 use crate::effect::Effect;
@@ -13,7 +12,7 @@ use std::alloc::Global;
 
 fn head_arguments(alloc: Global, program: &Program, todo: Todo, proc: &Proc) -> Result<Nums, Memory>
     requires { IsHead program.now proc.now todo }
-    ensures { IfOk result (λ values. values ≡ arguments_by (outcome (head_deed program.now todo proc.now))) }
+    ensures { IfOk result (λ values. values ≡ arguments_by (head_deed program.now todo proc.now)) }
 {
     match head_effect(program, todo, proc) {
         Ok(Effect::Invoke(..)) => argument_values(program, todo, proc),
@@ -23,7 +22,7 @@ fn head_arguments(alloc: Global, program: &Program, todo: Todo, proc: &Proc) -> 
 
 fn head_result(program: &Program, todo: Todo, proc: &Proc) -> Option<i64>
     requires { IsHead program.now proc.now todo }
-    ensures { result ≡ result_by (outcome (head_deed program.now todo proc.now)) }
+    ensures { result ≡ result_by (head_deed program.now todo proc.now) }
 {
     match head_effect(program, todo, proc) {
         Ok(Effect::Back(value)) => value,
@@ -81,7 +80,7 @@ pub fn returned_value(program: &Program, proc: &Proc) -> Option<i64>
 
 /// The cells of the top frame of a process.
 pub fn local_cells(proc: &Proc) -> &[i64]
-    ensures { result.now ≡ top_cells_of proc.now.frames }
+    ensures { result.now ≡ (top_frame proc.now.frames).cells }
 {
     top_cells(&proc.frames)
 }

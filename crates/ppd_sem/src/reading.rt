@@ -1,9 +1,9 @@
-ghost use Rattle.std.specs.Prelude.{◌≡◌, ◌<◌, ◌^◌, ◌++◌, length, OnOk};
+ghost use Rattle.std.specs.Prelude.{◌≡◌, ◌<◌, ◌^◌, ◌++◌, length, OnOk, get_or, pos, ◌∷◌, []};
 ghost use Rattle.std.specs.List.{All};
 ghost use Rattle.ppd_ast.specs.Table.{AreChildrenBelow, EachAt};
 ghost use Rattle.ppd_ast.specs.Term.{term};
 ghost use Rattle.ppd_sem.specs.Parts.{AreCellsBelow, element_read, index_reads, leaf_read};
-ghost use Rattle.ppd_sem.specs.Reads.{local_read, reads_of, reads_of_all, reads_of_kind, shared_read};
+ghost use Rattle.ppd_sem.specs.Reads.{reads_of, reads_of_all, reads_of_kind, shared_read, local_accesses};
 ghost use Rattle.ppd_sem.specs.Runs.{AreUses, IsTargetWithin, IsUse};
 ghost use Rattle.ppd_sem.specs.Within.{IsWithin};
 
@@ -16,7 +16,7 @@ use ppd_ast::{Expr, Kind, Memory, Seq, Target};
 /// Adds the read of a local cell.
 fn read_local(reads: &mut Seq<Access>, frame: u8, cells: &[i64], cell: u16) -> Result<(), Memory>
     requires { cell < length cells.now }
-    ensures { OnOk result (reads.new ≡ reads.old ++ local_read frame cells.now cell) }
+    ensures { OnOk result (reads.new ≡ reads.old ++ local_accesses frame cell (get_or cells.now cell (pos 0) ∷ [])) }
 {
     let spot = Spot::Local { frame, cell };
     let value = cells[cell as usize];

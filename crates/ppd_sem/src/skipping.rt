@@ -1,7 +1,7 @@
 ghost use Rattle.std.specs.Prelude.{◌≡◌, ◌<◌};
-ghost use Rattle.ppd_sem.specs.Blocks.{frames_past, head_stmt as head_stmt_of, skipped, write_all as write_all_of};
+ghost use Rattle.ppd_sem.specs.Blocks.{frames_past, head_stmt as head_stmt_of, skipped};
 ghost use Rattle.ppd_sem.specs.Entries.{Begins};
-ghost use Rattle.ppd_sem.specs.Process.{need_of};
+ghost use Rattle.ppd_sem.specs.Process.{need_of, on_top, with_values};
 ghost use Rattle.ppd_sem.specs.Runs.{IsNumbered, IsRunnable, IsRunning};
 
 use crate::blocks::{postlog_cells, write_values};
@@ -14,7 +14,7 @@ use ppd_ast::{Plan, Program};
 
 /// Writes values at these numbers in the top frame.
 fn write_all(frames: &mut Stack<Frame>, numbers: &[u16], values: &[i64])
-    ensures { frames.new ≡ write_all_of numbers.now values.now frames.old }
+    ensures { frames.new ≡ on_top (with_values numbers.now values.now) frames.old }
 {
     let count = frames.items.len();
     if count > 0 {

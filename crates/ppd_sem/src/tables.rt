@@ -1,5 +1,5 @@
-ghost use Rattle.std.specs.Prelude.{◌≡◌, ◌<◌, ◌≤◌, ◌^◌, length, slice_get, if◌then◌else◌};
-ghost use Rattle.ppd_ast.specs.Lookups.{kind_of, top_of_body};
+ghost use Rattle.std.specs.Prelude.{◌≡◌, ◌<◌, ◌≤◌, ◌^◌, length, if◌then◌else◌};
+ghost use Rattle.ppd_ast.specs.Lookups.{kind_of, body_numbered};
 ghost use Rattle.ppd_sem.specs.Effects.{arguments_of, body_of, branch_of};
 ghost use Rattle.std.specs.List.{position};
 ghost use Rattle.ppd_sem.specs.Tables.{block_of, same_block, same_start, unit_of};
@@ -16,7 +16,7 @@ pub(crate) fn kind_at(program: &Program, stmt: u32) -> &Kind
 
 /// The outermost statements of a body, and none past the table.
 pub(crate) fn top_at(program: &Program, body: u16) -> &[u32]
-    ensures { result.now ≡ top_of_body (slice_get program.now.bodies body) }
+    ensures { result.now ≡ (body_numbered program.now body).top }
 {
     match program.bodies.as_slice().get(body as usize) {
         Some(body) => body.top.as_slice(),

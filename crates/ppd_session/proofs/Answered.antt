@@ -1,23 +1,26 @@
 -- Of a run no line is left without an answer: each of its intervals has its items.
-use Rattle.std.specs.Prelude.{None, Some, slice_get, if◌then◌else◌, option_and_then}
-use Rattle.std.proofs.Common.{◌≡◌, ℕ, zero, suc, ◌+◌, Bool, true, false, length, List, [], ◌∷◌, Option, Ok, Err, get_or, map, refl}
 use Rattle.ppd_ast.specs.declared.plan.Plan.{Plan}
 use Rattle.ppd_ast.specs.declared.program.Program.{Program}
-use Rattle.ppd_flow.specs.Runs.{edges_or_none}
 use Rattle.ppd_flow_past.specs.declared.flow_error.FlowError.TheVariants as flow_error
-use Rattle.ppd_model.specs.declared.flow.FlowEdge.{FlowEdge}
-use Rattle.ppd_model.specs.declared.flow.Item.{Item}
+use Rattle.ppd_flow_past.specs.declared.flow_error.FlowError.TheVariants.{NoEvent}
 use Rattle.ppd_model.specs.FlowbackEdges.{edges}
-use Rattle.ppd_model.specs.declared.graph.Race.{Race}
 use Rattle.ppd_model.specs.Intervals.{Span, Split, items_of, splits}
 use Rattle.ppd_model.specs.Races.{races}
 use Rattle.ppd_model.specs.Story.{story}
-use Rattle.ppd_session.specs.declared.question.Opening.{Opening}
-use Rattle.ppd_session.specs.Known.{Flow, Known, Last, Told, known_of_run, of_items, of_processes, told_of_split, unless_raced}
+use Rattle.ppd_model.specs.declared.flow.FlowEdge.{FlowEdge}
+use Rattle.ppd_model.specs.declared.flow.Item.{Item}
+use Rattle.ppd_model.specs.declared.graph.Race.{Race}
+use Rattle.ppd_session.proofs.KnownWords.{flow_told, item_failure, last_told, of_cells, of_intervals}
+use Rattle.ppd_session.specs.Known.{Flow, Known, Last, Told, known_of_run, of_processes, told_of_split, unless_raced}
 use Rattle.ppd_session.specs.Laws.{RunsAreAnswered}
 use Rattle.ppd_session.specs.Questions.{question}
-use Rattle.ppd_session.specs.Texts.{failure_at, failure_in, first_unfound, flow_at, is_final, opening_failure, opening_of, told_at, told_failure, unfound_flow}
-use Rattle.ppd_session.proofs.KnownWords.{of_cells, of_intervals, last_told, flow_told, item_failure}
+use Rattle.ppd_session.specs.Texts.{failure, failure_at, failure_in, flow_at, opening_failure, told_at, told_failure, unfound_flow}
+use Rattle.ppd_session.specs.declared.question.Question.{Question}
+use Rattle.ppd_session.specs.declared.question.Question.TheVariants.{Blocks, Deps, Final, Nothing, Open, Quit, Races, Unknown, Why}
+use Rattle.std.proofs.Common.{Err, List, Ok, Option, [], get_or, length, map, refl, suc, zero, ℕ, ◌+◌, ◌∷◌, ◌≡◌}
+use Rattle.std.specs.List.{filter_map}
+use Rattle.std.specs.Prelude.{None, Some, ok_or, option_and_then, slice_get}
+use Rattle.std.specs.Result.{result_err, result_unwrap_or}
 
 of_interval : (q : ℕ) (x : Split) (is : List Span) (k : ℕ) → failure_in q (slice_get (map (λ (i : Span). Ok (items_of x i)) is) k) ≡ None
 of_interval q x [] zero = refl
@@ -49,7 +52,7 @@ module _ (program : Program) (plan : Plan) (budget : ℕ) (h : List ℕ) where
   of_name None k = refl
   of_name (Some q) k = of_races (races program plan budget h) q (splits program plan budget (story program plan budget h)) k
 
-  of_none : (o : Option (List FlowEdge)) → unfound_flow (edges_or_none o) ≡ None
+  of_none : (o : Option (List FlowEdge)) → unfound_flow (ok_or o NoEvent) ≡ None
   of_none None = refl
   of_none (Some es) = refl
 
@@ -61,7 +64,7 @@ module _ (program : Program) (plan : Plan) (budget : ℕ) (h : List ℕ) where
   of_cell p k c (suc n) zero = of_none (edges program plan budget (story program plan budget h) p k c)
   of_cell p k c (suc n) (suc j) = of_cell p k (c + 1) n j
 
-  of_cells_told : (p k j : ℕ) (t : Told) → unfound_flow (get_or (of_items (flows p k) t) j (Err flow_error.NoEvent)) ≡ None
+  of_cells_told : (p k j : ℕ) (t : Told) → unfound_flow (get_or (of_cells (flows p k) 0 (length (result_unwrap_or t []))) j (Err flow_error.NoEvent)) ≡ None
   of_cells_told p k j (Ok items) = of_cell p k 0 (length items) j
   of_cells_told p k j (Err n) = refl
 
@@ -92,22 +95,24 @@ module _ (program : Program) (plan : Plan) (budget : ℕ) (h : List ℕ) where
   of_asked None k j = refl
   of_asked (Some q) k j = of_told q k j (told_at known q k) (of_name (Some q) k)
 
-  of_opening : (o : Option Opening) → option_and_then (λ (o : Opening). opening_failure known o.process o.interval o.item) o ≡ None
-  of_opening None = refl
-  of_opening (Some o) = of_asked o.process o.interval o.item
-
-  all_told : (c n : ℕ) → first_unfound (of_cells told c n) ≡ None
+  all_told : (c n : ℕ) → slice_get (filter_map result_err (of_cells told c n)) 0 ≡ None
   all_told c zero = refl
   all_told c (suc n) = all_told (c + 1) n
 
-  of_lasts : (rs : List Race) → first_unfound (unless_raced rs (of_cells told 0 (length program.starts))) ≡ None
+  of_lasts : (rs : List Race) → slice_get (filter_map result_err (unless_raced rs (of_cells told 0 (length program.starts)))) 0 ≡ None
   of_lasts [] = all_told 0 (length program.starts)
   of_lasts (r ∷ rs) = refl
 
-  of_question : (b : Bool) (o : Option Opening) → (if b then first_unfound known.lasts else option_and_then (λ (o : Opening). opening_failure known o.process o.interval o.item) o) ≡ None
-  of_question true o = of_lasts (races program plan budget h)
-  of_question false o = of_opening o
+  of_question : (asked : Question) → failure known asked ≡ None
+  of_question Nothing = refl
+  of_question Unknown = refl
+  of_question Quit = refl
+  of_question Races = refl
+  of_question Final = of_lasts (races program plan budget h)
+  of_question (Blocks q) = refl
+  of_question (Open q k) = of_asked q k None
+  of_question (Why q k j) = of_asked q k (Some j)
+  of_question (Deps s) = refl
 
 pub run_answered : RunsAreAnswered
-run_answered program plan budget h line =
-    of_question program plan budget h (is_final (question program line)) (opening_of (question program line))
+run_answered program plan budget h line = of_question program plan budget h (question program line)

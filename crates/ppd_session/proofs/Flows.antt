@@ -1,10 +1,11 @@
 -- The edges of an item as replays give them.
-use Rattle.std.specs.Prelude.{Some, None}
+use Rattle.std.specs.Prelude.{Some, None, length, ◌<◌}
 use Rattle.std.proofs.Common.{◌≡◌, ℕ, List, [], map, Option, Result, Ok, Err, ap, sym, ◌∙◌}
 use Rattle.ppd_entry.specs.declared.entry.At.{At}
 use Rattle.ppd_entry.specs.declared.entry.Logs.{Logs}
 use Rattle.ppd_flow.specs.Answers.{answer_if}
 use Rattle.ppd_model.specs.declared.flow.FlowEdge.{FlowEdge}
+use Rattle.ppd_model.specs.declared.flow.Item.{Item}
 use Rattle.ppd_flow_past.specs.declared.flow_error.FlowError.{FlowError}
 use Rattle.ppd_flow_past.specs.declared.flow_error.FlowError.TheVariants as flow_error
 use Rattle.ppd_flow_past.specs.declared.past.Past.{Past}
@@ -12,8 +13,8 @@ use Rattle.ppd_flow_past.specs.ByReplays.{IsFoundBy, first_failed, first_failed_
 use Rattle.ppd_flow_past.specs.SeenBy.{seen_by}
 use Rattle.ppd_flow_model.specs.Found.{edges_replays, found_edges}
 use Rattle.ppd_session.specs.Known.{Flow, flow_by, unless_failed}
-use Rattle.ppd_session.specs.Sessions.{IsItemThere, known_by}
-use Rattle.ppd_session.specs.Texts.{flow_at}
+use Rattle.ppd_session.specs.Sessions.{known_by}
+use Rattle.ppd_session.specs.Texts.{flow_at, told_at}
 use Rattle.ppd_flow.specs.SharedCells.{IsMemoryOr, seens_in}
 use Rattle.ppd_session.proofs.Tables.{flow_inside}
 
@@ -45,7 +46,7 @@ module _ (past : Past) (uncut : past.cut.now ≡ past.logs.now) (q k j : ℕ) wh
   flow_found b e (Err flow_error.Memory) f = tt
 
 -- of an item that is told the edges are those that are found by replays
-pub flow_there : (past : Past) (q k j : ℕ) → IsItemThere (known_by past []) q k j
+pub flow_there : (past : Past) (q k j : ℕ) (items : List Item) → told_at (known_by past []) q k ≡ Some (Ok items) → j < length items
     → flow_at (known_by past []) q k j ≡ flow_by past.program.now past.plan.now past.budget past.logs.now q k j
-flow_there past q k j there =
-    flow_inside (flow_by past.program.now past.plan.now past.budget past.logs.now) (known_by past []).items q k j there.0 there.1 there.2
+flow_there past q k j items told lt =
+    flow_inside (flow_by past.program.now past.plan.now past.budget past.logs.now) (known_by past []).items q k j items told lt

@@ -1,52 +1,52 @@
 -- What is known of the logs of a run is what is known of the run.
-use Rattle.std.specs.Prelude.{Some, None, option_map, slice_get}
-use Rattle.std.proofs.Common.{◌≡◌, ℕ, zero, suc, ◌+◌, ◌<◌, ◌≤◌, arith, List, [], ◌∷◌, Option, Ok, get_or, length, map, refl, ap, sym, ◌∙◌}
-use Rattle.std.proofs.lemmas.List.{length-map}
 use Rattle.ppd_ast.specs.Valid.{IsValid}
 use Rattle.ppd_ast.specs.declared.plan.Plan.{Plan}
 use Rattle.ppd_ast.specs.declared.plan.Policy.{Policy}
 use Rattle.ppd_ast.specs.declared.program.Program.{Program}
 use Rattle.ppd_blocks.specs.Blocks.{plan_of}
 use Rattle.ppd_emul_model.specs.Replay.{Replayed, replay}
+use Rattle.ppd_entry.proofs.Vocabulary.{log_in}
+use Rattle.ppd_entry.specs.IntervalLogs.{Indexed, indexed, interval_log}
 use Rattle.ppd_entry.specs.declared.entry.Entry.{Entry}
 use Rattle.ppd_entry.specs.declared.entry.Logs.{Logs}
-use Rattle.ppd_entry.specs.IntervalLogs.{Indexed, indexed, interval_log}
-use Rattle.ppd_entry.proofs.Vocabulary.{log_in}
-use Rattle.ppd_model.specs.Bounds.{AreEach}
-use Rattle.ppd_model.specs.Extents.{Extent, IsSameInterval, extents}
-use Rattle.ppd_model.specs.Intervals.{Span, Split, items_of, splits}
-use Rattle.ppd_model.specs.declared.state.Logging.{Logging}
-use Rattle.ppd_model.specs.Logs.{closed_log, closed_logs, loggings}
-use Rattle.ppd_model.specs.Schedule.{IsWhole}
-use Rattle.ppd_model.specs.declared.graph.Race.{Race}
-use Rattle.ppd_model.specs.Races.{races}
-use Rattle.ppd_model.specs.Story.{Moment, steps_of, story, told}
-use Rattle.ppd_model.proofs.LoggedSpans.{intervals_of_logs}
-use Rattle.ppd_race.specs.Races.{races_of_logs}
-use Rattle.ppd_race.proofs.OfRuns.{of_runs}
-use Rattle.ppd_flow_past.proofs.Replays.{replays_give_intervals}
-use Rattle.ppd_flow_past.specs.Laws.{modelled_in, modelled_of, replay_of}
-use Rattle.ppd_flow.specs.Answers.{answer_if}
-use Rattle.ppd_flow.specs.Runs.{edges_or_none}
-use Rattle.ppd_model.specs.declared.flow.FlowEdge.{FlowEdge}
-use Rattle.ppd_flow.proofs.OwnParts.{own_parts}
-use Rattle.ppd_flow_model.specs.Found.{edges_if, edges_replays, found_edges}
-use Rattle.ppd_flow_model.specs.Seen.{Seen, items_at, seen_of}
-use Rattle.ppd_flow_model.specs.Shared.{found_last, last_replays, seen_at}
 use Rattle.ppd_flow.proofs.Assembled.{assembled}
 use Rattle.ppd_flow.proofs.LastOrigins.{last_found}
-use Rattle.ppd_flow.specs.SharedEdges.{all_seen}
-use Rattle.ppd_flow_past.proofs.Runs.{replays_are_seen}
-use Rattle.ppd_flow_past.specs.ByReplays.{failure_or, first_failed}
-use Rattle.ppd_flow_past.specs.SeenBy.{failed_at, seen_by}
-use Rattle.ppd_model.specs.FlowbackEdges.{edges}
-use Rattle.ppd_model.proofs.Items.{splits_length}
+use Rattle.ppd_flow.proofs.OwnParts.{own_parts}
+use Rattle.ppd_flow.specs.Answers.{answer_if}
 use Rattle.ppd_flow.specs.SharedCells.{answer_of}
-use Rattle.ppd_session.specs.Known.{Flow, Interval, Known, Last, Told, flow_by, of_processes, known_of_logs, known_of_run, last_by, of_extent, seens, told_by, told_of_entries, told_of_split, unless_failed, unless_raced}
+use Rattle.ppd_flow.specs.SharedEdges.{all_seen}
+use Rattle.ppd_flow_model.specs.Found.{edges_if, edges_replays, found_edges}
+use Rattle.ppd_flow_model.specs.Seen.{Seen, seen_of}
+use Rattle.ppd_flow_model.specs.Shared.{found_last, last_replays, seen_at}
+use Rattle.ppd_flow_past.proofs.Replays.{replays_give_intervals}
+use Rattle.ppd_flow_past.proofs.Runs.{replays_are_seen}
 use Rattle.ppd_flow_past.proofs.SeenWords.{failure_of}
-use Rattle.ppd_session.proofs.KnownWords.{of_cells, of_split, last_told, flow_told, of_span}
-use Rattle.ppd_model.proofs.LogWords.{logs_from}
+use Rattle.ppd_flow_past.specs.ByReplays.{failure_or, first_failed}
+use Rattle.ppd_flow_past.specs.Laws.{modelled_in, modelled_of, replay_of}
+use Rattle.ppd_flow_past.specs.SeenBy.{failed_at, seen_by}
+use Rattle.ppd_flow_past.specs.declared.flow_error.FlowError.TheVariants.{NoEvent}
 use Rattle.ppd_model.proofs.EdgeWords.{edges_in}
+use Rattle.ppd_model.proofs.Items.{splits_length}
+use Rattle.ppd_model.proofs.LogWords.{logs_from}
+use Rattle.ppd_model.proofs.LoggedSpans.{intervals_of_logs}
+use Rattle.ppd_model.specs.Bounds.{AreEach}
+use Rattle.ppd_model.specs.Extents.{Extent, IsSameInterval, extents}
+use Rattle.ppd_model.specs.FlowbackEdges.{edges}
+use Rattle.ppd_model.specs.Intervals.{Span, Split, items_of, splits}
+use Rattle.ppd_model.specs.Logs.{closed_log, closed_logs, loggings}
+use Rattle.ppd_model.specs.Races.{races}
+use Rattle.ppd_model.specs.Schedule.{IsWhole}
+use Rattle.ppd_model.specs.Story.{Moment, steps_of, story, told}
+use Rattle.ppd_model.specs.declared.flow.FlowEdge.{FlowEdge}
+use Rattle.ppd_model.specs.declared.graph.Race.{Race}
+use Rattle.ppd_model.specs.declared.state.Logging.{Logging}
+use Rattle.ppd_race.proofs.OfRuns.{of_runs}
+use Rattle.ppd_race.specs.Races.{edges_of_logs, races_among}
+use Rattle.ppd_session.proofs.KnownWords.{flow_told, last_told, of_cells, of_span, of_split}
+use Rattle.ppd_session.specs.Known.{Flow, Interval, Known, Last, Told, flow_by, known_of_logs, known_of_run, last_by, of_extent, of_processes, seens, told_by, told_of_entries, told_of_split, unless_failed, unless_raced}
+use Rattle.std.proofs.Common.{List, Ok, Option, [], ap, arith, get_or, length, map, refl, suc, sym, zero, ℕ, ◌+◌, ◌<◌, ◌∙◌, ◌∷◌, ◌≡◌, ◌≤◌}
+use Rattle.std.proofs.lemmas.List.{length-map}
+use Rattle.std.specs.Prelude.{None, Some, ok_or, option_map, slice_get}
 
 same_interval : (i : Span) (x : Extent) → IsSameInterval i x → of_span i ≡ of_extent x
 same_interval i x h = rw (h.block, h.round, h.closed)
@@ -198,11 +198,11 @@ module _ (program : Program) (policy : Policy) (budget : ℕ) (h : List ℕ) (va
     no_split (x ∷ xs) zero e = absurd (cc)
     no_split (x ∷ xs) (suc p) e = no_split xs p e
 
-    no_item : (xs : List Seen) (p k j : ℕ) → seen_at xs p ≡ record { items = []; blocks = []; rounds = [] } → slice_get (items_at (seen_at xs p) k) j ≡ None
-    no_item xs p k zero e = ap (λ s. slice_get (items_at s k) zero) e
-    no_item xs p k (suc j) e = ap (λ s. slice_get (items_at s k) (suc j)) e
+    no_item : (xs : List Seen) (p k j : ℕ) → seen_at xs p ≡ record { items = []; blocks = []; rounds = [] } → slice_get (get_or (seen_at xs p).items k []) j ≡ None
+    no_item xs p k zero e = ap (λ (s : Seen). slice_get (get_or s.items k []) zero) e
+    no_item xs p k (suc j) e = ap (λ (s : Seen). slice_get (get_or s.items k []) (suc j)) e
 
-    answered : (o : Option (List FlowEdge)) → answer_if (option_map (λ es. Ok es) o) ≡ edges_or_none o
+    answered : (o : Option (List FlowEdge)) → answer_if (option_map (λ es. Ok es) o) ≡ ok_or o NoEvent
     answered None = refl
     answered (Some es) = refl
 
@@ -213,7 +213,7 @@ module _ (program : Program) (policy : Policy) (budget : ℕ) (h : List ℕ) (va
         ∙ answered (edges program plan budget (story program plan budget h) p k j)
     found_there p k j None e =
         ap (λ i. answer_if (edges_if program plan logs (all_seen program plan budget h) p k j i)) (no_item (all_seen program plan budget h) p k j (no_split (splits program plan budget (story program plan budget h)) p e))
-        ∙ ap (λ s. edges_or_none (edges_in program plan (splits program plan budget (story program plan budget h)) k j s)) (sym e)
+        ∙ ap (λ s. ok_or (edges_in program plan (splits program plan budget (story program plan budget h)) k j s) NoEvent) (sym e)
 
     same_flow : (p k j : ℕ) → flow_by program plan budget logs p k j ≡ flow_told program plan budget (story program plan budget h) p k j
     same_flow p k j =
@@ -259,12 +259,12 @@ pub known_as : (program : Program) (policy : Policy) (budget : ℕ) (h : List �
 unfolding as_known
 known_as program policy budget h valid whole =
     let plan = plan_of program policy in
-    let rs : races_of_logs program (closed_logs program plan budget h) ≡ races program plan budget h = (of_runs program plan budget h valid).0 in
+    let rs : races_among (edges_of_logs program (closed_logs program plan budget h)) ≡ races program plan budget h = (of_runs program plan budget h valid).0 in
     let spans = shown_logs (λ (entries : List Entry). map of_extent (extents entries)) (loggings program plan budget h) ∙ sym (same_intervals_all program policy budget h valid) in
-    let items = same_items program policy budget h valid whole (races_of_logs program (closed_logs program plan budget h)) rs in
-    let lasts = same_lasts program policy budget h valid whole (races_of_logs program (closed_logs program plan budget h)) rs in
-    let flows = same_flows program policy budget h valid whole (races_of_logs program (closed_logs program plan budget h)) rs in
-    same_known program plan (races_of_logs program (closed_logs program plan budget h)) (races program plan budget h) _ _
+    let items = same_items program policy budget h valid whole (races_among (edges_of_logs program (closed_logs program plan budget h))) rs in
+    let lasts = same_lasts program policy budget h valid whole (races_among (edges_of_logs program (closed_logs program plan budget h))) rs in
+    let flows = same_flows program policy budget h valid whole (races_among (edges_of_logs program (closed_logs program plan budget h))) rs in
+    same_known program plan (races_among (edges_of_logs program (closed_logs program plan budget h))) (races program plan budget h) _ _
     (λ rs. unless_raced rs (map (told_of_entries program plan budget) (closed_logs program plan budget h).lists))
     (λ rs. unless_raced rs (map told_of_split (splits program plan budget (story program plan budget h))))
     (λ rs. unless_raced rs (of_cells (last_by program plan budget (closed_logs program plan budget h)) 0 (length program.starts)))

@@ -11,12 +11,10 @@ use Rattle.lru.proofs.Splits.{Contains-cons}
 use Rattle.ppd_model.specs.declared.flow.Item.{Item}
 pub use Rattle.ppd_flow_past.proofs.Keeping.{nothing_kept}
 use Rattle.ppd_session.specs.declared.place.Place.{Place}
-use Rattle.ppd_session.specs.declared.question.Opening.{Opening}
-use Rattle.ppd_session.specs.declared.question.Question.{Question}
 use Rattle.ppd_session.specs.Keeping.{AreAsked, AreAskedInPart, IsAsked, IsKeptNow, Keeping, in_front, is_place, kept_of, with_block}
-use Rattle.ppd_session.specs.Known.{Known, unless_raced}
-use Rattle.ppd_session.specs.Sessions.{AreTold, SessionState, block_at, blocks_of, opened_block}
-use Rattle.ppd_session.specs.Texts.{is_final, opening_of, told_at}
+use Rattle.ppd_session.specs.Known.{Known}
+use Rattle.ppd_session.specs.Sessions.{AreTold}
+use Rattle.ppd_session.specs.Texts.{told_at}
 use Rattle.ppd_session.proofs.KnownWords.{of_cells}
 
 abbrev pub Blocks : Type 0
@@ -189,13 +187,6 @@ module _ (x : Known) where
       → OnOk r (AreAsked x os old new) → OnErr r (AreAskedInPart x os old new) → AreTold x new.blocks
   told_after (Ok y) os old new told a part = are_told os old new told a
   told_after (Err e) os old new told a part = are_told (take part.0 os) old new told part.1
-
--- a question that opens a block asks for this one
-pub blocks_opened : (s : SessionState) (q : Question) (o : Opening) → is_final q ≡ false → opening_of q ≡ Some o
-    → unless_raced s.known.races (block_at s.known o.process o.interval ∷ []) ≡ blocks_of s q
-blocks_opened s q o other is =
-    sym (ap (λ (b : Bool). unless_raced s.known.races (if b then s.last_blocks else opened_block s.known (opening_of q))) other
-    ∙ ap (λ (p : Option Opening). unless_raced s.known.races (opened_block s.known p)) is)
 
 pub on_err : {T E P : Type 0} (r : Result T E) → P → OnErr r P
 on_err (Ok x) p = tt

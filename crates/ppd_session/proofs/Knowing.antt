@@ -1,40 +1,38 @@
 -- What is known of logs that the index accepts: what is found, and why something is not.
-use Rattle.std.specs.Prelude.{None, Some, option_map, slice_get}
-use Rattle.std.proofs.Common.{◌≡◌, ℕ, ◌+◌, ◌<◌, List, [], ◌∷◌, zero, suc, get_or, length, map, Option, Result, Ok, Err, refl, ap, sym, subst, ◌∙◌, arith}
-use Rattle.std.proofs.lemmas.Option.{same_Some, slice_get_within}
+use Rattle.std.specs.Result.{result_err}
 use Rattle.law_flow_missing.proofs.MissingWrites.{missing_writes_are_told}
 use Rattle.law_flow_missing.specs.Missing.{AreIndexed, IsMissingWrite, write_at}
+use Rattle.ppd_ast.proofs.ValidLaws.{slice_get_there}
 use Rattle.ppd_ast.specs.declared.plan.Plan.{Plan}
 use Rattle.ppd_ast.specs.declared.program.Program.{Program}
-use Rattle.ppd_ast.proofs.ValidLaws.{slice_get_there}
 use Rattle.ppd_emul_model.specs.declared.trace.BlockTrace.{BlockTrace}
 use Rattle.ppd_emul_model.specs.declared.trace.EmulError.{EmulError}
 use Rattle.ppd_emul_model.specs.declared.trace.EmulError.TheVariants as emul_error
+use Rattle.ppd_entry.proofs.Vocabulary.{log_in}
+use Rattle.ppd_entry.specs.IntervalLogs.{Indexed, indexed}
 use Rattle.ppd_entry.specs.declared.entry.At.{At}
 use Rattle.ppd_entry.specs.declared.entry.Entry.{Entry}
 use Rattle.ppd_entry.specs.declared.entry.Logs.{Logs}
-use Rattle.ppd_entry.specs.Entries.{entries_at}
-use Rattle.ppd_entry.specs.IntervalLogs.{Indexed, indexed}
-use Rattle.ppd_entry.proofs.Vocabulary.{log_in}
 use Rattle.ppd_flow.specs.Answers.{answer_if}
+use Rattle.ppd_flow.specs.SharedCells.{answer_of as answer_found}
 use Rattle.ppd_flow_model.specs.Found.{edges_if, edges_replays, found_edges}
-use Rattle.ppd_flow_model.specs.Seen.{items_at}
 use Rattle.ppd_flow_model.specs.Shared.{Missing, found_last, last_replays, seen_at}
+use Rattle.ppd_flow_past.proofs.SeenWords.{failure_of}
 use Rattle.ppd_flow_past.specs.ByReplays.{failure_or, first_failed}
 use Rattle.ppd_flow_past.specs.Laws.{replay_of}
-use Rattle.ppd_flow_past.specs.SeenBy.{failed_at, failure_by, seen_by}
-use Rattle.ppd_flow.specs.SharedCells.{answer_of as answer_found}
+use Rattle.ppd_flow_past.specs.SeenBy.{failed_at, seen_by}
 use Rattle.ppd_model.specs.declared.flow.FlowEdge.{FlowEdge}
 use Rattle.ppd_model.specs.declared.flow.Item.{Item}
 use Rattle.ppd_model.specs.declared.graph.Race.{Race}
-use Rattle.ppd_race.specs.Races.{races_of_logs}
-use Rattle.ppd_session.specs.Known.{Known, Last, Told, flow_by, known_with, last_by, seens, told_by, told_of_entries, unless_failed, unless_raced}
-use Rattle.ppd_session.specs.Knowing.{IsFoundOrNot, LogsAreKnown}
-use Rattle.ppd_session.specs.Sessions.{IsItemThere}
-use Rattle.ppd_session.specs.Texts.{flow_at, told_at}
+use Rattle.ppd_race.specs.Races.{edges_of_logs, races_among}
 use Rattle.ppd_session.proofs.Replayed.{answer_of, given_as}
 use Rattle.ppd_session.proofs.Tables.{cell_is, cells_count, flow_inside, no_place, told_logs, told_of}
-use Rattle.ppd_flow_past.proofs.SeenWords.{failure_of}
+use Rattle.ppd_session.specs.Knowing.{IsFoundOrNot, LogsAreKnown}
+use Rattle.ppd_session.specs.Known.{Known, Last, Told, flow_by, known_with, last_by, seens, told_by, told_of_entries, unless_failed, unless_raced}
+use Rattle.ppd_session.specs.Texts.{flow_at, told_at}
+use Rattle.std.proofs.Common.{Err, List, Ok, Option, Result, [], ap, arith, get_or, length, map, refl, subst, suc, sym, zero, ℕ, ◌+◌, ◌<◌, ◌∙◌, ◌∷◌, ◌≡◌}
+use Rattle.std.proofs.lemmas.Option.{same_Some, slice_get_within}
+use Rattle.std.specs.Prelude.{None, Some, option_map, slice_get}
 
 none_or_some : {X Y : Type 0} {o : Option X} {x : X} → o ≡ None → o ≡ Some x → Y
 none_or_some a b = absurd (cc (a, b))
@@ -45,49 +43,49 @@ module _ (program : Program) (plan : Plan) (budget : ℕ) (logs : Logs) where
 
   -- ---- replays
 
-  told_is : (q k : ℕ) → told_at (known []) q k ≡ option_map (told_of program plan budget) (slice_get (indexed plan (entries_at logs q)) k)
+  told_is : (q k : ℕ) → told_at (known []) q k ≡ option_map (told_of program plan budget) (slice_get (indexed plan (get_or logs.lists q [])) k)
   told_is q k = told_logs program plan budget logs.lists q k
 
-  by_answer : (a : Result BlockTrace EmulError) (n : ℕ) → failure_by a ≡ Some n → told_by a ≡ Err n
+  by_answer : (a : Result BlockTrace EmulError) (n : ℕ) → result_err (told_by a) ≡ Some n → told_by a ≡ Err n
   by_answer (Ok trace) n e = none_or_some refl e
   by_answer (Err (emul_error.Diverged m w f)) n e = let is : m ≡ n = cc e in ap (λ (i : ℕ). Err i) is
   by_answer (Err emul_error.Memory) n e = none_or_some refl e
 
-  answer_by : (a : Result BlockTrace EmulError) (n : ℕ) → told_by a ≡ Err n → failure_by a ≡ Some n
+  answer_by : (a : Result BlockTrace EmulError) (n : ℕ) → told_by a ≡ Err n → result_err (told_by a) ≡ Some n
   answer_by (Ok trace) n e = absurd (cc e)
   answer_by (Err (emul_error.Diverged m w f)) n e = let is : m ≡ n = cc e in ap (λ (i : ℕ). Some i) is
   answer_by (Err emul_error.Memory) n e = absurd (cc e)
 
   -- a replay that fails is told to
-  pub failing_is_told : (q k n : ℕ) → failed_at program plan budget (entries_at logs q) k ≡ Some n → told_at (known []) q k ≡ Some (Err n)
-  failing_is_told q k n e = told_is q k ∙ by (slice_get (indexed plan (entries_at logs q)) k) e
+  pub failing_is_told : (q k n : ℕ) → failed_at program plan budget (get_or logs.lists q []) k ≡ Some n → told_at (known []) q k ≡ Some (Err n)
+  failing_is_told q k n e = told_is q k ∙ by (slice_get (indexed plan (get_or logs.lists q [])) k) e
     where
       by : (o : Option Indexed) → failure_of (replay_of program plan budget (log_in o)) ≡ Some n → option_map (told_of program plan budget) o ≡ Some (Err n)
       by None f = none_or_some refl f
       by (Some i) f = ap (λ (t : Told). Some t) (by_answer (answer_of program plan budget i) n f)
 
   -- and none other is
-  pub failing : (q k n : ℕ) → told_at (known []) q k ≡ Some (Err n) → failed_at program plan budget (entries_at logs q) k ≡ Some n
-  failing q k n e = by (slice_get (indexed plan (entries_at logs q)) k) (sym (told_is q k) ∙ e)
+  pub failing : (q k n : ℕ) → told_at (known []) q k ≡ Some (Err n) → failed_at program plan budget (get_or logs.lists q []) k ≡ Some n
+  failing q k n e = by (slice_get (indexed plan (get_or logs.lists q [])) k) (sym (told_is q k) ∙ e)
     where
       by : (o : Option Indexed) → option_map (told_of program plan budget) o ≡ Some (Err n) → failure_of (replay_of program plan budget (log_in o)) ≡ Some n
       by None f = none_or_some refl f
       by (Some i) f = answer_by (answer_of program plan budget i) n (same_Some (told_of program plan budget i) (Err n) f)
 
   -- an interval that fails is there
-  pub there : (q k n : ℕ) → failed_at program plan budget (entries_at logs q) k ≡ Some n → k < length (indexed plan (entries_at logs q))
-  there q k n e = by (slice_get (indexed plan (entries_at logs q)) k) refl e
+  pub there : (q k n : ℕ) → failed_at program plan budget (get_or logs.lists q []) k ≡ Some n → k < length (indexed plan (get_or logs.lists q []))
+  there q k n e = by (slice_get (indexed plan (get_or logs.lists q [])) k) refl e
     where
-      by : (o : Option Indexed) → slice_get (indexed plan (entries_at logs q)) k ≡ o → failure_of (replay_of program plan budget (log_in o)) ≡ Some n
-          → k < length (indexed plan (entries_at logs q))
+      by : (o : Option Indexed) → slice_get (indexed plan (get_or logs.lists q [])) k ≡ o → failure_of (replay_of program plan budget (log_in o)) ≡ Some n
+          → k < length (indexed plan (get_or logs.lists q []))
       by None f g = none_or_some refl g
-      by (Some i) f g = slice_get_within (indexed plan (entries_at logs q)) k i f
+      by (Some i) f g = slice_get_within (indexed plan (get_or logs.lists q [])) k i f
 
   first_fails : (ms : List (ℕ × ℕ)) (at : At) → first_failed program plan budget logs ms ≡ Some at → (k : ℕ) × (told_at (known []) at.process k ≡ Some (Err at.entry))
   first_fails [] at e = none_or_some refl e
-  first_fails (m ∷ ms) at e = by (failed_at program plan budget (entries_at logs m.0) m.1) refl e (first_fails ms at)
+  first_fails (m ∷ ms) at e = by (failed_at program plan budget (get_or logs.lists m.0 []) m.1) refl e (first_fails ms at)
     where
-      by : (o : Option ℕ) → failed_at program plan budget (entries_at logs m.0) m.1 ≡ o
+      by : (o : Option ℕ) → failed_at program plan budget (get_or logs.lists m.0 []) m.1 ≡ o
           → failure_or m.0 o (first_failed program plan budget logs ms) ≡ Some at
           → (first_failed program plan budget logs ms ≡ Some at → (k : ℕ) × (told_at (known []) at.process k ≡ Some (Err at.entry)))
           → (k : ℕ) × (told_at (known []) at.process k ≡ Some (Err at.entry))
@@ -100,7 +98,7 @@ module _ (program : Program) (plan : Plan) (budget : ℕ) (logs : Logs) where
 
   -- what is seen of a process that is told of is what its replays give
   seen_is : (lists : List (List Entry)) (q k : ℕ) (items : List Item) → slice_get (get_or (map (told_of_entries program plan budget) lists) q []) k ≡ Some (Ok items)
-      → items_at (seen_at (map (λ entries. seen_by program plan budget entries) lists) q) k ≡ items
+      → get_or (seen_at (map (λ entries. seen_by program plan budget entries) lists) q).items k [] ≡ items
   seen_is [] q k items e = none_or_some (no_place k) e
   seen_is (es ∷ lists) zero k items e = sym (given_as program plan budget (indexed plan es) k items e)
   seen_is (es ∷ lists) (suc q) k items e = seen_is lists q k items e
@@ -129,11 +127,11 @@ module _ (program : Program) (plan : Plan) (budget : ℕ) (logs : Logs) where
         ((missing_writes_are_told program plan logs (seens program plan budget logs) indexed_so).last c)
 
     -- of an item that is there
-    flow_known : (q k j : ℕ) (items : List Item) → items_at (seen_at (seens program plan budget logs) q) k ≡ items → j < length items
+    flow_known : (q k j : ℕ) (items : List Item) → get_or (seen_at (seens program plan budget logs) q).items k [] ≡ items → j < length items
         → IsFoundOrNot program plan budget logs (known []) (flow_by program plan budget logs q k j)
     flow_known q k j items e lt = by (found_edges program plan logs (seens program plan budget logs) q k j) refl
       where
-        there : (t : Item) × (slice_get (items_at (seen_at (seens program plan budget logs) q) k) j ≡ Some t)
+        there : (t : Item) × (slice_get (get_or (seen_at (seens program plan budget logs) q).items k []) j ≡ Some t)
         there = let t = slice_get_there items j lt in (t.0, ap (λ (is : List Item). slice_get is j) e ∙ t.1)
 
         by : (o : Option (Result (List FlowEdge) Missing)) → found_edges program plan logs (seens program plan budget logs) q k j ≡ o
@@ -143,12 +141,13 @@ module _ (program : Program) (plan : Plan) (budget : ℕ) (logs : Logs) where
             found_or_not (edges_replays program plan logs (seens program plan budget logs) q k j) found
             (λ m g. (missing_writes_are_told program plan logs (seens program plan budget logs) indexed_so).edges q k j m (f ∙ ap Some g))
 
-    flow_at_item : (q k j : ℕ) → IsItemThere (known []) q k j → IsFoundOrNot program plan budget logs (known []) (flow_at (known []) q k j)
-    flow_at_item q k j there =
+    flow_at_item : (q k j : ℕ) (items : List Item) → told_at (known []) q k ≡ Some (Ok items) → j < length items
+        → IsFoundOrNot program plan budget logs (known []) (flow_at (known []) q k j)
+    flow_at_item q k j items told lt =
         let is : flow_at (known []) q k j ≡ flow_by program plan budget logs q k j =
-        flow_inside (flow_by program plan budget logs) (known []).items q k j there.0 there.1 there.2 in
+        flow_inside (flow_by program plan budget logs) (known []).items q k j items told lt in
         subst (IsFoundOrNot program plan budget logs (known [])) (sym is)
-        (flow_known q k j there.0 (seen_is logs.lists q k there.0 there.1) there.2)
+        (flow_known q k j items (seen_is logs.lists q k items told) lt)
 
     -- ---- with races or without
 
@@ -161,9 +160,10 @@ module _ (program : Program) (plan : Plan) (budget : ℕ) (logs : Logs) where
     lasts_are [] c l e =
         subst (IsFoundOrNot program plan budget logs (known [])) (cell_is (last_by program plan budget logs) 0 (length program.starts) c l e) (last_known (0 + c))
 
-    flow_is : (races : List Race) (q k j : ℕ) → IsItemThere (known races) q k j → IsFoundOrNot program plan budget logs (known races) (flow_at (known races) q k j)
-    flow_is [] q k j there = flow_at_item q k j there
-    flow_is (race ∷ rs) q k j there = none_or_some (no_place k) there.1
+    flow_is : (races : List Race) (q k j : ℕ) (items : List Item) → told_at (known races) q k ≡ Some (Ok items) → j < length items
+        → IsFoundOrNot program plan budget logs (known races) (flow_at (known races) q k j)
+    flow_is [] q k j items told lt = flow_at_item q k j items told lt
+    flow_is (race ∷ rs) q k j items told lt = none_or_some (no_place k) told
 
 pub logs_are_known : LogsAreKnown
 logs_are_known program plan budget logs indexed_so = record {
@@ -172,7 +172,7 @@ logs_are_known program plan budget logs indexed_so = record {
   races = refl;
   intervals = refl;
   items = refl;
-  cells = cells_are program plan budget logs indexed_so (races_of_logs program logs);
-  lasts = lasts_are program plan budget logs indexed_so (races_of_logs program logs);
-  flow = flow_is program plan budget logs indexed_so (races_of_logs program logs);
+  cells = cells_are program plan budget logs indexed_so (races_among (edges_of_logs program logs));
+  lasts = lasts_are program plan budget logs indexed_so (races_among (edges_of_logs program logs));
+  flow = flow_is program plan budget logs indexed_so (races_among (edges_of_logs program logs));
 }

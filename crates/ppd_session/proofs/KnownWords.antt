@@ -1,18 +1,20 @@
 -- The words of proofs for what is known of a run and for its texts.
-use Rattle.std.specs.Prelude.{ℕ, nat_lt, List, map, length, option_and_then, slice_get, Option, Ok, codes, if◌then◌else◌}
-use Rattle.std.specs.List.{enumerate_from, flat_map, range_with_len}
-use Rattle.std.specs.Option.{option_map_or}
 use Rattle.ppd_ast.specs.declared.plan.Plan.{Plan}
 use Rattle.ppd_ast.specs.declared.program.Program.{Program}
 use Rattle.ppd_flow_past.specs.declared.flow_error.FlowError.{FlowError}
+use Rattle.ppd_flow_past.specs.declared.flow_error.FlowError.TheVariants.{NoEvent}
+use Rattle.ppd_model.specs.FlowbackEdges.{edges, last}
+use Rattle.ppd_model.specs.Intervals.{Span, Split}
 use Rattle.ppd_model.specs.declared.flow.Item.{Item}
 use Rattle.ppd_model.specs.declared.tracing.Story.{Story}
-use Rattle.ppd_model.specs.Extents.{first_of}
-use Rattle.ppd_model.specs.FlowbackEdges.{edges, last}
-use Rattle.ppd_model.specs.Intervals.{Span, Split, is_closed}
-use Rattle.ppd_session.specs.Known.{Flow, Interval, Known, Last, Told, edges_or_none, of_items}
-use Rattle.ppd_session.specs.Texts.{flow_at, flow_text, interval_line, intervals_at, no_event, no_process, unfound_flow}
-use Rattle.ppd_text.specs.Items.{open_text}
+use Rattle.ppd_session.specs.Known.{Flow, Interval, Known, Last, Told}
+use Rattle.ppd_session.specs.Texts.{flow_at, flow_text, interval_line, no_event, no_process, unfound_flow}
+use Rattle.ppd_text.specs.Items.{item_line}
+use Rattle.ppd_text.specs.Plans.{lines_of}
+use Rattle.std.specs.List.{enumerate_from, flat_map, range_with_len}
+use Rattle.std.specs.Option.{option_map_or}
+use Rattle.std.specs.Prelude.{List, Ok, Option, [], codes, get_or, if◌then◌else◌, is_some, length, map, nat_lt, ok_or, option_and_then, slice_get, ℕ}
+use Rattle.std.specs.Result.{result_unwrap_or}
 
 -- ---- what is known
 
@@ -22,11 +24,11 @@ of_cells f c n = map f (range_with_len c n)
 
 -- of each interval of a process from number k on
 abbrev pub of_intervals : (ℕ → ℕ → Flow) → (k : ℕ) → List Told → List (List Flow)
-of_intervals f k ts = map (λ (t : ℕ × Told). of_items (f t.0) t.1) (enumerate_from k ts)
+of_intervals f k ts = map (λ (t : ℕ × Told). of_cells (f t.0) 0 (length (result_unwrap_or t.1 []))) (enumerate_from k ts)
 
 -- an interval of a run
 abbrev pub of_span : Span → Interval
-of_span i = record { block = i.block; parent = first_of i.round; closed = is_closed i }
+of_span i = record { block = i.block; parent = slice_get i.round 0; closed = is_some i.closed }
 
 -- the intervals of a process
 abbrev pub of_split : Split → List Interval
@@ -38,7 +40,7 @@ last_told program plan budget s c = Ok (last program plan budget s c)
 
 -- the edges of item j of interval k of process p
 abbrev pub flow_told : Program → Plan → ℕ → Story → ℕ → ℕ → ℕ → Flow
-flow_told program plan budget s p k j = edges_or_none (edges program plan budget s p k j)
+flow_told program plan budget s p k j = ok_or (edges program plan budget s p k j) NoEvent
 
 -- ---- texts
 
@@ -49,14 +51,14 @@ interval_lines p plan k is = flat_map (λ (i : ℕ × Interval). interval_line p
 -- an answer about an interval of a process, if both are there
 abbrev pub at_interval : Known → Option ℕ → ℕ → (ℕ → List ℕ) → List ℕ
 at_interval x o k text =
-    option_map_or (λ (q : ℕ). if nat_lt k (length (intervals_at x q)) then text q else codes "? block\n") o no_process
+    option_map_or (λ (q : ℕ). if nat_lt k (length (get_or x.intervals q [])) then text q else codes "? block\n") o no_process
 
 -- all items of an interval, or one of them with its edges, if it is there
 abbrev pub items_text : Known → (q k : ℕ) → Option ℕ → List Item → List ℕ
 items_text x q k item items =
     option_map_or
     (λ (j : ℕ). option_map_or (λ (i : Item). flow_text x.program x.plan j i (flow_at x q k j)) (slice_get items j) no_event)
-    item (open_text x.program x.plan items)
+    item (lines_of (item_line x.program x.plan) items)
 
 -- why one of them has no text
 abbrev pub item_failure : Known → (q k : ℕ) → Option ℕ → List Item → Option FlowError

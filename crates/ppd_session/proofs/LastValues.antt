@@ -1,5 +1,7 @@
 -- Last values that are found one after another, and why one is not found.
-use Rattle.std.specs.Prelude.{Some, None, option_map}
+use Rattle.std.specs.Result.{result_err}
+use Rattle.std.specs.List.{filter_map}
+use Rattle.std.specs.Prelude.{Some, None, option_map, slice_get}
 use Rattle.std.proofs.Common.{◌≡◌, ℕ, zero, suc, ◌+◌, ◌<◌, ℤ, List, [], ◌∷◌, ◌++◌, map, Option, Ok, Err, refl, ap, sym, subst, ◌∙◌, append-nil, append_assoc, arith}
 use Rattle.ppd_ast.specs.declared.program.Program.{Program}
 use Rattle.ppd_entry.specs.declared.entry.At.{At}
@@ -13,7 +15,7 @@ use Rattle.ppd_flow_past.specs.SeenBy.{seen_by}
 use Rattle.ppd_flow_model.specs.Shared.{found_last, last_replays}
 use Rattle.ppd_session.specs.Known.{Last, last_by, unless_failed}
 use Rattle.ppd_session.specs.Sessions.{IsLineOf, IsWhy, error_of, unfound}
-use Rattle.ppd_session.specs.Texts.{first_unfound, lasts_text}
+use Rattle.ppd_session.specs.Texts.{lasts_text}
 use Rattle.ppd_session.specs.declared.reply.SessionError.{SessionError}
 use Rattle.ppd_session.specs.declared.reply.SessionError.TheVariants.{Diverged, Sets, Memory}
 use Rattle.ppd_flow.specs.SharedCells.{answer_of, seens_in}
@@ -61,31 +63,31 @@ module _ (p : Program) where
       append-nil (last_line p c y) ∙ (ap (last_line p c) same ∙ ap (λ k. last_line p k x) (sym e))
   one c d (Err y) x e h = absurd (cc)
 
-  text_step : (c d : ℕ) (r : Last) (xs ys : List Last) (x : ℤ × Origin) → first_unfound (r ∷ xs) ≡ None
-      → (first_unfound xs ≡ None → lasts_text p (c + 1) ys ≡ lasts_text p (c + 1) xs ++ last_line p d x)
+  text_step : (c d : ℕ) (r : Last) (xs ys : List Last) (x : ℤ × Origin) → slice_get (filter_map result_err (r ∷ xs)) 0 ≡ None
+      → (slice_get (filter_map result_err xs) 0 ≡ None → lasts_text p (c + 1) ys ≡ lasts_text p (c + 1) xs ++ last_line p d x)
       → lasts_text p c (r ∷ ys) ≡ lasts_text p c (r ∷ xs) ++ last_line p d x
   text_step c d (Ok y) xs ys x none more =
       ap (λ w. last_line p c y ++ w) (more none) ∙ sym (append_assoc (last_line p c y) (lasts_text p (c + 1) xs) (last_line p d x))
   text_step c d (Err e) xs ys x none more = absurd (cc)
 
-alone : (r : Last) (x : ℤ × Origin) → r ≡ Ok x → first_unfound (r ∷ []) ≡ None
+alone : (r : Last) (x : ℤ × Origin) → r ≡ Ok x → slice_get (filter_map result_err (r ∷ [])) 0 ≡ None
 alone (Ok y) x h = refl
 alone (Err y) x h = absurd (cc)
 
-none_step : (r : Last) (xs ys : List Last) → first_unfound (r ∷ xs) ≡ None → (first_unfound xs ≡ None → first_unfound ys ≡ None) → first_unfound (r ∷ ys) ≡ None
+none_step : (r : Last) (xs ys : List Last) → slice_get (filter_map result_err (r ∷ xs)) 0 ≡ None → (slice_get (filter_map result_err xs) 0 ≡ None → slice_get (filter_map result_err ys) 0 ≡ None) → slice_get (filter_map result_err (r ∷ ys)) 0 ≡ None
 none_step (Ok y) xs ys none more = more none
 none_step (Err e) xs ys none more = absurd (cc)
 
-fail_step : (r : Last) (e : FlowError) (xs ys : List Last) → first_unfound (r ∷ xs) ≡ None → (first_unfound xs ≡ None → first_unfound ys ≡ Some e) → first_unfound (r ∷ ys) ≡ Some e
+fail_step : (r : Last) (e : FlowError) (xs ys : List Last) → slice_get (filter_map result_err (r ∷ xs)) 0 ≡ None → (slice_get (filter_map result_err xs) 0 ≡ None → slice_get (filter_map result_err ys) 0 ≡ Some e) → slice_get (filter_map result_err (r ∷ ys)) 0 ≡ Some e
 fail_step (Ok y) e xs ys none more = more none
 fail_step (Err d) e xs ys none more = absurd (cc)
 
-failed : (r : Last) (e : FlowError) (ys : List Last) → r ≡ Err e → first_unfound (r ∷ ys) ≡ Some e
+failed : (r : Last) (e : FlowError) (ys : List Last) → r ≡ Err e → slice_get (filter_map result_err (r ∷ ys)) 0 ≡ Some e
 failed (Ok y) e ys h = absurd (cc)
 failed (Err d) e ys h = let same : d ≡ e = cc in ap Some same
 
 module _ (f : ℕ → Last) where
-  text_more : (p : Program) (c i : ℕ) (x : ℤ × Origin) → first_unfound (of_cells f c i) ≡ None → f (c + i) ≡ Ok x
+  text_more : (p : Program) (c i : ℕ) (x : ℤ × Origin) → slice_get (filter_map result_err (of_cells f c i)) 0 ≡ None → f (c + i) ≡ Ok x
       → lasts_text p c (of_cells f c (suc i)) ≡ lasts_text p c (of_cells f c i) ++ last_line p (c + i) x
   text_more p c zero x none is =
       let z : c + 0 ≡ c = omega arith in one p c (c + 0) (f c) x z (ap f (sym z) ∙ is)
@@ -95,14 +97,14 @@ module _ (f : ℕ → Last) where
       (λ n. text_more p (c + 1) i x n (ap f z ∙ is)
       ∙ ap (λ k. lasts_text p (c + 1) (of_cells f (c + 1) i) ++ last_line p k x) z)
 
-  none_more : (c i : ℕ) (x : ℤ × Origin) → first_unfound (of_cells f c i) ≡ None → f (c + i) ≡ Ok x → first_unfound (of_cells f c (suc i)) ≡ None
+  none_more : (c i : ℕ) (x : ℤ × Origin) → slice_get (filter_map result_err (of_cells f c i)) 0 ≡ None → f (c + i) ≡ Ok x → slice_get (filter_map result_err (of_cells f c (suc i))) 0 ≡ None
   none_more c zero x none is = let z : c + 0 ≡ c = omega arith in alone (f c) x (ap f (sym z) ∙ is)
   none_more c (suc i) x none is =
       let z : c + 1 + i ≡ c + suc i = omega arith in
       none_step (f c) (of_cells f (c + 1) i) (of_cells f (c + 1) (suc i)) none
       (λ n. none_more (c + 1) i x n (ap f z ∙ is))
 
-  fails_at : (c i n : ℕ) (e : FlowError) → i < n → first_unfound (of_cells f c i) ≡ None → f (c + i) ≡ Err e → first_unfound (of_cells f c n) ≡ Some e
+  fails_at : (c i n : ℕ) (e : FlowError) → i < n → slice_get (filter_map result_err (of_cells f c i)) 0 ≡ None → f (c + i) ≡ Err e → slice_get (filter_map result_err (of_cells f c n)) 0 ≡ Some e
   fails_at c i zero e lt none is = absurd (omega arith)
   fails_at c zero (suc n) e lt none is =
       let z : c + 0 ≡ c = omega arith in failed (f c) e (of_cells f (c + 1) n) (ap f (sym z) ∙ is)
@@ -114,10 +116,10 @@ module _ (f : ℕ → Last) where
   -- the next line
   pub record IsNext (p : Program) (i : ℕ) (old new : List ℕ) : Type 0 where
     pub text : new ≡ old ++ lasts_text p 0 (of_cells f 0 (i + 1))
-    pub none : first_unfound (of_cells f 0 (i + 1)) ≡ None
+    pub none : slice_get (filter_map result_err (of_cells f 0 (i + 1))) 0 ≡ None
 
   next_of : (p : Program) (i : ℕ) (r : Last) (old now new : List ℕ) → f i ≡ r → now ≡ old ++ lasts_text p 0 (of_cells f 0 i)
-      → first_unfound (of_cells f 0 i) ≡ None → IsLineOf p i r now new → IsNext p i old new
+      → slice_get (filter_map result_err (of_cells f 0 i)) 0 ≡ None → IsLineOf p i r now new → IsNext p i old new
   next_of p i (Err e) old now new is a none line = absurd line
   next_of p i (Ok x) old now new is a none line =
       let z : 0 + i ≡ i = omega arith in
@@ -128,15 +130,15 @@ module _ (f : ℕ → Last) where
         text = line ∙ (ap (λ w. w ++ last_line p i x) a
             ∙ (append_assoc old (lasts_text p 0 (of_cells f 0 i)) (last_line p i x)
             ∙ ap (λ w. old ++ w) (sym more ∙ ap (λ k. lasts_text p 0 (of_cells f 0 k)) s)));
-        none = ap (λ k. first_unfound (of_cells f 0 k)) (sym s) ∙ none_more 0 i x none here;
+        none = ap (λ k. slice_get (filter_map result_err (of_cells f 0 k)) 0) (sym s) ∙ none_more 0 i x none here;
       }
 
   pub next : (p : Program) (i : ℕ) (old now new : List ℕ) → now ≡ old ++ lasts_text p 0 (of_cells f 0 i)
-      → first_unfound (of_cells f 0 i) ≡ None → IsLineOf p i (f i) now new → IsNext p i old new
+      → slice_get (filter_map result_err (of_cells f 0 i)) 0 ≡ None → IsLineOf p i (f i) now new → IsNext p i old new
   next p i old now new a none line = next_of p i (f i) old now new refl a none line
 
   -- or why there is none
-  why_of : (i n : ℕ) (r : Last) (e : SessionError) → i < n → f i ≡ r → first_unfound (of_cells f 0 i) ≡ None → IsWhy (unfound r) e → IsWhy (first_unfound (of_cells f 0 n)) e
+  why_of : (i n : ℕ) (r : Last) (e : SessionError) → i < n → f i ≡ r → slice_get (filter_map result_err (of_cells f 0 i)) 0 ≡ None → IsWhy (unfound r) e → IsWhy (slice_get (filter_map result_err (of_cells f 0 n)) 0) e
   why_of i n (Err d) e lt is none h =
       let z : 0 + i ≡ i = omega arith in
       subst (λ (o : Option FlowError). IsWhy o e) (sym (fails_at 0 i n d lt none (ap f z ∙ is))) h
@@ -144,5 +146,5 @@ module _ (f : ℕ → Last) where
   why_of i n (Ok x) (Sets at) lt is none h = let never : None ≡ Some (Sets at) = h in absurd (cc)
   why_of i n (Ok x) Memory lt is none h = tt
 
-  pub why : (i n : ℕ) (e : SessionError) → i < n → first_unfound (of_cells f 0 i) ≡ None → IsWhy (unfound (f i)) e → IsWhy (first_unfound (of_cells f 0 n)) e
+  pub why : (i n : ℕ) (e : SessionError) → i < n → slice_get (filter_map result_err (of_cells f 0 i)) 0 ≡ None → IsWhy (unfound (f i)) e → IsWhy (slice_get (filter_map result_err (of_cells f 0 n)) 0) e
   why i n e lt none h = why_of i n (f i) e lt refl none h

@@ -1,6 +1,8 @@
 -- What a line needs and is not found for want of a write: the write is missing.
+use Rattle.std.specs.Result.{result_err, result_unwrap_or}
+use Rattle.std.specs.List.{filter_map}
 use Rattle.std.specs.Prelude.{IfErr, None, Some, slice_get, option_and_then}
-use Rattle.std.proofs.Common.{◌≡◌, ℕ, zero, suc, ◌+◌, ℤ, Bool, true, false, List, [], ◌∷◌, get_or, length, Option, Result, Ok, Err, refl, ap, subst, ◌∙◌, if◌then◌else◌}
+use Rattle.std.proofs.Common.{◌≡◌, ℕ, zero, suc, ◌+◌, ℤ, List, [], ◌∷◌, get_or, length, Option, Result, Ok, Err, refl, ap, subst, ◌∙◌}
 use Rattle.ppd_ast.specs.declared.plan.Plan.{Plan}
 use Rattle.ppd_ast.specs.declared.program.Program.{Program}
 use Rattle.ppd_entry.specs.declared.entry.At.{At}
@@ -17,13 +19,13 @@ use Rattle.ppd_model.specs.declared.flow.FlowEdge.{FlowEdge}
 use Rattle.ppd_model.specs.declared.flow.Item.{Item}
 use Rattle.ppd_model.specs.declared.flow.Origin.{Origin}
 use Rattle.ppd_model.specs.declared.graph.Race.{Race}
-use Rattle.ppd_session.specs.Known.{Flow, Known, Last, Told, flow_by, known_with, last_by, of_items, of_processes, seens, unless_failed, unless_raced}
+use Rattle.ppd_session.specs.Known.{Flow, Known, Last, Told, flow_by, known_with, last_by, of_processes, seens, unless_failed, unless_raced}
 use Rattle.ppd_session.specs.Missing.{IsCauseOfSets, MissingWritesAreTold}
 use Rattle.ppd_session.specs.Questions.{question}
 use Rattle.ppd_session.specs.Sessions.{IsWhy}
-use Rattle.ppd_session.specs.Texts.{failure, failure_of, first_unfound, flow_at, is_final, opening_failure, opening_of, told_at, told_failure, unfound_flow}
-use Rattle.ppd_session.specs.declared.question.Opening.{Opening}
+use Rattle.ppd_session.specs.Texts.{failure, failure_of, flow_at, opening_failure, told_at, told_failure, unfound_flow}
 use Rattle.ppd_session.specs.declared.question.Question.{Question}
+use Rattle.ppd_session.specs.declared.question.Question.TheVariants.{Nothing, Unknown, Races, Final, Blocks, Open, Why, Deps, Quit}
 use Rattle.ppd_session.specs.declared.reply.SessionError.{SessionError}
 use Rattle.ppd_session.specs.declared.reply.SessionError.TheVariants.{Diverged, Sets, Memory}
 use Rattle.law_flow_missing.specs.Missing.{AreIndexed, IsMissingWrite, write_at}
@@ -43,7 +45,7 @@ module _ (P : Flow → Type 0) (d : Flow) (none : P d) where
   nowhere zero = none
   nowhere (suc j) = none
 
-  in_items : (f : ℕ → Flow) → ((j : ℕ) → P (f j)) → (t : Told) (j : ℕ) → P (get_or (of_items f t) j d)
+  in_items : (f : ℕ → Flow) → ((j : ℕ) → P (f j)) → (t : Told) (j : ℕ) → P (get_or (of_cells f 0 (length (result_unwrap_or t []))) j d)
   in_items f h (Ok items) j = in_cells f h 0 (length items) j
   in_items f h (Err n) j = nowhere j
 
@@ -69,17 +71,17 @@ module _ (P : Flow → Type 0) (d : Flow) (none : P d) where
 
 -- the first of these that is not found is one of them
 first_of_cells : (e : FlowError) (X : Type 0) (f : ℕ → Last) → ((c : ℕ) → f c ≡ Err e → X) → (c n : ℕ)
-    → first_unfound (of_cells f c n) ≡ Some e → X
+    → slice_get (filter_map result_err (of_cells f c n)) 0 ≡ Some e → X
 first_of_cells e X f h c zero is = absurd (cc is)
 first_of_cells e X f h c (suc n) is = by (f c) refl is (first_of_cells e X f h (c + 1) n)
   where
-    by : (r : Last) → f c ≡ r → first_unfound (r ∷ of_cells f (c + 1) n) ≡ Some e
-        → (first_unfound (of_cells f (c + 1) n) ≡ Some e → X) → X
+    by : (r : Last) → f c ≡ r → slice_get (filter_map result_err (r ∷ of_cells f (c + 1) n)) 0 ≡ Some e
+        → (slice_get (filter_map result_err (of_cells f (c + 1) n)) 0 ≡ Some e → X) → X
     by (Ok x) at g rest = rest g
     by (Err d) at g rest = let same : d ≡ e = cc g in h c (at ∙ ap (λ (u : FlowError). Err u) same)
 
-of_lasts : (e : FlowError) (X : Type 0) (races : List Race) (lasts : List Last) → (first_unfound lasts ≡ Some e → X)
-    → first_unfound (unless_raced races lasts) ≡ Some e → X
+of_lasts : (e : FlowError) (X : Type 0) (races : List Race) (lasts : List Last) → (slice_get (filter_map result_err lasts) 0 ≡ Some e → X)
+    → slice_get (filter_map result_err (unless_raced races lasts)) 0 ≡ Some e → X
 of_lasts e X [] lasts h is = h is
 of_lasts e X (r ∷ rs) lasts h is = absurd (cc is)
 
@@ -147,19 +149,18 @@ module _ (program : Program) (plan : Plan) (budget : ℕ) (logs : Logs) (races :
   of_opening None k j e = absurd (cc e)
   of_opening (Some p) k j e = of_told p k j (told_at known p k) e
 
-  of_if : (o : Option Opening) → option_and_then (λ (o : Opening). opening_failure known o.process o.interval o.item) o ≡ Some (flow_error.Sets q n c) → Wanted
-  of_if None e = absurd (cc e)
-  of_if (Some o) e = of_opening o.process o.interval o.item e
-
   of_question : (asked : Question) → failure known asked ≡ Some (flow_error.Sets q n c) → Wanted
-  of_question asked e = by (is_final asked) e
-    where
-      by : (b : Bool) → (if b then first_unfound known.lasts else option_and_then (λ (o : Opening). opening_failure known o.process o.interval o.item) (opening_of asked))
-          ≡ Some (flow_error.Sets q n c) → Wanted
-      by true g =
-          of_lasts (flow_error.Sets q n c) Wanted races (of_cells (last_by program plan budget logs) 0 (length program.starts))
-          (first_of_cells (flow_error.Sets q n c) Wanted (last_by program plan budget logs) of_last 0 (length program.starts)) g
-      by false g = of_if (opening_of asked) g
+  of_question Nothing e = absurd (cc e)
+  of_question Unknown e = absurd (cc e)
+  of_question Quit e = absurd (cc e)
+  of_question Races e = absurd (cc e)
+  of_question Final e =
+      of_lasts (flow_error.Sets q n c) Wanted races (of_cells (last_by program plan budget logs) 0 (length program.starts))
+      (first_of_cells (flow_error.Sets q n c) Wanted (last_by program plan budget logs) of_last 0 (length program.starts)) e
+  of_question (Blocks p) e = absurd (cc e)
+  of_question (Open p k) e = of_opening p k None e
+  of_question (Why p k j) e = of_opening p k (Some j) e
+  of_question (Deps s) e = absurd (cc e)
 
   line_missing : (line : List ℕ) → failure_of known line ≡ Some (flow_error.Sets q n c) → Wanted
   line_missing line e = of_question (question program line) e

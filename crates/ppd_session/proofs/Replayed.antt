@@ -1,41 +1,40 @@
 -- What the replay of an interval of a past tells, and why it fails.
-use Rattle.std.specs.Prelude.{◌==◌, None, OnOk, Some, option_map, slice_get}
-use Rattle.std.proofs.Common.{◌≡◌, ℕ, zero, suc, ◌<◌, ◌≤◌, List, [], ◌∷◌, ◌++◌, Option, Result, Ok, Err, true, get_or, length, map, refl, ap, sym, subst, ◌∙◌, arith}
-use Rattle.std.proofs.lemmas.Bool.Decides.{nat_tests}
-use Rattle.std.proofs.lemmas.List.{length-map}
-use Rattle.std.proofs.lemmas.Option.{same_Some, slice_get-map}
+use Rattle.std.specs.Result.{result_err, result_unwrap_or}
+use Rattle.ppd_ast.proofs.Walks.{got_none}
 use Rattle.ppd_ast.specs.declared.plan.Plan.{Plan}
 use Rattle.ppd_ast.specs.declared.program.Program.{Program}
-use Rattle.ppd_ast.proofs.Walks.{got_none}
+use Rattle.ppd_emul_model.specs.Replay.{replay}
 use Rattle.ppd_emul_model.specs.declared.trace.BlockTrace.{BlockTrace}
 use Rattle.ppd_emul_model.specs.declared.trace.EmulError.{EmulError}
 use Rattle.ppd_emul_model.specs.declared.trace.EmulError.TheVariants.{Diverged, Memory}
-use Rattle.ppd_emul_model.specs.Replay.{replay}
+use Rattle.ppd_entry.proofs.Vocabulary.{log_in}
+use Rattle.ppd_entry.specs.IntervalLogs.{Indexed, indexed}
 use Rattle.ppd_entry.specs.declared.entry.Entry.{Entry}
 use Rattle.ppd_entry.specs.declared.entry.Logs.{Logs}
-use Rattle.ppd_entry.specs.IntervalLogs.{Indexed, indexed}
-use Rattle.ppd_entry.proofs.Vocabulary.{log_in}
-use Rattle.ppd_entry.specs.Entries.{entries_at}
-use Rattle.ppd_index.specs.declared.row.Row.{Row}
-use Rattle.ppd_index.specs.Indexes.{AreIntervals, IsIndexOf, rows_at}
-use Rattle.ppd_index.specs.Tables.{indexed_of}
-use Rattle.ppd_model.specs.Bounds.{AreEach}
-use Rattle.ppd_model.specs.declared.flow.Item.{Item}
+use Rattle.ppd_flow_past.proofs.SeenWords.{failure_of}
+use Rattle.ppd_flow_past.specs.ByReplays.{AreReplayed, IsFoundBy, failure_or, first_failed, first_failed_in}
+use Rattle.ppd_flow_past.specs.Laws.{replay_of}
+use Rattle.ppd_flow_past.specs.SeenBy.{failed_in, items_in, seen_by}
 use Rattle.ppd_flow_past.specs.declared.flow_error.FlowError.{FlowError}
 use Rattle.ppd_flow_past.specs.declared.flow_error.FlowError.TheVariants as flow_error
 use Rattle.ppd_flow_past.specs.declared.past.Past.{Past}
-use Rattle.ppd_flow_past.specs.ByReplays.{AreReplayed, IsFoundBy, failure_or, first_failed, first_failed_in}
-use Rattle.ppd_flow_past.specs.SeenBy.{failed_in, failure_by, items_by, items_in, seen_by}
-use Rattle.ppd_flow_model.specs.Seen.{items_at}
-use Rattle.ppd_flow_past.specs.Laws.{replay_of}
+use Rattle.ppd_index.specs.Indexes.{AreIntervals, IsIndexOf, rows_at}
+use Rattle.ppd_index.specs.Tables.{indexed_of}
+use Rattle.ppd_index.specs.declared.row.Row.{Row}
+use Rattle.ppd_model.specs.Bounds.{AreEach}
+use Rattle.ppd_model.specs.declared.flow.Item.{Item}
+use Rattle.ppd_session.proofs.KnownWords.{item_failure, items_text}
+use Rattle.ppd_session.proofs.Tables.{told_entries, told_of}
 use Rattle.ppd_session.specs.Known.{Known, Told, told_by, told_of_entries}
 use Rattle.ppd_session.specs.Sessions.{IsCause, IsWhy, error_of, known_by}
 use Rattle.ppd_session.specs.Texts.{failure_at, failure_in, told_at, told_failure, told_text}
 use Rattle.ppd_session.specs.declared.reply.SessionError.{SessionError}
 use Rattle.ppd_session.specs.declared.reply.SessionError.TheVariants as session_error
-use Rattle.ppd_session.proofs.Tables.{told_entries, told_of}
-use Rattle.ppd_flow_past.proofs.SeenWords.{failure_of}
-use Rattle.ppd_session.proofs.KnownWords.{item_failure, items_text}
+use Rattle.std.proofs.Common.{Err, List, Ok, Option, Result, [], ap, arith, get_or, length, map, refl, subst, suc, sym, true, zero, ℕ, ◌++◌, ◌<◌, ◌∙◌, ◌∷◌, ◌≡◌, ◌≤◌}
+use Rattle.std.proofs.lemmas.Bool.Decides.{nat_tests}
+use Rattle.std.proofs.lemmas.List.{length-map}
+use Rattle.std.proofs.lemmas.Option.{same_Some, slice_get-map}
+use Rattle.std.specs.Prelude.{None, OnOk, Some, option_map, slice_get, ◌==◌}
 
 module _ (program : Program) (plan : Plan) (budget : ℕ) where
   abbrev pub answer_of : Indexed → Result BlockTrace EmulError
@@ -43,7 +42,7 @@ module _ (program : Program) (plan : Plan) (budget : ℕ) where
 
   -- ---- one replay
 
-  fails_as : (q : ℕ) (r : Result BlockTrace EmulError) → failure_or q (failure_by r) None ≡ failure_in q (Some (told_by r))
+  fails_as : (q : ℕ) (r : Result BlockTrace EmulError) → failure_or q (result_err (told_by r)) None ≡ failure_in q (Some (told_by r))
   fails_as q (Ok trace) = refl
   fails_as q (Err (Diverged n w f)) = refl
   fails_as q (Err Memory) = refl
@@ -52,26 +51,26 @@ module _ (program : Program) (plan : Plan) (budget : ℕ) where
   failure_as q None = refl
   failure_as q (Some i) = fails_as q (answer_of i)
 
-  tells_as : (q : ℕ) (r : Result BlockTrace EmulError) → failure_or q (failure_by r) None ≡ None → told_by r ≡ Ok (items_by r)
+  tells_as : (q : ℕ) (r : Result BlockTrace EmulError) → failure_or q (result_err (told_by r)) None ≡ None → told_by r ≡ Ok (result_unwrap_or (told_by r) [])
   tells_as q (Ok trace) e = refl
   tells_as q (Err (Diverged n w f)) e = absurd (cc)
   tells_as q (Err Memory) e = refl
 
   told_as : (q : ℕ) (is : List Indexed) (k : ℕ) → k < length is → failure_or q (failure_of (replay_of program plan budget (log_in (slice_get is k)))) None ≡ None
-      → slice_get (map (told_of program plan budget) is) k ≡ Some (Ok (get_or (map (λ i. items_by (answer_of i)) is) k []))
+      → slice_get (map (told_of program plan budget) is) k ≡ Some (Ok (get_or (map (λ i. result_unwrap_or (told_by (answer_of i)) []) is) k []))
   told_as q [] k lt e = absurd (omega arith)
   told_as q (i ∷ is) zero lt e = ap Some (tells_as q (answer_of i) e)
   told_as q (i ∷ is) (suc k) lt e = told_as q is k (omega arith) e
 
   -- what is told of a replay is what it gives
 
-  gives_as : (r : Result BlockTrace EmulError) (items : List Item) → told_by r ≡ Ok items → items ≡ items_by r
+  gives_as : (r : Result BlockTrace EmulError) (items : List Item) → told_by r ≡ Ok items → items ≡ result_unwrap_or (told_by r) []
   gives_as (Ok trace) items e = cc
   gives_as (Err (Diverged n w f)) items e = absurd (cc)
   gives_as (Err Memory) items e = cc
 
   pub given_as : (is : List Indexed) (k : ℕ) (items : List Item) → slice_get (map (told_of program plan budget) is) k ≡ Some (Ok items)
-      → items ≡ get_or (map (λ i. items_by (answer_of i)) is) k []
+      → items ≡ get_or (map (λ i. result_unwrap_or (told_by (answer_of i)) []) is) k []
   given_as [] k items e = absurd (cc)
   given_as (i ∷ is) zero items e = gives_as (answer_of i) items (same_Some (told_of program plan budget i) (Ok items) e)
   given_as (i ∷ is) (suc k) items e = given_as is k items e
@@ -128,7 +127,7 @@ no_failure q (Some n) e = absurd (cc)
 
 module _ (past : Past) (uncut : past.cut.now ≡ past.logs.now) (q k : ℕ) where
   abbrev entries : List Entry
-  entries = entries_at past.logs.now q
+  entries = get_or past.logs.now.lists q []
 
   told_here : told_at (known_by past []) q k ≡ slice_get (told_of_entries past.program.now past.plan.now past.budget entries) k
   told_here = ap (λ ts. slice_get ts k) (told_entries past.program.now past.plan.now past.budget past.logs.now.lists q)
@@ -141,8 +140,8 @@ module _ (past : Past) (uncut : past.cut.now ≡ past.logs.now) (q k : ℕ) wher
       ∙ ap (failure_in q) (sym (told_here ∙ slice_get-map _ (indexed past.plan.now entries) k))
 
   -- what the replays give of the logs
-  same_items : items_in past q k ≡ items_at (seen_by past.program.now past.plan.now past.budget entries) k
-  same_items = ap (λ (l : Logs). items_at (seen_by past.program.now past.plan.now past.budget (entries_at l q)) k) uncut
+  same_items : items_in past q k ≡ get_or (seen_by past.program.now past.plan.now past.budget entries).items k []
+  same_items = ap (λ (l : Logs). get_or (seen_by past.program.now past.plan.now past.budget (get_or l.lists q [])).items k []) uncut
 
   -- the items that are told are those of a replay that does not fail
   pub are_replayed : (items : List Item) → told_at (known_by past []) q k ≡ Some (Ok items) → AreReplayed past q k items
@@ -167,7 +166,7 @@ module _ (past : Past) (uncut : past.cut.now ≡ past.logs.now) (q k : ℕ) wher
       let count = each_count past.plan.now past.index.now.tables past.logs.now.lists q h in
       let there : k < length (indexed past.plan.now entries) = omega (arith, count) in
       let found : items_in past q k ≡ items = cc in
-      let same : items_at (seen_by past.program.now past.plan.now past.budget entries) k ≡ items = sym same_items ∙ found in
+      let same : get_or (seen_by past.program.now past.plan.now past.budget entries).items k [] ≡ items = sym same_items ∙ found in
       let none = sym (ap (λ (l : Logs). first_failed past.program.now past.plan.now past.budget l ((q, k) ∷ [])) uncut) ∙ f.0 in
       told_here
       ∙ (told_as past.program.now past.plan.now past.budget q (indexed past.plan.now entries) k there none
@@ -181,7 +180,7 @@ module _ (past : Past) (uncut : past.cut.now ≡ past.logs.now) (q k : ℕ) wher
   causes b e flow_error.Memory f = tt
 
   -- an interval with an item is there
-  items_there : (is : List Indexed) (m j : ℕ) (t : Item) → slice_get (get_or (map (λ i. items_by (answer_of past.program.now past.plan.now past.budget i)) is) m []) j ≡ Some t → m < length is
+  items_there : (is : List Indexed) (m j : ℕ) (t : Item) → slice_get (get_or (map (λ i. result_unwrap_or (told_by (answer_of past.program.now past.plan.now past.budget i)) []) is) m []) j ≡ Some t → m < length is
   items_there [] m zero t e = absurd (cc)
   items_there [] m (suc j) t e = absurd (cc)
   items_there (i ∷ is) zero j t e = omega arith

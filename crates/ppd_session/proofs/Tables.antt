@@ -10,8 +10,9 @@ use Rattle.ppd_entry.specs.declared.entry.Entry.{Entry}
 use Rattle.ppd_entry.specs.IntervalLogs.{Indexed, indexed}
 use Rattle.ppd_flow_past.specs.declared.flow_error.FlowError.TheVariants.{NoEvent}
 use Rattle.ppd_model.specs.declared.flow.Item.{Item}
-use Rattle.ppd_session.specs.Known.{Flow, Told, of_items, of_processes, told_by, told_of_entries}
+use Rattle.ppd_session.specs.Known.{Flow, Told, of_processes, told_by, told_of_entries}
 use Rattle.ppd_session.proofs.KnownWords.{of_cells, of_intervals}
+use Rattle.std.specs.Result.{result_unwrap_or}
 
 -- ---- lists
 
@@ -51,11 +52,11 @@ module _ {A : Type 0} (f : ℕ → A) where
 
 abbrev items_if : (ℕ → Flow) → Option Told → List Flow
 items_if f None = []
-items_if f (Some t) = of_items f t
+items_if f (Some t) = of_cells f 0 (length (result_unwrap_or t []))
 
 row_is : (f : ℕ → ℕ → Flow) (m k : ℕ) (ts : List Told) → get_or (of_intervals f m ts) k [] ≡ items_if (f (m + k)) (slice_get ts k)
 row_is f m k [] = no_element k [] ∙ sym (ap (items_if (f (m + k))) (no_place k))
-row_is f m zero (t ∷ ts) = let z : m ≡ m + 0 = omega arith in ap (λ i. of_items (f i) t) z
+row_is f m zero (t ∷ ts) = let z : m ≡ m + 0 = omega arith in ap (λ i. items_if (f i) (Some t)) z
 row_is f m (suc k) (t ∷ ts) =
     let z : m + 1 + k ≡ m + suc k = omega arith in row_is f (m + 1) k ts ∙ ap (λ i. items_if (f i) (slice_get ts k)) z
 

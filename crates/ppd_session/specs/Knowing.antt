@@ -1,7 +1,8 @@
 -- What is known of all logs that the index accepts. Last values and edges are searched for among the items that replays
 -- give: of the logs of a run they are the run's (`LogsTellRuns`); of any others it is said here that they are there or
 -- why they are not, and not which they are.
-use Rattle.std.specs.Prelude.{◌≡◌, ℕ, length, map, slice_get, Some, Result, Ok, Err, ⊤}
+use Rattle.ppd_race.specs.Races.{races_among, edges_of_logs}
+use Rattle.std.specs.Prelude.{◌≡◌, ◌<◌, ℕ, List, length, map, slice_get, Some, Result, Ok, Err, ⊤}
 use Rattle.law_flow_missing.specs.Missing.{AreIndexed, IsMissingWrite, write_at}
 use Rattle.ppd_ast.specs.declared.plan.Plan.{Plan}
 use Rattle.ppd_ast.specs.declared.program.Program.{Program}
@@ -9,9 +10,8 @@ use Rattle.ppd_entry.specs.declared.entry.Logs.{Logs}
 use Rattle.ppd_flow_past.specs.declared.flow_error.FlowError.{FlowError}
 use Rattle.ppd_flow_past.specs.declared.flow_error.FlowError.TheVariants.{Diverged, NoEvent, Sets, Memory}
 use Rattle.ppd_model.specs.Extents.{extents}
-use Rattle.ppd_race.specs.Races.{races_of_logs}
+use Rattle.ppd_model.specs.declared.flow.Item.{Item}
 use Rattle.ppd_session.specs.Known.{Known, Last, known_of_logs, of_extent, seens, told_of_entries, unless_raced}
-use Rattle.ppd_session.specs.Sessions.{IsItemThere}
 use Rattle.ppd_session.specs.Texts.{flow_at, told_at}
 
 -- something is found, or there is a reason why it is not: an interval of the process is told to fail at that entry; or
@@ -30,12 +30,13 @@ IsFoundOrNot program plan budget logs x (Err Memory) = ⊥
 pub record IsKnownOfLogs (program : Program) (plan : Plan) (budget : ℕ) (logs : Logs) (x : Known) : Type 0 where
   pub program_is : x.program ≡ program
   pub plan_is : x.plan ≡ plan
-  pub races : x.races ≡ races_of_logs program logs
+  pub races : x.races ≡ races_among (edges_of_logs program logs)
   pub intervals : x.intervals ≡ map (λ entries. map of_extent (extents entries)) logs.lists
   pub items : x.items ≡ unless_raced x.races (map (told_of_entries program plan budget) logs.lists)
   pub cells : length x.lasts ≡ length (unless_raced x.races program.starts)
   pub lasts : (c : ℕ) (l : Last) → slice_get x.lasts c ≡ Some l → IsFoundOrNot program plan budget logs x l
-  pub flow : (q k j : ℕ) → IsItemThere x q k j → IsFoundOrNot program plan budget logs x (flow_at x q k j)
+  pub flow : (q k j : ℕ) (items : List Item) → told_at x q k ≡ Some (Ok items) → j < length items
+      → IsFoundOrNot program plan budget logs x (flow_at x q k j)
 
 -- so it is of all logs that the index accepts with what is known of them by those searches
 abbrev pub LogsAreKnown : Type 0

@@ -1,38 +1,37 @@
 -- What is known of a run or of a recording: its program and plan, its races, and the intervals of each process with
 -- their items.
-use Rattle.std.specs.List.{enumerate_from, range_with_len}
-use Rattle.std.specs.Prelude.{ℕ, ℤ, Bool, List, [], ◌∷◌, map, length, Option, Some, None, Result, Ok, Err}
 use Rattle.ppd_ast.specs.declared.plan.Plan.{Plan}
 use Rattle.ppd_ast.specs.declared.program.Program.{Program}
-use Rattle.ppd_emul_model.specs.declared.trace.BlockTrace.{BlockTrace}
-use Rattle.ppd_emul_model.specs.declared.trace.EmulError.{EmulError}
-use Rattle.ppd_emul_model.specs.declared.trace.EmulError.TheVariants.{Diverged, Memory}
 use Rattle.ppd_emul_model.specs.Replay.{replay}
+use Rattle.ppd_entry.specs.IntervalLogs.{indexed}
 use Rattle.ppd_entry.specs.declared.entry.At.{At}
 use Rattle.ppd_entry.specs.declared.entry.Entry.{Entry}
 use Rattle.ppd_entry.specs.declared.entry.Logs.{Logs}
-use Rattle.ppd_entry.specs.IntervalLogs.{indexed}
 pub use Rattle.ppd_flow.specs.Answers.{answer_if}
-pub use Rattle.ppd_flow.specs.Runs.{edges_or_none}
+use Rattle.ppd_flow.specs.SharedCells.{answer_of}
+use Rattle.ppd_flow_model.specs.Found.{edges_replays, found_edges}
+pub use Rattle.ppd_flow_model.specs.Seen.{Seen}
+use Rattle.ppd_flow_model.specs.Shared.{found_last, last_replays}
+use Rattle.ppd_flow_past.specs.ByReplays.{first_failed}
+pub use Rattle.ppd_flow_past.specs.SeenBy.{told_by}
+use Rattle.ppd_flow_past.specs.SeenBy.{seen_by}
+use Rattle.ppd_flow_past.specs.declared.flow_error.FlowError.{FlowError}
+use Rattle.ppd_flow_past.specs.declared.flow_error.FlowError.TheVariants as flow_error
+use Rattle.ppd_flow_past.specs.declared.flow_error.FlowError.TheVariants.{NoEvent}
+use Rattle.ppd_model.specs.Extents.{Extent, extents}
+use Rattle.ppd_model.specs.FlowbackEdges.{edges, last}
+use Rattle.ppd_model.specs.Intervals.{Span, Split, items_of, splits}
+use Rattle.ppd_model.specs.Races.{edges_of_story, races_among}
+use Rattle.ppd_model.specs.Story.{story}
 use Rattle.ppd_model.specs.declared.flow.FlowEdge.{FlowEdge}
 use Rattle.ppd_model.specs.declared.flow.Item.{Item}
 use Rattle.ppd_model.specs.declared.flow.Origin.{Origin}
 use Rattle.ppd_model.specs.declared.graph.Race.{Race}
-use Rattle.ppd_model.specs.FlowbackEdges.{edges, last}
-use Rattle.ppd_model.specs.Extents.{Extent, extents, first_of}
-use Rattle.ppd_model.specs.Intervals.{Span, Split, is_closed, items_of, splits}
-use Rattle.ppd_model.specs.Races.{races_of}
 use Rattle.ppd_model.specs.declared.tracing.Story.{Story}
-use Rattle.ppd_model.specs.Story.{story}
-use Rattle.ppd_flow_past.specs.declared.flow_error.FlowError.{FlowError}
-use Rattle.ppd_flow_past.specs.declared.flow_error.FlowError.TheVariants as flow_error
-use Rattle.ppd_flow_past.specs.ByReplays.{first_failed}
-use Rattle.ppd_flow_past.specs.SeenBy.{seen_by}
-use Rattle.ppd_race.specs.Races.{races_of_logs}
-use Rattle.ppd_flow_model.specs.Found.{edges_replays, found_edges}
-pub use Rattle.ppd_flow_model.specs.Seen.{Seen}
-use Rattle.ppd_flow_model.specs.Shared.{found_last, last_replays}
-use Rattle.ppd_flow.specs.SharedCells.{answer_of}
+use Rattle.ppd_race.specs.Races.{edges_of_logs}
+use Rattle.std.specs.List.{enumerate_from, range_with_len}
+use Rattle.std.specs.Prelude.{Bool, Err, List, None, Ok, Option, Result, Some, [], is_some, length, map, ok_or, slice_get, ℕ, ℤ, ◌∷◌}
+use Rattle.std.specs.Result.{result_unwrap_or}
 
 -- an interval: its block, the interval directly round it, and whether it was left
 pub record Interval : Type 0 where
@@ -66,15 +65,12 @@ abbrev pub unless_raced : {A : Type 0} → List Race → List A → List A
 unless_raced [] xs = xs
 unless_raced (r ∷ rs) xs = []
 
--- of each item that is told of an interval
-abbrev pub of_items : (ℕ → Flow) → Told → List Flow
-of_items f (Ok items) = map f (range_with_len 0 (length items))
-of_items f (Err n) = []
-
--- of each process from number p on, for each of its intervals
+-- of each process from number p on, for each of its intervals: for each item that is told of it
 abbrev pub of_processes : (ℕ → ℕ → ℕ → Flow) → (p : ℕ) → List (List Told) → List (List (List Flow))
 of_processes f p rows =
-    map (λ ts. map (λ t. of_items (f ts.0 t.0) t.1) (enumerate_from 0 ts.1)) (enumerate_from p rows)
+    map
+    (λ ts. map (λ t. map (f ts.0 t.0) (range_with_len 0 (length (result_unwrap_or t.1 [])))) (enumerate_from 0 ts.1))
+    (enumerate_from p rows)
 
 -- ---- of a run
 
@@ -87,14 +83,15 @@ abbrev pub known_of_story : Program → Plan → ℕ → Story → Known
 known_of_story program plan budget s = record {
   program = program;
   plan = plan;
-  races = races_of program s;
-  intervals = map (λ x. map (λ i. record { block = i.block; parent = first_of i.round; closed = is_closed i }) x.spans)
+  races = races_among (edges_of_story program s);
+  intervals = map
+      (λ x. map (λ i. record { block = i.block; parent = slice_get i.round 0; closed = is_some i.closed }) x.spans)
       (splits program plan budget s);
-  items = unless_raced (races_of program s) (map told_of_split (splits program plan budget s));
-  lasts = unless_raced (races_of program s)
+  items = unless_raced (races_among (edges_of_story program s)) (map told_of_split (splits program plan budget s));
+  lasts = unless_raced (races_among (edges_of_story program s))
       (map (λ c. Ok (last program plan budget s c)) (range_with_len 0 (length program.starts)));
-  flow = of_processes (λ p k j. edges_or_none (edges program plan budget s p k j)) 0
-      (unless_raced (races_of program s) (map told_of_split (splits program plan budget s)));
+  flow = of_processes (λ p k j. ok_or (edges program plan budget s p k j) NoEvent) 0
+      (unless_raced (races_among (edges_of_story program s)) (map told_of_split (splits program plan budget s)));
 }
 
 -- what is known of the run by a schedule
@@ -105,12 +102,6 @@ known_of_run program plan budget h = known_of_story program plan budget (story p
 
 abbrev pub of_extent : Extent → Interval
 of_extent x = record { block = x.block; parent = x.parent; closed = x.closed }
-
--- what is told by a replay
-abbrev pub told_by : Result BlockTrace EmulError → Told
-told_by (Ok trace) = Ok trace.items
-told_by (Err (Diverged n w f)) = Err n
-told_by (Err Memory) = Ok []
 
 -- the items of each interval of a process, by its replay from its own log
 abbrev pub told_of_entries : Program → Plan → ℕ → List Entry → List Told
@@ -157,4 +148,4 @@ known_with program plan budget logs races = record {
 
 -- what is known of logs: the races are those of their record and sets
 abbrev pub known_of_logs : Program → Plan → (budget : ℕ) → Logs → Known
-known_of_logs program plan budget logs = known_with program plan budget logs (races_of_logs program logs)
+known_of_logs program plan budget logs = known_with program plan budget logs (races_among (edges_of_logs program logs))

@@ -1,5 +1,5 @@
 -- What `Sets` says of a line: a write that the entry records is missing.
-use Rattle.std.specs.Prelude.{◌≡◌, ℕ, List, Result, Err, ⊤}
+use Rattle.std.specs.Prelude.{◌≡◌, ℕ, List, Some, option_map, Result, Err, ⊤}
 use Rattle.ppd_ast.specs.declared.plan.Plan.{Plan}
 use Rattle.ppd_ast.specs.declared.program.Program.{Program}
 use Rattle.ppd_entry.specs.declared.entry.At.{At}
@@ -8,7 +8,7 @@ use Rattle.ppd_flow_model.specs.Seen.{Seen}
 use Rattle.ppd_flow_past.specs.declared.flow_error.FlowError.TheVariants as flow_error
 use Rattle.ppd_model.specs.declared.graph.Race.{Race}
 use Rattle.ppd_session.specs.Known.{Known, known_with, seens}
-use Rattle.ppd_session.specs.Sessions.{IsWhy}
+use Rattle.ppd_session.specs.Sessions.{error_of}
 use Rattle.ppd_session.specs.Texts.{failure_of, flow_at}
 use Rattle.ppd_session.specs.declared.reply.SessionError.{SessionError}
 use Rattle.ppd_session.specs.declared.reply.SessionError.TheVariants.{Sets}
@@ -31,7 +31,8 @@ IsCauseOfSets x result = ⊤
 pub record AreMissing (program : Program) (plan : Plan) (budget : ℕ) (logs : Logs) (races : List Race) : Type 0 where
   pub flow : (p k j q n c : ℕ) → flow_at (known_with program plan budget logs races) p k j ≡ Err (flow_error.Sets q n c)
       → IsMissingWrite logs (seens program plan budget logs) (write_at q n c)
-  pub lines : (line : List ℕ) (at : At) → IsWhy (failure_of (known_with program plan budget logs races) line) (Sets at)
+  pub lines : (line : List ℕ) (at : At)
+      → option_map error_of (failure_of (known_with program plan budget logs races) line) ≡ Some (Sets at)
       → IsMissingAt logs (seens program plan budget logs) at
 
 -- so it is of all logs that the index accepts

@@ -1,5 +1,5 @@
 -- Command lines: their words, and what they ask.
-use Rattle.std.specs.Prelude.{ℕ, nat_eq, Bool, false, ◌||◌, not, List, [], ◌∷◌, filter, drop, length, position, Option, codes, if◌then◌else◌}
+use Rattle.std.specs.Prelude.{ℕ, nat_eq, Bool, ◌||◌, ◌&&◌, not, get_or, List, [], ◌∷◌, filter, drop, length, position, Option, codes, if◌then◌else◌}
 use Rattle.std.specs.List.{slice_split}
 use Rattle.std.specs.Option.{option_map_or, option_zip}
 use Rattle.std.specs.Str.{bytes_eq}
@@ -29,18 +29,15 @@ process_named p name = position (λ b. bytes_eq b.name name) (drop p.functions p
 
 -- ---- what is asked
 
-abbrev pub alone : List ℕ → Question
-alone w =
-    if bytes_eq w (codes "races") then Races
-    else if bytes_eq w (codes "final") then Final
-    else if bytes_eq w (codes "quit") then Quit
-    else Unknown
-
 -- what these words ask: one word alone, or one with the name of a process or the number of a statement, of an interval
 -- or of an item
 abbrev pub asked : Program → List (List ℕ) → Question
 asked p [] = Nothing
-asked p (w ∷ []) = alone w
+asked p (w ∷ []) =
+    if bytes_eq w (codes "races") then Races
+    else if bytes_eq w (codes "final") then Final
+    else if bytes_eq w (codes "quit") then Quit
+    else Unknown
 asked p (w ∷ a ∷ []) =
     if bytes_eq w (codes "blocks") then Blocks (process_named p a)
     else if bytes_eq w (codes "deps") then option_map_or Deps (number_in a) Unknown
@@ -57,12 +54,6 @@ asked p (w ∷ a ∷ b ∷ c ∷ d ∷ ws) = Unknown
 abbrev pub question : Program → List ℕ → Question
 question p line = asked p (words_of line)
 
--- these words end a session
-abbrev pub quits : List (List ℕ) → Bool
-quits [] = false
-quits (w ∷ []) = bytes_eq w (codes "quit")
-quits (w ∷ a ∷ ws) = false
-
--- so does a line
+-- a line ends a session: its only word is `quit`
 abbrev pub is_quit : List ℕ → Bool
-is_quit line = quits (words_of line)
+is_quit line = nat_eq (length (words_of line)) 1 && bytes_eq (get_or (words_of line) 0 []) (codes "quit")

@@ -1,28 +1,28 @@
 -- What is known of a past, which blocks are kept of it and which a line asks for, and why a line has no answer.
-use Rattle.std.specs.List.{range_with_len}
-use Rattle.std.specs.Prelude.{◌≡◌, ◌<◌, ℕ, nat_lt, length, map, List, [], ◌∷◌, ◌++◌, Contains, Option, Some, None, option_map, Ok, Err, ⊤, if◌then◌else◌}
 use Rattle.ppd_ast.specs.declared.program.Program.{Program}
 use Rattle.ppd_entry.specs.declared.entry.At.{At}
-use Rattle.ppd_model.specs.declared.flow.Item.{Item}
-use Rattle.ppd_index.specs.Indexes.{rows_at}
-use Rattle.ppd_model.specs.declared.graph.Race.{Race}
+use Rattle.ppd_flow.specs.Answers.{LastEdge}
+use Rattle.ppd_flow.specs.SharedCells.{last_edge}
+use Rattle.ppd_flow_past.specs.Pasts.{IsPast}
 pub use Rattle.ppd_flow_past.specs.declared.flow_error.FlowError.{FlowError}
 use Rattle.ppd_flow_past.specs.declared.flow_error.FlowError.TheVariants as flow_error
 use Rattle.ppd_flow_past.specs.declared.past.Past.{Past}
-use Rattle.ppd_flow_past.specs.Pasts.{IsPast}
-use Rattle.ppd_flow.specs.Answers.{LastEdge}
-use Rattle.ppd_flow.specs.SharedCells.{last_edge}
-use Rattle.ppd_race.specs.Races.{races_of_logs}
-use Rattle.ppd_text.specs.Edges.{last_line}
+use Rattle.ppd_index.specs.Indexes.{rows_at}
+use Rattle.ppd_model.specs.declared.flow.Item.{Item}
+use Rattle.ppd_model.specs.declared.graph.Race.{Race}
+use Rattle.ppd_race.specs.Races.{edges_of_logs, races_among}
 use Rattle.ppd_session.specs.Keeping.{Keeping, none_kept}
 use Rattle.ppd_session.specs.Known.{Known, Last, known_with, unless_raced}
 use Rattle.ppd_session.specs.Questions.{question}
-use Rattle.ppd_session.specs.Texts.{intervals_at, is_final, opening_of, told_at}
+use Rattle.ppd_session.specs.Texts.{told_at}
 use Rattle.ppd_session.specs.declared.place.Place.{Place}
-use Rattle.ppd_session.specs.declared.question.Opening.{Opening}
 use Rattle.ppd_session.specs.declared.question.Question.{Question}
+use Rattle.ppd_session.specs.declared.question.Question.TheVariants.{Final, Open, Why}
 use Rattle.ppd_session.specs.declared.reply.SessionError.{SessionError}
-use Rattle.ppd_session.specs.declared.reply.SessionError.TheVariants.{Diverged, Sets, Memory}
+use Rattle.ppd_session.specs.declared.reply.SessionError.TheVariants.{Diverged, Memory, Sets}
+use Rattle.ppd_text.specs.Edges.{last_line}
+use Rattle.std.specs.List.{range_with_len}
+use Rattle.std.specs.Prelude.{Contains, Err, List, None, Ok, Option, Some, [], get_or, if◌then◌else◌, length, map, nat_lt, option_map, ℕ, ⊤, ◌++◌, ◌∷◌, ◌≡◌}
 
 -- what is known of a past with these races
 abbrev pub known_by : Past → List Race → Known
@@ -60,7 +60,7 @@ state_of past races kept =
 
 -- of a past, with its races, where at most so many blocks may be kept
 abbrev pub new_session : Past → (most : ℕ) → SessionState
-new_session past most = state_of past (races_of_logs past.program.now past.logs.now) (none_kept most)
+new_session past most = state_of past (races_among (edges_of_logs past.program.now past.logs.now)) (none_kept most)
 
 -- ---- the blocks that are asked for
 
@@ -68,17 +68,14 @@ new_session past most = state_of past (races_of_logs past.program.now past.logs.
 abbrev pub block_at : Known → Option ℕ → (k : ℕ) → Option Place
 block_at x None k = None
 block_at x (Some q) k =
-    if nat_lt k (length (intervals_at x q)) then Some (record { process = q; interval = k }) else None
-
-abbrev pub opened_block : Known → Option Opening → List (Option Place)
-opened_block x None = []
-opened_block x (Some o) = block_at x o.process o.interval ∷ []
+    if nat_lt k (length (get_or x.intervals q [])) then Some (record { process = q; interval = k }) else None
 
 -- a question asks for these blocks, in order
 abbrev pub blocks_of : SessionState → Question → List (Option Place)
-blocks_of s asked =
-    unless_raced s.known.races
-    (if is_final asked then s.last_blocks else opened_block s.known (opening_of asked))
+blocks_of s Final = unless_raced s.known.races s.last_blocks
+blocks_of s (Open q k) = unless_raced s.known.races (block_at s.known q k ∷ [])
+blocks_of s (Why q k j) = unless_raced s.known.races (block_at s.known q k ∷ [])
+blocks_of s asked = []
 
 -- so does a line
 abbrev pub blocks_of_line : SessionState → List ℕ → List (Option Place)
@@ -128,7 +125,3 @@ unfound (Err e) = Some e
 abbrev pub IsLineOf : Program → (c : ℕ) → Last → (old new : List ℕ) → Type 0
 IsLineOf p c (Ok x) old new = new ≡ old ++ last_line p c x
 IsLineOf p c (Err e) old new = ⊥
-
--- item j is one of those that are told of interval k of process q
-abbrev pub IsItemThere : Known → (q k j : ℕ) → Type 0
-IsItemThere x q k j = (items : List Item) × (told_at x q k ≡ Some (Ok items)) × (j < length items)

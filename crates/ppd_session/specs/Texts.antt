@@ -1,32 +1,33 @@
 -- The text with which each command line is answered.
-use Rattle.std.specs.Prelude.{ℕ, ◌+◌, nat_lt, Bool, true, false, List, [], ◌∷◌, ◌++◌, get_or, length, slice_get, Option, Some, None, Ok, Err, codes, decimal, if◌then◌else◌, option_and_then}
-use Rattle.std.specs.Option.{option_map_or}
-use Rattle.std.specs.List.{enumerate_from, flat_map}
+use Rattle.ppd_ast.specs.Lookups.{body_numbered, body_of}
 use Rattle.ppd_ast.specs.declared.plan.Plan.{Plan}
 use Rattle.ppd_ast.specs.declared.program.Program.{Program}
-use Rattle.ppd_ast.specs.Lookups.{body_of, locals_of}
-use Rattle.ppd_deps.specs.declared.edges.StaticEdge.{StaticEdge}
-use Rattle.ppd_deps.specs.declared.edges.StaticEdge.TheVariants.{Data, ControlEntry, Control}
 use Rattle.ppd_deps.specs.Edges.{edges_of}
+use Rattle.ppd_deps.specs.declared.edges.StaticEdge.{StaticEdge}
+use Rattle.ppd_deps.specs.declared.edges.StaticEdge.TheVariants.{Control, ControlEntry, Data}
 use Rattle.ppd_entry.specs.declared.entry.At.{At}
+use Rattle.ppd_flow_past.specs.declared.flow_error.FlowError.{FlowError}
+use Rattle.ppd_flow_past.specs.declared.flow_error.FlowError.TheVariants as flow_error
 use Rattle.ppd_model.specs.declared.flow.Item.{Item}
 use Rattle.ppd_model.specs.declared.graph.Race.{Race}
 use Rattle.ppd_model.specs.declared.graph.RaceKind.{RaceKind}
 use Rattle.ppd_model.specs.declared.graph.RaceKind.TheVariants.{ReadWrite, WriteRead, WriteWrite}
-use Rattle.ppd_text.specs.Names.{var_name}
-use Rattle.ppd_text.specs.Table.{stmt_at}
-use Rattle.ppd_session.specs.declared.question.Opening.{Opening}
-use Rattle.ppd_session.specs.declared.question.Question.{Question}
-use Rattle.ppd_session.specs.declared.question.Question.TheVariants.{Nothing, Unknown, Races, Final, Blocks, Open, Why, Deps, Quit}
-use Rattle.ppd_session.specs.declared.reply.SessionError.{SessionError}
-use Rattle.ppd_session.specs.declared.reply.SessionError.TheVariants as session_error
 use Rattle.ppd_session.specs.Known.{Flow, Interval, Known, Last, Told}
 use Rattle.ppd_session.specs.Questions.{question}
-use Rattle.ppd_flow_past.specs.declared.flow_error.FlowError.{FlowError}
-use Rattle.ppd_flow_past.specs.declared.flow_error.FlowError.TheVariants as flow_error
+use Rattle.ppd_session.specs.declared.question.Question.{Question}
+use Rattle.ppd_session.specs.declared.question.Question.TheVariants.{Blocks, Deps, Final, Nothing, Open, Quit, Races, Unknown, Why}
+use Rattle.ppd_session.specs.declared.reply.SessionError.{SessionError}
+use Rattle.ppd_session.specs.declared.reply.SessionError.TheVariants as session_error
+use Rattle.ppd_text.specs.CellNames.{at_entry, cell_text, process_name}
 use Rattle.ppd_text.specs.Edges.{last_line, why_text}
-use Rattle.ppd_text.specs.Items.{open_text}
-use Rattle.ppd_text.specs.CellNames.{at_entry, cell_text, process_name, what_text}
+use Rattle.ppd_text.specs.Items.{item_line}
+use Rattle.ppd_text.specs.Names.{at_number}
+use Rattle.ppd_text.specs.Plans.{block_what, lines_of}
+use Rattle.ppd_text.specs.Table.{stmt_at}
+use Rattle.std.specs.List.{enumerate_from, filter_map, flat_map}
+use Rattle.std.specs.Option.{option_map_or, unwrap_or}
+use Rattle.std.specs.Prelude.{Err, List, None, Ok, Option, Some, [], codes, decimal, get_or, if◌then◌else◌, length, nat_lt, option_and_then, slice_get, ℕ, ◌++◌, ◌+◌, ◌∷◌}
+use Rattle.std.specs.Result.{result_err}
 
 -- ---- races
 
@@ -50,19 +51,15 @@ races_text p races = codes "races " ++ decimal (length races) ++ codes "\n" ++ f
 abbrev pub interval_line : Program → Plan → (k : ℕ) → Interval → List ℕ
 interval_line p plan k i =
     codes "block " ++ decimal k ++ codes " in " ++ option_map_or decimal i.parent (codes "-") ++ codes " "
-    ++ what_text p (slice_get plan.blocks i.block) ++ codes " "
+    ++ at_number (λ b. block_what p b.kind) plan.blocks i.block ++ codes " "
     ++ (if i.closed then codes "closed" else codes "open") ++ codes "\n"
-
--- the intervals of process q
-abbrev pub intervals_at : Known → ℕ → List Interval
-intervals_at x q = get_or x.intervals q []
 
 -- ---- static edges
 
 -- an edge into statement s: by a shared variable, or a local one of the body in which the statement stands
 abbrev pub edge_line : Program → (s : ℕ) → StaticEdge → List ℕ
 edge_line p s (Data from shared v) = codes "data " ++ decimal from ++ codes " "
-    ++ var_name (slice_get (if shared then p.shared else locals_of p (body_of p s)) v) ++ codes "\n"
+    ++ at_number (λ x. x.name) (if shared then p.shared else (body_numbered p (body_of p s)).locals) v ++ codes "\n"
 edge_line p s ControlEntry = codes "control entry\n"
 edge_line p s (Control from) = codes "control " ++ decimal from ++ codes "\n"
 
@@ -72,10 +69,10 @@ deps_text p s = stmt_at p s ++ flat_map (edge_line p s) (edges_of p s)
 
 -- ---- answers
 
--- how many races there are, where there are some: then what depends on the order of shared accesses is not told
-abbrev pub raced : List Race → List ℕ → List ℕ
-raced [] text = text
-raced (r ∷ rs) text = codes "? races " ++ decimal (length (r ∷ rs)) ++ codes "\n"
+-- the line in place of what depends on the order of shared accesses, where there are races
+abbrev pub races_refusal : List Race → Option (List ℕ)
+races_refusal [] = None
+races_refusal (r ∷ rs) = Some (codes "? races " ++ decimal (length (r ∷ rs)) ++ codes "\n")
 
 abbrev pub no_process : List ℕ
 no_process = codes "? process\n"
@@ -103,17 +100,17 @@ abbrev pub told_text : Known → (q k : ℕ) → Option ℕ → Option Told → 
 told_text x q k item (Some (Ok items)) =
     option_map_or
     (λ j. option_map_or (λ i. flow_text x.program x.plan j i (flow_at x q k j)) (slice_get items j) no_event)
-    item (open_text x.program x.plan items)
+    item (lines_of (item_line x.program x.plan) items)
 told_text x q k item told = []
 
--- what is asked of an interval, if its process and the interval are there
-abbrev pub opened_text : Known → Opening → List ℕ
-opened_text x o =
-    raced x.races
+-- all items of an interval, or one of them with its edges, if its process and the interval are there
+abbrev pub opened_text : Known → Option ℕ → (k : ℕ) → (item : Option ℕ) → List ℕ
+opened_text x process k item =
+    unwrap_or (races_refusal x.races)
     (option_map_or
-    (λ q. if nat_lt o.interval (length (intervals_at x q)) then
-    told_text x q o.interval o.item (told_at x q o.interval) else codes "? block\n")
-    o.process no_process)
+    (λ q. if nat_lt k (length (get_or x.intervals q [])) then told_text x q k item (told_at x q k)
+    else codes "? block\n")
+    process no_process)
 
 -- the shared cells from number c on, up to one whose last write is not found
 abbrev pub lasts_text : Program → (c : ℕ) → List Last → List ℕ
@@ -121,42 +118,19 @@ lasts_text p c [] = []
 lasts_text p c (Ok x ∷ xs) = last_line p c x ++ lasts_text p (c + 1) xs
 lasts_text p c (Err e ∷ xs) = []
 
--- why the first is not found that is not
-abbrev pub first_unfound : List Last → Option FlowError
-first_unfound [] = None
-first_unfound (Ok x ∷ xs) = first_unfound xs
-first_unfound (Err e ∷ xs) = Some e
-
--- the answer to a question that replays nothing
-abbrev pub plain_text : Known → Question → List ℕ
-plain_text x Nothing = []
-plain_text x Unknown = codes "? command\n"
-plain_text x Quit = []
-plain_text x Races = races_text x.program x.races
-plain_text x Final = []
-plain_text x (Blocks None) = no_process
-plain_text x (Blocks (Some q)) =
-    flat_map (λ i. interval_line x.program x.plan i.0 i.1) (enumerate_from 0 (intervals_at x q))
-plain_text x (Open q k) = []
-plain_text x (Why q k j) = []
-plain_text x (Deps s) = if nat_lt s (length x.program.stmts) then deps_text x.program s else codes "? statement\n"
-
--- what a question asks of an interval, if it does
-abbrev pub opening_of : Question → Option Opening
-opening_of (Open q k) = Some (record { process = q; interval = k; item = None })
-opening_of (Why q k j) = Some (record { process = q; interval = k; item = Some j })
-opening_of asked = None
-
--- the last values are asked
-abbrev pub is_final : Question → Bool
-is_final Final = true
-is_final asked = false
-
 -- the answer to a question
 abbrev pub answer_text : Known → Question → List ℕ
-answer_text x asked =
-    if is_final asked then raced x.races (lasts_text x.program 0 x.lasts)
-    else option_map_or (opened_text x) (opening_of asked) (plain_text x asked)
+answer_text x Nothing = []
+answer_text x Unknown = codes "? command\n"
+answer_text x Quit = []
+answer_text x Races = races_text x.program x.races
+answer_text x Final = unwrap_or (races_refusal x.races) (lasts_text x.program 0 x.lasts)
+answer_text x (Blocks None) = no_process
+answer_text x (Blocks (Some q)) =
+    flat_map (λ i. interval_line x.program x.plan i.0 i.1) (enumerate_from 0 (get_or x.intervals q []))
+answer_text x (Open q k) = opened_text x q k None
+answer_text x (Why q k j) = opened_text x q k (Some j)
+answer_text x (Deps s) = if nat_lt s (length x.program.stmts) then deps_text x.program s else codes "? statement\n"
 
 -- the answer to a line
 abbrev pub text_of : Known → List ℕ → List ℕ
@@ -193,9 +167,10 @@ opening_failure x (Some q) k j = told_failure x q k j (told_at x q k)
 
 -- the failure that leaves a question without an answer: of a last value, or of what is asked of an interval
 abbrev pub failure : Known → Question → Option FlowError
-failure x asked =
-    if is_final asked then first_unfound x.lasts
-    else option_and_then (λ o. opening_failure x o.process o.interval o.item) (opening_of asked)
+failure x Final = slice_get (filter_map result_err x.lasts) 0
+failure x (Open q k) = opening_failure x q k None
+failure x (Why q k j) = opening_failure x q k (Some j)
+failure x asked = None
 
 -- the failure that leaves a line without an answer
 abbrev pub failure_of : Known → List ℕ → Option FlowError

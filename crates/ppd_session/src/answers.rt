@@ -4,15 +4,16 @@ ghost use Rattle.ppd_flow_past.specs.Pasts.{IsPast};
 ghost use Rattle.ppd_session.specs.Keeping.{AreAsked, AreAskedInPart};
 ghost use Rattle.ppd_session.specs.Sessions.{IsSession, IsWhy, blocks_of, known_by, state_of};
 ghost use Rattle.ppd_session.specs.declared.question.Question.TheVariants.{Blocks};
-ghost use Rattle.ppd_session.specs.Texts.{answer_text, deps_text, failure, plain_text};
+ghost use Rattle.ppd_session.specs.Texts.{answer_text, deps_text, failure};
 
 use crate::blocks::put_intervals;
 use crate::deps::put_deps;
 use crate::kept::Kept;
 use crate::lasts::put_final;
 use crate::opening::put_open;
-use crate::question::{Question, is_final, opening_of};
+use crate::question::{Opening, Question};
 use crate::races::put_races;
+use crate::refusing::put_refusal;
 use crate::reply::SessionError;
 use ppd_ast::Memory;
 use ppd_flow_past::Past;
@@ -28,7 +29,7 @@ fn put_blocks(
 ) -> Result<(), Memory>
     requires { IsPast past.now }
     ensures { OnOk result
-        (text.new.items ≡ text.old.items ++ plain_text (known_by past.now races.now) (Blocks process)) }
+        (text.new.items ≡ text.old.items ++ answer_text (known_by past.now races.now) (Blocks process)) }
 {
     let Some(process) = process else {
         return put(text, b"? process\n");
@@ -55,28 +56,6 @@ fn put_statement(
     put_deps(alloc, text, past.program, statement as u32)
 }
 
-/// Appends the answer to a question that replays nothing.
-fn put_plain(
-    alloc: Global,
-    text: &mut Vec<u8>,
-    past: &Past,
-    races: &[Race],
-    question: Question,
-) -> Result<(), Memory>
-    requires { IsPast past.now }
-    ensures { OnOk result (text.new.items ≡ text.old.items ++ plain_text (known_by past.now races.now) question) }
-{
-    match question {
-        Question::Nothing | Question::Quit => Ok(()),
-        Question::Unknown => put(text, b"? command\n"),
-        Question::Races => put_races(text, past.program, races),
-        Question::Final => Ok(()),
-        Question::Blocks(process) => put_blocks(text, past, races, process),
-        Question::Open(_, _) | Question::Why(_, _, _) => Ok(()),
-        Question::Deps(statement) => put_statement(alloc, text, past, statement),
-    }
-}
-
 /// Appends the answer to a question about a past with these races, of which these blocks are kept. It fails where a
 /// replay fails, or for want of memory.
 pub(crate) fn put_answer(
@@ -99,12 +78,37 @@ pub(crate) fn put_answer(
         (AreAskedInPart (known_by past.now races.now) (blocks_of (state_of past.now races.now kept.old) question)
         kept.old kept.new) }
 {
-    if is_final(question) {
-        return put_final(alloc, text, past, races, kept);
+    match question {
+        Question::Nothing | Question::Quit => Ok(()),
+        Question::Unknown => put_refusal(text, b"? command\n"),
+        Question::Races => {
+            put_races(text, past.program, races)?;
+            Ok(())
+        }
+        Question::Final => put_final(alloc, text, past, races, kept),
+        Question::Blocks(process) => {
+            put_blocks(text, past, races, process)?;
+            Ok(())
+        }
+        Question::Open(process, interval) => {
+            let opening = Opening {
+                process,
+                interval,
+                item: None,
+            };
+            put_open(alloc, text, past, races, kept, opening)
+        }
+        Question::Why(process, interval, item) => {
+            let opening = Opening {
+                process,
+                interval,
+                item: Some(item),
+            };
+            put_open(alloc, text, past, races, kept, opening)
+        }
+        Question::Deps(statement) => {
+            put_statement(alloc, text, past, statement)?;
+            Ok(())
+        }
     }
-    if let Some(opening) = opening_of(question) {
-        return put_open(alloc, text, past, races, kept, opening);
-    }
-    put_plain(alloc, text, past, races, question)?;
-    Ok(())
 }

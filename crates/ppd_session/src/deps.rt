@@ -2,7 +2,7 @@
 ghost use Rattle.std.specs.Prelude.{◌≡◌, ◌<◌, ◌++◌, OnOk, if◌then◌else◌, length};
 ghost use Rattle.std.specs.List.{flat_map};
 ghost use Rattle.ppd_ast.specs.Valid.{IsValid};
-ghost use Rattle.ppd_ast.specs.Lookups.{body_of, locals_of};
+ghost use Rattle.ppd_ast.specs.Lookups.{body_of, body_numbered};
 ghost use Rattle.ppd_deps.specs.Edges.{edges_of};
 ghost use Rattle.ppd_deps.specs.Tables.{IsDepGraph};
 ghost use Rattle.ppd_sets.specs.SetsOf.{AreSetsOf};
@@ -16,7 +16,7 @@ use std::alloc::Global;
 
 // The local variables of the body in which a statement stands.
 fn locals_round(program: &Program, stmt: u32) -> &[Var]
-    ensures { result.now ≡ locals_of program.now (body_of program.now stmt) }
+    ensures { result.now ≡ (body_numbered program.now (body_of program.now stmt)).locals }
 {
     let body = match program.stmts.as_slice().get(stmt as usize) {
         Some(stmt) => stmt.body,
@@ -30,7 +30,7 @@ fn locals_round(program: &Program, stmt: u32) -> &[Var]
 
 fn variables_at(program: &Program, stmt: u32, shared: bool) -> &[Var]
     ensures { result.now
-        ≡ (if shared then program.now.shared else locals_of program.now (body_of program.now stmt)) }
+        ≡ (if shared then program.now.shared else (body_numbered program.now (body_of program.now stmt)).locals) }
 {
     if shared {
         return program.shared.as_slice();

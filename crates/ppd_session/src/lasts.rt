@@ -1,5 +1,8 @@
 // The last values of the shared cells.
-ghost use Rattle.std.specs.Prelude.{◌≡◌, ◌⊎◌, ◌<◌, ◌++◌, [], Ok, None, Some, IfOk, IfErr, IfSome, OnErr, OnOk, length, option_copied};
+ghost use Rattle.std.specs.Result.{result_err};
+ghost use Rattle.std.specs.List.{filter_map};
+ghost use Rattle.std.specs.Option.{unwrap_or};
+ghost use Rattle.std.specs.Prelude.{◌≡◌, ◌⊎◌, ◌<◌, ◌++◌, [], Ok, None, Some, IfOk, IfErr, IfSome, OnErr, OnOk, length, option_copied, slice_get};
 ghost use Rattle.ppd_index.specs.Indexes.{rows_at};
 ghost use Rattle.ppd_flow_past.specs.Pasts.{IsPast};
 ghost use Rattle.ppd_session.specs.Known.{last_by, unless_raced};
@@ -9,7 +12,7 @@ ghost use Rattle.ppd_session.specs.Keeping.{AreAsked, AreAskedInPart, IsAsked};
 ghost use Rattle.ppd_session.specs.Sessions.{AreTold, IsSession, IsLineOf, IsWhy, known_by, last_block, last_blocks};
 ghost use Rattle.ppd_session.specs.Sessions.{place_of, unfound};
 ghost use Rattle.ppd_session.specs.declared.reply.SessionError.TheVariants as session_error;
-ghost use Rattle.ppd_session.specs.Texts.{first_unfound, lasts_text, raced, told_at};
+ghost use Rattle.ppd_session.specs.Texts.{lasts_text, told_at, races_refusal};
 ghost use Rattle.ppd_flow.specs.SharedCells.{last_edge as last_edge_of};
 ghost use Rattle.ppd_text.specs.Edges.{last_line};
 
@@ -270,8 +273,8 @@ fn put_cell_lines(
     requires tables { AreOfLast past.now tables.old }
     ensures text { OnOk result
         (text.new.items ≡ text.old.items ++ lasts_text past.now.program.now 0 (known_by past.now []).lasts) }
-    ensures told { OnOk result (first_unfound (known_by past.now []).lasts ≡ None) }
-    ensures error { IfErr result (IsWhy (first_unfound (known_by past.now []).lasts)) }
+    ensures told { OnOk result (slice_get (filter_map result_err (known_by past.now []).lasts) 0 ≡ None) }
+    ensures error { IfErr result (IsWhy (slice_get (filter_map result_err (known_by past.now []).lasts) 0)) }
     ensures kept { OnOk result (AreAsked (known_by past.now []) (last_blocks past.now) kept.old kept.new) }
     ensures part { OnErr result (AreAskedInPart (known_by past.now []) (last_blocks past.now) kept.old kept.new) }
 {
@@ -293,8 +296,8 @@ fn put_lines(
     requires kept { AreTold (known_by past.now []) kept.old.blocks }
     ensures text { OnOk result
         (text.new.items ≡ text.old.items ++ lasts_text past.now.program.now 0 (known_by past.now []).lasts) }
-    ensures told { OnOk result (first_unfound (known_by past.now []).lasts ≡ None) }
-    ensures error { IfErr result (IsWhy (first_unfound (known_by past.now []).lasts)) }
+    ensures told { OnOk result (slice_get (filter_map result_err (known_by past.now []).lasts) 0 ≡ None) }
+    ensures error { IfErr result (IsWhy (slice_get (filter_map result_err (known_by past.now []).lasts) 0)) }
     ensures kept { OnOk result (AreAsked (known_by past.now []) (last_blocks past.now) kept.old kept.new) }
     ensures part { OnErr result (AreAskedInPart (known_by past.now []) (last_blocks past.now) kept.old kept.new) }
 {
@@ -316,9 +319,10 @@ pub(crate) fn put_final(
     ensures text { OnOk result
         (text.new.items
         ≡ text.old.items
-        ++ raced races.now (lasts_text past.now.program.now 0 (known_by past.now races.now).lasts)) }
-    ensures told { OnOk result (first_unfound (known_by past.now races.now).lasts ≡ None) }
-    ensures error { IfErr result (IsWhy (first_unfound (known_by past.now races.now).lasts)) }
+        ++ unwrap_or (races_refusal races.now)
+        (lasts_text past.now.program.now 0 (known_by past.now races.now).lasts)) }
+    ensures told { OnOk result (slice_get (filter_map result_err (known_by past.now races.now).lasts) 0 ≡ None) }
+    ensures error { IfErr result (IsWhy (slice_get (filter_map result_err (known_by past.now races.now).lasts) 0)) }
     ensures kept { OnOk result
         (AreAsked (known_by past.now races.now) (unless_raced races.now (last_blocks past.now)) kept.old kept.new) }
     ensures part { OnErr result

@@ -1,16 +1,16 @@
 // The items of an interval, and one of them.
-ghost use Rattle.std.specs.Prelude.{◌≡◌, ◌<◌, ◌≤◌, ◌++◌, [], ◌∷◌, Some, None, Ok, IfOk, IfErr, IfSome, OnOk, is_some};
-ghost use Rattle.std.specs.Prelude.{length, nat_lt};
-ghost use Rattle.ppd_index.specs.Indexes.{rows_at};
-ghost use Rattle.ppd_flow_past.specs.declared.flow_error.FlowError.TheVariants as flow_error;
 ghost use Rattle.ppd_flow_past.specs.Pasts.{IsPast};
+ghost use Rattle.ppd_flow_past.specs.declared.flow_error.FlowError.TheVariants as flow_error;
+ghost use Rattle.ppd_index.specs.Indexes.{rows_at};
 ghost use Rattle.ppd_session.specs.Keeping.{AreAsked, IsAsked};
 ghost use Rattle.ppd_session.specs.Known.{unless_raced};
-ghost use Rattle.ppd_session.specs.Sessions.{AreTold, IsSession, IsCause, IsWhy, block_at, error_of, known_by};
-ghost use Rattle.ppd_text.specs.Items.{open_text};
+ghost use Rattle.ppd_session.specs.Sessions.{AreTold, IsCause, IsSession, IsWhy, block_at, error_of, known_by};
+ghost use Rattle.ppd_session.specs.Texts.{failure_at, opened_text, opening_failure, races_refusal, told_at, told_failure, told_text};
 ghost use Rattle.ppd_session.specs.declared.reply.SessionError.TheVariants as session_error;
-ghost use Rattle.ppd_session.specs.Texts.{failure_at, intervals_at, opened_text};
-ghost use Rattle.ppd_session.specs.Texts.{opening_failure, raced, told_at, told_failure, told_text};
+ghost use Rattle.ppd_text.specs.Items.{item_line};
+ghost use Rattle.ppd_text.specs.Plans.{lines_of};
+ghost use Rattle.std.specs.Option.{unwrap_or};
+ghost use Rattle.std.specs.Prelude.{IfErr, IfOk, IfSome, None, Ok, OnOk, Some, [], get_or, is_some, length, nat_lt, ◌++◌, ◌<◌, ◌∷◌, ◌≡◌, ◌≤◌};
 
 use crate::kept::Kept;
 use crate::place::Place;
@@ -84,7 +84,7 @@ pub(crate) fn replay(alloc: Global, past: &Past, place: Place) -> Result<Seq<Ite
 
 fn put_all(text: &mut Vec<u8>, past: &Past, items: &[Item]) -> Result<(), SessionError>
     ensures text { OnOk result
-        (text.new.items ≡ text.old.items ++ open_text past.now.program.now past.now.plan.now items.now) }
+        (text.new.items ≡ text.old.items ++ lines_of (item_line past.now.program.now past.now.plan.now) items.now) }
     ensures error { IfErr result (λ e. e ≡ session_error.Memory) }
 {
     put_items(text, past.program, past.plan, items)?;
@@ -158,7 +158,7 @@ fn put_block(
 /// The number of an interval of a process, if it is there.
 pub fn interval_there(past: &Past, process: u8, interval: u64) -> Option<u32>
     requires { IsPast past.now }
-    ensures known { is_some result ≡ nat_lt interval (length (intervals_at (known_by past.now []) process)) }
+    ensures known { is_some result ≡ nat_lt interval (length (get_or (known_by past.now []).intervals process [])) }
     ensures there { IfSome result
         (λ k. (k ≡ interval) × (k < length (rows_at past.now.index.now.tables process))) }
     ensures none { result ≡ None → length (rows_at past.now.index.now.tables process) ≤ interval }
@@ -180,7 +180,10 @@ fn put_interval(
     requires past { IsPast past.now }
     requires uncut { past.now.cut.now ≡ past.now.logs.now }
     requires kept { AreTold (known_by past.now []) kept.old.blocks }
-    ensures text { OnOk result (text.new.items ≡ text.old.items ++ opened_text (known_by past.now []) opening) }
+    ensures text { OnOk result
+        (text.new.items
+        ≡ text.old.items
+        ++ opened_text (known_by past.now []) opening.process opening.interval opening.item) }
     ensures told { OnOk result
         (opening_failure (known_by past.now []) opening.process opening.interval opening.item ≡ None) }
     ensures error { IfErr result
@@ -200,7 +203,7 @@ fn put_interval(
 
 /// Appends how many races there are, where there are some.
 pub(crate) fn put_many_races(text: &mut Vec<u8>, races: &[Race]) -> Result<(), SessionError>
-    ensures text { OnOk result (text.new.items ≡ text.old.items ++ raced races.now []) }
+    ensures text { OnOk result (text.new.items ≡ text.old.items ++ unwrap_or (races_refusal races.now) []) }
     ensures error { IfErr result (λ e. e ≡ session_error.Memory) }
 {
     put_racy(text, races)?;
@@ -217,7 +220,10 @@ pub(crate) fn put_open(
     opening: Opening,
 ) -> Result<(), SessionError>
     requires { IsSession past.now races.now kept.old }
-    ensures text { OnOk result (text.new.items ≡ text.old.items ++ opened_text (known_by past.now races.now) opening) }
+    ensures text { OnOk result
+        (text.new.items
+        ≡ text.old.items
+        ++ opened_text (known_by past.now races.now) opening.process opening.interval opening.item) }
     ensures told { OnOk result
         (opening_failure (known_by past.now races.now) opening.process opening.interval opening.item ≡ None) }
     ensures error { IfErr result

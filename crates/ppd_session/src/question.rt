@@ -1,11 +1,10 @@
 // What a command line asks.
-ghost use Rattle.std.specs.Prelude.{◌≡◌, [], ◌∷◌, drop, map};
+ghost use Rattle.std.specs.Prelude.{◌≡◌, ℕ, List, [], ◌∷◌, drop, map};
 ghost use Rattle.std.specs.Option.{option_map_or, option_zip};
 ghost use Rattle.ppd_ast.specs.Valid.{IsValid};
-ghost use Rattle.ppd_session.specs.Questions.{alone as alone_of, asked as asked_of};
-ghost use Rattle.ppd_session.specs.Questions.{process_named as process_by_name, quits as quits_of};
+ghost use Rattle.ppd_session.specs.Questions.{asked as asked_of};
+ghost use Rattle.ppd_session.specs.Questions.{is_quit, process_named as process_by_name, words_of};
 ghost use Rattle.ppd_session.specs.declared.question.Question.TheVariants as ask;
-ghost use Rattle.ppd_session.specs.Texts.{is_final as is_final_of, opening_of as opening_in};
 
 use ppd_ast::{Body, Program};
 use ppd_text::number_in;
@@ -35,35 +34,6 @@ pub(crate) struct Opening {
     pub(crate) item: Option<u64>,
 }
 
-/// What a question asks of an interval, if it does.
-pub(crate) fn opening_of(question: Question) -> Option<Opening>
-    ensures { result ≡ opening_in question }
-{
-    match question {
-        Question::Open(process, interval) => Some(Opening {
-            process,
-            interval,
-            item: None,
-        }),
-        Question::Why(process, interval, item) => Some(Opening {
-            process,
-            interval,
-            item: Some(item),
-        }),
-        _ => None,
-    }
-}
-
-/// Whether the last values are asked.
-pub(crate) fn is_final(question: Question) -> bool
-    ensures { result ≡ is_final_of question }
-{
-    match question {
-        Question::Final => true,
-        _ => false,
-    }
-}
-
 /// The bodies of the processes of a valid program.
 fn process_bodies(program: &Program) -> &[Body]
     requires { IsValid program.now }
@@ -86,8 +56,8 @@ pub fn process_named(program: &Program, name: &[u8]) -> Option<u8>
     None
 }
 
-fn alone(word: &[u8]) -> Question
-    ensures { result ≡ alone_of word.now }
+fn alone(_program: &Program, word: &[u8]) -> Question
+    ensures { result ≡ asked_of _program.now (word.now ∷ []) }
 {
     if word == b"races".as_slice() {
         Question::Races
@@ -173,7 +143,7 @@ pub(crate) fn asked(program: &Program, words: &[&[u8]]) -> Question
 {
     match words {
         [] => Question::Nothing,
-        [word] => alone(word),
+        [word] => alone(program, word),
         [word, a] => with_one(program, word, a),
         [word, a, b] => with_two(program, word, a, b),
         [word, a, b, c] => with_three(program, word, a, b, c),
@@ -183,7 +153,7 @@ pub(crate) fn asked(program: &Program, words: &[&[u8]]) -> Question
 
 /// Whether these words end the session.
 pub(crate) fn quits(words: &[&[u8]]) -> bool
-    ensures { result ≡ quits_of (map (λ w. w.now) words.now) }
+    ensures { (line : List ℕ) → words_of line ≡ map (λ w. w.now) words.now → result ≡ is_quit line }
 {
     match words {
         [word] => *word == b"quit".as_slice(),

@@ -1,7 +1,8 @@
 // The race list as a text.
+ghost use Rattle.std.specs.Option.{unwrap_or};
 ghost use Rattle.std.specs.Prelude.{◌≡◌, ◌++◌, [], OnOk, codes, decimal};
 ghost use Rattle.std.specs.List.{flat_map};
-ghost use Rattle.ppd_session.specs.Texts.{race_line, race_word, raced, races_text};
+ghost use Rattle.ppd_session.specs.Texts.{race_line, race_word, races_text, races_refusal};
 ghost use Rattle.ppd_text.specs.CellNames.{process_name as process_name_of};
 
 use ppd_ast::{Memory, Program};
@@ -63,7 +64,7 @@ pub(crate) fn put_races(text: &mut Vec<u8>, program: &Program, races: &[Race]) -
 
 /// Appends how many races there are, where there are some: then no answer may rest on the order of accesses.
 pub fn put_racy(text: &mut Vec<u8>, races: &[Race]) -> Result<(), Memory>
-    ensures { OnOk result (text.new.items ≡ text.old.items ++ raced races.now []) }
+    ensures { OnOk result (text.new.items ≡ text.old.items ++ unwrap_or (races_refusal races.now) []) }
 {
     if races.is_empty() {
         return Ok(());

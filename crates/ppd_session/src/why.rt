@@ -1,8 +1,8 @@
 // An item with its flowback edges.
-ghost use Rattle.std.specs.Prelude.{◌≡◌, ◌<◌, ◌++◌, [], Some, None, Ok, IfOk, OnOk, IfErr};
+ghost use Rattle.std.specs.Prelude.{◌≡◌, ◌<◌, ◌++◌, [], Some, None, Ok, IfOk, OnOk, IfErr, length};
 ghost use Rattle.ppd_flow_past.specs.Pasts.{IsPast};
 ghost use Rattle.ppd_session.specs.Known.{flow_by};
-ghost use Rattle.ppd_session.specs.Sessions.{IsItemThere, IsWhy, known_by};
+ghost use Rattle.ppd_session.specs.Sessions.{IsWhy, known_by};
 ghost use Rattle.ppd_session.specs.Texts.{flow_at, flow_text, told_at, told_failure, told_text, unfound_flow};
 ghost use Rattle.ppd_session.specs.declared.reply.SessionError.TheVariants as session_error;
 ghost use Rattle.ppd_flow.specs.SharedCells.{IsMemoryOr};
@@ -175,7 +175,7 @@ fn put_told(
     requires uncut { past.now.cut.now ≡ past.now.logs.now }
     requires told { told_at (known_by past.now []) block.now.process block.now.interval
         ≡ Some (Ok block.now.items.now) }
-    requires there { IsItemThere (known_by past.now []) block.now.process block.now.interval item }
+    requires there { item < length block.now.items.now }
     ensures text { OnOk result
         (text.new.items
         ≡ text.old.items

@@ -1,6 +1,6 @@
 -- The rows of calls.
 use Rattle.std.proofs.Common.{◌≡◌, ℕ, suc, ◌+◌, ◌-◌, ◌<◌, ◌≤◌, List, [], ◌∷◌, ◌++◌, Option, Some, None, length, map, refl, sym, ap, ◌∙◌, subst, arith, true≢false, inl, inr}
-use Rattle.std.specs.Prelude.{IsTrue, slice_get}
+use Rattle.std.specs.Prelude.{IsTrue, slice_get, get_or}
 use Rattle.std.specs.List.{flat_map, range_with_len}
 use Rattle.ppd_ast.specs.declared.program.Kind.{Kind}
 use Rattle.ppd_ast.specs.declared.program.Kind.TheVariants as K
@@ -15,7 +15,6 @@ use Rattle.ppd_ast.specs.Lookups.{kind_of}
 use Rattle.ppd_ast.proofs.Vocabulary.{kind_of_stmt}
 use Rattle.ppd_ast.proofs.Members.{has_cons, flat_gives}
 use Rattle.ppd_ast.proofs.Those.{counting}
-use Rattle.ppd_cfg.specs.Lists.{row}
 use Rattle.ppd_cfg.specs.WorkList.{AreRowsBelow}
 use Rattle.ppd_cfg.proofs.Rows.{row_at, length_rows, map_push}
 use Rattle.ppd_cfg.proofs.Leading.{row_there}
@@ -75,7 +74,7 @@ pub call_rows_below : (p : Program) → IsValid p → AreRowsBelow (call_rows p)
 call_rows_below p v a x h =
     let there : a < length p.bodies = subst (λ n. a < n) (call_rows_long p) (row_there (call_rows p) a x h) in
     let e : 0 + a ≡ a = omega arith in
-    let is : row (call_rows p) a ≡ calls_at p a = row_at (calls_at p) 0 (length p.bodies) a there ∙ ap (calls_at p) e in
+    let is : get_or (call_rows p) a [] ≡ calls_at p a = row_at (calls_at p) 0 (length p.bodies) a there ∙ ap (calls_at p) e in
     subst (λ n. x < n) (sym (call_rows_long p)) (calls_below p a x v (subst (λ xs. IsTrue (has xs x)) is h))
 
 pub one_below : (n b : ℕ) → b < n → AreBelow n (b ∷ [])

@@ -1,4 +1,5 @@
 -- The cells of an expression, from those of its children.
+use Rattle.std.specs.Prelude.{not}
 use Rattle.std.proofs.Common.{◌≡◌, ◌⊎◌, ℕ, zero, suc, ◌+◌, ◌<◌, ◌≤◌, ℤ, pos, List, [], ◌∷◌, ◌++◌, Bool, length, get_or, refl, sym, ap, arith, length-append}
 use Rattle.ppd_ast.specs.declared.program.Expr.TheVariants as E
 use Rattle.ppd_ast.specs.declared.program.Op.{Op}
@@ -9,7 +10,7 @@ use Rattle.ppd_sets.proofs.Gaining.{gains_none, gains_then, gains_as}
 use Rattle.ppd_ast.specs.declared.program.Expr.{Expr}
 use Rattle.ppd_ast.specs.Term.{Term, const, term_at, node, terms, term}
 use Rattle.ppd_ast.proofs.Vocabulary.{terms_after}
-use Rattle.ppd_sets.specs.Named.{cells_in, local_cells, shared_cells}
+use Rattle.ppd_sets.specs.Named.{cells_in, cells_if}
 
 long_after : (done : List Term) (es : List Expr) → length (terms_after done es) ≡ length done + length es
 long_after done [] = omega arith
@@ -34,16 +35,16 @@ module _ (w : Bool) (es : List Expr) (i : ℕ) (dflt : Expr) (below : EachAt Are
   pub gains_const : {a : List ℕ} (v : ℤ) → get_or es i dflt ≡ E.Const v → Gains a a (cells_in w (term es i))
   gains_const {a} v is = at_node (λ u. Gains a a (cells_in w u)) es i dflt (E.Const v) below there is (gains_none a)
 
-  pub gains_local : {a b : List ℕ} (c : ℕ) → get_or es i dflt ≡ E.Local c → Gains a b (local_cells w c 1) → Gains a b (cells_in w (term es i))
+  pub gains_local : {a b : List ℕ} (c : ℕ) → get_or es i dflt ≡ E.Local c → Gains a b (cells_if (not w) c 1) → Gains a b (cells_in w (term es i))
   gains_local {a} {b} c is g = at_node (λ u. Gains a b (cells_in w u)) es i dflt (E.Local c) below there is g
 
-  pub gains_shared : {a b : List ℕ} (c : ℕ) → get_or es i dflt ≡ E.Shared c → Gains a b (shared_cells w c 1) → Gains a b (cells_in w (term es i))
+  pub gains_shared : {a b : List ℕ} (c : ℕ) → get_or es i dflt ≡ E.Shared c → Gains a b (cells_if w c 1) → Gains a b (cells_in w (term es i))
   gains_shared {a} {b} c is g = at_node (λ u. Gains a b (cells_in w u)) es i dflt (E.Shared c) below there is g
 
-  pub gains_local_at : {a b d : List ℕ} (base len at : ℕ) → get_or es i dflt ≡ E.LocalAt base len at → Gains a b (local_cells w base len) → Gains b d (cells_in w (term es at)) → Gains a d (cells_in w (term es i))
+  pub gains_local_at : {a b d : List ℕ} (base len at : ℕ) → get_or es i dflt ≡ E.LocalAt base len at → Gains a b (cells_if (not w) base len) → Gains b d (cells_in w (term es at)) → Gains a d (cells_in w (term es i))
   gains_local_at {a} {b} {d} base len at is g k = at_node (λ u. Gains a d (cells_in w u)) es i dflt (E.LocalAt base len at) below there is (gains_then g k)
 
-  pub gains_shared_at : {a b d : List ℕ} (base len at : ℕ) → get_or es i dflt ≡ E.SharedAt base len at → Gains a b (shared_cells w base len) → Gains b d (cells_in w (term es at)) → Gains a d (cells_in w (term es i))
+  pub gains_shared_at : {a b d : List ℕ} (base len at : ℕ) → get_or es i dflt ≡ E.SharedAt base len at → Gains a b (cells_if w base len) → Gains b d (cells_in w (term es at)) → Gains a d (cells_in w (term es i))
   gains_shared_at {a} {b} {d} base len at is g k = at_node (λ u. Gains a d (cells_in w u)) es i dflt (E.SharedAt base len at) below there is (gains_then g k)
 
   pub gains_single : {a b : List ℕ} (x : ℕ) → (get_or es i dflt ≡ E.Neg x) ⊎ (get_or es i dflt ≡ E.Not x) → Gains a b (cells_in w (term es x)) → Gains a b (cells_in w (term es i))

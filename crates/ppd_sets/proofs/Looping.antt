@@ -1,9 +1,10 @@
 -- The local cells of a loop are those of the statements inside it.
+use Rattle.ppd_ast.specs.Order.{preorder}
 use Rattle.std.proofs.Common.{◌≡◌, ◌↔◌, ℕ, ◌+◌, ◌<◌, ◌≤◌, List, [], true, false, Option, Some, None, length, refl, sym, subst, arith, inl, inr, true≢false}
 use Rattle.std.specs.Prelude.{IsTrue, slice_get}
 use Rattle.std.specs.List.{flat_map, range_with_len}
 use Rattle.std.proofs.lemmas.Bool.{cond-true}
-use Rattle.ppd_ast.specs.declared.limits.TheConstants.{MOST_SHARED_CELLS}
+use Rattle.ppd_ast.specs.declared.limits.TheConstants.{MOST_SHARED_CELLS, MOST_NESTING}
 use Rattle.ppd_ast.specs.declared.program.Kind.{Kind}
 use Rattle.ppd_ast.specs.declared.program.Kind.TheVariants as K
 use Rattle.ppd_ast.specs.declared.program.Target.{Target}
@@ -21,20 +22,20 @@ use Rattle.ppd_ast.specs.Members.{has}
 use Rattle.ppd_ast.specs.Lookups.{kind_of}
 use Rattle.ppd_ast.proofs.Vocabulary.{kind_of_stmt}
 use Rattle.ppd_ast.proofs.Members.{has_cases, has_filter, filter_has, from_zero, below_range, flat_gives, flat_from, all_has}
-use Rattle.ppd_sets.specs.Named.{local_cells, cells_in, reads, target_cells, writes}
-use Rattle.ppd_sets.specs.Used.{loop_defined_of, loop_stmts, loop_used_of, reads_at, sorted, writes_at, IsLoopDefined, IsLoopUsed}
+use Rattle.ppd_sets.specs.Named.{cells_in, reads, writes, cells_if}
+use Rattle.ppd_sets.specs.Used.{reads_at, sorted, writes_at, IsLoopDefined, IsLoopUsed, local_in}
 use Rattle.ppd_sets.specs.Laws.{LoopDefinedByStatements, LoopUsedByStatements}
 
 -- ---- the cells that a valid program names are few
 
-local_below : (base len n c : ℕ) → base + len ≤ n → IsTrue (has (local_cells false base len) c) → c < n
+local_below : (base len n c : ℕ) → base + len ≤ n → IsTrue (has (cells_if true base len) c) → c < n
 local_below base len n c l h = let inside = below_range base len c h in omega (arith, l, inside.1)
 
 pub cells_below : (m n : ℕ) (t : Term) (c : ℕ) → AreBelow m n t → IsTrue (has (cells_in false t) c) → c < n
 cells_below m n (const v) c b h = absurd (true≢false (sym h))
 cells_below m n (local x) c b h = local_below x 1 n c (omega (arith, b)) h
 cells_below m n (local_at base len i) c b h =
-    elim (has_cases (local_cells false base len) (cells_in false i) c h) [ inl l ↦ local_below base len n c b.0 l | inr r ↦ cells_below m n i c b.1 r ]
+    elim (has_cases (cells_if true base len) (cells_in false i) c h) [ inl l ↦ local_below base len n c b.0 l | inr r ↦ cells_below m n i c b.1 r ]
 cells_below m n (shared x) c b h = absurd (true≢false (sym h))
 cells_below m n (shared_at base len i) c b h = cells_below m n i c b.1 h
 cells_below m n (neg x) c b h = cells_below m n x c b h
@@ -43,15 +44,15 @@ cells_below m n (two op x y) c b h = elim (has_cases (cells_in false x) (cells_i
 cells_below m n (and x y) c b h = elim (has_cases (cells_in false x) (cells_in false y) c h) [ inl l ↦ cells_below m n x c b.0 l | inr r ↦ cells_below m n y c b.1 r ]
 cells_below m n (or x y) c b h = elim (has_cases (cells_in false x) (cells_in false y) c h) [ inl l ↦ cells_below m n x c b.0 l | inr r ↦ cells_below m n y c b.1 r ]
 
-target_cells_below : (m n : ℕ) (t : Target) (c : ℕ) → IsBelow m n t → IsTrue (has (target_cells false t) c) → c < n
-target_cells_below m n (T.Local x) c b h = local_below x 1 n c (omega (arith, b)) h
-target_cells_below m n (T.LocalAt base len i) c b h = local_below base len n c b h
-target_cells_below m n (T.Shared x) c b h = absurd (true≢false (sym h))
-target_cells_below m n (T.SharedAt base len i) c b h = absurd (true≢false (sym h))
+set_below : (m n : ℕ) (t : Target) (e c : ℕ) → IsBelow m n t → IsTrue (has (writes false (K.Set t e)) c) → c < n
+set_below m n (T.Local x) e c b h = local_below x 1 n c (omega (arith, b)) h
+set_below m n (T.LocalAt base len i) e c b h = local_below base len n c b h
+set_below m n (T.Shared x) e c b h = absurd (true≢false (sym h))
+set_below m n (T.SharedAt base len i) e c b h = absurd (true≢false (sym h))
 
 module _ (shareds locals : List Var) (m n : ℕ) (over : CoverCells shareds m) (under : CoverCells locals n) where
   pub writes_below : (k : Kind) (c : ℕ) → WritesWhole shareds locals k → IsTrue (has (writes false k) c) → c < n
-  writes_below (K.Set t e) c w h = target_cells_below m n t c (target_below shareds locals m n over under t w) h
+  writes_below (K.Set t e) c w h = set_below m n t e c (target_below shareds locals m n over under t w) h
   writes_below (K.Zero base len) c w h = local_below base len n c (array_below locals n base len under w) h
   writes_below (K.Call f args None) c w h = absurd (true≢false (sym h))
   writes_below (K.Call f args (Some r)) c w h = let l = scalar_below locals n r under w in local_below r 1 n c (omega (arith, l)) h
@@ -97,21 +98,21 @@ sorted_law cells c small = (
 pub loop_used_by_statements : LoopUsedByStatements
 loop_used_by_statements p q c v is =
     let f : ℕ → List ℕ = reads_at false p in
-    let cells : List ℕ = flat_map f (loop_stmts p q) in
-    let same : loop_used_of p q ≡ sorted cells = cond-true (is_while (kind_of p q)) (sorted cells) [] is in
-    let small : IsTrue (has cells c) → c < MOST_SHARED_CELLS = λ h. (let s = flat_gives f (loop_stmts p q) c h in reads_small p s.0 c (slice_get p.stmts s.0) v refl s.2) in
+    let cells : List ℕ = flat_map f (preorder MOST_NESTING p.stmts q) in
+    let same : local_in p (reads_at false p) q ≡ sorted cells = cond-true (is_while (kind_of p q)) (sorted cells) [] is in
+    let small : IsTrue (has cells c) → c < MOST_SHARED_CELLS = λ h. (let s = flat_gives f (preorder MOST_NESTING p.stmts q) c h in reads_small p s.0 c (slice_get p.stmts s.0) v refl s.2) in
     let law = sorted_law cells c small in (
-      (λ h. let s = flat_gives f (loop_stmts p q) c (law.0 (subst (λ l. IsTrue (has l c)) same h)) in record { stmt = s.0; inside = s.1; read = s.2 }),
-      (λ (u : IsLoopUsed p q c). subst (λ l. IsTrue (has l c)) (sym same) (law.1 (flat_from f (loop_stmts p q) u.stmt c u.inside u.read))),
+      (λ h. let s = flat_gives f (preorder MOST_NESTING p.stmts q) c (law.0 (subst (λ l. IsTrue (has l c)) same h)) in record { stmt = s.0; inside = s.1; read = s.2 }),
+      (λ (u : IsLoopUsed p q c). subst (λ l. IsTrue (has l c)) (sym same) (law.1 (flat_from f (preorder MOST_NESTING p.stmts q) u.stmt c u.inside u.read))),
     )
 
 pub loop_defined_by_statements : LoopDefinedByStatements
 loop_defined_by_statements p q c v is =
     let f : ℕ → List ℕ = writes_at false p in
-    let cells : List ℕ = flat_map f (loop_stmts p q) in
-    let same : loop_defined_of p q ≡ sorted cells = cond-true (is_while (kind_of p q)) (sorted cells) [] is in
-    let small : IsTrue (has cells c) → c < MOST_SHARED_CELLS = λ h. (let s = flat_gives f (loop_stmts p q) c h in writes_small p s.0 c (slice_get p.stmts s.0) v refl s.2) in
+    let cells : List ℕ = flat_map f (preorder MOST_NESTING p.stmts q) in
+    let same : local_in p (writes_at false p) q ≡ sorted cells = cond-true (is_while (kind_of p q)) (sorted cells) [] is in
+    let small : IsTrue (has cells c) → c < MOST_SHARED_CELLS = λ h. (let s = flat_gives f (preorder MOST_NESTING p.stmts q) c h in writes_small p s.0 c (slice_get p.stmts s.0) v refl s.2) in
     let law = sorted_law cells c small in (
-      (λ h. let s = flat_gives f (loop_stmts p q) c (law.0 (subst (λ l. IsTrue (has l c)) same h)) in record { stmt = s.0; inside = s.1; written = s.2 }),
-      (λ (u : IsLoopDefined p q c). subst (λ l. IsTrue (has l c)) (sym same) (law.1 (flat_from f (loop_stmts p q) u.stmt c u.inside u.written))),
+      (λ h. let s = flat_gives f (preorder MOST_NESTING p.stmts q) c (law.0 (subst (λ l. IsTrue (has l c)) same h)) in record { stmt = s.0; inside = s.1; written = s.2 }),
+      (λ (u : IsLoopDefined p q c). subst (λ l. IsTrue (has l c)) (sym same) (law.1 (flat_from f (preorder MOST_NESTING p.stmts q) u.stmt c u.inside u.written))),
     )

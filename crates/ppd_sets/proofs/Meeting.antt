@@ -1,24 +1,25 @@
 -- Variables of which a cell is in a set.
-use Rattle.std.proofs.Common.{◌≡◌, ℕ, ◌+◌, ◌-◌, ◌<◌, ◌≤◌, ◌^◌, min, List, [], ◌∷◌, ◌++◌, Bool, true, false, Option, Some, None, length, get_or, refl, sym, ap, ◌∙◌, subst, arith, true≢false, inl, inr}
-use Rattle.std.specs.Prelude.{IsTrue, nat_le, nat_lt, slice_get}
-use Rattle.std.specs.List.{flat_map, range_with_len, list_any}
-use Rattle.ppd_ast.specs.Numbered.{is_while}
-use Rattle.std.proofs.lemmas.Bool.{and_parts, and_from, leb-true, ltb-true, le-leb, lt-ltb, cases_order, false_from_ne_true, cond-true}
-use Rattle.std.proofs.lemmas.Option.{slice_get-get_or}
-use Rattle.ppd_ast.specs.declared.limits.TheConstants.{MOST_SHARED_CELLS}
-use Rattle.ppd_ast.specs.declared.program.Var.{Var}
-use Rattle.ppd_ast.specs.declared.program.Program.{Program}
-use Rattle.ppd_ast.specs.Cells.{size, after, holds}
-use Rattle.ppd_ast.specs.Valid.{IsValid}
-use Rattle.ppd_ast.proofs.ValidLaws.{slice_get_below}
-use Rattle.ppd_ast.specs.Members.{has, those}
-use Rattle.ppd_ast.specs.Lookups.{kind_of}
-use Rattle.ppd_ast.proofs.Those.{those_yes, those_no, both}
-use Rattle.ppd_ast.proofs.Walks.{got_some}
 use Rattle.ppd_ast.proofs.Members.{any_from, any_gives, below_range, filter_same_in}
-use Rattle.ppd_sets.specs.Used.{AreSmall, is_met, vars_met, sorted, loop_stmts, loop_used_of, loop_defined_of, reads_at, writes_at, called_from, used_of, defined_of}
+use Rattle.ppd_ast.proofs.Those.{both, those_no, those_yes}
+use Rattle.ppd_ast.proofs.ValidLaws.{slice_get_below}
+use Rattle.ppd_ast.proofs.Walks.{got_some}
+use Rattle.ppd_ast.specs.Cells.{after, holds}
+use Rattle.ppd_ast.specs.Lookups.{kind_of}
+use Rattle.ppd_ast.specs.Members.{has, those}
+use Rattle.ppd_ast.specs.Numbered.{is_while}
+use Rattle.ppd_ast.specs.Order.{preorder}
+use Rattle.ppd_ast.specs.Valid.{IsValid}
+use Rattle.ppd_ast.specs.declared.limits.TheConstants.{MOST_NESTING, MOST_SHARED_CELLS}
+use Rattle.ppd_ast.specs.declared.program.Program.{Program}
+use Rattle.ppd_ast.specs.declared.program.Var.{Var}
 use Rattle.ppd_sets.proofs.Vocabulary.{body_reads, body_writes}
 use Rattle.ppd_sets.specs.Gained.{HasCells}
+use Rattle.ppd_sets.specs.Used.{AreSmall, called_from, is_met, local_in, reads_at, shared_through, sorted, vars_met, writes_at}
+use Rattle.std.proofs.Common.{Bool, List, None, Option, Some, [], ap, arith, false, get_or, inl, inr, length, min, refl, subst, sym, true, true≢false, ℕ, ◌++◌, ◌+◌, ◌-◌, ◌<◌, ◌^◌, ◌∙◌, ◌∷◌, ◌≡◌, ◌≤◌}
+use Rattle.std.proofs.lemmas.Bool.{and_from, and_parts, cases_order, cond-true, false_from_ne_true, le-leb, leb-true, lt-ltb, ltb-true}
+use Rattle.std.proofs.lemmas.Option.{slice_get-get_or}
+use Rattle.std.specs.List.{flat_map, list_any, range_with_len}
+use Rattle.std.specs.Prelude.{IsTrue, nat_le, nat_lt, slice_get, unwrap_or}
 
 -- what a variable's cells are
 held_is : (c : ℕ) (x : Var) → IsTrue (holds c x) → (x.base ≤ c) × (c < after x)
@@ -30,7 +31,7 @@ held_from c x l h = and_from (nat_le x.base c) (nat_lt c (after x)) (le-leb x.ba
 -- ---- for the code
 
 -- a cell of the variable was found in the set
-pub met_here : (set : List ℕ) (x : Var) (place : ℕ) → place < size x.len → IsTrue (has set (x.base + place)) → IsTrue (list_any (λ c. holds c x) set)
+pub met_here : (set : List ℕ) (x : Var) (place : ℕ) → place < unwrap_or x.len 1 → IsTrue (has set (x.base + place)) → IsTrue (list_any (λ c. holds c x) set)
 met_here set x place l h = any_from (λ c. holds c x) set (x.base + place) h (held_from (x.base + place) x (omega arith) (omega arith))
 
 -- none of the first cells is in the set
@@ -49,7 +50,7 @@ misses_more set base n before e k h = elim (cases_order k n) [
 ]
 
 -- so the variable is not met
-pub not_met : (set : List ℕ) (x : Var) (n : ℕ) → n ≡ size x.len → Misses set x.base n → false ≡ list_any (λ c. holds c x) set
+pub not_met : (set : List ℕ) (x : Var) (n : ℕ) → n ≡ unwrap_or x.len 1 → Misses set x.base n → false ≡ list_any (λ c. holds c x) set
 unfolding Misses
 not_met set x n long misses =
     sym (false_from_ne_true (list_any (λ c. holds c x) set) (λ t.
@@ -105,17 +106,17 @@ pub sorted_is : (set cells list : List ℕ) → list ≡ those MOST_SHARED_CELLS
 unfolding sorted
 sorted_is set cells list e same = e ∙ filter_same_in (has set) (has cells) (range_with_len 0 MOST_SHARED_CELLS) (λ c h. same.each c (let inside = below_range 0 MOST_SHARED_CELLS c h in omega (arith, inside.1)))
 
-pub while_used : (p : Program) (q : ℕ) (list : List ℕ) → is_while (kind_of p q) ≡ true → list ≡ sorted (flat_map (reads_at false p) (loop_stmts p q)) → list ≡ loop_used_of p q
-while_used p q list is_one e = e ∙ sym (cond-true (is_while (kind_of p q)) (sorted (flat_map (reads_at false p) (loop_stmts p q))) [] is_one)
+pub while_used : (p : Program) (q : ℕ) (list : List ℕ) → is_while (kind_of p q) ≡ true → list ≡ sorted (flat_map (reads_at false p) (preorder MOST_NESTING p.stmts q)) → list ≡ local_in p (reads_at false p) q
+while_used p q list is_one e = e ∙ sym (cond-true (is_while (kind_of p q)) (sorted (flat_map (reads_at false p) (preorder MOST_NESTING p.stmts q))) [] is_one)
 
-pub while_defined : (p : Program) (q : ℕ) (list : List ℕ) → is_while (kind_of p q) ≡ true → list ≡ sorted (flat_map (writes_at false p) (loop_stmts p q)) → list ≡ loop_defined_of p q
-while_defined p q list is_one e = e ∙ sym (cond-true (is_while (kind_of p q)) (sorted (flat_map (writes_at false p) (loop_stmts p q))) [] is_one)
+pub while_defined : (p : Program) (q : ℕ) (list : List ℕ) → is_while (kind_of p q) ≡ true → list ≡ sorted (flat_map (writes_at false p) (preorder MOST_NESTING p.stmts q)) → list ≡ local_in p (writes_at false p) q
+while_defined p q list is_one e = e ∙ sym (cond-true (is_while (kind_of p q)) (sorted (flat_map (writes_at false p) (preorder MOST_NESTING p.stmts q))) [] is_one)
 
 -- what a body uses, from the cells of the bodies that it reaches
-pub used_is : (p : Program) (b : ℕ) (set list : List ℕ) → IsValid p → list ≡ vars_met p.shared set → HasCells set (flat_map (body_reads p) (called_from p b)) → list ≡ used_of p b
+pub used_is : (p : Program) (b : ℕ) (set list : List ℕ) → IsValid p → list ≡ vars_met p.shared set → HasCells set (flat_map (body_reads p) (called_from p b)) → list ≡ shared_through p (reads_at true p) b
 used_is p b set list v e same = e ∙ vars_same set (flat_map (body_reads p) (called_from p b)) p.shared (shared_small p v) same
 
-pub defined_is : (p : Program) (b : ℕ) (set list : List ℕ) → IsValid p → list ≡ vars_met p.shared set → HasCells set (flat_map (body_writes p) (called_from p b)) → list ≡ defined_of p b
+pub defined_is : (p : Program) (b : ℕ) (set list : List ℕ) → IsValid p → list ≡ vars_met p.shared set → HasCells set (flat_map (body_writes p) (called_from p b)) → list ≡ shared_through p (writes_at true p) b
 defined_is p b set list v e same = e ∙ vars_same set (flat_map (body_writes p) (called_from p b)) p.shared (shared_small p v) same
 
 pub bodies_fit : (p : Program) → IsValid p → length p.bodies < 2 ^ 32

@@ -1,8 +1,8 @@
 -- What the proofs speak of: the parts of the definitions, each by a name of its own.
-use Rattle.std.specs.Prelude.{ℕ, Bool, List, [], Option, true}
+use Rattle.ppd_sets.specs.Named.{cells_if}
+use Rattle.std.specs.Prelude.{ℕ, Bool, List, [], Option, true, not}
 use Rattle.std.specs.Option.{option_map_or}
 use Rattle.std.specs.List.{flat_map}
-use Rattle.ppd_sets.specs.Named.{local_cells}
 use Rattle.ppd_ast.specs.declared.program.Body.{Body}
 use Rattle.ppd_ast.specs.declared.program.Program.{Program}
 use Rattle.ppd_ast.specs.Numbered.{numbers_of}
@@ -11,7 +11,7 @@ use Rattle.ppd_sets.specs.Used.{callee, stmts_at, reads_at, writes_at}
 
 -- the local that receives a value, if there is one
 abbrev pub receiving : (wants_shared : Bool) → Option ℕ → List ℕ
-receiving w into = option_map_or (λ c. local_cells w c 1) into []
+receiving w into = option_map_or (λ c. cells_if (not w) c 1) into []
 
 -- the statements of a body, and none where there is no body
 abbrev pub numbers_in : Program → Option Body → List ℕ

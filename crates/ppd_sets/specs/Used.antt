@@ -67,13 +67,10 @@ AreSmall vars = All (λ x. after x ≤ MOST_SHARED_CELLS) vars
 abbrev pub vars_met : List Var → List ℕ → List ℕ
 vars_met vars cells = those (min (length vars) 65536) (λ v. is_met cells (slice_get vars v))
 
--- the shared variables that are read in some body that a chain of calls reaches from b, itself included
-abbrev pub used_of : Program → ℕ → List ℕ
-used_of p b = vars_met p.shared (flat_map (λ c. flat_map (reads_at true p) (stmts_at p c)) (called_from p b))
-
--- the shared variables that are written there
-abbrev pub defined_of : Program → ℕ → List ℕ
-defined_of p b = vars_met p.shared (flat_map (λ c. flat_map (writes_at true p) (stmts_at p c)) (called_from p b))
+-- the shared variables that some body reads, or writes, as `cells` gives the cells of its statements: a chain of calls
+-- reaches it from b, which is one of them
+abbrev pub shared_through : Program → (cells : ℕ → List ℕ) → ℕ → List ℕ
+shared_through p cells b = vars_met p.shared (flat_map (λ c. flat_map cells (stmts_at p c)) (called_from p b))
 
 -- ---- local cells of loops
 
@@ -81,17 +78,10 @@ defined_of p b = vars_met p.shared (flat_map (λ c. flat_map (writes_at true p) 
 unfoldable pub sorted : List ℕ → List ℕ
 sorted cells = those MOST_SHARED_CELLS (has cells)
 
--- a loop and the statements inside it
-abbrev pub loop_stmts : Program → ℕ → List ℕ
-loop_stmts p q = preorder MOST_NESTING p.stmts q
-
--- the local cells that a loop's test or a statement inside may read
-abbrev pub loop_used_of : Program → ℕ → List ℕ
-loop_used_of p q = if is_while (kind_of p q) then sorted (flat_map (reads_at false p) (loop_stmts p q)) else []
-
--- the local cells that a statement inside a loop writes
-abbrev pub loop_defined_of : Program → ℕ → List ℕ
-loop_defined_of p q = if is_while (kind_of p q) then sorted (flat_map (writes_at false p) (loop_stmts p q)) else []
+-- the local cells that a loop's test and the statements inside read, or write, as `cells` gives those of a statement
+abbrev pub local_in : Program → (cells : ℕ → List ℕ) → ℕ → List ℕ
+local_in p cells q =
+    if is_while (kind_of p q) then sorted (flat_map cells (preorder MOST_NESTING p.stmts q)) else []
 
 -- ---- the same as relations
 
@@ -120,11 +110,11 @@ pub record IsDefined (p : Program) (b : ℕ) (x : Var) : Type 0 where
 -- the loop's test or a statement inside it may read the local cell
 pub record IsLoopUsed (p : Program) (q c : ℕ) : Type 0 where
   pub stmt : ℕ
-  pub inside : IsTrue (has (loop_stmts p q) stmt)
+  pub inside : IsTrue (has (preorder MOST_NESTING p.stmts q) stmt)
   pub read : IsTrue (has (reads_at false p stmt) c)
 
 -- a statement inside the loop writes the local cell; the loop itself writes none
 pub record IsLoopDefined (p : Program) (q c : ℕ) : Type 0 where
   pub stmt : ℕ
-  pub inside : IsTrue (has (loop_stmts p q) stmt)
+  pub inside : IsTrue (has (preorder MOST_NESTING p.stmts q) stmt)
   pub written : IsTrue (has (writes_at false p stmt) c)

@@ -1,8 +1,8 @@
-ghost use Rattle.std.specs.Prelude.{[], ◌∷◌, true};
+ghost use Rattle.std.specs.Prelude.{[], ◌∷◌, true, not};
 ghost use Rattle.ppd_ast.specs.Table.{EachAt, AreChildrenBelow};
 ghost use Rattle.ppd_ast.specs.Term.{term};
 ghost use Rattle.ppd_ast.specs.Valid.{IsValid};
-ghost use Rattle.ppd_sets.specs.Named.{shared_cells, local_cells, cells_in, reads, target_cells, writes};
+ghost use Rattle.ppd_sets.specs.Named.{cells_in, reads, writes, cells_if};
 ghost use Rattle.ppd_sets.specs.Gained.{Gains};
 ghost use Rattle.std.specs.List.{flat_map, range_with_len};
 
@@ -30,7 +30,7 @@ fn add_range(cells: &mut CellSet, base: u16, len: u16)
 }
 
 fn add_shared(cells: &mut CellSet, wants_shared: bool, base: u16, len: u16)
-    ensures { Gains cells.old cells.new (shared_cells wants_shared base len) }
+    ensures { Gains cells.old cells.new (cells_if wants_shared base len) }
 {
     if wants_shared {
         add_range(cells, base, len);
@@ -38,7 +38,7 @@ fn add_shared(cells: &mut CellSet, wants_shared: bool, base: u16, len: u16)
 }
 
 fn add_local(cells: &mut CellSet, wants_shared: bool, base: u16, len: u16)
-    ensures { Gains cells.old cells.new (local_cells wants_shared base len) }
+    ensures { Gains cells.old cells.new (cells_if (not wants_shared) base len) }
 {
     if !wants_shared {
         add_range(cells, base, len);
@@ -118,24 +118,20 @@ pub fn add_shared_reads(cells: &mut CellSet, program: &Program, kind: &Kind)
     add_reads(cells, true, program.exprs.as_slice(), kind)
 }
 
-fn add_target(cells: &mut CellSet, wants_shared: bool, target: &Target)
-    ensures { Gains cells.old cells.new (target_cells wants_shared target.now) }
-{
-    match *target {
-        Target::Local(cell) => add_local(cells, wants_shared, cell, 1),
-        Target::LocalAt { base, len, .. } => add_local(cells, wants_shared, base, len),
-        Target::Shared(cell) => add_shared(cells, wants_shared, cell, 1),
-        Target::SharedAt { base, len, .. } => add_shared(cells, wants_shared, base, len),
-    }
-}
-
 /// Adds the cells that a statement writes, arrays whole: the shared ones, or those of the frame. A call counts as
 /// writing its receiving local.
 pub fn add_writes(cells: &mut CellSet, wants_shared: bool, kind: &Kind)
     ensures { Gains cells.old cells.new (writes wants_shared kind.now) }
 {
     match kind {
-        Kind::Set(target, _) => add_target(cells, wants_shared, target),
+        Kind::Set(Target::Local(cell), _) => add_local(cells, wants_shared, *cell, 1),
+        Kind::Set(Target::LocalAt { base, len, .. }, _) => {
+            add_local(cells, wants_shared, *base, *len)
+        }
+        Kind::Set(Target::Shared(cell), _) => add_shared(cells, wants_shared, *cell, 1),
+        Kind::Set(Target::SharedAt { base, len, .. }, _) => {
+            add_shared(cells, wants_shared, *base, *len)
+        }
         Kind::Zero { base, len } => add_local(cells, wants_shared, *base, *len),
         Kind::Call {
             into: Some(into),

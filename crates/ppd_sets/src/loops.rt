@@ -1,8 +1,9 @@
+ghost use Rattle.ppd_ast.specs.declared.limits.TheConstants.{MOST_NESTING};
 ghost use Rattle.std.specs.Prelude.{false};
 ghost use Rattle.std.specs.List.{flat_map};
 ghost use Rattle.ppd_ast.specs.Order.{inner, preorder};
 ghost use Rattle.ppd_ast.specs.Table.{EachAt, AreChildrenBelow};
-ghost use Rattle.ppd_sets.specs.Used.{reads_at, writes_at, loop_stmts};
+ghost use Rattle.ppd_sets.specs.Used.{reads_at, writes_at};
 ghost use Rattle.ppd_sets.specs.Gained.{GainsBoth, HasBoth};
 
 use crate::touched::Touched;
@@ -64,8 +65,8 @@ fn add_inside(touched: &mut Touched, program: &Program, kind: &Kind, depth: u32)
 pub(crate) fn loop_touched(program: &Program, number: u32) -> Touched
     requires { EachAt AreChildrenBelow program.now.exprs }
     ensures { HasBoth result
-        (flat_map (reads_at false program.now) (loop_stmts program.now number))
-        (flat_map (writes_at false program.now) (loop_stmts program.now number)) }
+        (flat_map (reads_at false program.now) (preorder MOST_NESTING program.now.stmts number))
+        (flat_map (writes_at false program.now) (preorder MOST_NESTING program.now.stmts number)) }
 {
     let mut touched = Touched::new();
     add_stmt(&mut touched, program, number, MOST_NESTING);

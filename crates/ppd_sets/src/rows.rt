@@ -1,10 +1,11 @@
-ghost use Rattle.std.specs.Prelude.{◌≡◌, ◌<◌, ◌≤◌, ◌^◌, false, map, length, IfOk};
-ghost use Rattle.std.specs.List.{flat_map, list_any, range_with_len};
-ghost use Rattle.ppd_ast.specs.Cells.{size, after, holds};
-ghost use Rattle.ppd_ast.specs.declared.limits.TheConstants.{MOST_SHARED_CELLS};
-ghost use Rattle.ppd_ast.specs.Table.{EachAt, AreChildrenBelow};
+ghost use Rattle.ppd_ast.specs.Cells.{after, holds};
+ghost use Rattle.ppd_ast.specs.Order.{preorder};
+ghost use Rattle.ppd_ast.specs.Table.{AreChildrenBelow, EachAt};
 ghost use Rattle.ppd_ast.specs.Valid.{IsValid};
-ghost use Rattle.ppd_sets.specs.Used.{AreSmall, vars_met, used_of, defined_of, loop_used_of, loop_defined_of, loop_stmts, reads_at, writes_at, sorted};
+ghost use Rattle.ppd_ast.specs.declared.limits.TheConstants.{MOST_NESTING, MOST_SHARED_CELLS};
+ghost use Rattle.ppd_sets.specs.Used.{AreSmall, local_in, reads_at, shared_through, sorted, vars_met, writes_at};
+ghost use Rattle.std.specs.List.{flat_map, list_any, range_with_len};
+ghost use Rattle.std.specs.Prelude.{IfOk, false, length, map, true, unwrap_or, ◌<◌, ◌^◌, ◌≡◌, ◌≤◌};
 
 use crate::bodies::{calls, touched_by_bodies, touched_from};
 use crate::cell_set::CellSet;
@@ -27,7 +28,7 @@ struct Row {
 
 // How many cells the variable has.
 fn size_of(var: &Var) -> u16
-    ensures { result ≡ size var.now.len }
+    ensures { result ≡ unwrap_or var.now.len 1 }
 {
     match var.len {
         None => 1,
@@ -68,9 +69,11 @@ pub(crate) fn body_rows(alloc: Global, program: &Program) -> Result<Rows, Memory
     requires valid { IsValid program.now }
     requires count { length program.now.bodies < 2 ^ 32 }
     ensures used { IfOk result
-        (λ rows. rows.used ≡ map (used_of program.now) (range_with_len 0 (length program.now.bodies))) }
+        (λ rows. rows.used ≡ map (shared_through program.now (reads_at true program.now))
+        (range_with_len 0 (length program.now.bodies))) }
     ensures defined { IfOk result
-        (λ rows. rows.defined ≡ map (defined_of program.now) (range_with_len 0 (length program.now.bodies))) }
+        (λ rows. rows.defined ≡ map (shared_through program.now (writes_at true program.now))
+        (range_with_len 0 (length program.now.bodies))) }
 {
     let calls = calls(alloc, program)?;
     let list = touched_by_bodies(alloc, program)?;
@@ -91,9 +94,11 @@ pub(crate) fn body_rows(alloc: Global, program: &Program) -> Result<Rows, Memory
 fn loop_cells(alloc: Global, program: &Program, stmt: u32) -> Result<Row, Memory>
     requires { EachAt AreChildrenBelow program.now.exprs }
     ensures used { IfOk result
-        (λ row. row.used ≡ sorted (flat_map (reads_at false program.now) (loop_stmts program.now stmt))) }
+        (λ row. row.used ≡ sorted (flat_map (reads_at false program.now)
+        (preorder MOST_NESTING program.now.stmts stmt))) }
     ensures defined { IfOk result
-        (λ row. row.defined ≡ sorted (flat_map (writes_at false program.now) (loop_stmts program.now stmt))) }
+        (λ row. row.defined ≡ sorted (flat_map (writes_at false program.now)
+        (preorder MOST_NESTING program.now.stmts stmt))) }
 {
     let touched = loop_touched(program, stmt);
     let used = touched.reads.to_list(alloc)?;
@@ -104,8 +109,8 @@ fn loop_cells(alloc: Global, program: &Program, stmt: u32) -> Result<Row, Memory
 // What a loop uses and defines, and nothing for another statement.
 fn loop_row(alloc: Global, program: &Program, stmt: u32) -> Result<Row, Memory>
     requires { EachAt AreChildrenBelow program.now.exprs }
-    ensures used { IfOk result (λ row. row.used ≡ loop_used_of program.now stmt) }
-    ensures defined { IfOk result (λ row. row.defined ≡ loop_defined_of program.now stmt) }
+    ensures used { IfOk result (λ row. row.used ≡ local_in program.now (reads_at false program.now) stmt) }
+    ensures defined { IfOk result (λ row. row.defined ≡ local_in program.now (writes_at false program.now) stmt) }
 {
     if program.is_while(stmt) {
         let row = loop_cells(alloc, program, stmt)?;
@@ -122,9 +127,11 @@ pub(crate) fn loop_rows(alloc: Global, program: &Program) -> Result<Rows, Memory
     requires valid { IsValid program.now }
     requires count { length program.now.stmts < 2 ^ 32 }
     ensures used { IfOk result
-        (λ rows. rows.used ≡ map (loop_used_of program.now) (range_with_len 0 (length program.now.stmts))) }
+        (λ rows. rows.used ≡ map (local_in program.now (reads_at false program.now))
+        (range_with_len 0 (length program.now.stmts))) }
     ensures defined { IfOk result
-        (λ rows. rows.defined ≡ map (loop_defined_of program.now) (range_with_len 0 (length program.now.stmts))) }
+        (λ rows. rows.defined ≡ map (local_in program.now (writes_at false program.now))
+        (range_with_len 0 (length program.now.stmts))) }
 {
     let mut used = Seq::new(alloc);
     let mut defined = Seq::new(alloc);

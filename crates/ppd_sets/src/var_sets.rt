@@ -1,6 +1,5 @@
-ghost use Rattle.std.specs.Prelude.{◌≡◌, ◌↔◌, ◌<◌, length, IsTrue, IfOk};
+ghost use Rattle.std.specs.Prelude.{◌≡◌, ◌↔◌, ◌<◌, length, IsTrue, IfOk, get_or, []};
 ghost use Rattle.ppd_ast.specs.Valid.{IsValid};
-ghost use Rattle.ppd_cfg.specs.Lists.{row};
 ghost use Rattle.ppd_sets.specs.SetsOf.{AreSetsOf};
 
 use crate::rows::{body_rows, loop_rows};
@@ -38,7 +37,7 @@ impl VarSets {
     /// The shared variables that a body may read, by number, rising.
     pub fn used(&self, body: u16) -> &[u16]
         requires { body < length self.now.used }
-        ensures { result.now ≡ row self.now.used body }
+        ensures { result.now ≡ get_or self.now.used body [] }
     {
         self.used.as_slice()[body as usize].as_slice()
     }
@@ -46,7 +45,7 @@ impl VarSets {
     /// The shared variables that a body may write, by number, rising.
     pub fn defined(&self, body: u16) -> &[u16]
         requires { body < length self.now.defined }
-        ensures { result.now ≡ row self.now.defined body }
+        ensures { result.now ≡ get_or self.now.defined body [] }
     {
         self.defined.as_slice()[body as usize].as_slice()
     }
@@ -54,7 +53,7 @@ impl VarSets {
     /// The local cells that a `while` may read, rising; none for another statement.
     pub fn loop_used(&self, stmt: u32) -> &[u16]
         requires { stmt < length self.now.loop_used }
-        ensures { result.now ≡ row self.now.loop_used stmt }
+        ensures { result.now ≡ get_or self.now.loop_used stmt [] }
     {
         self.loop_used.as_slice()[stmt as usize].as_slice()
     }
@@ -63,7 +62,7 @@ impl VarSets {
     /// statement.
     pub fn loop_defined(&self, stmt: u32) -> &[u16]
         requires { stmt < length self.now.loop_defined }
-        ensures { result.now ≡ row self.now.loop_defined stmt }
+        ensures { result.now ≡ get_or self.now.loop_defined stmt [] }
     {
         self.loop_defined.as_slice()[stmt as usize].as_slice()
     }

@@ -1,5 +1,6 @@
 -- What is answered for the slice of an item is what the edges of the run reach.
-use Rattle.std.specs.Prelude.{slice_get, unwrap_or}
+use Rattle.std.specs.Prelude.{slice_get, unwrap_or, get_or, ok_or}
+use Rattle.std.specs.Result.{result_unwrap_or}
 use Rattle.std.proofs.Common.{◌≡◌, ℕ, zero, suc, ◌+◌, List, [], ◌∷◌, map, Option, Some, None, Result, Ok, Err, refl, ap, sym, ◌∙◌}
 use Rattle.ppd_ast.specs.declared.plan.Plan.{Plan}
 use Rattle.ppd_ast.specs.declared.plan.Policy.{Policy}
@@ -7,10 +8,10 @@ use Rattle.ppd_ast.specs.declared.program.Program.{Program}
 use Rattle.ppd_ast.specs.Valid.{IsValid}
 use Rattle.ppd_entry.specs.declared.entry.At.{At}
 use Rattle.ppd_flow.specs.Answers.{answer_if}
-use Rattle.ppd_flow.specs.Runs.{IsOfRun, edges_or_none, splits_in, story_in}
+use Rattle.ppd_flow.specs.Runs.{IsOfRun, splits_in, story_in}
 use Rattle.ppd_flow.proofs.OfRuns.{answered, gives_edges, seens_are}
 use Rattle.ppd_flow_model.specs.Found.{edges_if as found_if, edges_replays, found_edges}
-use Rattle.ppd_flow_model.specs.Seen.{items_at, seen_of}
+use Rattle.ppd_flow_model.specs.Seen.{seen_of}
 use Rattle.ppd_flow_model.specs.Shared.{Missing, seen_at}
 use Rattle.ppd_flow_past.specs.declared.flow_error.FlowError.{FlowError}
 use Rattle.ppd_flow_past.specs.declared.flow_error.FlowError.TheVariants.{Diverged, NoEvent, Sets, Memory}
@@ -32,7 +33,7 @@ use Rattle.ppd_slice_search.specs.Laws.{ReachesAreSlices, SlicesAreOne}
 use Rattle.ppd_slice_search.specs.OfRuns.{origins, reach}
 use Rattle.ppd_slice_search.specs.Reach.{IsReach, at, item_of, places_of}
 use Rattle.ppd_slice_search.proofs.Levels.{reach_as}
-use Rattle.ppd_slice.specs.Slices.{IsSlice, SlicesAreOfRuns, flow_of, origins_in, places_found, slice_or_none, unless_failed}
+use Rattle.ppd_slice.specs.Slices.{IsSlice, SlicesAreOfRuns, flow_of, origins_in, slice_or_none, unless_failed}
 use Rattle.ppd_slice.proofs.Flows.{none_flow}
 
 clash : {X : Type 0} {o : Option X} {x : X} → o ≡ None → o ≡ Some x → ⊥
@@ -65,10 +66,10 @@ placed program plan xs p k j es e = by (slice_get xs p) refl e
 
 -- ---- nothing is seen of a process that is not there
 
-no_items : (xs : List Split) (p k : ℕ) → slice_get xs p ≡ None → items_at (seen_at (map (λ x. seen_of x) xs) p) k ≡ []
+no_items : (xs : List Split) (p k : ℕ) → slice_get xs p ≡ None → get_or (seen_at (map (λ x. seen_of x) xs) p).items k [] ≡ []
 no_items [] p k e = by k
   where
-    by : (k : ℕ) → items_at (record { items = []; blocks = []; rounds = [] }) k ≡ []
+    by : (k : ℕ) → ◌≡◌ {A = List Item} (get_or [] k []) []
     by zero = refl
     by (suc k) = refl
 no_items (x ∷ xs) zero k e = absurd (cc)
@@ -105,7 +106,7 @@ module _ (law : ReplaysAreSeen) (found : EdgesAreFound) (own : AllOwnPartsAreFou
     needed = edges_replays past.program.now past.plan.now past.logs.now (seens_in past) b.process b.interval b.item
 
     -- of a process of the run
-    there : (x : Split) → slice_get (splits_in past h) b.process ≡ Some x → (o : Option (Result (List FlowEdge) Missing)) → found_there ≡ o → answer_if o ≡ edges_or_none (of_run b)
+    there : (x : Split) → slice_get (splits_in past h) b.process ≡ Some x → (o : Option (Result (List FlowEdge) Missing)) → found_there ≡ o → answer_if o ≡ ok_or (of_run b) NoEvent
     there x at None e =
         gives_edges law found own past b.process b.interval b.item 0 0 (Err NoEvent) v (never needed, ap answer_if e) policy h x r at
     there x at (Some (Ok es)) e =
@@ -116,39 +117,39 @@ module _ (law : ReplaysAreSeen) (found : EdgesAreFound) (own : AllOwnPartsAreFou
     -- of no process of it
     nowhere : slice_get (splits_in past h) b.process ≡ None → found_there ≡ None
     nowhere at =
-        let gone : items_at (seen_at (seens_in past) b.process) b.interval ≡ [] =
-        ap (λ xs. items_at (seen_at xs b.process) b.interval) (seens_are law past policy h v r) ∙ no_items (splits_in past h) b.process b.interval at in
+        let gone : get_or (seen_at (seens_in past) b.process).items b.interval [] ≡ [] =
+        ap (λ xs. get_or (seen_at xs b.process).items b.interval []) (seens_are law past policy h v r) ∙ no_items (splits_in past h) b.process b.interval at in
         ap (λ o. found_if past.program.now past.plan.now past.logs.now (seens_in past) b.process b.interval b.item o)
         (ap (λ (is : List Item). slice_get is b.item) gone ∙ no_item b.item)
 
-    answer_is : answer_if found_there ≡ edges_or_none (of_run b)
+    answer_is : answer_if found_there ≡ ok_or (of_run b) NoEvent
     answer_is = by (slice_get (splits_in past h) b.process) refl
       where
-        by : (o : Option Split) → slice_get (splits_in past h) b.process ≡ o → answer_if found_there ≡ edges_or_none (of_run b)
+        by : (o : Option Split) → slice_get (splits_in past h) b.process ≡ o → answer_if found_there ≡ ok_or (of_run b) NoEvent
         by (Some x) e = there x e found_there refl
         by None e =
             ap answer_if (nowhere e)
-            ∙ sym (ap (λ o. edges_or_none (edges_in past.program.now past.plan.now (splits_in past h) b.interval b.item o)) e)
+            ∙ sym (ap (λ o. ok_or (edges_in past.program.now past.plan.now (splits_in past h) b.interval b.item o) NoEvent) e)
 
-    flow_is : flow_of past b ≡ edges_or_none (of_run b)
+    flow_is : flow_of past b ≡ ok_or (of_run b) NoEvent
     flow_is = ap (λ o. unless_failed o (answer_if found_there)) (never needed) ∙ answer_is
 
     origins_are : origins past.program.now past.plan.now past.budget (story_in past h) b ≡ origins_in past b
-    origins_are = by (of_run b) ∙ ap places_found (sym flow_is)
+    origins_are = by (of_run b) ∙ ap (λ found. places_of (result_unwrap_or found [])) (sym flow_is)
       where
-        by : (o : Option (List FlowEdge)) → places_of (unwrap_or o []) ≡ places_found (edges_or_none o)
+        by : (o : Option (List FlowEdge)) → places_of (unwrap_or o []) ≡ places_of (result_unwrap_or (ok_or o NoEvent) [])
         by None = refl
         by (Some es) = refl
 
-  some_edges : (o : Option (List FlowEdge)) (es : List FlowEdge) → edges_or_none o ≡ Ok es → o ≡ Some es
+  some_edges : (o : Option (List FlowEdge)) (es : List FlowEdge) → ok_or o NoEvent ≡ Ok es → o ≡ Some es
   some_edges None es e = absurd (cc)
   some_edges (Some xs) es e = let same : xs ≡ es = cc in ap Some same
 
-  no_edges : (o : Option (List FlowEdge)) → edges_or_none o ≡ Err NoEvent → o ≡ None
+  no_edges : (o : Option (List FlowEdge)) → ok_or o NoEvent ≡ Err NoEvent → o ≡ None
   no_edges None e = refl
   no_edges (Some es) e = absurd (cc)
 
-  never_misses : (o : Option (List FlowEdge)) (q n c : ℕ) → edges_or_none o ≡ Err (Sets q n c) → ⊥
+  never_misses : (o : Option (List FlowEdge)) (q n c : ℕ) → ok_or o NoEvent ≡ Err (Sets q n c) → ⊥
   never_misses None q n c e = cc
   never_misses (Some es) q n c e = cc
 

@@ -1,39 +1,38 @@
 -- Each process of which intervals are replayed for the edges of an item has an item that one of the edges comes from.
-use Rattle.std.specs.Prelude.{slice_get}
-use Rattle.std.proofs.Common.{◌≡◌, ℕ, ◌⊎◌, inl, inr, List, [], ◌∷◌, ◌++◌, Option, Some, None, Result, Ok, Err, refl, ap, sym, ◌∙◌, subst}
 use Rattle.ppd_entry.specs.declared.entry.At.{At}
-use Rattle.ppd_entry.specs.Entries.{entries_at}
+use Rattle.ppd_flow.specs.Answers.{answer_if}
+use Rattle.ppd_flow.specs.Far.{far_in, far_of_item, far_of_pair, far_of_reads, far_of_spot, far_of_sync, process_of}
+use Rattle.ppd_flow.specs.SharedCells.{answer_of, edge_unless_found, seens_in}
+use Rattle.ppd_flow_model.specs.Control.{control_origin}
+use Rattle.ppd_flow_model.specs.Ends.{end_interval, end_item}
+use Rattle.ppd_flow_model.specs.Found.{and_more, before_others, edges_if, event_edges, item_edges, pair_edges, read_edge, read_edges, read_if, sync_edges}
+use Rattle.ppd_flow_model.specs.Seen.{Seen}
+use Rattle.ppd_flow_model.specs.Shared.{Missing, edge_of_place, greatest_before, origin_in, own_or, pair_of, pair_place, seen_at, walk_in, written_at, written_or_start}
+use Rattle.ppd_flow_model.specs.Walk.{walk}
+use Rattle.ppd_flow_model.specs.declared.walked.Walked.{Walked}
+use Rattle.ppd_flow_model.specs.declared.walked.Walked.TheVariants.{Found, Passed, Stopped}
+use Rattle.ppd_flow_past.specs.ByReplays.{first_failed_in}
+use Rattle.ppd_flow_past.specs.declared.flow_error.FlowError.{FlowError}
+use Rattle.ppd_flow_past.specs.declared.past.Past.{Past}
 use Rattle.ppd_graph.specs.declared.paired.Paired.{Paired}
-use Rattle.ppd_graph.specs.declared.paired.Paired.TheVariants.{Nothing, Initial, Node}
-use Rattle.ppd_sem.specs.declared.event.Access.{Access}
-use Rattle.ppd_sem.specs.declared.event.Event.{Event}
-use Rattle.ppd_sem.specs.declared.event.Spot.{Spot}
-use Rattle.ppd_sem.specs.declared.event.Spot.TheVariants.{Local, Shared}
+use Rattle.ppd_graph.specs.declared.paired.Paired.TheVariants.{Initial, Node, Nothing}
+use Rattle.ppd_model.specs.FlowbackEdges.{bare_edge}
+use Rattle.ppd_model.specs.declared.flow.EdgeKind.TheVariants.{Control}
 use Rattle.ppd_model.specs.declared.flow.FlowEdge.{FlowEdge}
 use Rattle.ppd_model.specs.declared.flow.Item.{Item}
 use Rattle.ppd_model.specs.declared.flow.Item.TheVariants as item
 use Rattle.ppd_model.specs.declared.flow.Origin.TheVariants as origin
-use Rattle.ppd_model.specs.declared.flow.EdgeKind.TheVariants.{Control}
 use Rattle.ppd_model.specs.declared.graph.EdgeId.{EdgeId}
-use Rattle.ppd_model.specs.FlowbackEdges.{bare_edge}
-use Rattle.ppd_flow.specs.Answers.{answer_if}
-use Rattle.ppd_flow.specs.Far.{far_in, far_of_item, far_of_pair, far_of_reads, far_of_spot, far_of_sync, process_of}
-use Rattle.ppd_flow_model.specs.declared.walked.Walked.{Walked}
-use Rattle.ppd_flow_model.specs.declared.walked.Walked.TheVariants.{Stopped, Passed, Found}
-use Rattle.ppd_flow_model.specs.Control.{control_origin}
-use Rattle.ppd_flow_model.specs.Ends.{end_interval, end_item}
-use Rattle.ppd_flow_model.specs.Found.{and_more, before_others, edges_if, event_edges, item_edges, pair_edges, read_edge, read_edges, read_if, sync_edges}
-use Rattle.ppd_flow_model.specs.Seen.{Seen, items_at}
-use Rattle.ppd_flow_model.specs.Shared.{Missing, edge_of_place, greatest_before, origin_in, own_or, pair_of, pair_place, seen_at, walk_in, written_at, written_or_start}
-use Rattle.ppd_flow_model.specs.Walk.{walk}
-use Rattle.ppd_flow_past.specs.declared.flow_error.FlowError.{FlowError}
-use Rattle.ppd_flow_past.specs.declared.past.Past.{Past}
-use Rattle.ppd_flow_past.specs.ByReplays.{first_failed_in}
-use Rattle.ppd_flow.specs.SharedCells.{answer_of, edge_unless_found, seens_in}
-use Rattle.ppd_slice_search.specs.declared.reached.ItemAt.{ItemAt}
-use Rattle.ppd_slice_search.specs.Reach.{IsIn, at, place_of, places_of}
-use Rattle.ppd_slice.specs.Slices.{flow_of, unless_failed}
+use Rattle.ppd_sem.specs.declared.event.Access.{Access}
+use Rattle.ppd_sem.specs.declared.event.Event.{Event}
+use Rattle.ppd_sem.specs.declared.event.Spot.{Spot}
+use Rattle.ppd_sem.specs.declared.event.Spot.TheVariants.{Local, Shared}
 use Rattle.ppd_slice.proofs.Flows.{replays}
+use Rattle.ppd_slice.specs.Slices.{flow_of, unless_failed}
+use Rattle.ppd_slice_search.specs.Reach.{IsIn, at, place_of, places_of}
+use Rattle.ppd_slice_search.specs.declared.reached.ItemAt.{ItemAt}
+use Rattle.std.proofs.Common.{Err, List, None, Ok, Option, Result, Some, [], ap, inl, inr, refl, subst, sym, ℕ, ◌++◌, ◌∙◌, ◌∷◌, ◌≡◌, ◌⊎◌}
+use Rattle.std.specs.Prelude.{get_or, slice_get}
 
 -- one of these edges comes from an item of the process
 abbrev pub HasOrigin : ℕ → List FlowEdge → Type 0
@@ -141,7 +140,7 @@ module _ (past : Past) (p k j q : ℕ) where
   of_pair Nothing s = absurd s
   of_pair Initial s = absurd s
   of_pair (Node a) (inl e) =
-      let entries = entries_at past.logs.now a.process in
+      let entries = get_or past.logs.now.lists a.process [] in
       (at a.process (end_interval entries a.sync) (end_item entries (seen_at xs a.process) a.sync), inl refl, sym e)
   of_pair (Node a) (inr m) = absurd m
 
@@ -196,5 +195,5 @@ module _ (past : Past) (p k j q : ℕ) where
     -- each of the processes is that of an origin
     pub from_far : flow_of past (at p k j) ≡ Ok es → IsIn q (far_in past p k j) → HasOrigin q es
     from_far f s =
-        of_answer (slice_get (items_at (seen_at xs p) k) j)
-        (unfailed (first_failed_in past (replays past (at p k j))) (answer_if (edges_if past.program.now past.plan.now past.logs.now xs p k j (slice_get (items_at (seen_at xs p) k) j))) f) s
+        of_answer (slice_get (get_or (seen_at xs p).items k []) j)
+        (unfailed (first_failed_in past (replays past (at p k j))) (answer_if (edges_if past.program.now past.plan.now past.logs.now xs p k j (slice_get (get_or (seen_at xs p).items k []) j))) f) s

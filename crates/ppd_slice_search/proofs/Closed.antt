@@ -1,5 +1,9 @@
 -- What an item of a run comes from is an item of the run, so that there are no more levels than items.
 use Rattle.std.proofs.Common.{◌≡◌, ℕ, zero, suc, ◌+◌, ◌<◌, ◌≤◌, ℤ, Bool, true, false, List, [], ◌∷◌, ◌++◌, Option, Some, None, refl, ap, ap₂, sym, subst, ◌∙◌, arith, length, length-append, map, inl, inr, ◌⊎◌, cond}
+use Rattle.ppd_sem.specs.declared.event.Spot.TheVariants.{Local}
+use Rattle.ppd_sem.specs.declared.event.Spot.{Spot}
+use Rattle.ppd_model.specs.declared.flow.EdgeKind.{EdgeKind}
+use Rattle.std.specs.Option.{option_map_or}
 use Rattle.std.specs.Prelude.{⊤, position, slice_get, sum_by, zip, option_map, unwrap_or}
 use Rattle.std.specs.List.{flat_map, position_from}
 use Rattle.std.proofs.lemmas.List.Sums.{sum_by-cons}
@@ -14,14 +18,14 @@ use Rattle.ppd_ast.specs.declared.program.Program.{Program}
 use Rattle.ppd_ast.specs.Lookups.{kind_of}
 use Rattle.ppd_sem.specs.declared.event.Access.{Access}
 use Rattle.ppd_sem.specs.Blocks.{block_kind, postlog_cells}
-use Rattle.ppd_model.specs.declared.flow.EdgeKind.TheVariants.{Control}
+use Rattle.ppd_model.specs.declared.flow.EdgeKind.TheVariants.{Control, Left, Returned}
 use Rattle.ppd_model.specs.declared.flow.FlowEdge.{FlowEdge}
 use Rattle.ppd_model.specs.declared.flow.Origin.{Origin}
 use Rattle.ppd_model.specs.declared.flow.Origin.TheVariants as origin
 use Rattle.ppd_model.specs.declared.trace.EventId.{EventId}
 use Rattle.ppd_model.specs.declared.trace.TracedEvent.{TracedEvent}
 use Rattle.ppd_model.specs.declared.tracing.Story.{Story}
-use Rattle.ppd_model.specs.FlowbackEdges.{bare_edge, edges, edges_of_event, edges_of_nested, edges_of_part, from_parent, from_writer, left_edges, part_at, result_edges, returned_edges, sync_edges}
+use Rattle.ppd_model.specs.FlowbackEdges.{bare_edge, edges, edges_of_event, edges_of_nested, edges_of_part, part_at, result_edges, sync_edges, value_edges}
 use Rattle.ppd_model.proofs.EdgeWords.{edges_if, edges_in, part_in, read_edge}
 use Rattle.ppd_model.specs.FullTrace.{Tag}
 use Rattle.ppd_model.specs.Intervals.{Part, own, nested, Span, Split, is_own, place_in, ref, splits}
@@ -160,11 +164,11 @@ module _ (xs : List Split) where
       by None f = λ c m. absurd m
       by (Some x) f = good_place e.process x f e.number (place_in e.number 0 x.spans) refl
 
-  good_writer : (w : Tag) → IsGood (from_writer xs w)
+  good_writer : (w : Tag) → IsGood (option_map_or (ref xs) w origin.Initial)
   good_writer None = good_none
   good_writer (Some e) = good_ref e
 
-  good_parent : (o : Option EventId) → IsGood (from_parent xs o)
+  good_parent : (o : Option EventId) → IsGood (option_map_or (ref xs) o origin.Entry)
   good_parent None = λ c m. absurd m
   good_parent (Some e) = good_ref e
 
@@ -185,29 +189,24 @@ module _ (xs : List Split) where
   syncs_good (kind.P s) None = (good_none, tt)
   syncs_good k None = tt
 
-  left_good : (frame : ℕ) (cs : List ℕ) (vs : List ℤ) (ws : List Tag) → AreGood (left_edges xs frame cs vs ws)
-  left_good frame (c ∷ cs) (v ∷ vs) (w ∷ ws) = (good_writer w, left_good frame cs vs ws)
-  left_good frame [] vs ws = tt
-  left_good frame (c ∷ cs) [] ws = tt
-  left_good frame (c ∷ cs) (v ∷ vs) [] = tt
-
-  returned_good : (vs : List ℤ) (ws : List Tag) → AreGood (returned_edges xs vs ws)
-  returned_good (v ∷ vs) (w ∷ ws) = (good_writer w, tt)
-  returned_good [] ws = tt
-  returned_good (v ∷ vs) [] = tt
+  values_good : (kind : EdgeKind) (ss : List (Option Spot)) (vs : List ℤ) (ws : List Tag) → AreGood (value_edges xs kind ss vs ws)
+  values_good kind (s ∷ ss) (v ∷ vs) (w ∷ ws) = (good_writer w, values_good kind ss vs ws)
+  values_good kind [] vs ws = tt
+  values_good kind (s ∷ ss) [] ws = tt
+  values_good kind (s ∷ ss) (v ∷ vs) [] = tt
 
   results_good : (plan : Plan) (k : BlockKind) (i : Span) → AreGood (result_edges plan xs k i)
-  results_good plan (block.Loop s) i = left_good i.frame (postlog_cells plan i.block) i.values i.left
-  results_good plan k i = returned_good i.values i.left
+  results_good plan (block.Loop s) i = values_good Left (map (λ c. Some (Local i.frame c)) (postlog_cells plan i.block)) i.values i.left
+  results_good plan k i = values_good Returned (None ∷ []) i.values i.left
 
   event_good : (program : Program) (e : TracedEvent) → AreGood (edges_of_event program xs e)
   event_good program e =
-      both_good (map (read_edge xs) (zip e.event.reads e.writers) ++ sync_edges xs (kind_of program e.event.stmt) e.paired) (bare_edge Control (from_parent xs e.parent) ∷ [])
+      both_good (map (read_edge xs) (zip e.event.reads e.writers) ++ sync_edges xs (kind_of program e.event.stmt) e.paired) (bare_edge Control (option_map_or (ref xs) e.parent origin.Entry) ∷ [])
       (both_good (map (read_edge xs) (zip e.event.reads e.writers)) (sync_edges xs (kind_of program e.event.stmt) e.paired) (reads_good (zip e.event.reads e.writers)) (syncs_good (kind_of program e.event.stmt) e.paired))
       (good_parent e.parent, tt)
 
   nested_good : (plan : Plan) (i : Span) → AreGood (edges_of_nested plan xs i)
-  nested_good plan i = both_good (result_edges plan xs (block_kind plan i.block) i) (bare_edge Control (from_parent xs i.control) ∷ []) (results_good plan (block_kind plan i.block) i) (good_parent i.control, tt)
+  nested_good plan i = both_good (result_edges plan xs (block_kind plan i.block) i) (bare_edge Control (option_map_or (ref xs) i.control origin.Entry) ∷ []) (results_good plan (block_kind plan i.block) i) (good_parent i.control, tt)
 
   abbrev AreGoodIf : Option (List FlowEdge) → Type 0
   AreGoodIf None = ⊤

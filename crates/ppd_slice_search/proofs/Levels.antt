@@ -1,13 +1,15 @@
 -- The search by levels finds the slice.
+use Rattle.std.proofs.lemmas.List.Elements.{All-from_recursion}
+use Rattle.std.proofs.lemmas.List.Kept.{AllPairs-cons}
 use Rattle.std.proofs.Common.{◌≡◌, ℕ, zero, suc, ◌+◌, ◌<◌, ◌≤◌, Bool, true, false, List, [], ◌∷◌, ◌++◌, refl, ap, ap₂, sym, subst, ◌∙◌, arith, length, length-append, map, filter, cond, inl, inr, ◌⊎◌, true≢false}
-use Rattle.std.specs.Prelude.{⊤, fold, nat_eq, nat_lt, not, ◌&&◌, ◌||◌, if◌then◌else◌}
+use Rattle.std.specs.Prelude.{⊤, fold, nat_eq, nat_lt, not, ◌&&◌, ◌||◌, if◌then◌else◌, AllPairs}
 use Rattle.std.specs.List.{flat_map, list_any, AllByRecursion}
 use Rattle.std.proofs.lemmas.Bool.{and_parts, cases_eq, cases_lt, eq-eqb, eqb-true, le-ltb, lt-ltb, ltb-true, or_cases}
 use Rattle.ppd_slice_search.specs.declared.reached.ItemAt.{ItemAt}
 use Rattle.ppd_slice_search.specs.declared.reached.Reached.{Reached}
 use Rattle.ppd_slice_search.specs.Laws.{LevelsAreReach}
 use Rattle.ppd_slice_search.specs.Levels.{at_depth, is_among, is_item, is_sooner, levels, next_level, put_item, reached, sorted}
-use Rattle.ppd_slice_search.specs.Reach.{IsBefore, IsIn, IsReach, IsRising, Leads, at, comes, item_of, stays}
+use Rattle.ppd_slice_search.specs.Reach.{IsBefore, IsIn, IsReach, Leads, at, comes, item_of, stays}
 
 -- item a comes before item b: by process, then interval, then number
 abbrev pub IsSooner : ItemAt → ItemAt → Type 0
@@ -407,7 +409,7 @@ module _ (next : ItemAt → List ItemAt) where
 
     -- what is listed from depth d on
     record IsRest (d : ℕ) (rs : List Reached) : Type 0 where
-      rising : IsRising rs
+      rising : AllPairs IsBefore rs
       from : (r : Reached) → IsIn r rs → d ≤ r.depth
       led : (r : Reached) → IsIn r rs → Leads next r.depth a (item_of r)
       least : (r : Reached) → IsIn r rs → (m : ℕ) → Leads next m a (item_of r) → r.depth ≤ m
@@ -415,7 +417,7 @@ module _ (next : ItemAt → List ItemAt) where
 
     -- a level that is empty is the last
     at_end : (d : ℕ) (seen : List ItemAt) → IsLevel d seen [] → IsRest d []
-    at_end d seen h = record { rising = tt; from = λ r m. absurd m; led = λ r m. absurd m; least = λ r m. absurd m; all = λ m b l. inl (nearer m b l) }
+    at_end d seen h = record { rising = λ i j r lt within. absurd (omega arith); from = λ r m. absurd m; led = λ r m. absurd m; least = λ r m. absurd m; all = λ m b l. inl (nearer m b l) }
       where
         at_depth' : (k : ℕ) (b : ItemAt) → k ≤ d → Leads next k a b → (m : ℕ) × (m < d) × Leads next m a b
         at_depth' k b le l = elim (cases_lt k d) [
@@ -431,9 +433,11 @@ module _ (next : ItemAt → List ItemAt) where
             let lt = c.1 in
             at_depth' (suc c.0) b (omega (arith, lt)) (leads_more c.0 a r.from b c.2 r.edge)
 
-    level_rising : (d : ℕ) (level : List ItemAt) (rs : List Reached) → IsSorted level → IsRising rs → ((r : Reached) → IsIn r rs → d < r.depth) → IsRising (map (at_depth d) level ++ rs)
+    level_rising : (d : ℕ) (level : List ItemAt) (rs : List Reached) → IsSorted level → AllPairs IsBefore rs → ((r : Reached) → IsIn r rs → d < r.depth) → AllPairs IsBefore (map (at_depth d) level ++ rs)
     level_rising d [] rs s r far = r
-    level_rising d (b ∷ bs) rs s r far = (after_all bs s.0, level_rising d bs rs s.1 r far)
+    level_rising d (b ∷ bs) rs s r far =
+        AllPairs-cons IsBefore (at_depth d b) (map (at_depth d) bs ++ rs)
+        (All-from_recursion (IsBefore (at_depth d b)) (map (at_depth d) bs ++ rs) (after_all bs s.0)) (level_rising d bs rs s.1 r far)
       where
         rest_after : (ss : List Reached) → ((x : Reached) → IsIn x ss → d < x.depth) → AllAfter (at_depth d b) ss
         rest_after [] f = tt

@@ -1,10 +1,11 @@
 -- An item has one slice: two rising lists with the same elements are equal.
+use Rattle.std.proofs.lemmas.List.Elements.{recursion_from_All}
 use Rattle.std.proofs.Common.{◌≡◌, ℕ, zero, suc, ◌+◌, ◌<◌, ◌≤◌, List, [], ◌∷◌, refl, ap, ap₂, sym, subst, ◌∙◌, arith, inl, inr, ◌⊎◌}
-use Rattle.std.specs.Prelude.{⊤}
+use Rattle.std.specs.Prelude.{⊤, AllPairs}
 use Rattle.ppd_slice_search.specs.declared.reached.ItemAt.{ItemAt}
 use Rattle.ppd_slice_search.specs.declared.reached.Reached.{Reached}
 use Rattle.ppd_slice_search.specs.Laws.{SlicesAreOne}
-use Rattle.ppd_slice_search.specs.Reach.{IsBefore, IsIn, IsReach, IsRising, Leads, at, item_of}
+use Rattle.ppd_slice_search.specs.Reach.{IsBefore, IsIn, IsReach, Leads, at, item_of}
 use Rattle.ppd_slice_search.proofs.Levels.{AllAfter, IsSooner}
 
 sooner_not : (a b : ItemAt) → IsSooner a b → IsSooner b a → ⊥
@@ -27,13 +28,17 @@ after_is r s [] h m = absurd m
 after_is r s (t ∷ ts) h (inl e) = subst (IsBefore r) (sym e) h.0
 after_is r s (t ∷ ts) h (inr m) = after_is r s ts h.1 m
 
+-- the first comes before each of the rest
+front : (r : Reached) (rs : List Reached) → AllPairs IsBefore (r ∷ rs) → AllAfter r rs
+front r rs a = recursion_from_All (IsBefore r) rs (λ k d lt. a 0 (suc k) d (omega arith) (omega (arith, lt)))
+
 -- rising lists with the same elements
-same_lists : (rs ss : List Reached) → IsRising rs → IsRising ss → ((r : Reached) → IsIn r rs → IsIn r ss) → ((s : Reached) → IsIn s ss → IsIn s rs) → rs ≡ ss
+same_lists : (rs ss : List Reached) → AllPairs IsBefore rs → AllPairs IsBefore ss → ((r : Reached) → IsIn r rs → IsIn r ss) → ((s : Reached) → IsIn s ss → IsIn s rs) → rs ≡ ss
 same_lists [] [] a b f g = refl
 same_lists [] (s ∷ ss) a b f g = absurd (g s (inl refl))
 same_lists (r ∷ rs) [] a b f g = absurd (f r (inl refl))
 same_lists (r ∷ rs) (s ∷ ss) a b f g =
-    ap₂ (λ x xs. x ∷ xs) first (same_lists rs ss a.1 b.1 (λ x m. onward x m (f x (inr m))) (λ x m. back x m (g x (inr m))))
+    ap₂ (λ x xs. x ∷ xs) first (same_lists rs ss (λ i j d lt within. a (suc i) (suc j) d (omega (arith, lt)) (omega (arith, within))) (λ i j d lt within. b (suc i) (suc j) d (omega (arith, lt)) (omega (arith, within))) (λ x m. onward x m (f x (inr m))) (λ x m. back x m (g x (inr m))))
   where
     first : r ≡ s
     first = by (f r (inl refl)) (g s (inl refl))
@@ -41,15 +46,15 @@ same_lists (r ∷ rs) (s ∷ ss) a b f g =
         by : IsIn r (s ∷ ss) → IsIn s (r ∷ rs) → r ≡ s
         by (inl e) m = e
         by (inr k) (inl e) = sym e
-        by (inr k) (inr m) = absurd (before_not r s (after_is r s rs a.0 m) (after_is s r ss b.0 k))
+        by (inr k) (inr m) = absurd (before_not r s (after_is r s rs (front r rs a) m) (after_is s r ss (front s ss b) k))
 
     onward : (x : Reached) → IsIn x rs → IsIn x (s ∷ ss) → IsIn x ss
     onward x m (inr k) = k
-    onward x m (inl e) = absurd (let z : IsBefore r x = after_is r x rs a.0 m in let y : x ≡ r = e ∙ sym first in before_not r x z (subst (λ w. IsBefore w r) (sym y) (subst (IsBefore r) y z)))
+    onward x m (inl e) = absurd (let z : IsBefore r x = after_is r x rs (front r rs a) m in let y : x ≡ r = e ∙ sym first in before_not r x z (subst (λ w. IsBefore w r) (sym y) (subst (IsBefore r) y z)))
 
     back : (x : Reached) → IsIn x ss → IsIn x (r ∷ rs) → IsIn x rs
     back x m (inr k) = k
-    back x m (inl e) = absurd (let z : IsBefore s x = after_is s x ss b.0 m in let y : x ≡ s = e ∙ first in before_not s x z (subst (λ w. IsBefore w s) (sym y) (subst (IsBefore s) y z)))
+    back x m (inl e) = absurd (let z : IsBefore s x = after_is s x ss (front s ss b) m in let y : x ≡ s = e ∙ first in before_not s x z (subst (λ w. IsBefore w s) (sym y) (subst (IsBefore s) y z)))
 
 -- of two slices each has the elements of the other
 module _ (next : ItemAt → List ItemAt) (a : ItemAt) where

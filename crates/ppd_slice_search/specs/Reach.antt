@@ -1,6 +1,6 @@
 -- Which items a slice has: those that lists of items lead to, each with its least depth.
-use Rattle.std.specs.Prelude.{◌≡◌, ℕ, zero, suc, ◌<◌, ◌≤◌, ◌⊎◌, List, [], ◌∷◌, ⊤}
-use Rattle.std.specs.List.{AllByRecursion, flat_map}
+use Rattle.std.specs.Prelude.{◌≡◌, ℕ, zero, suc, ◌<◌, ◌≤◌, ◌⊎◌, List, [], ◌∷◌, AllPairs}
+use Rattle.std.specs.List.{flat_map}
 use Rattle.ppd_model.specs.declared.flow.FlowEdge.{FlowEdge}
 use Rattle.ppd_model.specs.declared.flow.Origin.{Origin}
 use Rattle.ppd_model.specs.declared.flow.Origin.TheVariants as origin
@@ -47,16 +47,12 @@ IsBefore r s =
     (r.depth < s.depth) ⊎ ((r.depth ≡ s.depth) × ((r.process < s.process)
     ⊎ ((r.process ≡ s.process) × ((r.interval < s.interval) ⊎ ((r.interval ≡ s.interval) × (r.item < s.item))))))
 
--- each comes before all that stand behind it, so that none stands twice
-abbrev pub IsRising : List Reached → Type 0
-IsRising [] = ⊤
-IsRising (r ∷ rs) = AllByRecursion (IsBefore r) rs × IsRising rs
-
 -- ---- slices
 
--- these are all items that item a leads to, each once with its least number of edges, rising
+-- these are all items that item a leads to, each with its least number of edges and before all that stand behind it, so
+-- that none stands twice
 pub record IsReach (next : ItemAt → List ItemAt) (a : ItemAt) (rs : List Reached) : Type 0 where
-  pub rising : IsRising rs
+  pub rising : AllPairs IsBefore rs
   pub led_to : (r : Reached) → IsIn r rs → Leads next r.depth a (item_of r)
   pub least : (r : Reached) → IsIn r rs → (d : ℕ) → Leads next d a (item_of r) → r.depth ≤ d
   pub all : (d : ℕ) (b : ItemAt) → Leads next d a b → (r : Reached) × IsIn r rs × (item_of r ≡ b)

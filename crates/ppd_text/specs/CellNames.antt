@@ -1,18 +1,16 @@
 -- How processes, cells and the words of traps are written.
-use Rattle.std.specs.Prelude.{ℕ, ◌+◌, ◌-◌, List, [], ◌∷◌, ◌++◌, Option, Some, None, is_none, codes, decimal, slice_get, if◌then◌else◌}
 use Rattle.ppd_ast.specs.Cells.{holds}
-use Rattle.ppd_ast.specs.declared.plan.Block.{Block}
+use Rattle.ppd_ast.specs.Lookups.{body_numbered}
 use Rattle.ppd_ast.specs.declared.program.Program.{Program}
 use Rattle.ppd_ast.specs.declared.program.Var.{Var}
 use Rattle.ppd_ast.specs.declared.status.Trap.{Trap}
 use Rattle.ppd_ast.specs.declared.status.Trap.TheVariants as trap
-use Rattle.ppd_ast.specs.Lookups.{name_of_body}
 use Rattle.ppd_entry.specs.declared.entry.At.{At}
-use Rattle.ppd_text.specs.Plans.{block_what}
+use Rattle.std.specs.Prelude.{List, [], codes, decimal, if◌then◌else◌, is_none, ℕ, ◌++◌, ◌+◌, ◌-◌, ◌∷◌}
 
 -- the name of process k
 abbrev pub process_name : Program → ℕ → List ℕ
-process_name p k = name_of_body (slice_get p.bodies (p.functions + k))
+process_name p k = (body_numbered p (p.functions + k)).name
 
 -- the line of a test that failed at an entry of a process, which begins with these words
 abbrev pub at_entry : Program → List ℕ → At → List ℕ
@@ -24,11 +22,6 @@ cell_text [] c = []
 cell_text (v ∷ vs) c =
     if holds c v then v.name ++ (if is_none v.len then [] else codes "[" ++ decimal (c - v.base) ++ codes "]")
     else cell_text vs c
-
--- what a block is the code of
-abbrev pub what_text : Program → Option Block → List ℕ
-what_text p None = []
-what_text p (Some b) = block_what p b.kind
 
 abbrev pub trap_word : Trap → List ℕ
 trap_word trap.Overflow = codes "overflow"

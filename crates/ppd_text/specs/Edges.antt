@@ -1,8 +1,5 @@
 -- The line of each flowback edge of an item, and of each shared cell with its last value and write.
-use Rattle.std.specs.Prelude.{ℕ, ◌+◌, ℤ, List, [], ◌++◌, Option, Some, None, codes, decimal, slice_get}
-use Rattle.std.specs.Fmt.{signed_decimal}
-use Rattle.std.specs.List.{flat_map}
-use Rattle.std.specs.Option.{option_map_or}
+use Rattle.ppd_ast.specs.Lookups.{body_numbered}
 use Rattle.ppd_ast.specs.declared.plan.Plan.{Plan}
 use Rattle.ppd_ast.specs.declared.program.Program.{Program}
 use Rattle.ppd_ast.specs.declared.program.Var.{Var}
@@ -14,9 +11,13 @@ use Rattle.ppd_model.specs.declared.flow.Item.TheVariants as item
 use Rattle.ppd_model.specs.declared.flow.Origin.{Origin}
 use Rattle.ppd_model.specs.declared.flow.Origin.TheVariants as origin
 use Rattle.ppd_sem.specs.declared.event.Spot.{Spot}
-use Rattle.ppd_text.specs.Plans.{block_locals, locals_round}
-use Rattle.ppd_text.specs.Items.{cell_value, item_line}
 use Rattle.ppd_text.specs.CellNames.{cell_text, process_name}
+use Rattle.ppd_text.specs.Items.{access_text, item_line}
+use Rattle.ppd_text.specs.Names.{at_number}
+use Rattle.ppd_text.specs.Plans.{block_locals}
+use Rattle.std.specs.Fmt.{signed_decimal}
+use Rattle.std.specs.List.{flat_map}
+use Rattle.std.specs.Prelude.{List, None, Option, Some, [], codes, decimal, ℕ, ℤ, ◌++◌}
 
 -- ---- origins
 
@@ -40,7 +41,7 @@ edge_word edge.Control = codes "control"
 abbrev pub subject_text : Program → List Var → Option Spot → Option ℤ → List ℕ
 subject_text p locals spot None = []
 subject_text p locals None (Some v) = codes " " ++ signed_decimal v
-subject_text p locals (Some spot) (Some v) = codes " " ++ cell_value p locals spot v
+subject_text p locals (Some spot) (Some v) = access_text (codes " ") p locals (record { spot = spot; value = v })
 
 -- an edge into an item whose local cells are of these variables
 abbrev pub edge_line : Program → List Var → FlowEdge → List ℕ
@@ -50,9 +51,8 @@ edge_line p locals e =
 -- whose local cells the edges of an item name: those of the body in which its statement stands, or of the body of its
 -- block
 abbrev pub item_locals : Program → Plan → Item → List Var
-item_locals p plan (item.Own e) = locals_round p (slice_get p.stmts e.stmt)
-item_locals p plan (item.Nested k b values closed) =
-    option_map_or (λ x. block_locals p x.kind) (slice_get plan.blocks b) []
+item_locals p plan (item.Own e) = at_number (λ s. (body_numbered p s.body).locals) p.stmts e.stmt
+item_locals p plan (item.Nested k b values closed) = at_number (λ x. block_locals p x.kind) plan.blocks b
 
 -- the line of item j, then its edges, as `why` writes them
 abbrev pub why_text : Program → Plan → (j : ℕ) → Item → List FlowEdge → List ℕ

@@ -1,8 +1,10 @@
 // How processes, cells and the words of traps are written, and whose cells are named.
-ghost use Rattle.std.specs.Prelude.{◌≡◌, ◌≤◌, ◌-◌, ◌++◌, [], IfOk, OnOk, codes, decimal, if◌then◌else◌, is_none, slice_get};
+ghost use Rattle.std.specs.Prelude.{◌≡◌, ◌≤◌, ◌-◌, ◌++◌, [], IfOk, OnOk, codes, decimal, if◌then◌else◌, is_none};
 ghost use Rattle.ppd_ast.specs.Cells.{holds as holds_of};
 ghost use Rattle.ppd_text.specs.CellNames.{at_entry as at_entry_of, cell_text};
-ghost use Rattle.ppd_text.specs.CellNames.{process_name as process_name_of, trap_word, what_text};
+ghost use Rattle.ppd_text.specs.CellNames.{process_name as process_name_of, trap_word};
+ghost use Rattle.ppd_text.specs.Names.{at_number};
+ghost use Rattle.ppd_text.specs.Plans.{block_what};
 
 use crate::names::body_name;
 use crate::plans::put_block_what;
@@ -80,7 +82,7 @@ pub fn put_what(
     plan: &Plan,
     block: u16,
 ) -> Result<(), Memory>
-    ensures { OnOk result (text.new.items ≡ text.old.items ++ what_text program.now (slice_get plan.now.blocks block)) }
+    ensures { OnOk result (text.new.items ≡ text.old.items ++ at_number (λ b. block_what program.now b.kind) plan.now.blocks block) }
 {
     match plan.blocks.as_slice().get(block as usize) {
         Some(block) => put_block_what(text, program, block.kind),

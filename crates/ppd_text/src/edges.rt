@@ -1,19 +1,19 @@
 // The line of each flowback edge of an item.
-ghost use Rattle.std.specs.Prelude.{◌≡◌, ◌++◌, [], OnOk, codes, decimal, slice_get};
-ghost use Rattle.std.specs.Option.{option_map_or};
+ghost use Rattle.std.specs.Prelude.{◌≡◌, ◌++◌, OnOk, codes, decimal};
 ghost use Rattle.std.specs.List.{flat_map};
 ghost use Rattle.ppd_text.specs.Edges.{edge_line, edge_word, item_locals as locals_of_item};
 ghost use Rattle.ppd_text.specs.Edges.{origin_text, subject_text, why_text};
+ghost use Rattle.ppd_text.specs.Names.{at_number};
 ghost use Rattle.ppd_text.specs.Plans.{block_locals as locals_of_block};
 ghost use Rattle.ppd_text.specs.CellNames.{process_name as process_name_of};
 
 use crate::cell_names::process_name;
-use crate::items::{put_cell_value, put_item};
+use crate::items::{put_access, put_item};
 use crate::plans::{block_locals, locals_round};
 use crate::text::{put, put_number, put_value};
 use ppd_ast::{Memory, Plan, Program, Var};
 use ppd_model::{EdgeKind, FlowEdge, Item, Origin};
-use ppd_sem::Spot;
+use ppd_sem::{Access, Spot};
 
 fn put_place_of(
     text: &mut Vec<u8>,
@@ -81,10 +81,12 @@ fn put_told(
     ensures { OnOk result
         (text.new.items ≡ text.old.items ++ subject_text program.now locals.now spot (Some value)) }
 {
-    put(text, b" ")?;
     match spot {
-        None => put_value(text, value),
-        Some(spot) => put_cell_value(text, program, locals, spot, value),
+        None => {
+            put(text, b" ")?;
+            put_value(text, value)
+        }
+        Some(spot) => put_access(text, b" ", program, locals, Access { spot, value }),
     }
 }
 
@@ -134,7 +136,7 @@ fn put_each_edge(
 
 fn locals_if<'a>(program: &'a Program, plan: &Plan, block: u16) -> &'a [Var]
     ensures { result.now
-        ≡ option_map_or (λ x. locals_of_block program.now x.kind) (slice_get plan.now.blocks block) [] }
+        ≡ at_number (λ x. locals_of_block program.now x.kind) plan.now.blocks block }
 {
     match plan.blocks.as_slice().get(block as usize) {
         Some(block) => block_locals(program, block.kind),

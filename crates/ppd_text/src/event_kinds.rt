@@ -1,7 +1,8 @@
 // What an event is, in a word and the name of what it is about.
-ghost use Rattle.std.specs.Prelude.{◌≡◌, ◌++◌, ◌&&◌, OnOk, codes, if◌then◌else◌, is_none, is_some, slice_get};
+ghost use Rattle.std.specs.Prelude.{◌≡◌, ◌++◌, ◌&&◌, OnOk, if◌then◌else◌, is_none, is_some};
 ghost use Rattle.ppd_text.specs.Kinds.{kind_text};
-ghost use Rattle.ppd_text.specs.Names.{chan_name as chan_name_of};
+ghost use Rattle.ppd_ast.specs.declared.status.SyncKind.TheVariants as sync;
+ghost use Rattle.ppd_text.specs.Names.{object_text};
 ghost use Rattle.ppd_text.specs.Items.{event_kind};
 
 use crate::kinds::{put_kind, put_named};
@@ -28,7 +29,7 @@ fn put_send(
         (text.new.items
         ≡ text.old.items
         ++ (if is_some event.now.number && is_none event.now.value
-        then codes "done " ++ chan_name_of (slice_get program.now.chans chan)
+        then object_text program.now sync.Done chan
         else kind_text program.now kind.now)) }
 {
     if is_completion(event) {

@@ -3,11 +3,13 @@ ghost use Rattle.std.specs.Prelude.{◌≡◌, ◌++◌, [], OnOk, codes, decima
 ghost use Rattle.std.specs.Fmt.{signed_decimal};
 ghost use Rattle.std.specs.Option.{option_map_or};
 ghost use Rattle.std.specs.List.{flat_map};
-ghost use Rattle.ppd_text.specs.Items.{access_text, cell_value, closed_text, event_text, item_line, item_text};
-ghost use Rattle.ppd_text.specs.Items.{left_text, open_text, outcome_text, spot_text, value_text};
+ghost use Rattle.ppd_text.specs.Items.{access_text, closed_text, event_text, item_line, item_text};
+ghost use Rattle.ppd_text.specs.Items.{left_text, outcome_text, spot_text, value_text};
 ghost use Rattle.ppd_text.specs.Items.{written_locals as locals_written};
-ghost use Rattle.ppd_text.specs.CellNames.{cell_text, trap_word, what_text};
-ghost use Rattle.ppd_ast.specs.Lookups.{locals_of as locals_in};
+ghost use Rattle.ppd_text.specs.CellNames.{cell_text, trap_word};
+ghost use Rattle.ppd_text.specs.Names.{at_number};
+ghost use Rattle.ppd_text.specs.Plans.{block_what, lines_of};
+ghost use Rattle.ppd_ast.specs.Lookups.{body_numbered};
 
 use crate::cell_names::{put_cell, put_trap, put_what};
 use crate::event_kinds::put_event_kind;
@@ -28,21 +30,6 @@ fn put_spot(text: &mut Vec<u8>, program: &Program, locals: &[Var], spot: Spot) -
     }
 }
 
-/// Appends a cell with a value; a local one is of these variables.
-pub(crate) fn put_cell_value(
-    text: &mut Vec<u8>,
-    program: &Program,
-    locals: &[Var],
-    spot: Spot,
-    value: i64,
-) -> Result<(), Memory>
-    ensures { OnOk result (text.new.items ≡ text.old.items ++ cell_value program.now locals.now spot value) }
-{
-    put_spot(text, program, locals, spot)?;
-    put(text, b"=")?;
-    put_value(text, value)
-}
-
 /// Appends this word and a cell with the value that was read or written; a local cell is of these variables.
 pub fn put_access(
     text: &mut Vec<u8>,
@@ -54,7 +41,9 @@ pub fn put_access(
     ensures { OnOk result (text.new.items ≡ text.old.items ++ access_text word.now program.now locals.now access) }
 {
     put(text, word)?;
-    put_cell_value(text, program, locals, access.spot, access.value)
+    put_spot(text, program, locals, access.spot)?;
+    put(text, b"=")?;
+    put_value(text, access.value)
 }
 
 /// Appends each of these accesses so.
@@ -97,7 +86,8 @@ fn put_accesses(
     ensures { OnOk result
         (text.new.items
         ≡ text.old.items
-        ++ (flat_map (access_text (codes " read ") program.now (locals_in program.now stmt.now.body)) event.now.reads
+        ++ (flat_map
+        (access_text (codes " read ") program.now (body_numbered program.now stmt.now.body).locals) event.now.reads
         ++ flat_map
         (access_text (codes " write ") program.now (locals_written program.now stmt.now.body stmt.now.kind))
         event.now.writes)) }
@@ -180,7 +170,7 @@ fn put_own(text: &mut Vec<u8>, program: &Program, event: &Event) -> Result<(), M
     ensures { OnOk result
         (text.new.items
         ≡ text.old.items
-        ++ option_map_or (event_text program.now event.now) (slice_get program.now.stmts event.now.stmt) []) }
+        ++ at_number (event_text program.now event.now) program.now.stmts event.now.stmt) }
 {
     match program.stmts.as_slice().get(event.stmt as usize) {
         Some(stmt) => put_event(text, program, event, stmt),
@@ -269,8 +259,7 @@ fn put_closed_if(
     ensures { OnOk result
         (text.new.items
         ≡ text.old.items
-        ++ option_map_or (λ x. closed_text program.now x.kind x.postlog values.now)
-        (slice_get plan.now.blocks block) []) }
+        ++ at_number (λ x. closed_text program.now x.kind x.postlog values.now) plan.now.blocks block) }
 {
     match plan.blocks.as_slice().get(block as usize) {
         Some(block) => put_closed(text, program, block, values),
@@ -290,7 +279,7 @@ fn put_nested(
         (text.new.items
         ≡ text.old.items
         ++ (codes "block " ++ decimal interval ++ codes " "
-        ++ what_text program.now (slice_get plan.now.blocks block))) }
+        ++ at_number (λ x. block_what program.now x.kind) plan.now.blocks block)) }
 {
     put(text, b"block ")?;
     put_number(text, interval)?;
@@ -311,8 +300,7 @@ fn put_result(
         (text.new.items
         ≡ text.old.items
         ++ (if closed
-        then option_map_or (λ x. closed_text program.now x.kind x.postlog values.now)
-        (slice_get plan.now.blocks block) []
+        then at_number (λ x. closed_text program.now x.kind x.postlog values.now) plan.now.blocks block
         else codes " open")) }
 {
     if closed {
@@ -371,7 +359,7 @@ pub fn put_items(
     plan: &Plan,
     items: &[Item],
 ) -> Result<(), Memory>
-    ensures { OnOk result (text.new.items ≡ text.old.items ++ open_text program.now plan.now items.now) }
+    ensures { OnOk result (text.new.items ≡ text.old.items ++ lines_of (item_line program.now plan.now) items.now) }
 {
     for (number, item) in items.iter().enumerate() {
         put_item(text, program, plan, number, item)?;

@@ -1,10 +1,10 @@
 // The lines of the tables.
-ghost use Rattle.std.specs.Prelude.{◌≡◌, ◌<◌, ◌++◌, ◌^◌, codes, if◌then◌else◌, length, OnOk, IfOk};
+ghost use Rattle.std.specs.Prelude.{◌≡◌, ◌<◌, ◌++◌, ◌^◌, codes, if◌then◌else◌, length, OnOk, IfOk, true};
 ghost use Rattle.std.specs.List.{flat_map};
 ghost use Rattle.ppd_ast.specs.Numbered.{numbers_of};
 ghost use Rattle.ppd_ast.specs.Valid.{IsValid};
 ghost use Rattle.ppd_sets.specs.SetsOf.{AreSetsOf};
-ghost use Rattle.ppd_sets.specs.Used.{defined_of, used_of};
+ghost use Rattle.ppd_sets.specs.Used.{shared_through, reads_at, writes_at};
 ghost use Rattle.ppd_text.specs.Names.{names_text};
 ghost use Rattle.ppd_text.specs.Plans.{lines_of};
 ghost use Rattle.ppd_text.specs.Table.{body_line, body_lines, stmt_line, stmt_at, body_at, table_of};
@@ -89,8 +89,8 @@ fn put_sets(
     ensures { OnOk result
         (text.new.items
         ≡ text.old.items
-        ++ (codes " used" ++ names_text program.now.shared (used_of program.now number)
-        ++ codes " defined" ++ names_text program.now.shared (defined_of program.now number))) }
+        ++ (codes " used" ++ names_text program.now.shared (shared_through program.now (reads_at true program.now) number)
+        ++ codes " defined" ++ names_text program.now.shared (shared_through program.now (writes_at true program.now) number))) }
 {
     let vars = program.shared.as_slice();
     put_uses(text, vars, sets.used(number), sets.defined(number))?;

@@ -1,7 +1,7 @@
 // The variables that have a cell in a list.
-ghost use Rattle.std.specs.Prelude.{◌≡◌, ◌+◌, ◌++◌, OnOk, IfOk};
+ghost use Rattle.std.specs.Prelude.{◌≡◌, ◌+◌, ◌++◌, OnOk, IfOk, unwrap_or};
 ghost use Rattle.std.specs.List.{list_any};
-ghost use Rattle.ppd_ast.specs.Cells.{size, after, holds};
+ghost use Rattle.ppd_ast.specs.Cells.{after, holds};
 ghost use Rattle.ppd_sets.specs.Used.{vars_met};
 ghost use Rattle.ppd_text.specs.Plans.{cells_text};
 
@@ -11,7 +11,7 @@ use std::alloc::Global;
 
 // How many cells the variable has.
 fn size_of(var: &Var) -> u16
-    ensures { result ≡ size var.now.len }
+    ensures { result ≡ unwrap_or var.now.len 1 }
 {
     match var.len {
         None => 1,

@@ -1,7 +1,8 @@
 // Numbers in words.
 ghost use Rattle.std.specs.Prelude.{◌≡◌, ◌≤◌, length};
 ghost use Rattle.std.specs.List.{list_all};
-ghost use Rattle.ppd_ast.specs.Digits.{number_in as number_of, value_from, is_digit};
+ghost use Rattle.std.specs.Char.{is_ascii_digit};
+ghost use Rattle.ppd_ast.specs.Digits.{number_in as number_of, value_from};
 
 use ppd_ast::is_digit;
 
@@ -18,7 +19,7 @@ fn value_of(digits: &[u8]) -> u64
 }
 
 fn are_digits(word: &[u8]) -> bool
-    ensures { result ≡ list_all is_digit word.now }
+    ensures { result ≡ list_all is_ascii_digit word.now }
 {
     word.iter().all(|byte| is_digit(*byte))
 }

@@ -1,10 +1,10 @@
 // The lines of a plan's blocks and units.
-ghost use Rattle.std.specs.Prelude.{◌≡◌, ◌++◌, ℕ, List, [], codes, decimal, if◌then◌else◌, OnOk, slice_get};
-ghost use Rattle.std.specs.Option.{option_map_or};
+ghost use Rattle.std.specs.Prelude.{◌≡◌, ◌++◌, ℕ, List, codes, decimal, if◌then◌else◌, OnOk};
 ghost use Rattle.ppd_ast.specs.declared.program.Program.{Program};
-ghost use Rattle.ppd_ast.specs.Lookups.{locals_of, name_of_body};
+ghost use Rattle.ppd_ast.specs.Lookups.{body_numbered};
 ghost use Rattle.ppd_text.specs.Texts.{place_text};
-ghost use Rattle.ppd_text.specs.Plans.{block_what, locals_round as locals_round_stmt, block_locals as locals_of_block, cells_text, block_line, lines_of, start_text, unit_line};
+ghost use Rattle.ppd_text.specs.Names.{at_number};
+ghost use Rattle.ppd_text.specs.Plans.{block_what, block_locals as locals_of_block, cells_text, block_line, lines_of, start_text, unit_line};
 
 use crate::met::put_cells;
 use crate::names::function_name;
@@ -13,7 +13,7 @@ use ppd_ast::{Block, BlockKind, Memory, Program, Start, Unit, Var};
 
 fn put_body(text: &mut Vec<u8>, word: &[u8], program: &Program, body: u16) -> Result<(), Memory>
     ensures { OnOk result
-        (text.new.items ≡ text.old.items ++ (word.now ++ name_of_body (slice_get program.now.bodies body))) }
+        (text.new.items ≡ text.old.items ++ (word.now ++ (body_numbered program.now body).name)) }
 {
     put(text, word)?;
     put(text, function_name(program, body))
@@ -22,7 +22,7 @@ fn put_body(text: &mut Vec<u8>, word: &[u8], program: &Program, body: u16) -> Re
 fn put_stmt_place(text: &mut Vec<u8>, program: &Program, stmt: u32) -> Result<(), Memory>
     ensures { OnOk result
         (text.new.items
-        ≡ text.old.items ++ option_map_or (λ x. place_text x.place) (slice_get program.now.stmts stmt) []) }
+        ≡ text.old.items ++ at_number (λ x. place_text x.place) program.now.stmts stmt) }
 {
     match program.stmts.as_slice().get(stmt as usize) {
         Some(stmt) => put_place(text, stmt.place),
@@ -47,7 +47,7 @@ pub fn put_block_what(text: &mut Vec<u8>, program: &Program, kind: BlockKind) ->
 
 /// The local variables of a body, none where there is none of this number.
 pub fn locals_of(program: &Program, body: u16) -> &[Var]
-    ensures { result.now ≡ locals_of program.now body }
+    ensures { result.now ≡ (body_numbered program.now body).locals }
 {
     match program.bodies.as_slice().get(body as usize) {
         Some(body) => body.locals.as_slice(),
@@ -57,7 +57,7 @@ pub fn locals_of(program: &Program, body: u16) -> &[Var]
 
 /// The local variables of the body in which a statement stands.
 pub fn locals_round(program: &Program, stmt: u32) -> &[Var]
-    ensures { result.now ≡ locals_round_stmt program.now (slice_get program.now.stmts stmt) }
+    ensures { result.now ≡ at_number (λ x. (body_numbered program.now x.body).locals) program.now.stmts stmt }
 {
     match program.stmts.as_slice().get(stmt as usize) {
         Some(stmt) => locals_of(program, stmt.body),

@@ -1,10 +1,8 @@
 -- The line that says why a recording is refused.
-use Rattle.std.specs.Prelude.{◌++◌, ℕ, List, [], codes, decimal, slice_get}
+use Rattle.std.specs.Prelude.{◌++◌, ℕ, List, [], codes, decimal}
 use Rattle.std.specs.List.{flat_map}
 use Rattle.ppd_ast.specs.declared.limits.TheConstants.{MOST_RECORDING_BYTES}
 use Rattle.ppd_ast.specs.declared.program.Program.{Program}
-use Rattle.ppd_ast.specs.declared.status.SyncKind.{SyncKind}
-use Rattle.ppd_ast.specs.declared.status.SyncKind.TheVariants as kind
 use Rattle.ppd_codec.specs.declared.bad.BadBytes.{BadBytes}
 use Rattle.ppd_codec.specs.declared.bad.BadBytes.TheVariants as bytes
 use Rattle.ppd_codec.specs.declared.bad.Field.{Field}
@@ -14,7 +12,7 @@ use Rattle.ppd_graph.specs.declared.refusal.BadSync.TheVariants as sync
 use Rattle.ppd_index.specs.declared.refusal.BadLog.{BadLog}
 use Rattle.ppd_index.specs.declared.refusal.BadLog.TheVariants as log
 use Rattle.ppd_text.specs.CellNames.{at_entry, process_name}
-use Rattle.ppd_text.specs.Names.{chan_name, sem_name}
+use Rattle.ppd_text.specs.Names.{object_text}
 use Rattle.ppd_text_refusals.specs.Stages.{stage_text}
 
 -- ---- bytes
@@ -52,14 +50,6 @@ refused_log program (log.NoEnd at) = at_entry program (codes "recording refused 
 refused_log program (log.AfterEnd at) = at_entry program (codes "recording refused log 3 AfterEnd ") at
 refused_log program (log.WrongValues at) = at_entry program (codes "recording refused log 4 WrongValues ") at
 refused_log program log.Memory = []
-
--- the word of a kind, and the name of its object
-abbrev pub object_text : Program → SyncKind → ℕ → List ℕ
-object_text program kind.P o = codes "P " ++ sem_name (slice_get program.sems o)
-object_text program kind.V o = codes "V " ++ sem_name (slice_get program.sems o)
-object_text program kind.Send o = codes "send " ++ chan_name (slice_get program.chans o)
-object_text program kind.Recv o = codes "recv " ++ chan_name (slice_get program.chans o)
-object_text program kind.Done o = codes "done " ++ chan_name (slice_get program.chans o)
 
 abbrev pub refused_sync : Program → BadSync → List ℕ
 refused_sync program (sync.NumberTwice at) = at_entry program (codes "recording refused sync 1 NumberTwice ") at

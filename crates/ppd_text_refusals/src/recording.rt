@@ -4,9 +4,10 @@ ghost use Rattle.std.specs.List.{flat_map};
 ghost use Rattle.ppd_codec.specs.declared.bad.BadBytes.TheVariants as bytes;
 ghost use Rattle.ppd_graph.specs.declared.refusal.BadSync.TheVariants as sync;
 ghost use Rattle.ppd_index.specs.declared.refusal.BadLog.TheVariants as log;
-ghost use Rattle.ppd_text_refusals.specs.Recordings.{field_word, object_text, refused_bytes};
+ghost use Rattle.ppd_text_refusals.specs.Recordings.{field_word, refused_bytes};
 ghost use Rattle.ppd_text_refusals.specs.Recordings.{refused_log, refused_sync};
 ghost use Rattle.ppd_text.specs.CellNames.{process_name as process_name_of};
+ghost use Rattle.ppd_text.specs.Names.{object_text};
 
 use crate::stage::put_stage;
 use ppd_ast::limits::MOST_RECORDING_BYTES;

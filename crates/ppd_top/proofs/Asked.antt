@@ -11,7 +11,7 @@ use Rattle.std.specs.Borrow.{Bor}
 use Rattle.ppd_top.specs.Words.{Command, asked, command_of, request_of}
 use Rattle.ppd_top.specs.Words.Request.{on_source, on_recording, on_number, on_query}
 
-module _ (words : List Text) (o : Option GivenRequest) (is : option_map request_of o ≡ asked words) where
+module _ (words : List (Bor Text)) (o : Option GivenRequest) (is : option_map request_of o ≡ asked words) where
   asks_some : (q : GivenRequest) → o ≡ Some q → asked words ≡ Some (request_of q)
   asks_some q e = sym is ∙ ap (λ (p : Option GivenRequest). option_map request_of p) e
 

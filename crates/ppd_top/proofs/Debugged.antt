@@ -1,43 +1,47 @@
 -- What `debug` comes to, by its status.
-use Rattle.ppd_top.specs.Words.{Asks}
-use Rattle.ppd_top.specs.Words.Request.{on_recording}
-use Rattle.std.specs.Prelude.{None, ◌⊎◌}
-use Rattle.std.proofs.Common.{◌≡◌, ℕ, List, [], ◌∷◌, arith, inl, inr, refl, subst, sym, ◌∙◌}
+use Rattle.ppd_top.specs.declared.loads.TheConstants.{MOST_RECORDING}
 use Rattle.ppd_ast.specs.declared.program.Program.{Program}
 use Rattle.ppd_blocks.specs.Blocks.{plan_of}
 use Rattle.ppd_codec.specs.declared.recording.Header.{Header}
 use Rattle.ppd_codec.specs.declared.recording.Recording.{Recording}
 use Rattle.ppd_entry.specs.declared.entry.At.{At}
+use Rattle.ppd_io.specs.Content.{Loads}
 use Rattle.ppd_io.specs.Lines.{lines_of}
-use Rattle.ppd_session.specs.Known.{Known}
+use Rattle.ppd_race.specs.Races.{edges_of_logs, races_among}
+use Rattle.ppd_session.proofs.Answered.{run_answered}
+use Rattle.ppd_session.proofs.Knowing.{logs_are_known}
+use Rattle.ppd_session.proofs.Missing.{missing_writes_told}
+use Rattle.ppd_session.specs.Known.{Known, known_of_run, seens}
 use Rattle.ppd_session.specs.Missing.{IsMissingAt}
 use Rattle.ppd_session.specs.Sessions.{IsWhy}
 use Rattle.ppd_session.specs.Texts.{failure_of}
 use Rattle.ppd_session.specs.declared.reply.SessionError.TheVariants.{Sets}
-use Rattle.ppd_race.specs.Races.{races_of_logs}
-use Rattle.ppd_session.proofs.Answered.{run_answered}
-use Rattle.ppd_session.proofs.Knowing.{logs_are_known}
-use Rattle.ppd_session.proofs.Missing.{missing_writes_told}
-use Rattle.ppd_io.specs.Content.{Loads}
-use Rattle.ppd_top_query.specs.CodecRunsLaws.{known_by}
-use Rattle.ppd_top_query.specs.Recordings.{IsAccepted, IsRunRecorded, known_of as known_of_recording, seens_of}
-use Rattle.ppd_top_query.proofs.Runs.{no_run_is_refused, runs_are_recalled}
-use Rattle.ppd_top_query.proofs.Same.{refused_or_accepted}
-use Rattle.ppd_top_runs.specs.Output.{Standing, Talks, answers, output}
-use Rattle.ppd_top_runs.specs.Debugging.{Debugs}
-use Rattle.ppd_top_runs.specs.Debugging.Debugs.{no_recall, recording_refused, recalled}
-use Rattle.ppd_top.specs.Call.{Call}
-use Rattle.ppd_top.specs.Clauses.{AnswersCutOff, IsPromisedAnswers, IsRecalledFrom, LinesFailed, MemoryRanOut, ReplayRefused, WasAnswered, WasNotRecalled, WriteFailed}
-use Rattle.ppd_top.specs.Top.{most_recording}
-use Rattle.ppd_top.specs.Top.Recalls.{refused_recording, answered}
-use Rattle.ppd_top.specs.Top.Writes.{for_recording}
-use Rattle.ppd_top_runs.proofs.Conversing.{same_input}
-use Rattle.ppd_top.proofs.Outcomes.{loaded, one_recording_name, write_failed}
+use Rattle.ppd_top.proofs.Outcomes.{loaded, write_failed}
+use Rattle.ppd_top.proofs.Queried.{one_asked_name}
 use Rattle.ppd_top.proofs.Statuses.{IsIn, any_in, other_than}
 use Rattle.ppd_top.proofs.Talked.{IsEnd, IsLast, answers_whole, talks_any, talks_broken, talks_cut_off, talks_fine, talks_unwritten, talks_whole}
+use Rattle.ppd_top.specs.Call.{Call}
+use Rattle.ppd_top.specs.Clauses.{IsPromisedAnswers, MemoryRanOut, ReadFailed, RecordingRefused, WasAnswered, WriteFailed}
+use Rattle.ppd_top.specs.Clauses.MemoryRanOut.{early, in_debug}
+use Rattle.ppd_top.specs.Clauses.ReadFailed.{lines_failed}
+use Rattle.ppd_top.specs.Clauses.RecordingRefused.{bytes_refused, line_failed}
+use Rattle.ppd_top.specs.Clauses.WriteFailed.{output_failed}
+use Rattle.ppd_top.specs.Top.{IsRecalledFrom}
+use Rattle.ppd_top.specs.Top.Writes.{for_recording, refused_recording}
+use Rattle.ppd_top.specs.Words.{Asks}
+use Rattle.ppd_top.specs.Words.Request.{on_recording}
+use Rattle.ppd_top_query.proofs.Runs.{no_run_is_refused, runs_are_recalled}
+use Rattle.ppd_top_query.proofs.Same.{refused_or_accepted}
+use Rattle.ppd_top_query.specs.Recordings.{IsAccepted, IsRunRecorded, known_of as known_of_recording}
+use Rattle.ppd_top_runs.proofs.Conversing.{same_input}
+use Rattle.ppd_top_runs.specs.Debugging.{Debugs}
+use Rattle.ppd_top_runs.specs.Debugging.Debugs.{no_recall, recalled, recording_refused}
+use Rattle.ppd_top_runs.specs.Output.{Standing, Talks, answers}
+use Rattle.std.proofs.Common.{List, [], arith, inl, inr, refl, subst, sym, ℕ, ◌∙◌, ◌∷◌, ◌≡◌}
+use Rattle.std.specs.Prelude.{None, ◌⊎◌}
 
 -- by what is known of a run no replay fails
-no_failure : (x : Known) (program : Program) (header : Header) (h : List ℕ) → x ≡ known_by program header h → (line : List ℕ) → failure_of x line ≡ None
+no_failure : (x : Known) (program : Program) (header : Header) (h : List ℕ) → x ≡ known_of_run program (plan_of program header.policy) header.budget h → (line : List ℕ) → failure_of x line ≡ None
 no_failure x program header h known line =
     subst (λ (y : Known). failure_of y line ≡ None) (sym known) (run_answered program (plan_of program header.policy) header.budget h line)
 
@@ -58,8 +62,8 @@ pub debug_not_early : (bytes : List ℕ) (a b : Standing) (status : ℕ) → Deb
 debug_not_early bytes a b status d (inl e) = other_than 1 status (0 ∷ 7 ∷ 8 ∷ 3 ∷ 4 ∷ 5 ∷ 6 ∷ []) refl e (debugs_in bytes a b status d)
 debug_not_early bytes a b status d (inr e) = other_than 2 status (0 ∷ 7 ∷ 8 ∷ 3 ∷ 4 ∷ 5 ∷ 6 ∷ []) refl e (debugs_in bytes a b status d)
 
-module _ (c : Call) (name bytes : List ℕ) (asks : Asks c.words (on_recording name)) (loads : Loads c.before.held name most_recording bytes) (no_run : c.schedule ≡ []) where
-  abbrev from : (r : Recording) → IsAccepted bytes r → IsRecalledFrom c r (known_of_recording r)
+module _ (c : Call) (name bytes : List ℕ) (asks : Asks c.words (on_recording name)) (loads : Loads c.before.held name MOST_RECORDING bytes) (no_run : c.schedule ≡ []) where
+  abbrev from : (r : Recording) → IsAccepted bytes r → IsRecalledFrom c on_recording r (known_of_recording r)
   from r accepted = record {
     name = name;
     bytes = bytes;
@@ -105,37 +109,30 @@ module _ (c : Call) (name bytes : List ℕ) (asks : Asks c.words (on_recording n
   debug_whole (recording_refused line why same (inr h)) e = absurd (not_end e 4 h.0 (inl refl))
   debug_whole (recalled r accepted t) e = answered_so r accepted t (inl e)
 
-  pub debug_broken : Debugs bytes c.before.io c.after.io c.status → c.status ≡ 3 → LinesFailed c
+  pub debug_broken : Debugs bytes c.before.io c.after.io c.status → c.status ≡ 3 → ReadFailed c
   debug_broken (no_recall is written) e = absurd (omega arith)
   debug_broken (recording_refused line why same (inl h)) e = absurd (omega (arith, h.0))
   debug_broken (recording_refused line why same (inr h)) e = absurd (omega (arith, h.0))
-  debug_broken (recalled r accepted t) e = record { recording = r; known = known_of_recording r; recalled = from r accepted; no_run = no_run; broken = talks_broken (known_of_recording r) [] c.before.io c.after.io c.status t e }
+  debug_broken (recalled r accepted t) e = lines_failed r (known_of_recording r) (from r accepted) no_run (talks_broken (known_of_recording r) [] c.before.io c.after.io c.status t e)
 
   pub debug_unwritten : Debugs bytes c.before.io c.after.io c.status → c.status ≡ 4 → WriteFailed c
   debug_unwritten (no_recall is written) e = absurd (omega arith)
   debug_unwritten (recording_refused line why same f) e =
       let t = same_input c.before.io.left c.after.io.left same.left in
       write_failed c t.0 6 line t.1
-      (for_recording name bytes asks loads no_run (output 6 line) (refused_recording line why)) (λ k. omega arith) f e
+      (refused_recording name bytes line (inl asks) loads why no_run) (λ k. omega arith) f e
   debug_unwritten (recalled r accepted t) e =
       let u = talks_unwritten (known_of_recording r) [] c.before.io c.after.io c.status t e in
-      record {
-        rose = u.rose;
-        commands = u.commands;
-        told = u.told;
-        out = answers (known_of_recording r) u.commands;
-        writes = for_recording name bytes asks loads no_run (answers (known_of_recording r) u.commands)
-            (answered r (known_of_recording r) accepted (logs_are_known r.program r.plan r.header.budget r.logs accepted.indexed) (runs_are_recalled bytes r accepted));
-        written = u.written;
-      }
+      output_failed u.commands (answers (known_of_recording r) u.commands) u.rose u.told
+      (for_recording r (known_of_recording r) (from r accepted) no_run) u.written
 
-  pub debug_out : c.after.held ≡ c.before.held → Debugs bytes c.before.io c.after.io c.status → c.status ≡ 5 → MemoryRanOut c ⊎ AnswersCutOff c
-  debug_out kept (no_recall is written) e = inl (record { kept = kept; no_run = no_run; written = written })
+  pub debug_out : c.after.held ≡ c.before.held → Debugs bytes c.before.io c.after.io c.status → c.status ≡ 5 → MemoryRanOut c
+  debug_out kept (no_recall is written) e = early kept no_run written
   debug_out kept (recording_refused line why same (inl h)) e = absurd (omega (arith, h.0))
   debug_out kept (recording_refused line why same (inr h)) e = absurd (omega (arith, h.0))
   debug_out kept (recalled r accepted t) e =
       let cut = talks_cut_off (known_of_recording r) [] c.before.io c.after.io c.status t e in
-      inr (record { recording = r; known = known_of_recording r; commands = cut.commands; recalled = from r accepted; no_run = no_run; told = cut.told; written = cut.written })
+      in_debug r (known_of_recording r) cut.commands (from r accepted) no_run cut.told cut.written
 
   -- the recording of a run has no replay that fails
   of_no_run : (w : WasAnswered c) → c.status ≡ 6 → (source : List ℕ) (header : Header) (program : Program) (h : List ℕ) → IsRunRecorded source header program h w.recalled.bytes → ⊥
@@ -144,45 +141,34 @@ module _ (c : Call) (name bytes : List ℕ) (asks : Asks c.words (on_recording n
 
   -- a write that a line asks for is missing
   is_missing : (r : Recording) → IsAccepted bytes r → (line : List ℕ) (at : At)
-      → IsWhy (failure_of (known_of_recording r) line) (Sets at) → IsMissingAt r.logs (seens_of r) at
+      → IsWhy (failure_of (known_of_recording r) line) (Sets at) → IsMissingAt r.logs (seens r.program r.plan r.header.budget r.logs) at
   is_missing r accepted line at f =
-      (missing_writes_told r.program r.plan r.header.budget r.logs (races_of_logs r.program r.logs) accepted.indexed).lines line at f
+      (missing_writes_told r.program r.plan r.header.budget r.logs (races_among (edges_of_logs r.program r.logs)) accepted.indexed).lines line at f
 
-  pub debug_refused : Debugs bytes c.before.io c.after.io c.status → c.status ≡ 6 → WasNotRecalled c ⊎ ReplayRefused c
+  pub debug_refused : Debugs bytes c.before.io c.after.io c.status → c.status ≡ 6 → (b : List ℕ) × RecordingRefused c b
+      × ((source : List ℕ) (header : Header) (program : Program) (h : List ℕ) → IsRunRecorded source header program h b → ⊥)
   debug_refused (no_recall is written) e = absurd (omega arith)
-  debug_refused (recording_refused line why same (inl h)) e = inl (record {
-    name = name;
-    bytes = bytes;
-    line = line;
-    asked = inl asks;
-    loaded = loads;
-    cause = why;
-    not_accepted = λ r accepted. refused_or_accepted bytes line r accepted why;
-    of_no_run = λ source header program h run. no_run_is_refused source header program h bytes line run why;
-    no_run = no_run;
-    unread = same;
-    written = h.1;
-  })
+  debug_refused (recording_refused line why same (inl h)) e = (
+    bytes,
+    bytes_refused name bytes line (inl asks) loads why (λ r accepted. refused_or_accepted bytes line r accepted why) no_run same h.1,
+    λ source header program h run. no_run_is_refused source header program h bytes line run why,
+  )
   debug_refused (recording_refused line why same (inr h)) e = absurd (omega (arith, h.0))
   debug_refused (recalled r accepted t) e =
-      inr (record {
-        answered = answered_so r accepted t (inr e);
-        missing = is_missing r accepted;
-        of_no_run = of_no_run (answered_so r accepted t (inr e)) e;
-      })
+      (bytes, line_failed (answered_so r accepted t (inr e)) (is_missing r accepted), of_no_run (answered_so r accepted t (inr e)) e)
 
   pub debug_complete : Debugs bytes c.before.io c.after.io c.status → IsPromisedAnswers c → (c.status ≡ 0) ⊎ (c.status ≡ 5)
   debug_complete (no_recall is written) p = inr is
   debug_complete (recording_refused line why same f) p =
-      let names = one_recording_name c.words name p.name asks p.asked in
-      let P : List ℕ → Type 0 = λ n. Loads c.before.held n most_recording bytes in
-      let is = loaded c.before.held p.at most_recording p.name p.all bytes p.told p.there (subst P names loads) in
+      let names = one_asked_name c.words name p.name (inl asks) p.asked in
+      let P : List ℕ → Type 0 = λ n. Loads c.before.held n MOST_RECORDING bytes in
+      let is = loaded c.before.held p.at MOST_RECORDING p.name p.all bytes p.told p.there (subst P names loads) in
       let Q : List ℕ → Type 0 = λ s. IsRunRecorded p.source p.header p.program p.schedule s in
       absurd (no_run_is_refused p.source p.header p.program p.schedule bytes line (subst Q (sym is) p.of_run) why)
   debug_complete (recalled r accepted t) p =
-      let f = p.fine in
-      let names = one_recording_name c.words name p.name asks p.asked in
-      let P : List ℕ → Type 0 = λ n. Loads c.before.held n most_recording bytes in
-      let is = loaded c.before.held p.at most_recording p.name p.all bytes p.told p.there (subst P names loads) in
+      let names = one_asked_name c.words name p.name (inl asks) p.asked in
+      let f = p.fine (subst (λ (n : List ℕ). Asks c.words (on_recording n)) names asks) in
+      let P : List ℕ → Type 0 = λ n. Loads c.before.held n MOST_RECORDING bytes in
+      let is = loaded c.before.held p.at MOST_RECORDING p.name p.all bytes p.told p.there (subst P names loads) in
       let Q : List ℕ → Type 0 = λ s. IsRunRecorded p.source p.header p.program p.schedule s in
-      talks_fine (known_of_recording r) (no_failure (known_of_recording r) p.program p.header p.schedule (runs_are_recalled bytes r accepted p.source p.header p.program p.schedule (subst Q (sym is) p.of_run)).0) [] c.before.io c.after.io c.status f.commands f.rest t f.told f.told_still f.fine f.no_read_fault p.no_write_fault
+      talks_fine (known_of_recording r) [] c.before.io c.after.io c.status f.commands f.rest t f.told f.told_still (f.fine (known_of_recording r) (no_failure (known_of_recording r) p.program p.header p.schedule (runs_are_recalled bytes r accepted p.source p.header p.program p.schedule (subst Q (sym is) p.of_run)).0)) f.no_read_fault p.no_write_fault

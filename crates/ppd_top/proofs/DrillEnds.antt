@@ -1,49 +1,49 @@
 -- What `drill` comes to, by its status.
-use Rattle.std.specs.Prelude.{Some, ◌⊎◌, ◌+◌, ◌-◌, ◌^◌, ◌<◌, ◌≤◌, min}
-use Rattle.std.specs.Borrow.{Bor}
-use Rattle.std.proofs.Common.{◌≡◌, ℕ, List, [], ◌∷◌, ◌++◌, Option, arith, inl, inr, refl, subst, sym, ◌∙◌, ap}
-use Rattle.std.proofs.lemmas.Option.{none-some}
-use Rattle.std.proofs.Math.Nat.{min-eq_left}
-use Rattle.ppd_ast.specs.declared.program.Program.{Program}
 use Rattle.ppd_ast.specs.declared.limits.TheConstants.{MOST_INPUT_LINES, MOST_LINE_BYTES}
-use Rattle.ppd_check.specs.declared.error.SourceError.{SourceError}
-use Rattle.ppd_check.specs.Read.{IsRead, IsRefused}
+use Rattle.ppd_ast.specs.declared.program.Program.{Program}
 use Rattle.ppd_check.proofs.Excluded.{read_or_refused}
-use Rattle.ppd_top_drill.specs.Drills.{generated}
+use Rattle.ppd_check.specs.Read.{IsRead, IsRefused}
+use Rattle.ppd_check.specs.declared.error.SourceError.{SourceError}
 use Rattle.ppd_io.specs.Causes.{Rose}
 use Rattle.ppd_io.specs.Content.{Appends, AppendsPart}
-use Rattle.ppd_io.specs.Lines.{lines_of}
-use Rattle.ppd_top_runs.specs.Commands.{Flows, known_of, summary_of_run}
-use Rattle.ppd_top_runs.specs.declared.options.Options.{Options}
-use Rattle.ppd_top_runs.specs.Output.{AppendsFront, Standing, Talks, answers, Finished, IsUnread}
-use Rattle.ppd_top_runs.specs.Output.Talks.{whole, unread, unwritten, unfinished}
-use Rattle.ppd_top.specs.Ran.{Drilled, Drills, Refuses}
-use Rattle.ppd_top.specs.Ran.Drilled.{no_program, drilled}
-use Rattle.ppd_top.specs.Call.{Call}
-use Rattle.ppd_top.specs.Clauses.{DrillCutOff, IsPromisedDrill, MemoryRanOut, WasDrilled, WriteFailed}
-use Rattle.ppd_top.specs.Top.{drill_commands, drill_options, out_of}
-use Rattle.ppd_top.specs.Top.Answers.{run}
-use Rattle.ppd_top.specs.Top.Writes.{for_number}
-use Rattle.ppd_top_words.specs.Reads.{texts_in}
-use Rattle.ppd_top.specs.Words.{Asks, Command, IsNotAsked, asked}
-use Rattle.ppd_top.specs.Words.Request.{on_source, on_recording, on_number}
 use Rattle.ppd_top.proofs.Agreeing.{of_agreeing}
-use Rattle.ppd_top_runs.proofs.Conversing.{same_input}
 use Rattle.ppd_top.proofs.Outcomes.{no_failure, one_request}
 use Rattle.ppd_top.proofs.Statuses.{IsIn, other_than}
-use Rattle.ppd_top.proofs.Talked.{fine_end, same_commands}
+use Rattle.ppd_top.proofs.Talked.{one_fine, same_commands}
+use Rattle.ppd_top.specs.Call.{Call, HasFailedWrite}
+use Rattle.ppd_top.specs.Clauses.{MemoryRanOut, WasDone, WriteFailed}
+use Rattle.ppd_top.specs.Clauses.MemoryRanOut.{early, in_drill}
+use Rattle.ppd_top.specs.Clauses.WasDone.{drilled as done_drilled}
+use Rattle.ppd_top.specs.Clauses.WriteFailed.{output_failed}
+use Rattle.ppd_top.specs.Ran.{Drilled, Drills, Refuses}
+use Rattle.ppd_top.specs.Ran.Drilled.{drilled, no_program}
+use Rattle.ppd_top.specs.Top.{drill_commands, drill_options, out_of}
+use Rattle.ppd_top.specs.Top.Writes.{for_number}
+use Rattle.ppd_top.specs.Words.{Asks, Command, asked}
+use Rattle.ppd_top.specs.Words.Request.{on_number, on_recording, on_source}
+use Rattle.ppd_top_drill.specs.Drills.{generated}
+use Rattle.ppd_top_runs.proofs.Conversing.{same_input}
+use Rattle.ppd_top_runs.specs.Commands.{Flows, known_of, summary_of_run}
+use Rattle.ppd_top_runs.specs.Output.{AppendsFront, Finished, IsUnread, Standing, Talks, answers}
+use Rattle.ppd_top_runs.specs.Output.Talks.{unfinished, unread, unwritten, whole}
+use Rattle.ppd_top_runs.specs.declared.options.Options.{Options}
+use Rattle.std.proofs.Common.{List, Option, [], ap, arith, inl, inr, refl, subst, sym, ℕ, ◌++◌, ◌∙◌, ◌∷◌, ◌≡◌}
+use Rattle.std.proofs.Math.Nat.{min-eq_left}
+use Rattle.std.proofs.lemmas.Option.{none-some}
+use Rattle.std.specs.Borrow.{Bor}
+use Rattle.std.specs.Prelude.{None, Some, codes, min, ◌+◌, ◌-◌, ◌<◌, ◌^◌, ◌≤◌, ◌⊎◌}
 
 -- ---- what the words ask for
 
 pub not_source : (words : List (Bor (List ℕ))) (command : Command) (name : List ℕ) (options : Options) (number : ℕ) → Asks words (on_source command name options) → Asks words (on_number number) → ⊥
 not_source words command name options number a b =
-    let s : on_source command name options ≡ on_number number = one_request _ _ (asked (texts_in words)) a b in cc
+    let s : on_source command name options ≡ on_number number = one_request _ _ (asked words) a b in cc
 
 pub not_recording : (words : List (Bor (List ℕ))) (name : List ℕ) (number : ℕ) → Asks words (on_recording name) → Asks words (on_number number) → ⊥
 not_recording words name number a b =
-    let s : on_recording name ≡ on_number number = one_request _ _ (asked (texts_in words)) a b in cc
+    let s : on_recording name ≡ on_number number = one_request _ _ (asked words) a b in cc
 
-pub not_nothing : (words : List (Bor (List ℕ))) (number : ℕ) → IsNotAsked words → Asks words (on_number number) → ⊥
+pub not_nothing : (words : List (Bor (List ℕ))) (number : ℕ) → asked words ≡ None → Asks words (on_number number) → ⊥
 not_nothing words number none a = none-some (on_number number) (sym none ∙ a)
 
 -- ---- one line in place of an input that does not fail
@@ -62,7 +62,7 @@ module _ (program : Program) (schedule : List ℕ) where
   drill_status =
       let few : 0 < MOST_INPUT_LINES = omega arith in
       let short : 5 ≤ MOST_LINE_BYTES = omega arith in
-      fine_end (known_of program drill_options schedule) (no_failure program drill_options schedule) 0 (lines_of drill_commands) (few, short, λ e. tt)
+      one_fine (known_of program drill_options schedule) 0 (codes "final") (no_failure program drill_options schedule (codes "final")) few short
 
   module _ (a b : Standing) (rest : List ℕ) (e : a.left ≡ Some drill_commands) (f : b.left ≡ Some rest) (none : Rose a.reads b.reads → ⊥) where
     ends_of : (status : ℕ) → Talks (known_of program drill_options schedule) (summary_of_run program drill_options schedule) a b status
@@ -117,22 +117,15 @@ module _ (c : Call) (number : ℕ) (asks : Asks c.words (on_number number)) wher
   drill_any (drilled program read (inl h)) = inr (inr (inl h.0))
   drill_any (drilled program read (inr w)) = ends_in program w.ends
 
-  pub drill_whole : Drilled number c.schedule c.before.io.written c.after.io.written c.before.io.writes c.after.io.writes c.status → c.status ≡ 0 → WasDrilled c
+  pub drill_whole : Drilled number c.schedule c.before.io.written c.after.io.written c.before.io.writes c.after.io.writes c.status → c.status ≡ 0 → WasDone c
   drill_whole (no_program is empty same) e = absurd (omega arith)
   drill_whole (drilled program read (inl h)) e = absurd (omega (arith, h.0))
   drill_whole (drilled program read (inr w)) e = by w.ends
     where
-      by : Ends program → WasDrilled c
-      by (inl (inl h)) = record {
-        number = number;
-        program = program;
-        asked = asks;
-        accepted = read;
-        whole = w.whole;
-        status_is = drill_status program c.schedule;
-        written = h.1;
-        agreeing = of_agreeing program drill_options c.schedule drill_commands;
-      }
+      by : Ends program → WasDone c
+      by (inl (inl h)) =
+          done_drilled number program asks read w.whole (out_of program drill_options c.schedule drill_commands) refl (drill_status program c.schedule) h.1
+          (of_agreeing program drill_options c.schedule drill_commands)
       by (inl (inr h)) = absurd (omega (arith, h.0))
       by (inr h) = absurd (omega (arith, h.0))
 
@@ -148,34 +141,28 @@ module _ (c : Call) (number : ℕ) (asks : Asks c.words (on_number number)) wher
       by (inl (inl h)) = absurd (omega (arith, h.0))
       by (inl (inr h)) =
           let t = same_input c.before.io.left c.after.io.left same.left in
-          record {
-            rose = h.1;
-            commands = t.0;
-            told = t.1;
-            out = out_of program drill_options c.schedule drill_commands;
-            writes = for_number number asks (out_of program drill_options c.schedule drill_commands) (run program c.schedule read w.whole);
-            written = h.2;
-          }
+          output_failed t.0 (out_of program drill_options c.schedule drill_commands) h.1 t.1
+          (for_number number program asks read w.whole) h.2
       by (inr h) = absurd (omega (arith, h.0))
 
-  pub drill_cut_off : c.after.held ≡ c.before.held → Drilled number c.schedule c.before.io.written c.after.io.written c.before.io.writes c.after.io.writes c.status → c.status ≡ 5 → MemoryRanOut c ⊎ DrillCutOff c
-  drill_cut_off kept (no_program is empty same) e = inl (record { kept = kept; no_run = empty; written = same })
-  drill_cut_off kept (drilled program read (inl h)) e = inl (record { kept = kept; no_run = h.1; written = h.2 })
+  pub drill_cut_off : c.after.held ≡ c.before.held → Drilled number c.schedule c.before.io.written c.after.io.written c.before.io.writes c.after.io.writes c.status → c.status ≡ 5 → MemoryRanOut c
+  drill_cut_off kept (no_program is empty same) e = early kept empty same
+  drill_cut_off kept (drilled program read (inl h)) e = early kept h.1 h.2
   drill_cut_off kept (drilled program read (inr w)) e = by w.ends
     where
-      by : Ends program → MemoryRanOut c ⊎ DrillCutOff c
+      by : Ends program → MemoryRanOut c
       by (inl (inl h)) = absurd (omega (arith, h.0))
       by (inl (inr h)) = absurd (omega (arith, h.0))
-      by (inr h) = inr (record { number = number; program = program; asked = asks; accepted = read; whole = w.whole; written = h.1 })
+      by (inr h) = in_drill number program asks read w.whole h.1
 
-  pub drill_complete : Drilled number c.schedule c.before.io.written c.after.io.written c.before.io.writes c.after.io.writes c.status → IsPromisedDrill c → (c.status ≡ 0) ⊎ (c.status ≡ 5)
+  pub drill_complete : Drilled number c.schedule c.before.io.written c.after.io.written c.before.io.writes c.after.io.writes c.status → (HasFailedWrite c → ⊥) → (c.status ≡ 0) ⊎ (c.status ≡ 5)
   drill_complete (no_program is empty same) p = inr is
   drill_complete (drilled program read (inl h)) p = inr h.0
   drill_complete (drilled program read (inr w)) p = by w.ends
     where
       by : Ends program → (c.status ≡ 0) ⊎ (c.status ≡ 5)
       by (inl (inl h)) = inl h.0
-      by (inl (inr h)) = absurd (p.no_write_fault h.1)
+      by (inl (inr h)) = absurd (p h.1)
       by (inr h) = inr h.0
 
   pub drill_no_run : Drilled number c.schedule c.before.io.written c.after.io.written c.before.io.writes c.after.io.writes c.status → (c.status ≡ 1) ⊎ (c.status ≡ 2) → c.schedule ≡ []

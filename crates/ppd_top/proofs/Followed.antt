@@ -1,4 +1,5 @@
 -- A schedule that is handed in, taken from the start of a program.
+use Rattle.ppd_blocks.specs.Blocks.{plan_of}
 use Rattle.std.specs.Prelude.{Option, Some, None, IsSomeAnd, slice_get}
 use Rattle.std.proofs.Common.{◌≡◌, ℕ, List, [], take, true, false, Err, refl, sym, ◌∙◌, ap, subst}
 use Rattle.ppd_ast.specs.declared.program.Program.{Program}
@@ -6,7 +7,6 @@ use Rattle.ppd_model.specs.declared.trace.DriveError.{DriveError}
 use Rattle.ppd_model.specs.declared.trace.DriveError.TheVariants as drive
 use Rattle.ppd_model.specs.World.{enabled}
 use Rattle.ppd_world.specs.Running.{Running, IsOf, IsDriven, Takes, begun, can_step}
-use Rattle.ppd_top_runs.specs.Commands.{plan_of}
 use Rattle.ppd_top_runs.specs.declared.options.Options.{Options}
 use Rattle.ppd_top.specs.declared.following.FollowError.{FollowError}
 use Rattle.ppd_top.specs.Ran.{StopsAt, drive_error}
@@ -17,11 +17,11 @@ at_some : (o : Option ℕ) (P : ℕ → Type 0) → IsSomeAnd o P → (p : ℕ) 
 at_some None P h = absurd h
 at_some (Some p) P h = (p, refl, h)
 
-module _ (program : Program) (options : Options) (w v : Running) (first : w ≡ begun program (plan_of program options) options.budget) (none : IsOf [] w) (h : List ℕ) (t : Takes w h v) where
+module _ (program : Program) (options : Options) (w v : Running) (first : w ≡ begun program (plan_of program options.policy) options.budget) (none : IsOf [] w) (h : List ℕ) (t : Takes w h v) where
   pub same_program : v.program ≡ program
   same_program = t.program ∙ ap (λ (x : Running). x.program) first
 
-  pub same_plan : v.plan ≡ plan_of program options
+  pub same_plan : v.plan ≡ plan_of program options.policy
   same_plan = t.plan ∙ ap (λ (x : Running). x.plan) first
 
   pub same_budget : v.budget ≡ options.budget
@@ -30,7 +30,7 @@ module _ (program : Program) (options : Options) (w v : Running) (first : w ≡ 
   pub comes_to : IsOf h v
   comes_to = t.comes [] none
 
-  step_as : (p : ℕ) (b : _) → can_step v p ≡ b → enabled program (plan_of program options) v.world p ≡ b
+  step_as : (p : ℕ) (b : _) → can_step v p ≡ b → enabled program (plan_of program options.policy) v.world p ≡ b
   step_as p b e = subst (λ q. enabled program q v.world p ≡ b) same_plan (subst (λ x. enabled x v.plan v.world p ≡ b) same_program e)
 
   pub stuck_at : (schedule : List ℕ) (n : ℕ) → h ≡ take n schedule → IsSomeAnd (slice_get schedule n) (λ p. can_step v p ≡ false) → IsStuckAt program options schedule n
@@ -52,7 +52,7 @@ module _ (program : Program) (options : Options) (w v : Running) (first : w ≡ 
     next = step_as p true e;
   }
 
-pub fails_at : (program : Program) (options : Options) (w v : Running) (schedule : List ℕ) (d : DriveError) (e : FollowError) → w ≡ begun program (plan_of program options) options.budget → IsOf [] w → IsDriven w schedule v (Err d) → e ≡ drive_error d → StopsAt program options schedule e
+pub fails_at : (program : Program) (options : Options) (w v : Running) (schedule : List ℕ) (d : DriveError) (e : FollowError) → w ≡ begun program (plan_of program options.policy) options.budget → IsOf [] w → IsDriven w schedule v (Err d) → e ≡ drive_error d → StopsAt program options schedule e
 fails_at program options w v schedule (drive.NotEnabled n) e first none driven is =
     subst (StopsAt program options schedule) (sym is) (stuck_at program options w v first none (take n schedule) driven.0 schedule n refl driven.1)
 fails_at program options w v schedule drive.Memory e first none driven is = subst (StopsAt program options schedule) (sym is) tt

@@ -1,4 +1,5 @@
 -- What `run` comes to, by its status.
+use Rattle.ppd_top.specs.declared.loads.TheConstants.{MOST_BYTES}
 use Rattle.ppd_top_query.specs.Recordings.{IsRunRecorded}
 use Rattle.std.specs.Prelude.{Option, Some, None, ◌⊎◌}
 use Rattle.std.proofs.Common.{◌≡◌, ℕ, List, [], ◌∷◌, arith, inl, inr, refl, subst, sym}
@@ -7,14 +8,16 @@ use Rattle.ppd_check.specs.Read.{IsRead}
 use Rattle.ppd_io.specs.Content.{Loads, StoreFails}
 use Rattle.ppd_top_runs.specs.Commands.{Keeps, header_of, Records, summary_of_run}
 use Rattle.ppd_top_runs.specs.declared.options.Options.{Options}
-use Rattle.ppd_top_runs.specs.Output.{output, IsUnread}
+use Rattle.ppd_top_runs.specs.Output.{IsUnread}
 use Rattle.ppd_top.specs.Ran.{kept_in}
 use Rattle.ppd_top_runs.specs.Commands.Keeps.{not_kept, store_failed, kept}
 use Rattle.ppd_top.specs.Call.{Call}
-use Rattle.ppd_top.specs.Clauses.{IsPromised, MemoryRanOut, StoreFailed, WasNotStored, WasRead, WasStored, WriteFailed}
-use Rattle.ppd_top.specs.Top.{most_bytes}
-use Rattle.ppd_top.specs.Top.Answers.{stored}
-use Rattle.ppd_top.specs.Top.Writes.{for_source}
+use Rattle.ppd_top.specs.Clauses.{IsPromised, MemoryRanOut, WasDone, WriteFailed}
+use Rattle.ppd_top.specs.Clauses.MemoryRanOut.{early, in_run}
+use Rattle.ppd_top.specs.Clauses.WasDone.{stored as done_stored}
+use Rattle.ppd_top.specs.Clauses.WriteFailed.{shelf_failed}
+use Rattle.ppd_top.specs.Top.{WasRead}
+use Rattle.ppd_top.specs.Top.Writes.{for_run}
 use Rattle.ppd_top.specs.Words.{Asks}
 use Rattle.ppd_top.specs.Words.Request.{on_source}
 use Rattle.ppd_top.specs.Words.Command.{Run}
@@ -30,7 +33,7 @@ same_others (Some at) name = λ n other. refl
 pub others_same : (held now : Option (List ℕ → Option (List ℕ))) (name : List ℕ) → now ≡ held → StoreFails held now name
 others_same held now name e = subst (λ h. StoreFails held h name) (sym e) (same_others held name)
 
-module _ (c : Call) (name recording : List ℕ) (options : Options) (bytes : List ℕ) (program : Program) (asks : Asks c.words (on_source (Run recording) name options)) (loads : Loads c.before.held name most_bytes bytes) (accepted : IsRead bytes program) where
+module _ (c : Call) (name recording : List ℕ) (options : Options) (bytes : List ℕ) (program : Program) (asks : Asks c.words (on_source (Run recording) name options)) (loads : Loads c.before.held name MOST_BYTES bytes) (accepted : IsRead bytes program) where
   abbrev read : WasRead c (Run recording)
   read = was_read c name options bytes loads (Run recording) asks program accepted
 
@@ -53,59 +56,36 @@ module _ (c : Call) (name recording : List ℕ) (options : Options) (bytes : Lis
       by (store_failed is rose others written) = others
       by (kept b of s others f) = others
 
-  pub run_stored : Records bytes program options recording c.schedule (kept_in c.before) (kept_in c.after) c.status → c.status ≡ 0 → WasStored c
+  pub run_stored : Records bytes program options recording c.schedule (kept_in c.before) (kept_in c.after) c.status → c.status ≡ 0 → WasDone c
   run_stored (inl h) e = absurd (omega (arith, h.0))
   run_stored (inr r) e = by r.keeps
     where
-      by : Keeps (IsRunRecorded bytes (header_of options) program c.schedule) recording (summary_of_run program options c.schedule) (kept_in c.before) (kept_in c.after) c.status → WasStored c
+      by : Keeps (IsRunRecorded bytes (header_of options) program c.schedule) recording (summary_of_run program options c.schedule) (kept_in c.before) (kept_in c.after) c.status → WasDone c
       by (not_kept is unstored written) = absurd (omega arith)
       by (store_failed is rose others written) = absurd (omega arith)
-      by (kept b of s others (inl h)) = record {
-        recording = recording;
-        read = read;
-        stored = b;
-        whole = r.whole;
-        is = of;
-        kept = s;
-        others = others;
-        written = h.1;
-      }
+      by (kept b of s others (inl h)) = done_stored recording read b r.whole of s others h.1
       by (kept b of s others (inr h)) = absurd (omega (arith, h.0))
 
-  pub run_unwritten : IsUnread c.before.io c.after.io → Records bytes program options recording c.schedule (kept_in c.before) (kept_in c.after) c.status → c.status ≡ 4 → WriteFailed c ⊎ StoreFailed c
+  pub run_unwritten : IsUnread c.before.io c.after.io → Records bytes program options recording c.schedule (kept_in c.before) (kept_in c.after) c.status → c.status ≡ 4 → WriteFailed c
   run_unwritten same (inl h) e = absurd (omega (arith, h.0))
   run_unwritten same (inr r) e = by r.keeps
     where
       by : Keeps (IsRunRecorded bytes (header_of options) program c.schedule) recording (summary_of_run program options c.schedule) (kept_in c.before) (kept_in c.after) c.status
-          → WriteFailed c ⊎ StoreFailed c
+          → WriteFailed c
       by (not_kept is unstored written) = absurd (omega arith)
-      by (store_failed is rose others written) = inr (record {
-        recording = recording;
-        read = read;
-        whole = r.whole;
-        rose = rose;
-        others = others;
-        written = written;
-      })
+      by (store_failed is rose others written) = shelf_failed recording read r.whole rose others written
       by (kept b of s others f) =
           let t = same_input c.before.io.left c.after.io.left same.left in
           let text = summary_of_run program options c.schedule in
-          inl (write_failed c t.0 0 text t.1
-          (for_source (Run recording) name options bytes asks loads (output 0 text) (stored program recording c.schedule accepted r.whole)) (λ k. omega arith) f e)
+          write_failed c t.0 0 text t.1 (for_run recording read r.whole) (λ k. omega arith) f e
 
-  pub run_out : Records bytes program options recording c.schedule (kept_in c.before) (kept_in c.after) c.status → c.status ≡ 5 → MemoryRanOut c ⊎ WasNotStored c
-  run_out (inl h) e = inl (record { kept = h.1.held; no_run = h.1.no_run; written = h.1.written })
+  pub run_out : Records bytes program options recording c.schedule (kept_in c.before) (kept_in c.after) c.status → c.status ≡ 5 → MemoryRanOut c
+  run_out (inl h) e = early h.1.held h.1.no_run h.1.written
   run_out (inr r) e = by r.keeps
     where
       by : Keeps (IsRunRecorded bytes (header_of options) program c.schedule) recording (summary_of_run program options c.schedule) (kept_in c.before) (kept_in c.after) c.status
-          → MemoryRanOut c ⊎ WasNotStored c
-      by (not_kept is unstored written) = inr (record {
-        recording = recording;
-        read = read;
-        whole = r.whole;
-        kept = unstored;
-        written = written;
-      })
+          → MemoryRanOut c
+      by (not_kept is unstored written) = in_run recording read r.whole unstored written
       by (store_failed is rose others written) = absurd (omega arith)
       by (kept b of s others (inl h)) = absurd (omega (arith, h.0))
       by (kept b of s others (inr h)) = absurd (omega (arith, h.0))

@@ -1,5 +1,5 @@
 -- What comes of asking, by its status, and of a run by its logs.
-use Rattle.std.specs.Prelude.{Option, Some, None, ◌⊎◌, true, false, nat_le, nat_lt, codes, if◌then◌else◌}
+use Rattle.std.specs.Prelude.{Option, Some, None, ◌⊎◌, true, false, nat_le, nat_lt, if◌then◌else◌, ◌<◌, ◌≤◌}
 use Rattle.std.proofs.Common.{◌≡◌, ℕ, ◌+◌, List, [], ◌∷◌, ◌++◌, length, Bool, arith, inl, inr, refl, subst, sym, ◌∙◌, ap}
 use Rattle.std.proofs.lemmas.Bool.{lt-leb, le-ltb}
 use Rattle.ppd_ast.specs.declared.limits.TheConstants.{MOST_INPUT_LINES, MOST_LINE_BYTES}
@@ -10,7 +10,7 @@ use Rattle.ppd_session.specs.Known.{Known}
 use Rattle.ppd_session.specs.Questions.{is_quit}
 use Rattle.ppd_session.specs.Sessions.{FlowError}
 use Rattle.ppd_session.specs.Texts.{failure_of, text_of}
-use Rattle.ppd_top_runs.specs.Output.{AppendsFront, AreCommands, AreFine, IsBroken, IsReadNoFurther, Standing, Talks, answered, answers, answers_from, before, output}
+use Rattle.ppd_top_runs.specs.Output.{AppendsFront, AreCommands, IsBroken, IsReadNoFurther, Standing, Talks, answers, answers_from, before, output}
 use Rattle.ppd_top_runs.specs.Output.Talks.{whole, unread, unwritten, unfinished}
 
 -- ---- statuses of answers
@@ -25,42 +25,42 @@ IsLast status = IsEnd status ⊎ (status ≡ 6)
 
 pub answers_end : (x : Known) (n : ℕ) (ls : List (List ℕ)) → IsLast (answers_from x n ls).status
 answers_end x n [] = inl (inl refl)
-answers_end x n (l ∷ ls) = by (nat_le MOST_INPUT_LINES n) (nat_lt MOST_LINE_BYTES (length l)) (is_quit l) (failure_of x l) (answers_end x (n + 1) ls)
+answers_end x n (l ∷ ls) = by (nat_le MOST_INPUT_LINES n) (nat_lt MOST_LINE_BYTES (length l)) (is_quit l) (failure_of x l) refl refl refl refl (answers_end x (n + 1) ls)
   where
-    by : (many long quits : Bool) (failure : Option FlowError) → IsLast (answers_from x (n + 1) ls).status
-        → IsLast (if many then output 8 (codes "many lines\n") else if long then output 7 (codes "long line\n") else answered x l quits failure (answers_from x (n + 1) ls)).status
-    by true long quits failure h = inl (inr (inr refl))
-    by false true quits failure h = inl (inr (inl refl))
-    by false false true None h = inl (inl refl)
-    by false false false None h = h
-    by false false quits (Some at) h = inr refl
+    by : (many long quits : Bool) (failure : Option FlowError) → nat_le MOST_INPUT_LINES n ≡ many → nat_lt MOST_LINE_BYTES (length l) ≡ long → is_quit l ≡ quits → failure_of x l ≡ failure
+        → IsLast (answers_from x (n + 1) ls).status → IsLast (answers_from x n (l ∷ ls)).status
+    by true long quits failure a b c d h = rw a (inl (inr (inr refl)))
+    by false true quits failure a b c d h = rw (a, b) (inl (inr (inl refl)))
+    by false false true None a b c d h = rw (a, b, c, d) (inl (inl refl))
+    by false false false None a b c d h = rw (a, b, c, d) h
+    by false false quits (Some at) a b c d h = rw (a, b, d) (inr refl)
 
 -- where no replay fails, none is refused
 pub answers_whole : (x : Known) → ((l : List ℕ) → failure_of x l ≡ None) → (n : ℕ) (ls : List (List ℕ)) → IsEnd (answers_from x n ls).status
 answers_whole x none n [] = inl refl
-answers_whole x none n (l ∷ ls) = by (nat_le MOST_INPUT_LINES n) (nat_lt MOST_LINE_BYTES (length l)) (is_quit l) (failure_of x l) (none l) (answers_whole x none (n + 1) ls)
+answers_whole x none n (l ∷ ls) = by (nat_le MOST_INPUT_LINES n) (nat_lt MOST_LINE_BYTES (length l)) (is_quit l) refl refl refl (answers_whole x none (n + 1) ls)
   where
-    by : (many long quits : Bool) (failure : Option FlowError) → failure ≡ None → IsEnd (answers_from x (n + 1) ls).status
-        → IsEnd (if many then output 8 (codes "many lines\n") else if long then output 7 (codes "long line\n") else answered x l quits failure (answers_from x (n + 1) ls)).status
-    by true long quits failure e h = inr (inr refl)
-    by false true quits failure e h = inr (inl refl)
-    by false false true None e h = inl refl
-    by false false false None e h = h
-    by false false quits (Some at) e h = absurd (cc)
+    whole : failure_of x l ≡ None
+    whole = none l
 
--- lines that are few and short enough end well
-pub fine_end : (x : Known) → ((l : List ℕ) → failure_of x l ≡ None) → (n : ℕ) (ls : List (List ℕ)) → AreFine n ls → (answers_from x n ls).status ≡ 0
-fine_end x none n [] h = refl
-fine_end x none n (l ∷ ls) h =
-    let few : nat_le MOST_INPUT_LINES n ≡ false = lt-leb MOST_INPUT_LINES n h.0 in
-    let short : nat_lt MOST_LINE_BYTES (length l) ≡ false = le-ltb MOST_LINE_BYTES (length l) h.1 in
-    let whole = none l in
-    let by : (b : Bool) → is_quit l ≡ b → (if b then output 0 (text_of x l) else before (text_of x l) (answers_from x (n + 1) ls)).status ≡ 0 =
-    λ b. elim b as (λ c. is_quit l ≡ c → (if c then output 0 (text_of x l) else before (text_of x l) (answers_from x (n + 1) ls)).status ≡ 0) [
-      | true ↦ λ e. refl
-      | false ↦ λ e. fine_end x none (n + 1) ls (h.2 e)
+    by : (many long quits : Bool) → nat_le MOST_INPUT_LINES n ≡ many → nat_lt MOST_LINE_BYTES (length l) ≡ long → is_quit l ≡ quits → IsEnd (answers_from x (n + 1) ls).status
+        → IsEnd (answers_from x n (l ∷ ls)).status
+    by true long quits a b c h = rw a (inr (inr refl))
+    by false true quits a b c h = rw (a, b) (inr (inl refl))
+    by false false true a b c h = rw (a, b, c, whole) (inl refl)
+    by false false false a b c h = rw (a, b, c, whole) h
+
+-- one line that is short enough ends well
+pub one_fine : (x : Known) (n : ℕ) (l : List ℕ) → failure_of x l ≡ None → n < MOST_INPUT_LINES → length l ≤ MOST_LINE_BYTES → (answers_from x n (l ∷ [])).status ≡ 0
+one_fine x n l told less few =
+    let a : nat_le MOST_INPUT_LINES n ≡ false = lt-leb MOST_INPUT_LINES n less in
+    let b : nat_lt MOST_LINE_BYTES (length l) ≡ false = le-ltb MOST_LINE_BYTES (length l) few in
+    let by : (q : Bool) → (if q then output 0 (text_of x l) else before (text_of x l) (answers_from x (n + 1) [])).status ≡ 0 =
+    λ q. elim q as (λ c. (if c then output 0 (text_of x l) else before (text_of x l) (answers_from x (n + 1) [])).status ≡ 0) [
+      | true ↦ refl
+      | false ↦ refl
     ] in
-    rw (few, short, whole) (by (is_quit l) refl)
+    rw (a, b, told) (by (is_quit l))
 
 not_last : (status : ℕ) → IsLast status → (status ≡ 3) ⊎ ((status ≡ 4) ⊎ (status ≡ 5)) → ⊥
 not_last status (inl (inl h)) (inl k) = omega arith
@@ -144,14 +144,14 @@ talks_end x head a b status k commands rest t s e f g =
     ap (λ cs. (answers x cs).status) (sym (same_commands a.left b.left commands rest w.commands f g w.told)) ∙ (sym w.status_is ∙ s)
 
 -- the commands of a told input that are fine end well, or a count rose
-pub talks_fine : (x : Known) → ((l : List ℕ) → failure_of x l ≡ None) → (head : List ℕ) (a b : Standing) (status : ℕ) (commands rest : List ℕ) → Talks x head a b status → a.left ≡ Some commands → b.left ≡ Some rest → AreFine 0 (lines_of commands)
+pub talks_fine : (x : Known) (head : List ℕ) (a b : Standing) (status : ℕ) (commands rest : List ℕ) → Talks x head a b status → a.left ≡ Some commands → b.left ≡ Some rest → (answers x commands).status ≡ 0
     → (Rose a.reads b.reads → ⊥) → (Rose a.writes b.writes → ⊥) → (status ≡ 0) ⊎ (status ≡ 5)
-talks_fine x none head a b status commands rest (whole given told further written) e f fine reads writes =
+talks_fine x head a b status commands rest (whole given told further written) e f fine reads writes =
     let same : given ≡ commands = same_commands a.left b.left commands rest given e f told in
-    inl (ap (λ cs. (answers x cs).status) same ∙ fine_end x none 0 (lines_of commands) fine)
-talks_fine x none head a b status commands rest (unread broken) e f fine reads writes = absurd (reads broken.rose)
-talks_fine x none head a b status commands rest (unwritten given told rose part) e f fine reads writes = absurd (writes rose)
-talks_fine x none head a b status commands rest (unfinished given told part) e f fine reads writes = inr refl
+    inl (ap (λ cs. (answers x cs).status) same ∙ fine)
+talks_fine x head a b status commands rest (unread broken) e f fine reads writes = absurd (reads broken.rose)
+talks_fine x head a b status commands rest (unwritten given told rose part) e f fine reads writes = absurd (writes rose)
+talks_fine x head a b status commands rest (unfinished given told part) e f fine reads writes = inr refl
 
 -- where no replay fails, none is refused
 pub talks_not_refused : (x : Known) → ((l : List ℕ) → failure_of x l ≡ None) → (head : List ℕ) (a b : Standing) (status : ℕ) → Talks x head a b status → status ≡ 6 → ⊥

@@ -1,4 +1,6 @@
 -- A run that can be told: its logs have an index and a graph, and what is told of it is of its schedule.
+use Rattle.ppd_blocks.specs.Blocks.{plan_of}
+use Rattle.ppd_race.specs.Races.{races_among, edges_of_logs}
 use Rattle.std.specs.Prelude.{IfOk, IfErr, Result}
 use Rattle.std.proofs.Common.{◌≡◌, ℕ, Ok, Err, List, ap, sym, ◌∙◌}
 use Rattle.ppd_ast.specs.Valid.{IsValid}
@@ -6,11 +8,10 @@ use Rattle.ppd_ast.specs.declared.plan.Plan.{Plan}
 use Rattle.ppd_ast.specs.declared.program.Program.{Program}
 use Rattle.ppd_check.specs.Read.{IsRead}
 use Rattle.ppd_model.specs.declared.closed.Closed.{Closed}
-use Rattle.ppd_race.specs.Races.{races_of_logs}
 use Rattle.ppd_session.specs.Known.{Known, known_of_logs}
 use Rattle.ppd_top.specs.declared.following.FollowError.{FollowError}
 use Rattle.ppd_top.specs.declared.following.FollowError.TheVariants.{Refused, NotEnabled, NotWhole, LongLine, ManyLines, Memory}
-use Rattle.ppd_top_runs.specs.Commands.{plan_of, summary_of_run}
+use Rattle.ppd_top_runs.specs.Commands.{summary_of_run}
 use Rattle.ppd_top_runs.specs.declared.options.Options.{Options}
 use Rattle.ppd_top_runs.specs.Output.{Output, answers, before, output}
 use Rattle.ppd_top.specs.Ran.{FailsBy, IsClosed, RanTo, ScheduleFails, StopsAt}
@@ -21,17 +22,17 @@ use Rattle.ppd_top_runs.proofs.Told.{known_from, summary_from}
 
 -- ---- by a schedule that is handed in
 
-module _ (program : Program) (options : Options) (commands h : List ℕ) (plan : Plan) (closed : Closed) (valid : IsValid program) (p : plan ≡ plan_of program options) (r : IsClosed program options h closed) where
-  out_is : before (summary_of program closed.ends (races_of_logs program closed.logs)) (answers (known_of_logs program plan options.budget closed.logs) commands) ≡ out_of program options h commands
+module _ (program : Program) (options : Options) (commands h : List ℕ) (plan : Plan) (closed : Closed) (valid : IsValid program) (p : plan ≡ plan_of program options.policy) (r : IsClosed program options h closed) where
+  out_is : before (summary_of program closed.ends (races_among (edges_of_logs program closed.logs))) (answers (known_of_logs program plan options.budget closed.logs) commands) ≡ out_of program options h commands
   out_is =
       ap (λ text. before text (answers (known_of_logs program plan options.budget closed.logs) commands)) (summary_from program options closed h valid r.is)
       ∙ ap (λ (x : Known). before (summary_of_run program options h) (answers x commands)) (known_from program options plan closed h valid p r.whole r.is)
 
-  ran_to : (text : List ℕ) → before (summary_of program closed.ends (races_of_logs program closed.logs)) (answers (known_of_logs program plan options.budget closed.logs) commands) ≡ output 0 text → RanTo program options commands h text
+  ran_to : (text : List ℕ) → before (summary_of program closed.ends (races_among (edges_of_logs program closed.logs))) (answers (known_of_logs program plan options.budget closed.logs) commands) ≡ output 0 text → RanTo program options commands h text
   ran_to text e = record { whole = r.whole; is = sym out_is ∙ e }
 
   pub ran_ok : {T E : Type 0} (result : Result T E) (items : T → List ℕ)
-      → IfOk result (λ t. before (summary_of program closed.ends (races_of_logs program closed.logs)) (answers (known_of_logs program plan options.budget closed.logs) commands) ≡ output 0 (items t))
+      → IfOk result (λ t. before (summary_of program closed.ends (races_among (edges_of_logs program closed.logs))) (answers (known_of_logs program plan options.budget closed.logs) commands) ≡ output 0 (items t))
       → IfOk result (λ t. RanTo program options commands h (items t))
   ran_ok (Ok t) items e = ran_to (items t) e
   ran_ok (Err e) items k = tt

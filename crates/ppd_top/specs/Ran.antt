@@ -1,5 +1,7 @@
 -- What a program's run comes to, by the schedule that was taken or by one that is handed in.
-use Rattle.std.specs.Prelude.{◌≡◌, ◌≢◌, ◌⊎◌, ℕ, List, [], Option}
+use Rattle.ppd_top.specs.declared.loads.TheConstants.{MOST_BYTES, MOST_RECORDING}
+use Rattle.ppd_blocks.specs.Blocks.{plan_of}
+use Rattle.std.specs.Prelude.{◌≡◌, ◌≢◌, ◌⊎◌, ℕ, List, [], Option, None}
 use Rattle.ppd_ast.specs.declared.program.Program.{Program}
 use Rattle.ppd_check.specs.Read.{IsRead, IsRefused}
 use Rattle.ppd_top_drill.specs.Drills.{generated}
@@ -12,16 +14,16 @@ use Rattle.ppd_model.specs.declared.trace.DriveError.{DriveError}
 use Rattle.ppd_model.specs.declared.trace.DriveError.TheVariants as drive
 use Rattle.ppd_model.specs.declared.closed.Closed.{Closed}
 use Rattle.ppd_model.specs.Logs.{close}
-use Rattle.ppd_top_runs.specs.Commands.{DidNothing, Flows, IsWholeRun, Keeping, Records, Shows, keeping, plan_of}
+use Rattle.ppd_top_runs.specs.Commands.{DidNothing, Flows, IsWholeRun, Keeping, Records, Shows, keeping}
 pub use Rattle.ppd_top_runs.specs.declared.options.Options.{Options}
 use Rattle.ppd_top.specs.declared.following.FollowError.{FollowError}
 use Rattle.ppd_top.specs.declared.following.FollowError.TheVariants.{Refused, NotEnabled, NotWhole, LongLine, ManyLines, Memory}
 use Rattle.ppd_top.specs.Call.{Call, Devices, HasFailedLoad, LeftShelf}
 use Rattle.ppd_top_runs.specs.Output.{AppendsFront, output, Finished, IsUnread}
 use Rattle.ppd_text_refusals.specs.Sources.{refused}
-use Rattle.ppd_top.specs.Top.{EndsWith, IsStuckAt, IsUnfinished, drill_options, most_bytes, out_of, usage, most_recording, drill_commands}
+use Rattle.ppd_top.specs.Top.{EndsWith, IsStuckAt, IsUnfinished, drill_options, out_of, usage, drill_commands}
 use Rattle.ppd_top_query.specs.Queries.{Gives, Query}
-use Rattle.ppd_top.specs.Words.{Asks, AsksRecording, Command, IsNotAsked}
+use Rattle.ppd_top.specs.Words.{Asks, AsksRecording, Command, asked}
 use Rattle.ppd_top.specs.Words.Request.{on_source, on_recording, on_number, on_query}
 use Rattle.ppd_top.specs.Words.Command.{Flow, Run, Show}
 use Rattle.ppd_codec.specs.declared.recording.Recording.{Recording}
@@ -85,7 +87,7 @@ kept_in x = keeping x.held x.stores x.io.written x.io.writes
 -- what a call comes to, by how far it came: to words that ask for nothing, to want of memory, to a load that failed, to
 -- a refused source, to a program, to a recording, to a drill, or to a query
 pub data Comes (c : Call) : Type 0 where
-  not_asked : IsNotAsked c.words → LeftShelf c → c.schedule ≡ [] → IsUnread c.before.io c.after.io
+  not_asked : asked c.words ≡ None → LeftShelf c → c.schedule ≡ [] → IsUnread c.before.io c.after.io
       → Finished c.before.io.written c.after.io.written c.before.io.writes c.after.io.writes c.status 2 usage → Comes c
   no_memory : c.status ≡ 5 → LeftShelf c → DidNothing c.schedule c.before.io c.after.io → Comes c
   not_loaded : (command : Command) (name : List ℕ) (options : Options)
@@ -93,30 +95,30 @@ pub data Comes (c : Call) : Type 0 where
       → c.status ≡ 3 → HasFailedLoad c name → DidNothing c.schedule c.before.io c.after.io → Comes c
   refusal : (command : Command) (name : List ℕ) (options : Options) (bytes : List ℕ) (error : SourceError)
       → Asks c.words (on_source command name options)
-      → Loads c.before.held name most_bytes bytes → IsRefused bytes error
+      → Loads c.before.held name MOST_BYTES bytes → IsRefused bytes error
       → LeftShelf c → c.schedule ≡ [] → IsUnread c.before.io c.after.io
       → Refuses error c.before.io.written c.after.io.written c.before.io.writes c.after.io.writes c.status → Comes c
   flow_done : (name : List ℕ) (options : Options) (bytes : List ℕ) (program : Program)
-      → Asks c.words (on_source Flow name options) → Loads c.before.held name most_bytes bytes → IsRead bytes program
+      → Asks c.words (on_source Flow name options) → Loads c.before.held name MOST_BYTES bytes → IsRead bytes program
       → LeftShelf c → Flows program options c.schedule c.before.io c.after.io c.status → Comes c
   show_done : (name : List ℕ) (options : Options) (bytes : List ℕ) (program : Program)
-      → Asks c.words (on_source Show name options) → Loads c.before.held name most_bytes bytes → IsRead bytes program
+      → Asks c.words (on_source Show name options) → Loads c.before.held name MOST_BYTES bytes → IsRead bytes program
       → LeftShelf c → IsUnread c.before.io c.after.io
       → Shows program options c.schedule c.before.io c.after.io c.status → Comes c
   run_done : (name recording : List ℕ) (options : Options) (bytes : List ℕ) (program : Program)
       → Asks c.words (on_source (Run recording) name options)
-      → Loads c.before.held name most_bytes bytes → IsRead bytes program
+      → Loads c.before.held name MOST_BYTES bytes → IsRead bytes program
       → IsUnread c.before.io c.after.io
       → Records bytes program options recording c.schedule (kept_in c.before) (kept_in c.after) c.status → Comes c
   recording_not_loaded : (name : List ℕ) → AsksRecording c.words name → LeftShelf c
       → c.status ≡ 3 → HasFailedLoad c name → DidNothing c.schedule c.before.io c.after.io → Comes c
-  debug_done : (name bytes : List ℕ) → Asks c.words (on_recording name) → Loads c.before.held name most_recording bytes
+  debug_done : (name bytes : List ℕ) → Asks c.words (on_recording name) → Loads c.before.held name MOST_RECORDING bytes
       → LeftShelf c → c.schedule ≡ [] → Debugs bytes c.before.io c.after.io c.status → Comes c
   drill_done : (number : ℕ) → Asks c.words (on_number number) → LeftShelf c → IsUnread c.before.io c.after.io
       → Drilled number c.schedule c.before.io.written c.after.io.written c.before.io.writes c.after.io.writes c.status
       → Comes c
   query_done : (name : List ℕ) (query : Query) (bytes : List ℕ) → Asks c.words (on_query name query)
-      → Loads c.before.held name most_recording bytes → LeftShelf c → IsUnread c.before.io c.after.io
+      → Loads c.before.held name MOST_RECORDING bytes → LeftShelf c → IsUnread c.before.io c.after.io
       → Queries bytes query c.schedule c.before.io.written c.after.io.written c.before.io.writes c.after.io.writes
       c.status → Comes c
 
@@ -130,7 +132,7 @@ pub record RanTo (program : Program) (options : Options) (commands schedule text
 -- a whole schedule, and what it leaves
 pub record IsClosed (program : Program) (options : Options) (schedule : List ℕ) (closed : Closed) : Type 0 where
   pub whole : IsWholeRun program options schedule
-  pub is : closed ≡ close program (plan_of program options) options.budget schedule
+  pub is : closed ≡ close program (plan_of program options.policy) options.budget schedule
 
 -- why a schedule cannot be taken to a whole run
 abbrev pub StopsAt : Program → Options → List ℕ → FollowError → Type 0

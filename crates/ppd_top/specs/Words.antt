@@ -1,35 +1,30 @@
 -- The words after the program's name: the command that they give, with its options and the name of a source, or its
 -- number.
-use Rattle.std.specs.Prelude.{◌≡◌, ◌⊎◌, ℕ, ◌≤◌, ◌&&◌, nat_le, List, [], ◌∷◌, Option, Some, None, if◌then◌else◌, codes, option_and_then, option_map, ⊤}
-use Rattle.std.specs.Borrow.{Bor}
-use Rattle.ppd_ast.specs.declared.limits.TheConstants.{DEFAULT_BUDGET, MOST_BUDGET, MOST_DRILL, MOST_POLICY}
 use Rattle.ppd_ast.specs.Digits.{number_in as number_of_word}
-use Rattle.ppd_top_words.specs.declared.commands.Command.{Command as Word}
-use Rattle.ppd_top_words.specs.declared.commands.Command.TheVariants as word
-use Rattle.ppd_top_words.specs.Words.{Text, value_of}
-use Rattle.ppd_top_words.specs.Commands.{command_gives}
-use Rattle.ppd_top_words.specs.Reads.{texts_in}
-use Rattle.ppd_top_runs.specs.Commands.{AreInRange}
-use Rattle.ppd_top_runs.specs.declared.options.Options.{Options}
+use Rattle.ppd_ast.specs.declared.limits.TheConstants.{DEFAULT_BUDGET, MOST_BUDGET, MOST_DRILL, MOST_POLICY}
 use Rattle.ppd_top.specs.declared.words.Command.{Command as GivenCommand}
 use Rattle.ppd_top.specs.declared.words.Command.TheVariants as given
 use Rattle.ppd_top.specs.declared.words.Request.{Request as GivenRequest}
-use Rattle.ppd_top.specs.declared.words.Request.TheVariants.{Source, Recording, Drill}
 use Rattle.ppd_top.specs.declared.words.Request.TheVariants as request
+use Rattle.ppd_top.specs.declared.words.Request.TheVariants.{Drill, Recording, Source}
 use Rattle.ppd_top_query.specs.Queries.{ItemAsked, Query, query_of}
 use Rattle.ppd_top_query.specs.Queries.Query.{Clean, Rerun, Slice, Whole}
+use Rattle.ppd_top_runs.specs.Commands.{AreInRange}
+use Rattle.ppd_top_runs.specs.declared.options.Options.{Options}
+use Rattle.ppd_top_words.specs.Commands.{command_gives}
+use Rattle.ppd_top_words.specs.Words.{Text, texts, value_of}
+use Rattle.ppd_top_words.specs.declared.commands.Command.{Command as Word}
+use Rattle.ppd_top_words.specs.declared.commands.Command.TheVariants as word
+use Rattle.std.specs.Borrow.{Bor}
+use Rattle.std.specs.Prelude.{List, None, Option, Some, [], codes, if◌then◌else◌, nat_le, option_and_then, option_map, ℕ, ⊤, ◌&&◌, ◌∷◌, ◌≡◌, ◌≤◌, ◌⊎◌}
 
 -- ---- the words of options and names
 
--- a number, where it is within these limits
-abbrev pub within : (least most : ℕ) → Option ℕ → Option ℕ
-within least most None = None
-within least most (Some n) = if nat_le least n && nat_le n most then Some n else None
-
--- an option's number: the usual one where the option was not given, else that of its word
-abbrev pub number_in : (usual least most : ℕ) → Option Text → Option ℕ
-number_in usual least most None = Some usual
-number_in usual least most (Some w) = within least most (number_of_word w)
+-- a number within these limits by the word of it: where none was given the usual one, if there is one
+abbrev pub number_in : (usual : Option ℕ) → (least most : ℕ) → Option Text → Option ℕ
+number_in usual least most None = usual
+number_in usual least most (Some w) =
+    option_and_then (λ n. if nat_le least n && nat_le n most then Some n else None) (number_of_word w)
 
 -- the options, where the number of each is there, with its default where it was not given, by the word of each option
 -- and of each name
@@ -37,9 +32,9 @@ abbrev pub options_in : (Text → Option Text) → Option Options
 options_in v =
     option_and_then (λ b. option_and_then (λ m.
     option_map (λ n. record { budget = b; policy = record { leaf = m; loops = n } })
-    (number_in 0 0 MOST_POLICY (v (codes "loops"))))
-    (number_in 0 0 MOST_POLICY (v (codes "leaf"))))
-    (number_in DEFAULT_BUDGET 1 MOST_BUDGET (v (codes "budget")))
+    (number_in (Some 0) 0 MOST_POLICY (v (codes "loops"))))
+    (number_in (Some 0) 0 MOST_POLICY (v (codes "leaf"))))
+    (number_in (Some DEFAULT_BUDGET) 1 MOST_BUDGET (v (codes "budget")))
 
 -- a name, which is not empty
 abbrev pub name_in : Option Text → Option Text
@@ -81,17 +76,12 @@ asked_by command v =
     option_and_then (λ c. option_and_then (λ name. option_map (on_source c name) (options_in v))
     (name_in (v (codes "source")))) command
 
--- the number of an interval or of an item, in 1 to 9 digits, which must be there
-abbrev pub item_number_in : Option Text → Option ℕ
-item_number_in None = None
-item_number_in (Some w) = within 0 999999999 (number_of_word w)
-
--- an item, where the name of its process and both numbers are there
+-- an item, where the name of its process and the numbers of its interval and of itself are there, each in 1 to 9 digits
 abbrev pub item_in : (Text → Option Text) → Option ItemAsked
 item_in v =
     option_and_then (λ p. option_and_then (λ k.
-    option_map (λ j. record { process = p; interval = k; item = j }) (item_number_in (v (codes "item"))))
-    (item_number_in (v (codes "interval"))))
+    option_map (λ j. record { process = p; interval = k; item = j }) (number_in None 0 999999999 (v (codes "item"))))
+    (number_in None 0 999999999 (v (codes "interval"))))
     (name_in (v (codes "process")))
 
 -- a query of a recording, where it and the name are there
@@ -105,29 +95,25 @@ asked_of word.Run v = asked_by (option_map Run (name_in (v (codes "recording")))
 asked_of word.Debug v = option_map on_recording (name_in (v (codes "recording")))
 asked_of word.Show v = asked_by (Some Show) v
 asked_of word.Drill v =
-    option_map on_number (within 0 MOST_DRILL (option_and_then number_of_word (v (codes "number"))))
+    option_map on_number (number_in None 0 MOST_DRILL (v (codes "number")))
 asked_of word.Slice v = query_by v (option_map Slice (item_in v))
 asked_of word.Rerun v = query_by v (Some Rerun)
 asked_of word.Clean v = query_by v (option_map Clean (item_in v))
-asked_of word.Whole v = query_by v (option_map Whole (number_in 8 1 64 (v (codes "workers"))))
+asked_of word.Whole v = query_by v (option_map Whole (number_in (Some 8) 1 64 (v (codes "workers"))))
 
 -- what the words ask for: the command that they give, with numbers within their limits and names that are not empty
-abbrev pub asked : List Text → Option Request
-asked words = option_and_then (λ given. asked_of given.0 (λ id. value_of id given.1)) (command_gives words)
+abbrev pub asked : List (Bor Text) → Option Request
+asked words = option_and_then (λ given. asked_of given.0 (λ id. value_of id given.1)) (command_gives (texts words))
 
 -- the words ask for this
 abbrev pub Asks : List (Bor (List ℕ)) → Request → Type 0
-Asks words request = asked (texts_in words) ≡ Some request
+Asks words request = asked words ≡ Some request
 
 -- the words ask for the recording of this name, for the lines of the input or for a query
 abbrev pub AsksRecording : List (Bor (List ℕ)) → (name : List ℕ) → Type 0
 AsksRecording words name = Asks words (on_recording name) ⊎ ((query : Query) × Asks words (on_query name query))
 
--- the words ask for nothing
-abbrev pub IsNotAsked : List (Bor (List ℕ)) → Type 0
-IsNotAsked words = asked (texts_in words) ≡ None
-
--- so are those of a request
+-- the options and numbers of a request are within their limits
 abbrev pub IsInRange : GivenRequest → Type 0
 IsInRange (Source r) = AreInRange r.options
 IsInRange (Recording name) = ⊤

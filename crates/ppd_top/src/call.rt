@@ -12,9 +12,9 @@ ghost use Rattle.ppd_top_runs.specs.Commands.{AreInRange};
 ghost use Rattle.ppd_top.specs.Words.Command.{Flow};
 
 use crate::drilling::drill;
+use crate::loads::{MOST_BYTES, MOST_RECORDING};
 use crate::querying::tell_query;
 use crate::words::{Command, Request, SourceRequest, asked};
-use ppd_ast::limits::{MOST_RECORDING_BYTES, MOST_SOURCE_BYTES};
 use ppd_ast::{Memory, Seq};
 use ppd_check::{SourceError, read_source};
 use ppd_io::{Gate, Shelf, ShelfError, Sink, Source};
@@ -27,12 +27,6 @@ use std::sync::Wait;
 use std::thread::Threads;
 
 const USAGE: &[u8] = b"usage: ppd flow|run|debug|show|drill|slice|rerun|clean|whole\n";
-
-/// One byte more than the longest source, so that a longer one is seen.
-const MOST_BYTES: usize = MOST_SOURCE_BYTES + 1;
-
-/// The same of recordings.
-const MOST_RECORDING: usize = MOST_RECORDING_BYTES + 1;
 
 /// Does all that the program does. The words are those after the program's name: a command, its options in any order,
 /// each at most once, and its names. The options of `flow` and `run` are `--budget N`, `--leaf N` and `--loops N`, each

@@ -1,9 +1,10 @@
 // A run by a schedule that is handed in.
+ghost use Rattle.ppd_blocks.specs.Blocks.{plan_of};
+ghost use Rattle.ppd_race.specs.Races.{races_among, edges_of_logs};
 ghost use Rattle.std.specs.Prelude.{◌≡◌, ◌≤◌, [], IfOk, IfErr};
 ghost use Rattle.ppd_ast.specs.Valid.{IsValid};
 ghost use Rattle.ppd_ast.specs.ValidPlan.{IsValidPlan, IsValidPolicy};
 ghost use Rattle.ppd_ast.specs.declared.limits.TheConstants.{MOST_BUDGET};
-ghost use Rattle.ppd_race.specs.Races.{races_of_logs};
 ghost use Rattle.ppd_session.specs.Known.{known_of_logs};
 ghost use Rattle.ppd_model.specs.Schedule.{IsOver};
 ghost use Rattle.ppd_top_runs.specs.Output.{answers, before, output};
@@ -11,7 +12,6 @@ ghost use Rattle.ppd_top.specs.Ran.{FailsBy, IsClosed, RanTo, ScheduleFails, Sto
 ghost use Rattle.ppd_top_runs.specs.Runs.{CanBeTold};
 ghost use Rattle.ppd_top_runs.specs.Summary.{summary_of};
 ghost use Rattle.ppd_top.specs.Top.{Follows, FollowFails};
-ghost use Rattle.ppd_top_runs.specs.Commands.{plan_of};
 ghost use Rattle.ppd_world.specs.Running.{IsOf, IsReached, begun};
 
 use crate::text_sink::TextSink;
@@ -79,7 +79,7 @@ fn close_world(
     requires comes { IsOf schedule.now world }
     requires over { IsOver world.program world.plan world.world }
     requires program { world.program ≡ program.now }
-    requires plan { world.plan ≡ plan_of program.now options.now }
+    requires plan { world.plan ≡ plan_of program.now options.now.policy }
     requires budget { world.budget ≡ options.now.budget }
     ensures closed { IfOk result (λ closed. IsClosed program.now options.now schedule.now closed) }
     ensures error { IfErr result (λ e. StopsAt program.now options.now schedule.now e) }
@@ -95,7 +95,7 @@ fn follow_world(
     schedule: &[u8],
 ) -> Result<Closed, FollowError>
     requires reached { IsReached world }
-    requires first { world ≡ begun program.now (plan_of program.now options.now) options.now.budget }
+    requires first { world ≡ begun program.now (plan_of program.now options.now.policy) options.now.budget }
     requires comes { IsOf [] world }
     ensures closed { IfOk result (λ closed. IsClosed program.now options.now schedule.now closed) }
     ensures error { IfErr result (λ e. StopsAt program.now options.now schedule.now e) }
@@ -119,7 +119,7 @@ fn tell_all(
 ) -> Result<Vec<u8>, FollowError>
     requires { CanBeTold run.now.program.now run.now.plan run.now.budget run.now.closed }
     ensures text { IfOk result (λ text. before (summary_of run.now.program.now run.now.closed.ends
-        (races_of_logs run.now.program.now run.now.closed.logs))
+        (races_among (edges_of_logs run.now.program.now run.now.closed.logs)))
         (answers (known_of_logs run.now.program.now run.now.plan run.now.budget run.now.closed.logs) commands.now)
         ≡ output 0 text.items) }
     ensures error { IfErr result (λ e. FailsBy (answers
@@ -147,7 +147,7 @@ fn close_by(
     schedule: &[u8],
 ) -> Result<Closed, FollowError>
     requires program { IsValid program.now }
-    requires plan { plan.now ≡ plan_of program.now options.now }
+    requires plan { plan.now ≡ plan_of program.now options.now.policy }
     requires plan_ok { IsValidPlan program.now plan.now }
     requires budget { options.now.budget ≤ MOST_BUDGET }
     ensures closed { IfOk result (λ closed. IsClosed program.now options.now schedule.now closed) }

@@ -6,6 +6,7 @@ mod call;
 mod drilling;
 mod following;
 mod laws;
+mod loads;
 mod querying;
 mod text_sink;
 mod words;

@@ -1,13 +1,12 @@
 // What the words of the command line ask for.
-ghost use Rattle.std.specs.Prelude.{◌≡◌, ◌<◌, ◌≤◌, IfOk, IfSome, codes, option_map};
-ghost use Rattle.ppd_top_words.specs.Reads.{texts_in};
-ghost use Rattle.ppd_top_words.specs.declared.commands.Command.TheVariants as word;
 ghost use Rattle.clap.specs.Matches.{first_value, found_of};
-ghost use Rattle.ppd_top_query.specs.Queries.{asked_of as item_asked, query_of};
-ghost use Rattle.ppd_top.specs.Words.{IsInRange, asked as asked_for, asked_by, asked_of, command_of, item_in, item_number_in, name_in, number_in as number_for, options_in as options_for, query_by, request_of};
+ghost use Rattle.ppd_top.specs.Words.{IsInRange, asked as asked_for, asked_by, asked_of, command_of, item_in, name_in, number_in as number_for, options_in as options_for, query_by, request_of};
 ghost use Rattle.ppd_top.specs.Words.Command.{Run as run_asked};
-ghost use Rattle.ppd_top_query.specs.Queries.Query.{Slice as slice_asked, Clean as clean_asked, Whole as whole_asked};
+ghost use Rattle.ppd_top_query.specs.Queries.{asked_of as item_asked, query_of};
+ghost use Rattle.ppd_top_query.specs.Queries.Query.{Clean as clean_asked, Slice as slice_asked, Whole as whole_asked};
 ghost use Rattle.ppd_top_runs.specs.Commands.{AreInRange};
+ghost use Rattle.ppd_top_words.specs.declared.commands.Command.TheVariants as word;
+ghost use Rattle.std.specs.Prelude.{IfOk, IfSome, None, Some, codes, option_map, ◌<◌, ◌≡◌, ◌≤◌};
 
 use ppd_ast::limits::{DEFAULT_BUDGET, MOST_BUDGET, MOST_DRILL, MOST_POLICY};
 use ppd_ast::{Memory, Policy};
@@ -62,7 +61,7 @@ pub(crate) enum Request<'a> {
 fn number_of(word: Option<&str>, usual: u32, least: u32, most: u32) -> Option<u32>
     requires least { least ≤ usual }
     requires most { usual ≤ most }
-    ensures number { result ≡ number_for usual least most (option_map (λ s. s.now) word.entry) }
+    ensures number { result ≡ number_for (Some usual) least most (option_map (λ s. s.now) word.entry) }
     ensures least { IfSome result (λ n. least ≤ n) }
     ensures most { IfSome result (λ n. n ≤ most) }
 {
@@ -78,7 +77,7 @@ fn number_of(word: Option<&str>, usual: u32, least: u32, most: u32) -> Option<u3
 
 /// The number of an interval or of an item, in 1 to 9 digits.
 fn item_number_of(given: &CommandWords<'_>, id: &str) -> Option<u32>
-    ensures { result ≡ item_number_in (first_value (found_of given.now.matches) id.now) }
+    ensures { result ≡ number_for None 0 999999999 (first_value (found_of given.now.matches) id.now) }
 {
     let word = given.value(id)?;
     number_of(Some(word), 0, 0, MOST_ITEM_NUMBER)
@@ -203,7 +202,7 @@ fn clean_of<'a>(given: &CommandWords<'a>) -> Option<Query<'a>>
 fn whole_of<'a>(given: &CommandWords<'a>) -> Option<Query<'a>>
     ensures { option_map query_of result
         ≡ option_map whole_asked
-        (number_for 8 1 64 (first_value (found_of given.now.matches) (codes "workers"))) }
+        (number_for (Some 8) 1 64 (first_value (found_of given.now.matches) (codes "workers"))) }
 {
     let workers = number_of(given.value("workers"), DEFAULT_WORKERS, 1, MOST_WORKERS)?;
     Some(Query::Whole(workers))
@@ -233,7 +232,7 @@ fn request_in<'a>(given: &CommandWords<'a>) -> Option<Request<'a>>
 /// `clean` and an item, `rerun`, or `whole` with its option. None where they ask for nothing. The error is want of memory, and
 /// may come whatever the words are.
 pub(crate) fn asked<'a>(alloc: Global, words: &'a [&'a str]) -> Result<Option<Request<'a>>, Memory>
-    ensures is { IfOk result (λ o. option_map request_of o ≡ asked_for (texts_in words.entry.now)) }
+    ensures is { IfOk result (λ o. option_map request_of o ≡ asked_for words.entry.now) }
     ensures range { IfOk result (λ o. IfSome o IsInRange) }
 {
     match read_command(alloc, words)? {

@@ -1,11 +1,12 @@
 // What the commands come to for a program.
+ghost use Rattle.ppd_blocks.specs.Blocks.{plan_of};
 ghost use Rattle.std.specs.Prelude.{◌≡◌, ◌≤◌, ℕ, List, [], IfOk, Option};
 ghost use Rattle.ppd_ast.specs.Valid.{IsValid};
 ghost use Rattle.ppd_ast.specs.ValidPlan.{IsValidPolicy};
 ghost use Rattle.ppd_ast.specs.declared.limits.TheConstants.{MOST_BUDGET};
 ghost use Rattle.ppd_text.specs.Table.{table_of};
 ghost use Rattle.ppd_top_runs.specs.Output.{standing};
-ghost use Rattle.ppd_top_runs.specs.Commands.{Flows, Shows, plan_of};
+ghost use Rattle.ppd_top_runs.specs.Commands.{Flows, Shows};
 
 use ppd_ast::{Memory, Program, Seq};
 use ppd_blocks::partition;
@@ -22,7 +23,7 @@ use std::thread::Threads;
 fn tables(alloc: Global, program: &Program, options: &Options) -> Result<Vec<u8>, Memory>
     requires program { IsValid program.now }
     requires policy { IsValidPolicy options.now.policy }
-    ensures { IfOk result (λ text. text.items ≡ table_of program.now (plan_of program.now options.now)) }
+    ensures { IfOk result (λ text. text.items ≡ table_of program.now (plan_of program.now options.now.policy)) }
 {
     let sets = sets(alloc, program)?;
     let plan = partition(alloc, program, &options.policy)?;

@@ -1,9 +1,9 @@
 // The command `run`: a run whose recording is stored.
+ghost use Rattle.ppd_race.specs.Races.{races_among, edges_of_logs};
 ghost use Rattle.std.specs.Prelude.{◌≡◌, []};
 ghost use Rattle.ppd_ast.specs.Valid.{IsValid};
 ghost use Rattle.ppd_check.specs.Read.{IsRead};
 ghost use Rattle.ppd_codec.specs.Recordings.{IsRecordingOf};
-ghost use Rattle.ppd_race.specs.Races.{races_of_logs};
 ghost use Rattle.ppd_top_runs.specs.Recordings.{AreOfSomeRun};
 ghost use Rattle.ppd_top_runs.specs.Commands.{Keeps, Records, keeping, header_of as header_for, AreInRange};
 ghost use Rattle.ppd_top_runs.specs.Runs.{CanBeTold};
@@ -48,7 +48,8 @@ fn store<F: Shelf, O: Sink>(
     requires of_run { AreOfSomeRun task.now.source.now (header_for task.now.task.options) run.now.closed.logs }
     ensures { Keeps (IsRecordingOf task.now.source.now
         (header_for task.now.task.options) run.now.closed.logs) task.now.recording.now
-        (summary_of run.now.program.now run.now.closed.ends (races_of_logs run.now.program.now run.now.closed.logs))
+        (summary_of run.now.program.now run.now.closed.ends
+        (races_among (edges_of_logs run.now.program.now run.now.closed.logs)))
         (keeping (F.held shelf.old) (F.failed_stores shelf.old) (O.written output.old) (O.faults output.old))
         (keeping (F.held shelf.new) (F.failed_stores shelf.new) (O.written output.new) (O.faults output.new)) result }
 {

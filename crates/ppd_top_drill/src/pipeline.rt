@@ -1,18 +1,11 @@
-ghost use Rattle.std.specs.Prelude.{◌≡◌, ◌+◌, ◌-◌, ◌≤◌, ◌++◌, IfOk, OnOk};
-ghost use Rattle.ppd_top_drill.specs.Drills.{channel_line, first_process, generated, head_of_loop, last_process, lines_from, middle_process, numbered, pipeline, stages as stages_of, turns as turns_of};
+ghost use Rattle.std.specs.Prelude.{◌≡◌, ◌-◌, ◌≤◌, ◌++◌, IfOk, OnOk, decimal};
+ghost use Rattle.std.specs.List.{flat_map, range_with_len};
+ghost use Rattle.ppd_top_drill.specs.Drills.{channel_line, first_process, generated, head_of_loop, last_process};
+ghost use Rattle.ppd_top_drill.specs.Drills.{middle_process, pipeline, turns as turns_of};
 
 use ppd_ast::Memory;
 use ppd_text::{put, put_number};
 use std::alloc::Global;
-
-/// How many channels the pipeline of a number has: 2 to 7. It has one process more.
-fn stages(number: u32) -> u32
-    ensures stages { result ≡ stages_of number }
-    ensures few { result ≤ 7 }
-    ensures some { 2 ≤ result }
-{
-    2 + number % 6
-}
 
 /// How many values go through it: 1,000 to 20,000.
 fn turns(number: u32) -> u32
@@ -22,7 +15,7 @@ fn turns(number: u32) -> u32
 }
 
 fn put_numbered(text: &mut Vec<u8>, name: &[u8], number: u32) -> Result<(), Memory>
-    ensures { OnOk result (text.new.items ≡ text.old.items ++ numbered name.now number) }
+    ensures { OnOk result (text.new.items ≡ text.old.items ++ (name.now ++ decimal number)) }
 {
     put(text, name)?;
     put_number(text, number)
@@ -36,7 +29,7 @@ fn put_channel(text: &mut Vec<u8>, channel: u32) -> Result<(), Memory>
 }
 
 fn put_channels(text: &mut Vec<u8>, count: u32) -> Result<(), Memory>
-    ensures { OnOk result (text.new.items ≡ text.old.items ++ lines_from channel_line 0 count) }
+    ensures { OnOk result (text.new.items ≡ text.old.items ++ flat_map channel_line (range_with_len 0 count)) }
 {
     for channel in 0..count {
         put_channel(text, channel)?;
@@ -75,7 +68,7 @@ fn put_middle(text: &mut Vec<u8>, number: u32, process: u32) -> Result<(), Memor
 
 fn put_middles(text: &mut Vec<u8>, number: u32, count: u32) -> Result<(), Memory>
     requires { count ≤ 6 }
-    ensures { OnOk result (text.new.items ≡ text.old.items ++ lines_from (middle_process number) 1 count) }
+    ensures { OnOk result (text.new.items ≡ text.old.items ++ flat_map (middle_process number) (range_with_len 1 count)) }
 {
     for process in 0..count {
         put_middle(text, number, process + 1)?;
@@ -117,6 +110,6 @@ pub fn generate(alloc: Global, number: u32) -> Result<Vec<u8>, Memory>
     ensures { IfOk result (λ text. text.items ≡ generated number) }
 {
     let mut text = Vec::new(alloc);
-    put_pipeline(&mut text, number, stages(number))?;
+    put_pipeline(&mut text, number, 2 + number % 6)?;
     Ok(text)
 }

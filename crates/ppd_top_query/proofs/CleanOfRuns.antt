@@ -27,7 +27,6 @@ use Rattle.ppd_model.specs.Story.{story}
 use Rattle.ppd_model.specs.declared.graph.Race.{Race}
 use Rattle.ppd_session.specs.Known.{Known, known_of_run}
 use Rattle.ppd_session.specs.Questions.{process_named}
-use Rattle.ppd_session.specs.Texts.{intervals_at}
 use Rattle.ppd_session.specs.declared.reply.SessionError.{SessionError}
 use Rattle.ppd_session.specs.declared.reply.SessionError.TheVariants.{Diverged, Sets, Memory}
 use Rattle.ppd_top_query.specs.OfRuns.{IsOfRun}
@@ -125,16 +124,16 @@ module _ (r : Recording) (header : Header) (program : Program) (h : List ℕ)
     abbrev refused : Option ℕ → Option (List ℕ)
     refused o = process_refusal o (λ p. block_refusal (known_of r) p a.interval None)
 
-    by_block : (q : ℕ) (b : Bool) → nat_lt a.interval (length (intervals_at (known_of r) q)) ≡ b → block_refusal (known_of r) q a.interval None ≡ None → a.interval < length (intervals_at (known_of r) q)
-    by_block q true e m = ltb-true a.interval (length (intervals_at (known_of r) q)) e
+    by_block : (q : ℕ) (b : Bool) → nat_lt a.interval (length (get_or (known_of r).intervals q [])) ≡ b → block_refusal (known_of r) q a.interval None ≡ None → a.interval < length (get_or (known_of r).intervals q [])
+    by_block q true e m = ltb-true a.interval (length (get_or (known_of r).intervals q [])) e
     by_block q false e m = absurd (none_or_some m (ap (λ (b : Bool). if b then None else Some (codes "? block\n")) e))
 
     -- the interval of an item that is not refused is there
     placed : (q : ℕ) → process_named r.program a.process ≡ Some q → refusal (known_of r) (Clean a) ≡ None → IsThere (splits program (plan_of program header.policy) header.budget (story program (plan_of program header.policy) header.budget h)) q a.interval
     placed q named m =
-        let lt : a.interval < length (intervals_at (known_of r) q) = by_block q (nat_lt a.interval (length (intervals_at (known_of r) q))) refl (sym (ap refused named) ∙ m) in
+        let lt : a.interval < length (get_or (known_of r).intervals q []) = by_block q (nat_lt a.interval (length (get_or (known_of r).intervals q []))) refl (sym (ap refused named) ∙ m) in
         there (splits program (plan_of program header.policy) header.budget (story program (plan_of program header.policy) header.budget h)) q a.interval
-        (subst (λ (x : Known). a.interval < length (intervals_at x q)) known lt)
+        (subst (λ (x : Known). a.interval < length (get_or x.intervals q [])) known lt)
 
     pub never_fails : (error : SessionError) → refusal (known_of r) (Clean a) ≡ None → IsCleanFailure r a error → ⊥
     never_fails (Diverged failure) m (q, named, d) =
@@ -151,8 +150,8 @@ module _ (r : Recording) (header : Header) (program : Program) (h : List ℕ)
 
       not_refused : refusal (known_of r) (Clean a) ≡ None
       not_refused =
-          let lt : a.interval < length (intervals_at (known_of_run program (plan_of program header.policy) header.budget h) q) = told (splits program (plan_of program header.policy) header.budget (story program (plan_of program header.policy) header.budget h)) q a.interval x i at at_k in
-          let here : nat_lt a.interval (length (intervals_at (known_of r) q)) ≡ true = lt-ltb a.interval (length (intervals_at (known_of r) q)) (subst (λ (y : Known). a.interval < length (intervals_at y q)) (sym known) lt) in
+          let lt : a.interval < length (get_or (known_of_run program (plan_of program header.policy) header.budget h).intervals q []) = told (splits program (plan_of program header.policy) header.budget (story program (plan_of program header.policy) header.budget h)) q a.interval x i at at_k in
+          let here : nat_lt a.interval (length (get_or (known_of r).intervals q [])) ≡ true = lt-ltb a.interval (length (get_or (known_of r).intervals q [])) (subst (λ (y : Known). a.interval < length (get_or y.intervals q [])) (sym known) lt) in
           ap refused named_here ∙ ap (λ (b : Bool). if b then None else Some (codes "? block\n")) here
 
       text_is : (schedule text : List ℕ) → Gives r (Clean a) schedule 0 text → clean_text program (plan_of program header.policy) a.item (answer_of program (plan_of program header.policy) header.budget h q a.interval a.item) ≡ Some text

@@ -1,42 +1,40 @@
 -- What an accepted recording determines of its answers.
-use Rattle.std.specs.Prelude.{nat_le, slice_get, if◌then◌else◌}
-use Rattle.std.proofs.Common.{◌≡◌, ◌⊎◌, ℕ, Bool, true, false, List, Option, Some, None, Result, Ok, Err, refl, ap, sym, subst, ◌∙◌, inl, inr}
-use Rattle.law_clean.specs.Answers.{CleanOr, no_item, unclean, unwritten, unclean_or}
+use Rattle.law_clean.specs.Answers.{CleanOr, is_reached, no_item, unclean, unclean_or, unwritten}
 use Rattle.law_clean.specs.Pasts.{left_edge}
-use Rattle.law_clean.specs.Search.{by_first, by_item, from_first, reached, with_edges}
+use Rattle.law_clean.specs.Search.{by_first, by_item, from_first, with_edges}
 use Rattle.law_flow_missing.proofs.MissingWrites.{missing_writes_are_told}
 use Rattle.law_flow_missing.specs.Missing.{AreIndexed, IsMissingWrite, write_at}
-use Rattle.ppd_clean.specs.Answers.{is_begun_unclean}
 use Rattle.ppd_codec.specs.declared.recording.Recording.{Recording}
 use Rattle.ppd_codec_runs.specs.Recordings.{IsAccepted, known_of}
 use Rattle.ppd_entry.specs.declared.entry.At.{At}
-use Rattle.ppd_entry.specs.Entries.{entries_at}
 use Rattle.ppd_flow_model.specs.Ends.{first_edge}
 use Rattle.ppd_flow_model.specs.Found.{edges_if, found_edges, item_edges}
-use Rattle.ppd_flow_model.specs.Seen.{items_at}
 use Rattle.ppd_flow_model.specs.Shared.{Missing, seen_at}
 use Rattle.ppd_model.specs.HappenedBefore.{edge}
 use Rattle.ppd_model.specs.RecordedSets.{record_in}
 use Rattle.ppd_model.specs.declared.flow.FlowEdge.{FlowEdge}
 use Rattle.ppd_model.specs.declared.flow.Item.{Item}
-use Rattle.ppd_race.specs.Races.{races_of_logs}
+use Rattle.ppd_race.specs.Races.{edges_of_logs, races_among}
 use Rattle.ppd_session.specs.declared.reply.SessionError.{SessionError}
-use Rattle.ppd_session.specs.declared.reply.SessionError.TheVariants.{Diverged, Sets, Memory}
+use Rattle.ppd_session.specs.declared.reply.SessionError.TheVariants.{Diverged, Memory, Sets}
 use Rattle.ppd_top_query.proofs.Firsts.{all_tell, first_told}
 use Rattle.ppd_top_query.proofs.Missing.{failures_missing}
 use Rattle.ppd_top_query.proofs.OfRuns.{no_races}
-use Rattle.ppd_top_query.specs.Determined.{AnswersAreDetermined, GivesBy, IsCleanBy, IsCleanItem, IsAnsweredBy, IsFailedBy, IsWithEdges, FailedAreMissing, cut_seens, is_item_raced}
+use Rattle.ppd_top_query.specs.Determined.{AnswersAreDetermined, FailedAreMissing, GivesBy, IsAnsweredBy, IsCleanBy, IsFailedBy, cut_seens, is_item_raced}
+use Rattle.ppd_top_query.specs.Determined.IsCleanBy.{begins_raced, ends_before, has_edges, is_raced}
 use Rattle.ppd_top_query.specs.Missing.{IsMissingFor}
 use Rattle.ppd_top_query.specs.Queries.{Gives, IsAnswer, IsFailure, Query, clean_of, first_raced_of, refusal}
-use Rattle.ppd_top_query.specs.Queries.IsWritten.{refuses, answers, fails}
-use Rattle.ppd_top_query.specs.Queries.Query.{Slice, Whole, Rerun, Clean}
+use Rattle.ppd_top_query.specs.Queries.IsWritten.{answers, fails, refuses}
+use Rattle.ppd_top_query.specs.Queries.Query.{Clean, Rerun, Slice, Whole}
+use Rattle.std.proofs.Common.{Bool, Err, List, None, Ok, Option, Result, Some, ap, false, inl, inr, refl, subst, sym, true, ℕ, ◌∙◌, ◌≡◌, ◌⊎◌}
+use Rattle.std.specs.Prelude.{[], get_or, if◌then◌else◌, nat_le, slice_get}
 
 module _ (r : Recording) (q k j : ℕ) where
   abbrev begun : ℕ
-  begun = first_edge (entries_at r.logs q) k
+  begun = first_edge (get_or r.logs.lists q []) k
 
   abbrev item_told : Option Item
-  item_told = slice_get (items_at (seen_at (cut_seens r q k j) q) k) j
+  item_told = slice_get (get_or (seen_at (cut_seens r q k j) q).items k []) j
 
   -- ---- what is found is determined but for the edges
 
@@ -45,45 +43,45 @@ module _ (r : Recording) (q k j : ℕ) where
     found_of o = edges_if r.program r.plan r.logs (cut_seens r q k j) q k j o
 
     abbrev with_found : Item → Option (Result (List FlowEdge) Missing) → CleanOr
-    with_found t o = with_edges r.program r.plan r.header.budget r.logs (record_in r.logs) (races_of_logs r.program r.logs) q k j t o
+    with_found t o = with_edges r.program r.plan r.header.budget r.logs (record_in r.logs) (races_among (edges_of_logs r.program r.logs)) q k j t o
 
-    some_edges : (t : Item) → item_told ≡ Some t → (e : Result (List FlowEdge) Missing) → found_of (Some t) ≡ Some e → IsWithEdges r q k j t (with_found t (Some e))
-    some_edges t at (Ok es) f = refl
-    some_edges t at (Err m) f = (missing_writes_are_told r.program r.plan r.logs (cut_seens r q k j) indexed).edges q k j m (ap found_of at ∙ f)
+    module _ (late : is_reached begun (first_raced_of r q k) ≡ false) where
+      some_edges : (t : Item) → item_told ≡ Some t → is_item_raced r q k j t ≡ false → (e : Result (List FlowEdge) Missing) → found_of (Some t) ≡ Some e → IsCleanBy r q k j (with_found t (Some e))
+      some_edges t at whole (Ok es) f = has_edges late t at whole (inl (es, refl))
+      some_edges t at whole (Err m) f = has_edges late t at whole (inr (m, refl, (missing_writes_are_told r.program r.plan r.logs (cut_seens r q k j) indexed).edges q k j m (ap found_of at ∙ f)))
 
-    item_found : (o : Option Item) → item_told ≡ o
-        → IsCleanItem r q k j o (by_item r.program r.plan r.header.budget r.logs (record_in r.logs) (races_of_logs r.program r.logs) q k j (first_raced_of r q k j) (cut_seens r q k j) o)
-    item_found None at = refl
-    item_found (Some t) at = by (is_item_raced r q k j t) refl
-      where
-        edges : IsWithEdges r q k j t (with_found t (found_edges r.program r.plan r.logs (cut_seens r q k j) q k j))
-        edges = subst (λ o. IsWithEdges r q k j t (with_found t (found_of o))) (sym at) (some_edges t at (item_edges r.program r.plan r.logs (cut_seens r q k j) q k j t) refl)
+      item_found : (o : Option Item) → item_told ≡ o
+          → IsCleanBy r q k j (by_item r.program r.plan r.header.budget r.logs (record_in r.logs) (races_among (edges_of_logs r.program r.logs)) q k j (first_raced_of r q k) (cut_seens r q k j) o)
+      item_found None at = ends_before late at refl
+      item_found (Some t) at = by (is_item_raced r q k j t) refl
+        where
+          edges : is_item_raced r q k j t ≡ false → IsCleanBy r q k j (with_found t (found_edges r.program r.plan r.logs (cut_seens r q k j) q k j))
+          edges whole = subst (λ o. IsCleanBy r q k j (with_found t (found_of o))) (sym at) (some_edges t at whole (item_edges r.program r.plan r.logs (cut_seens r q k j) q k j t) refl)
 
-        by : (b : Bool) → is_item_raced r q k j t ≡ b
-            → ((is_item_raced r q k j t ≡ true) × ((if b then unclean_or q (first_raced_of r q k j) no_item else with_found t (found_edges r.program r.plan r.logs (cut_seens r q k j) q k j)) ≡ unclean_or q (first_raced_of r q k j) no_item))
-            ⊎ ((is_item_raced r q k j t ≡ false) × IsWithEdges r q k j t (if b then unclean_or q (first_raced_of r q k j) no_item else with_found t (found_edges r.program r.plan r.logs (cut_seens r q k j) q k j)))
-        by true f = inl (f, refl)
-        by false f = inr (f, edges)
+          by : (b : Bool) → is_item_raced r q k j t ≡ b
+              → IsCleanBy r q k j (if b then unclean_or q (first_raced_of r q k) no_item else with_found t (found_edges r.program r.plan r.logs (cut_seens r q k j) q k j))
+          by true f = is_raced late t at f refl
+          by false f = edges f
 
     abbrev from : Option ℕ → CleanOr
-    from o = from_first r.program r.plan r.header.budget r.logs (record_in r.logs) (races_of_logs r.program r.logs) q k j o
+    from o = from_first r.program r.plan r.header.budget r.logs (record_in r.logs) (races_among (edges_of_logs r.program r.logs)) q k j o
 
     abbrev first : Option ℕ → CleanOr
-    first o = by_first r.program r.plan r.header.budget r.logs (record_in r.logs) (races_of_logs r.program r.logs) q k j o
+    first o = by_first r.program r.plan r.header.budget r.logs (record_in r.logs) (races_among (edges_of_logs r.program r.logs)) q k j o
 
-    replayed : (o : Option ℕ) → first_raced_of r q k j ≡ o → IsCleanItem r q k j item_told (first o)
-    replayed o e = subst (λ z. IsCleanItem r q k j item_told (first z)) e (item_found item_told refl)
+    replayed : (o : Option ℕ) → first_raced_of r q k ≡ o → is_reached begun (first_raced_of r q k) ≡ false → IsCleanBy r q k j (first o)
+    replayed o e late = subst (λ z. IsCleanBy r q k j (first z)) e (item_found late item_told refl)
 
-    determined : (o : Option ℕ) → first_raced_of r q k j ≡ o → IsCleanBy r q k j (from o)
-    determined None e = inr (ap (is_begun_unclean begun) e, replayed None e)
+    determined : (o : Option ℕ) → first_raced_of r q k ≡ o → IsCleanBy r q k j (from o)
+    determined None e = replayed None e (ap (is_reached begun) e)
     determined (Some u) e = by (nat_le u begun) refl
       where
         by : (b : Bool) → nat_le u begun ≡ b → IsCleanBy r q k j (if b then unclean (edge q u) else first (Some u))
-        by true f = inl (ap (is_begun_unclean begun) e ∙ f, sym (ap (λ o. unclean_or q o no_item) e))
-        by false f = inr (ap (is_begun_unclean begun) e ∙ f, replayed (Some u) e)
+        by true f = begins_raced (ap (is_reached begun) e ∙ f) (sym (ap (λ o. unclean_or q o no_item) e))
+        by false f = replayed (Some u) e (ap (is_reached begun) e ∙ f)
 
     clean_is : IsCleanBy r q k j (clean_of r q k j)
-    clean_is = determined (first_raced_of r q k j) refl
+    clean_is = determined (first_raced_of r q k) refl
 
   -- ---- a write that is missing
 
@@ -92,36 +90,33 @@ module _ (r : Recording) (q k j : ℕ) where
     no_edge None e = cc e
     no_edge (Some u) e = cc e
 
-    not_reached : (o : Option ℕ) → unwritten m ≡ reached r.program r.plan r.header.budget r.logs (record_in r.logs) (races_of_logs r.program r.logs) q k j o → ⊥
-    not_reached None e = cc e
-    not_reached (Some u) e = by (nat_le u (left_edge (entries_at r.logs q) k)) e
-      where
-        by : (b : Bool) → unwritten m ≡ (if b then unclean (edge q u) else no_item) → ⊥
-        by true f = cc f
-        by false f = cc f
-
-    of_item : (o : Option Item) → IsCleanItem r q k j o (unwritten m) → IsMissingWrite r.logs (cut_seens r q k j) m
-    of_item None e = absurd (not_reached (first_raced_of r q k j) e)
-    of_item (Some t) (inl h) = absurd (no_edge (first_raced_of r q k j) h.1)
-    of_item (Some t) (inr h) = h.1
+    not_reached : (b : Bool) (o : Option ℕ) → unwritten m ≡ (if b then unclean_or q o no_item else no_item) → ⊥
+    not_reached true o e = no_edge o e
+    not_reached false o e = cc e
 
     missed : IsCleanBy r q k j (unwritten m) → IsMissingWrite r.logs (cut_seens r q k j) m
-    missed (inl h) = absurd (no_edge (first_raced_of r q k j) h.1)
-    missed (inr h) = of_item item_told h.1
+    missed (begins_raced late e) = absurd (no_edge (first_raced_of r q k) e)
+    missed (ends_before late gone e) = absurd (not_reached (is_reached (left_edge (get_or r.logs.lists q []) k) (first_raced_of r q k)) (first_raced_of r q k) e)
+    missed (is_raced late t at f e) = absurd (no_edge (first_raced_of r q k) e)
+    missed (has_edges late t at f (inl h)) = absurd (cc h.1)
+    missed (has_edges late t at f (inr h)) =
+        let e : unwritten m ≡ unwritten h.0 = h.1 in
+        let same : m ≡ h.0 = cc e in
+        subst (IsMissingWrite r.logs (cut_seens r q k j)) (sym same) h.2
 
 -- ---- answers
 
 module _ (bytes : List ℕ) (r : Recording) (accepted : IsAccepted bytes r) where
   told : (query : Query) (schedule text : List ℕ) → refusal (known_of r) query ≡ None → IsAnswer r query schedule text → IsAnsweredBy r (known_of r) query schedule text
   told (Slice a) schedule text none h = h
-  told (Whole workers) schedule text none h = (h.0, all_tell r (races_of_logs r.program r.logs) (no_races (races_of_logs r.program r.logs) none) h.1)
+  told (Whole workers) schedule text none h = (h.0, all_tell r (races_among (edges_of_logs r.program r.logs)) (no_races (races_among (edges_of_logs r.program r.logs)) none) h.1)
   told Rerun schedule text none h = h
   told (Clean a) schedule text none h =
       let q = h.1.0 in (h.0, (q, h.1.1, (clean_of r q a.interval a.item, clean_is r q a.interval a.item accepted.indexed, h.1.2)))
 
   untold : (query : Query) (error : SessionError) → refusal (known_of r) query ≡ None → IsFailure r query error → IsFailedBy r (known_of r) query error
   untold (Slice a) error none f = f
-  untold (Whole workers) (Diverged failure) none f = first_told r (races_of_logs r.program r.logs) (no_races (races_of_logs r.program r.logs) none) failure f
+  untold (Whole workers) (Diverged failure) none f = first_told r (races_among (edges_of_logs r.program r.logs)) (no_races (races_among (edges_of_logs r.program r.logs)) none) workers failure f
   untold (Whole workers) (Sets failure) none f = f
   untold (Whole workers) Memory none f = f
   untold Rerun error none f = f

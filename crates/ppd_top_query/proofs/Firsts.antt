@@ -1,24 +1,25 @@
 -- The first interval of a recording whose replay fails, by what is told of the intervals.
-use Rattle.std.specs.Prelude.{None, Some, Err, ◌⊎◌, nat_lt}
-use Rattle.std.specs.List.{range_with_len}
-use Rattle.std.proofs.Common.{◌≡◌, ℕ, zero, suc, ◌+◌, ◌<◌, ◌≤◌, Bool, true, false, List, [], ◌∷◌, ◌++◌, get_or, length, map, Option, refl, ap, sym, subst, ◌∙◌, inl, inr, arith}
-use Rattle.std.proofs.lemmas.Bool.{ltb-false, ltb-true}
-use Rattle.std.proofs.lemmas.List.{length-map}
 use Rattle.ppd_codec.specs.declared.recording.Recording.{Recording}
+use Rattle.ppd_entry.specs.IntervalLogs.{indexed}
 use Rattle.ppd_entry.specs.declared.entry.At.{At}
 use Rattle.ppd_entry.specs.declared.entry.Entry.{Entry}
-use Rattle.ppd_entry.specs.Entries.{entries_at}
-use Rattle.ppd_entry.specs.IntervalLogs.{indexed}
 use Rattle.ppd_flow_model.specs.Seen.{Seen}
 use Rattle.ppd_flow_past.specs.ByReplays.{failure_or, first_failed}
 use Rattle.ppd_flow_past.specs.SeenBy.{failed_at, seen_by}
 use Rattle.ppd_model.specs.declared.graph.Race.{Race}
+use Rattle.ppd_session.proofs.Knowing.{failing, failing_is_told, there}
 use Rattle.ppd_session.specs.Known.{Known, known_with}
 use Rattle.ppd_session.specs.Texts.{told_at}
-use Rattle.ppd_session.proofs.Knowing.{failing, failing_is_told, there}
-use Rattle.ppd_top_query.specs.Determined.{IsFirstFailure}
+use Rattle.ppd_session.specs.declared.reply.SessionError.TheVariants.{Diverged}
+use Rattle.ppd_top_query.specs.Determined.{IsFailedBy}
 use Rattle.ppd_top_query.specs.Queries.{first_failure}
+use Rattle.ppd_top_query.specs.Queries.Query.{Whole}
 use Rattle.ppd_whole.specs.Intervals.{intervals_from}
+use Rattle.std.proofs.Common.{Bool, List, Option, [], ap, arith, false, get_or, inl, inr, length, map, refl, subst, suc, sym, true, zero, ℕ, ◌++◌, ◌+◌, ◌<◌, ◌∙◌, ◌∷◌, ◌≡◌, ◌≤◌}
+use Rattle.std.proofs.lemmas.Bool.{ltb-false, ltb-true}
+use Rattle.std.proofs.lemmas.List.{length-map}
+use Rattle.std.specs.List.{range_with_len}
+use Rattle.std.specs.Prelude.{Err, None, Some, nat_lt, ◌⊎◌}
 
 -- no interval is told to fail
 abbrev pub NoneFails : Known → Type 0
@@ -41,7 +42,7 @@ module _ (r : Recording) where
 
   -- where the replay of interval k of process q fails
   abbrev F : ℕ → ℕ → Option ℕ
-  F q k = failed_at r.program r.plan r.header.budget (entries_at r.logs q) k
+  F q k = failed_at r.program r.plan r.header.budget (get_or r.logs.lists q []) k
 
   abbrev first_of : List (ℕ × ℕ) → Option At
   first_of ms = first_failed r.program r.plan r.header.budget r.logs ms
@@ -107,20 +108,20 @@ module _ (r : Recording) where
 
   -- these are the entries of the processes from number p on
   abbrev AreFrom : (p : ℕ) → List (List Entry) → Type 0
-  AreFrom p lists = (i : ℕ) → get_or lists i [] ≡ entries_at r.logs (p + i)
+  AreFrom p lists = (i : ℕ) → get_or lists i [] ≡ get_or r.logs.lists (p + i) []
 
   -- an interval that fails is among those of its process
-  in_row : (p k n : ℕ) (entries : List Entry) → entries ≡ entries_at r.logs p → F p k ≡ Some n → k < length (seen_of entries).items
+  in_row : (p k n : ℕ) (entries : List Entry) → entries ≡ get_or r.logs.lists p [] → F p k ≡ Some n → k < length (seen_of entries).items
   in_row p k n entries e f =
       let lt : k < length (indexed r.plan entries) = subst (λ es. k < length (indexed r.plan es)) (sym e) (there r.program r.plan r.header.budget r.logs p k n f) in
       let count : length (seen_of entries).items ≡ length (indexed r.plan entries) = length-map (indexed r.plan entries) _ in
       omega (arith, lt, count)
 
-  own : (p : ℕ) (entries : List Entry) (lists : List (List Entry)) → AreFrom p (entries ∷ lists) → entries ≡ entries_at r.logs p
-  own p entries lists h = let z : p + 0 ≡ p = omega arith in h 0 ∙ ap (entries_at r.logs) z
+  own : (p : ℕ) (entries : List Entry) (lists : List (List Entry)) → AreFrom p (entries ∷ lists) → entries ≡ get_or r.logs.lists p []
+  own p entries lists h = let z : p + 0 ≡ p = omega arith in h 0 ∙ ap (λ q. get_or r.logs.lists q []) z
 
   others : (p : ℕ) (entries : List Entry) (lists : List (List Entry)) → AreFrom p (entries ∷ lists) → AreFrom (p + 1) lists
-  others p entries lists h i = let z : p + suc i ≡ p + 1 + i = omega arith in h (suc i) ∙ ap (entries_at r.logs) z
+  others p entries lists h i = let z : p + suc i ≡ p + 1 + i = omega arith in h (suc i) ∙ ap (λ q. get_or r.logs.lists q []) z
 
   no_entries : (i : ℕ) → ◌≡◌ {A = List Entry} (get_or [] i []) []
   no_entries zero = refl
@@ -210,22 +211,22 @@ module _ (r : Recording) where
   -- ---- as it is told
 
   from_start : AreFrom 0 r.logs.lists
-  from_start i = let z : i ≡ 0 + i = omega arith in ap (entries_at r.logs) z
+  from_start i = let z : i ≡ 0 + i = omega arith in ap (λ q. get_or r.logs.lists q []) z
 
   none_fails : first_failure r ≡ None → NoneFails known
   none_fails e q k n f =
       let z : 0 + q ≡ q = omega arith in
       all_clear 0 r.logs.lists from_start e q k n (ap (λ i. F i k) z ∙ failing r.program r.plan r.header.budget r.logs q k n f)
 
-  first_is : (at : At) → first_failure r ≡ Some at → IsFirstFailure known at
-  first_is at e = record {
-    interval = found.interval;
-    fails = failing_is_told r.program r.plan r.header.budget r.logs at.process found.interval at.entry found.fails;
-    first = λ q k n f.
+  first_is : (workers : ℕ) (at : At) → first_failure r ≡ Some at → IsFailedBy r known (Whole workers) (Diverged at)
+  first_is workers at e = (
+    found.interval,
+    failing_is_told r.program r.plan r.header.budget r.logs at.process found.interval at.entry found.fails,
+    λ q k n f.
         let z : 0 + q ≡ q = omega arith in
         subst (λ i. (at.process < i) ⊎ ((at.process ≡ i) × (found.interval ≤ k))) z
-        (found.first q k n (ap (λ i. F i k) z ∙ failing r.program r.plan r.header.budget r.logs q k n f));
-  }
+        (found.first q k n (ap (λ i. F i k) z ∙ failing r.program r.plan r.header.budget r.logs q k n f)),
+  )
     where
       found : IsFirst 0 at
       found = (all_first 0 r.logs.lists from_start at e).1
@@ -235,5 +236,5 @@ module _ (r : Recording) (races : List Race) (none : races ≡ []) where
   pub all_tell : first_failure r ≡ None → NoneFails (known_with r.program r.plan r.header.budget r.logs races)
   all_tell e = subst (λ rs. NoneFails (known_with r.program r.plan r.header.budget r.logs rs)) (sym none) (none_fails r e)
 
-  pub first_told : (at : At) → first_failure r ≡ Some at → IsFirstFailure (known_with r.program r.plan r.header.budget r.logs races) at
-  first_told at e = subst (λ rs. IsFirstFailure (known_with r.program r.plan r.header.budget r.logs rs) at) (sym none) (first_is r at e)
+  pub first_told : (workers : ℕ) (at : At) → first_failure r ≡ Some at → IsFailedBy r (known_with r.program r.plan r.header.budget r.logs races) (Whole workers) (Diverged at)
+  first_told workers at e = subst (λ rs. IsFailedBy r (known_with r.program r.plan r.header.budget r.logs rs) (Whole workers) (Diverged at)) (sym none) (first_is r workers at e)

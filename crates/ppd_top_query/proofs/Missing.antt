@@ -1,8 +1,8 @@
 -- A query that fails for want of a write: the write is missing.
+use Rattle.ppd_race.specs.Races.{races_among, edges_of_logs}
 use Rattle.ppd_clean.proofs.Missing.{clean_missed}
 use Rattle.law_flow_missing.specs.Missing.{write_at}
 use Rattle.ppd_codec_runs.specs.Recordings.{known_of}
-use Rattle.ppd_race.specs.Races.{races_of_logs}
 use Rattle.ppd_session.proofs.Missing.{missing_writes_told}
 use Rattle.ppd_top_query.specs.Missing.{FailuresAreMissing}
 use Rattle.ppd_top_query.specs.Queries.Query.{Slice, Whole, Rerun, Clean}
@@ -10,7 +10,7 @@ use Rattle.ppd_top_query.specs.Queries.Query.{Slice, Whole, Rerun, Clean}
 pub failures_missing : FailuresAreMissing
 failures_missing bytes r (Slice a) at accepted f = (
   f.1,
-  (missing_writes_told r.program r.plan r.header.budget r.logs (races_of_logs r.program r.logs) accepted.indexed).flow
+  (missing_writes_told r.program r.plan r.header.budget r.logs (races_among (edges_of_logs r.program r.logs)) accepted.indexed).flow
       f.0.process f.0.interval f.0.item at.process at.entry f.1 f.2,
 )
 failures_missing bytes r (Whole workers) at accepted f = f

@@ -1,5 +1,6 @@
 -- The slice of a past, by what is known of it.
 use Rattle.std.specs.Prelude.{slice_get, nat_lt, if◌then◌else◌}
+use Rattle.std.specs.Result.{result_unwrap_or}
 use Rattle.std.proofs.Common.{◌≡◌, ℕ, zero, suc, ◌+◌, ◌<◌, ◌≤◌, Bool, true, false, true≢false, List, [], ◌∷◌, Option, Some, None, Result, Ok, Err, length, refl, ap, sym, ◌∙◌, arith}
 use Rattle.std.proofs.lemmas.Bool.{lt-ltb, le-ltb, ltb-true}
 use Rattle.std.proofs.lemmas.Option.{slice_get_within}
@@ -17,14 +18,14 @@ use Rattle.ppd_flow_model.specs.Found.{edges_replays, found_edges}
 use Rattle.ppd_whole.specs.SharedCells.{seens_in}
 use Rattle.ppd_slice_search.specs.declared.reached.ItemAt.{ItemAt}
 use Rattle.ppd_slice_search.specs.declared.reached.Reached.{Reached}
-use Rattle.ppd_slice_search.specs.Reach.{IsReach, item_of}
+use Rattle.ppd_slice_search.specs.Reach.{IsReach, item_of, places_of}
 use Rattle.ppd_slice_search.proofs.Levels.{reach_as}
 use Rattle.ppd_session.specs.Sessions.{known_by}
 use Rattle.ppd_session.specs.Texts.{failure_in, flow_at, no_event, told_at}
 use Rattle.ppd_session.specs.declared.reply.SessionError.TheVariants.{Diverged, Sets}
 use Rattle.ppd_session.proofs.Flows.{flow_there, same as same_logs}
 use Rattle.ppd_session.proofs.Replayed.{are_replayed, same_failure, tells, tells_items}
-use Rattle.ppd_slice.specs.Slices.{IsAnswered, IsNoItem, IsSlice, flow_of, origins_in, places_found, unless_failed as unless_one_failed}
+use Rattle.ppd_slice.specs.Slices.{IsAnswered, IsNoItem, IsSlice, flow_of, origins_in, unless_failed as unless_one_failed}
 use Rattle.ppd_slice.proofs.Flows.{flow_misses, flow_none, flow_there as edges_there}
 use Rattle.ppd_top_query.specs.Queries.{IsSliceFailure, event_refusal, origins_told}
 use Rattle.ppd_top_query.proofs.QueryWords.{origins_of}
@@ -64,18 +65,18 @@ module _ (past : Past) (uncut : past.cut.now ≡ past.logs.now) where
     within_items = slice_get_within (items_in past a.process a.interval) a.item t there
 
     pub flow_as : flow_at x a.process a.interval a.item ≡ flow_of past a
-    flow_as = flow_there past a.process a.interval a.item (items_in past a.process a.interval, is_told, within_items) ∙ sym (same_flow a)
+    flow_as = flow_there past a.process a.interval a.item (items_in past a.process a.interval) is_told within_items ∙ sym (same_flow a)
 
     pub not_refused : event_refusal (told_at x a.process a.interval) a.item ≡ None
     not_refused =
         let lt : nat_lt a.item (length (items_in past a.process a.interval)) ≡ true = lt-ltb a.item (length (items_in past a.process a.interval)) within_items in
         ap (λ o. event_refusal o a.item) is_told ∙ ap (λ b. if b then None else Some no_event) lt
 
-    origins_there : origins_of x a ≡ places_found (flow_of past a)
+    origins_there : origins_of x a ≡ places_of (result_unwrap_or (flow_of past a) [])
     origins_there =
         let lt : nat_lt a.item (length (items_in past a.process a.interval)) ≡ true = lt-ltb a.item (length (items_in past a.process a.interval)) within_items in
         ap (λ o. origins_told o a.item (flow_at x a.process a.interval a.item)) is_told
-        ∙ (ap (λ b. if b then places_found (flow_at x a.process a.interval a.item) else []) lt ∙ ap places_found flow_as)
+        ∙ (ap (λ b. if b then places_of (result_unwrap_or (flow_at x a.process a.interval a.item) []) else []) lt ∙ ap (λ found. places_of (result_unwrap_or found [])) flow_as)
 
   -- one that is not is told to come from nothing
   origins_nowhere : (a : ItemAt) → IsNoItem past a → origins_of x a ≡ []
@@ -87,7 +88,7 @@ module _ (past : Past) (uncut : past.cut.now ≡ past.logs.now) where
       by (Some (Ok items)) e =
           let is = (are_replayed past uncut a.process a.interval items e).1 in
           let long : length items ≤ a.item = past_end items a.item (ap (λ (is : List Item). slice_get is a.item) is ∙ h.1) in
-          ap (λ b. if b then places_found (flow_at x a.process a.interval a.item) else []) (le-ltb a.item (length items) long)
+          ap (λ b. if b then places_of (result_unwrap_or (flow_at x a.process a.interval a.item) []) else []) (le-ltb a.item (length items) long)
 
   -- the items that were reached come from the same
   same_origins : (a : ItemAt) → IsAnswered (flow_of past a) → origins_in past a ≡ origins_of x a
@@ -95,7 +96,7 @@ module _ (past : Past) (uncut : past.cut.now ≡ past.logs.now) where
     where
       by : (r : Result (List FlowEdge) FlowError) → flow_of past a ≡ r → IsAnswered r → origins_in past a ≡ origins_of x a
       by (Ok es) e k = let there = edges_there past a es e in sym (origins_there a there.0 there.1.0 there.1.1)
-      by (Err flow_error.NoEvent) e k = ap places_found e ∙ sym (origins_nowhere a (flow_none past a e))
+      by (Err flow_error.NoEvent) e k = ap (λ found. places_of (result_unwrap_or found [])) e ∙ sym (origins_nowhere a (flow_none past a e))
       by (Err (flow_error.Diverged q n)) e k = absurd k
       by (Err (flow_error.Sets q n c)) e k = absurd k
       by (Err flow_error.Memory) e k = absurd k

@@ -1,6 +1,6 @@
 -- What is answered of the recording of a whole run without a race is that of the run.
-use Rattle.std.proofs.Common.{◌≡◌, ℕ, List, [], ◌∷◌, Option, Some, None, refl, ap, sym, ◌∙◌, subst}
 use Rattle.law_agreement.proofs.Agreeing.{agreeing_stories}
+use Rattle.law_clean.proofs.Whole.{answers_of_runs as cleans_of_runs}
 use Rattle.law_whole.proofs.WholeTrace.{joined_trace_full}
 use Rattle.law_whole.specs.Linked.{joined_trace}
 use Rattle.ppd_ast.specs.Valid.{IsValid}
@@ -12,45 +12,46 @@ use Rattle.ppd_codec.specs.declared.recording.Header.{Header}
 use Rattle.ppd_codec.specs.declared.recording.Recording.{Recording}
 use Rattle.ppd_codec_runs.proofs.Runs.{runs_are_recalled}
 use Rattle.ppd_codec_runs.proofs.Same.{IsOfThree, of_three}
-use Rattle.ppd_codec_runs.specs.Laws.{known_by}
-use Rattle.ppd_codec_runs.specs.Recordings.{IsAccepted, IsRunRecorded, known_of, seens_of}
+use Rattle.ppd_codec_runs.specs.Recordings.{IsAccepted, IsRunRecorded, known_of}
 use Rattle.ppd_entry.specs.declared.entry.At.{At}
 use Rattle.ppd_entry.specs.declared.entry.Logs.{Logs}
 use Rattle.ppd_flow_model.specs.Seen.{Seen}
 use Rattle.ppd_flow_past.specs.ByReplays.{first_failed}
 use Rattle.ppd_model.proofs.RecordedSyncs.{record_syncs}
 use Rattle.ppd_model.specs.Agreement.{Agree}
-use Rattle.ppd_model.specs.FullTrace.{full_trace, trace_of}
+use Rattle.ppd_model.specs.FullTrace.{full_trace}
+use Rattle.ppd_model.specs.Items.{ItemsAreWhole}
 use Rattle.ppd_model.specs.Logs.{closed_logs}
 use Rattle.ppd_model.specs.Races.{races}
+use Rattle.ppd_model.specs.RecordedSets.{record_in}
+use Rattle.ppd_model.specs.Story.{story}
 use Rattle.ppd_model.specs.declared.graph.Race.{Race}
 use Rattle.ppd_model.specs.declared.trace.Trace.{Trace}
 use Rattle.ppd_model.specs.declared.tracing.Story.{Story}
 use Rattle.ppd_rerun_model.proofs.Verdicts.{reruns_say_yes, verdicts_are_one}
-use Rattle.ppd_rerun_model.specs.Verdicts.{IsVerdict, guided_by}
+use Rattle.ppd_rerun_model.specs.Guided.{guided}
+use Rattle.ppd_rerun_model.specs.Verdicts.{IsVerdict}
 use Rattle.ppd_rerun_model.specs.declared.verdict.Verdict.{Verdict}
 use Rattle.ppd_rerun_model.specs.declared.verdict.Verdict.TheVariants as verdict
 use Rattle.ppd_session.proofs.Honest.{all_there, never}
-use Rattle.ppd_session.specs.Known.{Known, seens}
-use Rattle.ppd_top_query.specs.VerdictTexts.{verdict_text}
-use Rattle.ppd_top_query.specs.OfRuns.{AnswersAreOfRuns}
-use Rattle.ppd_model.specs.Items.{ItemsAreWhole}
-use Rattle.ppd_session.specs.Known.{known_of_run}
-use Rattle.law_clean.proofs.Whole.{answers_of_runs as cleans_of_runs}
+use Rattle.ppd_session.specs.Known.{Known, known_of_run, seens}
+use Rattle.ppd_session.specs.Texts.{races_refusal}
 use Rattle.ppd_session.specs.declared.reply.SessionError.{SessionError}
 use Rattle.ppd_top_query.proofs.CleanOfRuns.{clean_told, never_fails}
-use Rattle.ppd_top_query.specs.Queries.{Gives, IsCleanFailure, IsRerunAnswer, IsSliceAnswer, ItemAsked, first_failure, races_refusal, schedule_of, refusal}
-use Rattle.ppd_top_query.specs.SlicesOfRuns.{IsSliceOfRun}
 use Rattle.ppd_top_query.proofs.SlicesOfRuns.{slices_of_runs}
-use Rattle.ppd_top_query.specs.Queries.IsWritten.{refuses, answers}
-use Rattle.ppd_top_query.specs.Queries.Query.{Slice, Whole, Rerun, Clean}
+use Rattle.ppd_top_query.specs.OfRuns.{AnswersAreOfRuns, IsOfRun}
+use Rattle.ppd_top_query.specs.Queries.{Gives, IsCleanFailure, IsRerunAnswer, IsSliceAnswer, ItemAsked, first_failure, refusal, schedule_of}
+use Rattle.ppd_top_query.specs.Queries.IsWritten.{answers, refuses}
+use Rattle.ppd_top_query.specs.Queries.Query.{Clean, Rerun, Slice, Whole}
+use Rattle.ppd_top_query.specs.VerdictTexts.{verdict_text}
 use Rattle.ppd_whole.specs.Intervals.{intervals_from}
 use Rattle.ppd_whole.specs.WholeText.{whole_text}
+use Rattle.std.proofs.Common.{List, None, Option, Some, [], ap, refl, subst, sym, ℕ, ◌∙◌, ◌∷◌, ◌≡◌}
 
 no_failure : {o : Option At} {t : At} → o ≡ None → o ≡ Some t → ⊥
 no_failure a b = cc (a, b)
 
-pub no_races : (rs : List Race) → races_refusal rs None ≡ None → rs ≡ []
+pub no_races : (rs : List Race) → races_refusal rs ≡ None → rs ≡ []
 no_races [] e = refl
 no_races (x ∷ xs) e = absurd (cc)
 
@@ -67,13 +68,13 @@ module _ (bytes : List ℕ) (r : Recording) (accepted : IsAccepted bytes r) (sou
   three : IsOfThree source header program (closed_logs program (plan_of program header.policy) header.budget h) r
   three = of_three source header program (closed_logs program (plan_of program header.policy) header.budget h) bytes r run.accepted run.is accepted.decoded
 
-  known : known_of r ≡ known_by program header h
+  known : known_of r ≡ known_of_run program (plan_of program header.policy) header.budget h
   known = (runs_are_recalled bytes r accepted source header program h run).0
 
   pub races_are : (known_of r).races ≡ races program (plan_of program header.policy) header.budget h
   races_are = ap (λ (x : Known). x.races) known
 
-  seens_are : seens_of r ≡ seens program (plan_of program header.policy) header.budget (closed_logs program (plan_of program header.policy) header.budget h)
+  seens_are : seens r.program r.plan r.header.budget r.logs ≡ seens program (plan_of program header.policy) header.budget (closed_logs program (plan_of program header.policy) header.budget h)
   seens_are =
       ap (λ (p : Program). seens p r.plan r.header.budget r.logs) three.program_is
       ∙ (ap (λ (p : Plan). seens program p r.header.budget r.logs) three.plan_is
@@ -88,36 +89,36 @@ module _ (bytes : List ℕ) (r : Recording) (accepted : IsAccepted bytes r) (sou
       ∙ ap (λ (l : Logs). first_failed program (plan_of program header.policy) header.budget l ms) three.logs_are))
 
   -- no replay fails where there is no race
-  pub never_diverges : races_refusal (known_of r).races None ≡ None → (failure : At) → first_failure r ≡ Some failure → ⊥
+  pub never_diverges : races_refusal (known_of r).races ≡ None → (failure : At) → first_failure r ≡ Some failure → ⊥
   never_diverges none failure f =
       let free : races program (plan_of program header.policy) header.budget h ≡ [] = sym races_are ∙ no_races (known_of r).races none in
-      no_failure (failed (intervals_from 0 (seens_of r)) ∙ never program header.policy header.budget h valid run.whole free (intervals_from 0 (seens_of r))) f
+      no_failure (failed (intervals_from 0 (seens r.program r.plan r.header.budget r.logs)) ∙ never program header.policy header.budget h valid run.whole free (intervals_from 0 (seens r.program r.plan r.header.budget r.logs))) f
 
   module _ (free : races program (plan_of program header.policy) header.budget h ≡ []) where
     -- the items of all replays make the full trace
-    trace_is : whole_text r.program (joined_trace r.program r.logs (seens_of r)) ≡ whole_text program (full_trace program (plan_of program header.policy) header.budget h)
+    trace_is : whole_text r.program (joined_trace r.program r.logs (seens r.program r.plan r.header.budget r.logs)) ≡ whole_text program (full_trace program (plan_of program header.policy) header.budget (story program (plan_of program header.policy) header.budget h))
     trace_is =
-        ap (λ (p : Program). whole_text p (joined_trace p r.logs (seens_of r))) three.program_is
-        ∙ (ap (λ (l : Logs). whole_text program (joined_trace program l (seens_of r))) three.logs_are
+        ap (λ (p : Program). whole_text p (joined_trace p r.logs (seens r.program r.plan r.header.budget r.logs))) three.program_is
+        ∙ (ap (λ (l : Logs). whole_text program (joined_trace program l (seens r.program r.plan r.header.budget r.logs))) three.logs_are
         ∙ (ap (λ (xs : List Seen). whole_text program (joined_trace program (closed_logs program (plan_of program header.policy) header.budget h) xs)) (seens_are ∙ sym (all_there program header.policy header.budget h valid run.whole free))
         ∙ ap (λ (t : Trace). whole_text program t) (joined_trace_full program (plan_of program header.policy) header.budget h run.whole.last valid run.whole.runs free)))
 
     -- the verdict on its logs is yes
     verdict_is : (v : Verdict) → IsVerdict r.program r.plan r.header.budget r.logs v
-        → v ≡ verdict.Yes (guided_by program (plan_of program header.policy) header.budget (closed_logs program (plan_of program header.policy) header.budget h))
+        → v ≡ verdict.Yes (guided program (plan_of program header.policy) header.budget (record_in (closed_logs program (plan_of program header.policy) header.budget h)))
     verdict_is v is =
         let a : IsVerdict program r.plan r.header.budget r.logs v = subst (λ (p : Program). IsVerdict p r.plan r.header.budget r.logs v) three.program_is is in
         let b : IsVerdict program (plan_of program header.policy) r.header.budget r.logs v = subst (λ (p : Plan). IsVerdict program p r.header.budget r.logs v) three.plan_is a in
         let c : IsVerdict program (plan_of program header.policy) header.budget r.logs v = subst (λ (k : Header). IsVerdict program (plan_of program header.policy) k.budget r.logs v) three.header_is b in
         let d : IsVerdict program (plan_of program header.policy) header.budget (closed_logs program (plan_of program header.policy) header.budget h) v = subst (λ (l : Logs). IsVerdict program (plan_of program header.policy) header.budget l v) three.logs_are c in
         verdicts_are_one program (plan_of program header.policy) header.budget (closed_logs program (plan_of program header.policy) header.budget h) v
-        (verdict.Yes (guided_by program (plan_of program header.policy) header.budget (closed_logs program (plan_of program header.policy) header.budget h))) d
+        (verdict.Yes (guided program (plan_of program header.policy) header.budget (record_in (closed_logs program (plan_of program header.policy) header.budget h)))) d
         (reruns_say_yes program header.policy header.budget h valid run.whole free)
 
     -- by a schedule that agrees with the run
-    guided_agrees : Agree program (plan_of program header.policy) header.budget h (guided_by program (plan_of program header.policy) header.budget (closed_logs program (plan_of program header.policy) header.budget h))
+    guided_agrees : Agree program (plan_of program header.policy) header.budget h (guided program (plan_of program header.policy) header.budget (record_in (closed_logs program (plan_of program header.policy) header.budget h)))
     guided_agrees =
-        let yes : IsVerdict program (plan_of program header.policy) header.budget (closed_logs program (plan_of program header.policy) header.budget h) (verdict.Yes (guided_by program (plan_of program header.policy) header.budget (closed_logs program (plan_of program header.policy) header.budget h))) =
+        let yes : IsVerdict program (plan_of program header.policy) header.budget (closed_logs program (plan_of program header.policy) header.budget h) (verdict.Yes (guided program (plan_of program header.policy) header.budget (record_in (closed_logs program (plan_of program header.policy) header.budget h)))) =
         reruns_say_yes program header.policy header.budget h valid run.whole free in
         record {
           first = run.whole;
@@ -129,10 +130,10 @@ module _ (bytes : List ℕ) (r : Recording) (accepted : IsAccepted bytes r) (sou
         → Agree program (plan_of program header.policy) header.budget h schedule × (text ≡ verdict_text program (verdict.Yes schedule))
     rerun_is schedule text (v, is, taken, written) =
         let yes = verdict_is v is in
-        let guided : schedule ≡ guided_by program (plan_of program header.policy) header.budget (closed_logs program (plan_of program header.policy) header.budget h) = taken ∙ ap schedule_of yes in (
-          subst (λ (g : List ℕ). Agree program (plan_of program header.policy) header.budget h g) (sym guided) guided_agrees,
+        let taken_so : schedule ≡ guided program (plan_of program header.policy) header.budget (record_in (closed_logs program (plan_of program header.policy) header.budget h)) = taken ∙ ap schedule_of yes in (
+          subst (λ (g : List ℕ). Agree program (plan_of program header.policy) header.budget h g) (sym taken_so) guided_agrees,
           written ∙ (ap (λ (p : Program). verdict_text p v) three.program_is ∙ (ap (λ (w : Verdict). verdict_text program w) yes
-              ∙ ap (λ (g : List ℕ). verdict_text program (verdict.Yes g)) (sym guided))),
+              ∙ ap (λ (g : List ℕ). verdict_text program (verdict.Yes g)) (sym taken_so))),
         )
 
 -- two schedules that agree with one agree
@@ -144,12 +145,12 @@ races_none e = absurd (cc)
 
 -- the slice of a run
 module _ (whole : ItemsAreWhole) (r : Recording) (a : ItemAsked) (program : Program) (plan : Plan) (budget : ℕ) (h : List ℕ) (valid : IsValid program) (known : known_of r ≡ known_of_run program plan budget h) where
-  slice_is : (schedule text : List ℕ) → Gives r (Slice a) schedule 0 text → refusal (known_of_run program plan budget h) (Slice a) ≡ None → IsSliceOfRun program plan budget h a text
-  slice_is schedule text (refuses line said) m = absurd (clash (ap (λ (x : Known). refusal x (Slice a)) known ∙ m) said)
+  slice_is : (schedule text : List ℕ) → Gives r (Slice a) schedule 0 text → IsOfRun program plan budget h (Slice a) schedule text
+  slice_is schedule text (refuses line said) = λ m. absurd (clash (ap (λ (x : Known). refusal x (Slice a)) known ∙ m) said)
     where
       clash : {o : Option (List ℕ)} {t : List ℕ} → o ≡ None → o ≡ Some t → ⊥
       clash a b = cc (a, b)
-  slice_is schedule text (answers s t none is) m = slices_of_runs whole program plan budget h a schedule text valid m (subst (λ (x : Known). IsSliceAnswer x a schedule text) known is)
+  slice_is schedule text (answers s t none is) = slices_of_runs whole program plan budget h a schedule text valid (subst (λ (x : Known). IsSliceAnswer x a schedule text) known is)
 
 -- the parts of a recording of a run
 three_parts : (bytes : List ℕ) (r : Recording) → IsAccepted bytes r → (source : List ℕ) (header : Header) (program : Program) (h : List ℕ) → IsRunRecorded source header program h bytes
@@ -172,14 +173,14 @@ answers_of_runs whole bytes r (Whole workers) schedule text accepted (refuses li
     let none : (known_of r).races ≡ [] = races_are bytes r accepted source header program h run ∙ free in
     absurd (by none said)
   where
-    by : (known_of r).races ≡ [] → races_refusal (known_of r).races None ≡ Some line → ⊥
-    by e f = clash (ap (λ (rs : List Race). races_refusal rs None) e) f
+    by : (known_of r).races ≡ [] → races_refusal (known_of r).races ≡ Some line → ⊥
+    by e f = clash (ap races_refusal e) f
       where
         clash : {o : Option (List ℕ)} {t : List ℕ} → o ≡ None → o ≡ Some t → ⊥
         clash a b = cc (a, b)
 answers_of_runs whole bytes r (Whole workers) schedule text accepted (answers s t none is) = λ source header program h h' run free agree.
     is.2 ∙ (trace_is bytes r accepted source header program h run free
-    ∙ ap (λ (s : Story). whole_text program (trace_of program (plan_of program header.policy) header.budget s)) (agreeing_stories program (plan_of program header.policy) header.budget h h' agree free))
+    ∙ ap (λ (s : Story). whole_text program (full_trace program (plan_of program header.policy) header.budget s)) (agreeing_stories program (plan_of program header.policy) header.budget h h' agree free))
 answers_of_runs whole bytes r Rerun schedule text accepted (refuses line said) = absurd (cc)
 answers_of_runs whole bytes r Rerun schedule text accepted (answers s t none is) = λ source header program h h' run free agree.
     let it = rerun_is bytes r accepted source header program h run free schedule text is in

@@ -4,10 +4,10 @@ use Rattle.std.specs.Option.{option_map_or}
 use Rattle.ppd_slice_search.specs.declared.reached.ItemAt.{ItemAt}
 use Rattle.ppd_session.specs.Known.{Known}
 use Rattle.ppd_session.specs.Texts.{flow_at, no_process, told_at}
-use Rattle.ppd_top_query.specs.Queries.{Refusal, origins_told}
+use Rattle.ppd_top_query.specs.Queries.{origins_told}
 
 -- there is no such process
-abbrev pub process_refusal : Option ℕ → (ℕ → Refusal) → Refusal
+abbrev pub process_refusal : Option ℕ → (ℕ → Option (List ℕ)) → Option (List ℕ)
 process_refusal o rest = option_map_or rest o (Some no_process)
 
 -- the items that an item comes from

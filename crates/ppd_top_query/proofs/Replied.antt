@@ -1,6 +1,7 @@
 -- From the answers of the code to what is written.
+use Rattle.std.specs.Option.{unwrap_or}
 use Rattle.ppd_top_query.specs.Queries.Query.{Slice}
-use Rattle.std.specs.Prelude.{IfErr, IfOk, Vec, codes, nat_lt, is_some, if◌then◌else◌, ◌==◌}
+use Rattle.std.specs.Prelude.{IfErr, IfOk, Vec, codes, nat_lt, is_some, if◌then◌else◌, ◌==◌, get_or}
 use Rattle.std.specs.List.{flat_map}
 use Rattle.std.proofs.Common.{◌≡◌, ℕ, ◌<◌, Bool, true, false, true≢false, List, [], ◌∷◌, Option, Some, None, Result, Ok, Err, length, refl, ap, sym, ◌∙◌, subst, inl, inr}
 use Rattle.ppd_index.specs.Indexes.{IsIndexOf, rows_at}
@@ -13,11 +14,11 @@ use Rattle.ppd_slice_search.specs.Reach.{at}
 use Rattle.ppd_session.specs.Known.{Known}
 use Rattle.ppd_session.specs.Questions.{process_named}
 use Rattle.ppd_session.specs.Sessions.{error_of, known_by}
-use Rattle.ppd_session.specs.Texts.{intervals_at, no_event, no_process, raced, told_at}
+use Rattle.ppd_session.specs.Texts.{no_event, no_process, told_at, races_refusal}
 use Rattle.ppd_session.specs.declared.reply.SessionError.{SessionError}
 use Rattle.ppd_session.specs.declared.reply.SessionError.TheVariants.{Diverged, Sets, Memory}
 use Rattle.ppd_slice.specs.Slices.{IsSlice, IsSliceOf}
-use Rattle.ppd_top_query.specs.Queries.{ItemAsked, block_refusal, event_refusal, races_refusal, reached_line, Refusal, refusal}
+use Rattle.ppd_top_query.specs.Queries.{ItemAsked, block_refusal, event_refusal, reached_line, refusal}
 use Rattle.ppd_top_query.specs.Queries.IsWritten.{refuses, answers, fails}
 use Rattle.ppd_top_query.specs.Replies.{IsError, IsItemFailed, IsItemReply, IsSliceReply, WritesSlice}
 use Rattle.ppd_top_query.proofs.OfPast.{diverges, misses, no_item, slice_known, slice_there, some_item}
@@ -69,11 +70,11 @@ module _ (past : Past) (a : ItemAsked) where
     at_process =
         ap (λ o. process_refusal o (λ q. block_refusal (known_by past []) q a.interval (event_refusal (told_at (known_by past []) q a.interval) a.item))) named
 
-    pub no_block_refuses : nat_lt a.interval (length (intervals_at (known_by past []) q)) ≡ false → refusal (known_by past []) (Slice a) ≡ Some (codes "? block\n")
+    pub no_block_refuses : nat_lt a.interval (length (get_or (known_by past []).intervals q [])) ≡ false → refusal (known_by past []) (Slice a) ≡ Some (codes "? block\n")
     no_block_refuses e =
         at_process ∙ ap (λ (b : Bool). if b then event_refusal (told_at (known_by past []) q a.interval) a.item else Some (codes "? block\n")) e
 
-    module _ (there : nat_lt a.interval (length (intervals_at (known_by past []) q)) ≡ true) where
+    module _ (there : nat_lt a.interval (length (get_or (known_by past []).intervals q [])) ≡ true) where
       at_block : refusal (known_by past []) (Slice a) ≡ event_refusal (told_at (known_by past []) q a.interval) a.item
       at_block = at_process ∙ ap (λ (b : Bool). if b then event_refusal (told_at (known_by past []) q a.interval) a.item else Some (codes "? block\n")) there
 
@@ -86,24 +87,28 @@ module _ (past : Past) (a : ItemAsked) where
 
   -- the interval by its number as it was found
   pub told_at_number : {A : Type 0} (q k n : ℕ) (o : Option ℕ) (r : Result (Vec ℕ A) SessionError) → process_named past.program.now a.process ≡ Some q → n ≡ a.interval → o ≡ Some k → k ≡ n
-      → is_some o ≡ nat_lt n (length (intervals_at (known_by past []) q)) → IsItemReply (known_by past []) q k a.item r → IsSliceReply (known_by past []) a r
+      → is_some o ≡ nat_lt n (length (get_or (known_by past []).intervals q [])) → IsItemReply (known_by past []) q k a.item r → IsSliceReply (known_by past []) a r
   told_at_number q k n o r named from there same known h =
       let at_n : k ≡ a.interval = same ∙ from in
-      let yes : nat_lt a.interval (length (intervals_at (known_by past []) q)) ≡ true =
-      ap (λ i. nat_lt i (length (intervals_at (known_by past []) q))) (sym from) ∙ (sym known ∙ ap is_some there) in
+      let yes : nat_lt a.interval (length (get_or (known_by past []).intervals q [])) ≡ true =
+      ap (λ i. nat_lt i (length (get_or (known_by past []).intervals q []))) (sym from) ∙ (sym known ∙ ap is_some there) in
       told_reply q named yes r (subst (λ i. IsItemReply (known_by past []) q i a.item r) at_n h)
 
   pub none_at_number : {A : Type 0} (q n : ℕ) (o : Option ℕ) (r : Result (Vec ℕ A) SessionError) → process_named past.program.now a.process ≡ Some q → n ≡ a.interval → o ≡ None
-      → is_some o ≡ nat_lt n (length (intervals_at (known_by past []) q)) → IfOk r (λ t. t.items ≡ codes "? block\n") → IfErr r (λ e. e ≡ Memory) → IsSliceReply (known_by past []) a r
+      → is_some o ≡ nat_lt n (length (get_or (known_by past []).intervals q [])) → IfOk r (λ t. t.items ≡ codes "? block\n") → IfErr r (λ e. e ≡ Memory) → IsSliceReply (known_by past []) a r
   none_at_number q n o r named from gone known h m =
-      let no : nat_lt a.interval (length (intervals_at (known_by past []) q)) ≡ false =
-      ap (λ i. nat_lt i (length (intervals_at (known_by past []) q))) (sym from) ∙ (sym known ∙ ap is_some gone) in
+      let no : nat_lt a.interval (length (get_or (known_by past []).intervals q [])) ≡ false =
+      ap (λ i. nat_lt i (length (get_or (known_by past []).intervals q []))) (sym from) ∙ (sym known ∙ ap is_some gone) in
       refused_reply (known_by past []) a (codes "? block\n") (no_block_refuses q named no) r h m
 
 -- of one with races
-pub races_refuse : (rs : List Race) (rest : Refusal) → (length rs == 0) ≡ false → races_refusal rs rest ≡ Some (raced rs [])
-races_refuse [] rest e = absurd (true≢false e)
-races_refuse (r ∷ rs) rest e = refl
+pub races_refuse : (rs : List Race) → (length rs == 0) ≡ false → races_refusal rs ≡ Some (unwrap_or (races_refusal rs) [])
+races_refuse [] e = absurd (true≢false e)
+races_refuse (r ∷ rs) e = refl
+
+pub races_refuse_slices : (past : Past) (a : ItemAsked) (rs : List Race) → (length rs == 0) ≡ false → refusal (known_by past rs) (Slice a) ≡ Some (unwrap_or (races_refusal rs) [])
+races_refuse_slices past a [] e = absurd (true≢false e)
+races_refuse_slices past a (r ∷ rs) e = refl
 
 pub no_races : {A : Type 0} (past : Past) (a : ItemAsked) (races : List Race) (r : Result (Vec ℕ A) SessionError) → races ≡ [] → IsSliceReply (known_by past []) a r → IsSliceReply (known_by past races) a r
 no_races past a races r none h = subst (λ (rs : List Race). IsSliceReply (known_by past rs) a r) (sym none) h

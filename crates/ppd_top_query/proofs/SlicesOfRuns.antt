@@ -1,39 +1,41 @@
 -- Where the items of a run are told to come from is where its flowback edges come from.
-use Rattle.ppd_top_query.specs.Queries.Query.{Slice}
-use Rattle.std.specs.Prelude.{codes, slice_get, nat_lt, if◌then◌else◌, option_map, unwrap_or}
-use Rattle.std.specs.List.{flat_map}
-use Rattle.std.proofs.Common.{◌≡◌, ℕ, zero, suc, ◌+◌, ◌<◌, ◌≤◌, Bool, true, false, List, [], ◌∷◌, Option, Some, None, Ok, Err, length, map, get_or, refl, ap, sym, ◌∙◌, arith}
-use Rattle.std.proofs.lemmas.Bool.{ltb-false, ltb-true}
-use Rattle.std.proofs.lemmas.List.{length-map}
-use Rattle.std.proofs.lemmas.Option.{slice_get-map}
+use Rattle.ppd_ast.specs.Valid.{IsValid}
 use Rattle.ppd_ast.specs.declared.plan.Plan.{Plan}
 use Rattle.ppd_ast.specs.declared.program.Program.{Program}
-use Rattle.ppd_ast.specs.Valid.{IsValid}
+use Rattle.ppd_flow_past.specs.declared.flow_error.FlowError.TheVariants as flow_error
+use Rattle.ppd_flow_past.specs.declared.flow_error.FlowError.TheVariants.{NoEvent}
+use Rattle.ppd_model.proofs.EdgeWords.{edges_if, edges_in, part_in}
+use Rattle.ppd_model.specs.FlowbackEdges.{edges}
+use Rattle.ppd_model.specs.Intervals.{Part, Span, Split, items_of, splits}
+use Rattle.ppd_model.specs.Items.{ItemsAreWhole}
+use Rattle.ppd_model.specs.Races.{edges_of_story, races_among}
+use Rattle.ppd_model.specs.Story.{story}
 use Rattle.ppd_model.specs.declared.flow.FlowEdge.{FlowEdge}
 use Rattle.ppd_model.specs.declared.flow.Item.{Item}
 use Rattle.ppd_model.specs.declared.graph.Race.{Race}
 use Rattle.ppd_model.specs.declared.tracing.Story.{Story}
-use Rattle.ppd_model.specs.FlowbackEdges.{edges}
-use Rattle.ppd_model.proofs.EdgeWords.{edges_if, edges_in, part_in}
-use Rattle.ppd_model.specs.Intervals.{Part, Span, Split, items_of, splits}
-use Rattle.ppd_model.specs.Items.{ItemsAreWhole}
-use Rattle.ppd_model.specs.Races.{races_of}
-use Rattle.ppd_model.specs.Story.{story}
-use Rattle.ppd_session.specs.Known.{Flow, Known, Told, edges_or_none, known_of_run, of_items, of_processes, told_of_split, unless_raced}
-use Rattle.ppd_flow_past.specs.declared.flow_error.FlowError.TheVariants as flow_error
-use Rattle.ppd_session.specs.Sessions.{IsItemThere}
-use Rattle.ppd_session.specs.Texts.{intervals_at, no_event, told_at}
-use Rattle.ppd_slice.specs.Slices.{places_found}
-use Rattle.ppd_slice_search.specs.declared.reached.ItemAt.{ItemAt}
-use Rattle.ppd_slice_search.specs.declared.reached.Reached.{Reached}
+use Rattle.ppd_session.proofs.KnownWords.{flow_told, of_cells, of_intervals, of_span, of_split}
+use Rattle.ppd_session.specs.Known.{Flow, Known, Told, known_of_run, of_processes, told_of_split, unless_raced}
+use Rattle.ppd_session.specs.Texts.{no_event, races_refusal, told_at}
+use Rattle.ppd_slice_search.proofs.Levels.{reach_as}
 use Rattle.ppd_slice_search.specs.Laws.{ReachesAreSlices, SlicesAreOne}
 use Rattle.ppd_slice_search.specs.OfRuns.{origins, reach}
 use Rattle.ppd_slice_search.specs.Reach.{IsReach, at, item_of, places_of}
-use Rattle.ppd_slice_search.proofs.Levels.{reach_as}
-use Rattle.ppd_top_query.specs.Queries.{IsSliceAnswer, IsSliceText, ItemAsked, block_refusal, event_refusal, origins_told, races_refusal, reached_line, refusal}
-use Rattle.ppd_top_query.specs.SlicesOfRuns.{IsSliceOfRun, SliceTextsAreOfRuns, SlicesAreOfRuns, lines_of_reach}
-use Rattle.ppd_session.proofs.KnownWords.{of_cells, of_intervals, of_split, flow_told, of_span}
-use Rattle.ppd_top_query.proofs.QueryWords.{process_refusal, origins_of}
+use Rattle.ppd_slice_search.specs.declared.reached.ItemAt.{ItemAt}
+use Rattle.ppd_slice_search.specs.declared.reached.Reached.{Reached}
+use Rattle.ppd_top_query.proofs.QueryWords.{origins_of, process_refusal}
+use Rattle.ppd_top_query.specs.OfRuns.{IsOfRun, SlicesAreOfRuns}
+use Rattle.ppd_top_query.specs.Queries.{IsSliceAnswer, IsSliceText, ItemAsked, block_refusal, event_refusal, origins_told, reached_line}
+use Rattle.ppd_top_query.specs.Queries.Query.{Slice}
+use Rattle.ppd_top_query.specs.SlicesOfRuns.{SliceTextsAreOfRuns, lines_of_reach}
+use Rattle.std.proofs.Common.{Bool, Err, List, None, Ok, Option, Some, [], ap, arith, false, get_or, length, map, refl, suc, sym, true, zero, ℕ, ◌+◌, ◌<◌, ◌∙◌, ◌∷◌, ◌≡◌, ◌≤◌}
+use Rattle.std.proofs.lemmas.Bool.{ltb-false, ltb-true}
+use Rattle.std.proofs.lemmas.List.{length-map}
+use Rattle.std.proofs.lemmas.Option.{slice_get-map}
+use Rattle.std.specs.List.{flat_map}
+use Rattle.std.specs.Option.{option_or}
+use Rattle.std.specs.Prelude.{codes, if◌then◌else◌, nat_lt, ok_or, option_map, slice_get, unwrap_or}
+use Rattle.std.specs.Result.{result_unwrap_or}
 
 -- ---- lists
 
@@ -70,7 +72,7 @@ module _ (d : Flow) where
       let z : m ≡ m + 0 = omega arith in
       let y : 0 + j ≡ j = omega arith in
       let is : t ≡ Ok items = cc in
-      ap (λ (t : Told). get_or (of_items (f m) t) j d) is ∙ (cell_there (f m) 0 (length items) j lt ∙ (ap (f m) y ∙ ap (λ i. f i j) z))
+      ap (λ (t : Told). get_or (of_cells (f m) 0 (length (result_unwrap_or t []))) j d) is ∙ (cell_there (f m) 0 (length items) j lt ∙ (ap (f m) y ∙ ap (λ i. f i j) z))
   row_there f m (suc k) j (t ∷ ts) items e lt =
       let z : m + 1 + k ≡ m + suc k = omega arith in row_there f (m + 1) k j ts items e lt ∙ ap (λ i. f i j) z
 
@@ -150,7 +152,7 @@ module _ (whole : ItemsAreWhole) (program : Program) (plan : Plan) (budget : ℕ
     nowhere : told_here ≡ None → edges program plan budget (story program plan budget h) a.process a.interval a.item ≡ None → origins_in [] a ≡ of_run a
     nowhere e f = ap (λ o. origins_told o a.item (flow_in [] a)) e ∙ sym (ap (λ (o : Option (List FlowEdge)). places_of (unwrap_or o [])) f)
 
-    places_are : (o : Option (List FlowEdge)) → places_found (edges_or_none o) ≡ places_of (unwrap_or o [])
+    places_are : (o : Option (List FlowEdge)) → places_of (result_unwrap_or (ok_or o NoEvent) []) ≡ places_of (unwrap_or o [])
     places_are None = refl
     places_are (Some es) = refl
 
@@ -162,8 +164,8 @@ module _ (whole : ItemsAreWhole) (program : Program) (plan : Plan) (budget : ℕ
         table_there (Err flow_error.NoEvent) flows 0 a.process a.interval a.item (map told_of_split xs) (items_of y i) is (ltb-true a.item (length (items_of y i)) g)
         ∙ ap (λ p. flows p a.interval a.item) z in
         ap (λ o. origins_told o a.item (flow_in [] a)) is
-        ∙ (ap (λ b. if b then places_found (flow_in [] a) else []) g
-        ∙ (ap places_found flow ∙ places_are (edges program plan budget (story program plan budget h) a.process a.interval a.item)))
+        ∙ (ap (λ b. if b then places_of (result_unwrap_or (flow_in [] a) []) else []) g
+        ∙ (ap (λ found. places_of (result_unwrap_or found [])) flow ∙ places_are (edges program plan budget (story program plan budget h) a.process a.interval a.item)))
     in_span y e i f false g =
         let is : told_here ≡ Some (Ok (items_of y i)) = told_row xs a.process a.interval ∙ (ap (λ o. told_in o a.interval) e ∙ ap (told_in_span y) f) in
         let count : length (items_of y i) ≡ length i.parts = (whole program plan budget h a.process y v e).whole a.interval i f in
@@ -173,7 +175,7 @@ module _ (whole : ItemsAreWhole) (program : Program) (plan : Plan) (budget : ℕ
         ap (λ o. edges_in program plan xs a.interval a.item o) e
         ∙ (ap (λ o. edges_if program plan xs y (part_in o a.item)) f ∙ ap (edges_if program plan xs y) (past_end i.parts a.item long)) in
         ap (λ o. origins_told o a.item (flow_in [] a)) is
-        ∙ (ap (λ b. if b then places_found (flow_in [] a) else []) g ∙ sym (ap (λ (o : Option (List FlowEdge)). places_of (unwrap_or o [])) gone))
+        ∙ (ap (λ b. if b then places_of (result_unwrap_or (flow_in [] a) []) else []) g ∙ sym (ap (λ (o : Option (List FlowEdge)). places_of (unwrap_or o [])) gone))
 
     in_split : (y : Split) → slice_get xs a.process ≡ Some y → (o : Option Span) → slice_get y.spans a.interval ≡ o → origins_in [] a ≡ of_run a
     in_split y e (Some i) f = in_span y e i f (nat_lt a.item (length (items_of y i))) refl
@@ -251,22 +253,22 @@ module _ (whole : ItemsAreWhole) (program : Program) (plan : Plan) (budget : ℕ
 
   -- by the refusals one after another
   asked_there : (rs : List Race) (q k j : ℕ)
-      → races_refusal rs (process_refusal (Some q) (λ p. block_refusal known p k (event_refusal (slice_get (get_or (rows rs) p []) k) j))) ≡ None
+      → option_or (races_refusal rs) (process_refusal (Some q) (λ p. block_refusal known p k (event_refusal (slice_get (get_or (rows rs) p []) k) j))) ≡ None
       → (items : List Item) × (slice_get (get_or (rows rs) q []) k ≡ Some (Ok items)) × (j < length items)
   asked_there (r ∷ rs) q k j m = absurd (cc)
-  asked_there [] q k j m = by (nat_lt k (length (intervals_at known q))) refl m
+  asked_there [] q k j m = by (nat_lt k (length (get_or known.intervals q []))) refl m
     where
-      by : (b : Bool) → nat_lt k (length (intervals_at known q)) ≡ b → (if b then event_refusal (slice_get (get_or (rows []) q []) k) j else Some (codes "? block\n")) ≡ None
+      by : (b : Bool) → nat_lt k (length (get_or known.intervals q [])) ≡ b → (if b then event_refusal (slice_get (get_or (rows []) q []) k) j else Some (codes "? block\n")) ≡ None
           → (items : List Item) × (slice_get (get_or (rows []) q []) k ≡ Some (Ok items)) × (j < length items)
-      by true e f = within q k j (ltb-true k (length (intervals_at known q)) e) f
+      by true e f = within q k j (ltb-true k (length (get_or known.intervals q [])) e) f
       by false e f = absurd (cc)
 
-  answer_is : (a : ItemAsked) (schedule text : List ℕ) → refusal known (Slice a) ≡ None → IsSliceAnswer known a schedule text → IsSliceOfRun program plan budget h a text
-  answer_is a schedule text m (no_run, (q, named, t)) =
-      let there : IsItemThere known q a.interval a.item =
-      asked_there (races_of program (story program plan budget h)) q a.interval a.item
-      (sym (ap (λ o. races_refusal known.races (process_refusal o (λ p. block_refusal known p a.interval (event_refusal (told_at known p a.interval) a.item)))) named) ∙ m) in
-      let free : races_of program (story program plan budget h) ≡ [] = no_race (races_of program (story program plan budget h)) q a.interval (Ok there.0) there.1 in
+  answer_is : (a : ItemAsked) (schedule text : List ℕ) → IsSliceAnswer known a schedule text → IsOfRun program plan budget h (Slice a) schedule text
+  answer_is a schedule text (no_run, (q, named, t)) = λ m.
+      let there : (items : List Item) × (told_at known q a.interval ≡ Some (Ok items)) × (a.item < length items) =
+      asked_there (races_among (edges_of_story program (story program plan budget h))) q a.interval a.item
+      (sym (ap (λ o. option_or (races_refusal known.races) (process_refusal o (λ p. block_refusal known p a.interval (event_refusal (told_at known p a.interval) a.item)))) named) ∙ m) in
+      let free : races_among (edges_of_story program (story program plan budget h)) ≡ [] = no_race (races_among (edges_of_story program (story program plan budget h))) q a.interval (Ok there.0) there.1 in
       let of_edges : IsReach of_run (at q a.interval a.item) t.slice =
       reach_as (origins_of known) of_run (at q a.interval a.item) t.slice t.is_slice
       (λ r m. ap (λ rs. origins_in rs (item_of r)) free ∙ origins_are (item_of r)) in
@@ -275,10 +277,10 @@ module _ (whole : ItemsAreWhole) (program : Program) (plan : Plan) (budget : ℕ
   -- ---- the lines of the slice that is computed
 
   module _ (reaches : ReachesAreSlices) (one : SlicesAreOne) where
-    text_is : (q k j : ℕ) (text : List ℕ) → IsItemThere known q k j → IsSliceText known q k j text → text ≡ lines_of_reach program plan budget h q k j
-    text_is q k j text there t =
-        let free : races_of program (story program plan budget h) ≡ [] = no_race (races_of program (story program plan budget h)) q k (Ok there.0) there.1 in
-        let i : IsPlaced q k j = placed q k j there.0 (sym (ap (λ rs. slice_get (get_or (rows rs) q []) k) free) ∙ there.1) there.2 in
+    text_is : (q k j : ℕ) (text : List ℕ) (items : List Item) → told_at known q k ≡ Some (Ok items) → j < length items → IsSliceText known q k j text → text ≡ lines_of_reach program plan budget h q k j
+    text_is q k j text items told lt t =
+        let free : races_among (edges_of_story program (story program plan budget h)) ≡ [] = no_race (races_among (edges_of_story program (story program plan budget h))) q k (Ok items) told in
+        let i : IsPlaced q k j = placed q k j items (sym (ap (λ rs. slice_get (get_or (rows rs) q []) k) free) ∙ told) lt in
         let run : IsReach of_run (at q k j) (reach program plan budget (story program plan budget h) q k j) =
         reaches program plan budget (story program plan budget h) q k j i.split i.span i.part i.split_is i.span_is i.part_is in
         let told : IsReach (origins_of known) (at q k j) (reach program plan budget (story program plan budget h) q k j) =
@@ -289,7 +291,8 @@ module _ (whole : ItemsAreWhole) (program : Program) (plan : Plan) (budget : ℕ
         t.is ∙ ap (λ (ss : List Reached). flat_map (reached_line program) ss) same
 
 pub slice_texts_of_runs : ItemsAreWhole → ReachesAreSlices → SlicesAreOne → SliceTextsAreOfRuns
-slice_texts_of_runs whole reaches one program plan budget h q k j text v there t = text_is whole program plan budget h v reaches one q k j text there t
+slice_texts_of_runs whole reaches one program plan budget h q k j text v items told lt t =
+    text_is whole program plan budget h v reaches one q k j text items told lt t
 
 pub slices_of_runs : ItemsAreWhole → SlicesAreOfRuns
-slices_of_runs whole program plan budget h a schedule text v m t = answer_is whole program plan budget h v a schedule text m t
+slices_of_runs whole program plan budget h a schedule text v t = answer_is whole program plan budget h v a schedule text t

@@ -1,29 +1,29 @@
 -- What is written of each accepted recording, by what is known of it. Of edges, and so of slices, the whole trace and
 -- clean edges, it is said here that they are told, and not which they are: of the recording of a run they are the run's
 -- (`IsOfRuns`).
-use Rattle.std.specs.Prelude.{◌≡◌, ◌⊎◌, ℕ, ◌<◌, ◌≤◌, Bool, true, false, List, [], slice_get, Option, Some, None, Err}
-use Rattle.law_clean.specs.Answers.{CleanOr, clean, no_item, unclean, unwritten, unclean_or}
-use Rattle.law_clean.specs.Search.{is_unclean, reached}
+use Rattle.law_clean.specs.Answers.{CleanOr, clean, is_reached, no_item, unclean_or, unwritten}
+use Rattle.law_clean.specs.Pasts.{left_edge}
+use Rattle.law_clean.specs.Search.{is_unclean}
 use Rattle.law_flow_missing.specs.Missing.{IsMissingWrite, write_at}
-use Rattle.ppd_clean.specs.Answers.{is_begun_unclean}
 use Rattle.ppd_codec.specs.declared.recording.Recording.{Recording}
 use Rattle.ppd_codec_runs.specs.Recordings.{IsAccepted, known_of}
 use Rattle.ppd_entry.specs.declared.entry.At.{At}
-use Rattle.ppd_entry.specs.Entries.{entries_at}
 use Rattle.ppd_flow_model.specs.Ends.{first_edge}
-use Rattle.ppd_flow_model.specs.Seen.{Seen, items_at}
-use Rattle.ppd_flow_model.specs.Shared.{seen_at}
+use Rattle.ppd_flow_model.specs.Seen.{Seen}
+use Rattle.ppd_flow_model.specs.Shared.{Missing, seen_at}
 use Rattle.ppd_model.specs.RecordedSets.{record_in}
+use Rattle.ppd_model.specs.declared.flow.FlowEdge.{FlowEdge}
 use Rattle.ppd_model.specs.declared.flow.Item.{Item}
-use Rattle.ppd_race.specs.Races.{races_of_logs}
+use Rattle.ppd_race.specs.Races.{edges_of_logs, races_among}
 use Rattle.ppd_session.specs.Known.{Known, seens}
 use Rattle.ppd_session.specs.Questions.{process_named}
 use Rattle.ppd_session.specs.Texts.{told_at}
 use Rattle.ppd_session.specs.declared.reply.SessionError.{SessionError}
-use Rattle.ppd_session.specs.declared.reply.SessionError.TheVariants.{Diverged, Sets, Memory}
+use Rattle.ppd_session.specs.declared.reply.SessionError.TheVariants.{Diverged, Memory, Sets}
 use Rattle.ppd_top_query.specs.Missing.{IsMissingFor}
 use Rattle.ppd_top_query.specs.Queries.{Diverges, Gives, IsRerunAnswer, IsSliceAnswer, IsSliceFailure, IsWritten, Query, clean_text, cut_of, first_raced_of, refusal}
-use Rattle.ppd_top_query.specs.Queries.Query.{Slice, Whole, Rerun, Clean}
+use Rattle.ppd_top_query.specs.Queries.Query.{Clean, Rerun, Slice, Whole}
+use Rattle.std.specs.Prelude.{Bool, Err, List, None, Some, [], false, get_or, if◌then◌else◌, slice_get, true, ℕ, ◌<◌, ◌≡◌, ◌≤◌, ◌⊎◌}
 
 -- ---- an item in a run with races: item j of interval k of process q
 
@@ -35,43 +35,31 @@ module _ (r : Recording) (q k j : ℕ) where
   -- the past of this item has one
   abbrev pub is_item_raced : Item → Bool
   is_item_raced t =
-      is_unclean r.program r.plan r.header.budget r.logs (record_in r.logs) (races_of_logs r.program r.logs) q k j
-      cut_seens (first_raced_of r q k j) t
+      is_unclean r.program r.plan r.header.budget r.logs (record_in r.logs)
+      (races_among (edges_of_logs r.program r.logs)) q k j
+      cut_seens (first_raced_of r q k) t
 
-  -- this item with some edges, or a write that is missing
-  abbrev pub IsWithEdges : Item → CleanOr → Type 0
-  IsWithEdges t (clean s es) = s ≡ t
-  IsWithEdges t (unclean e) = ⊥
-  IsWithEdges t no_item = ⊥
-  IsWithEdges t (unwritten m) = IsMissingWrite r.logs cut_seens m
-
-  -- this is found where the replays give the item, or none: where its past has a race, the edge whose past has one; and
-  -- where there is none, that edge if the interval reaches it
-  abbrev pub IsCleanItem : Option Item → CleanOr → Type 0
-  IsCleanItem None found =
-      found
-      ≡ reached r.program r.plan r.header.budget r.logs (record_in r.logs) (races_of_logs r.program r.logs) q k j
-      (first_raced_of r q k j)
-  IsCleanItem (Some t) found =
-      ((is_item_raced t ≡ true) × (found ≡ unclean_or q (first_raced_of r q k j) no_item))
-      ⊎ ((is_item_raced t ≡ false) × IsWithEdges t found)
-
-  -- this is found: where the interval begins in an edge whose past has a race, the first such edge
-  abbrev pub IsCleanBy : CleanOr → Type 0
-  IsCleanBy found =
-      ((is_begun_unclean (first_edge (entries_at r.logs q) k) (first_raced_of r q k j) ≡ true)
-      × (found ≡ unclean_or q (first_raced_of r q k j) no_item))
-      ⊎ ((is_begun_unclean (first_edge (entries_at r.logs q) k) (first_raced_of r q k j) ≡ false)
-      × IsCleanItem (slice_get (items_at (seen_at cut_seens q) k) j) found)
-
--- ---- the whole trace
-
--- the first interval that is told to fail, by process and number, is told to fail there
-pub record IsFirstFailure (x : Known) (failure : At) : Type 0 where
-  pub interval : ℕ
-  pub fails : told_at x failure.process interval ≡ Some (Err failure.entry)
-  pub first : (q k n : ℕ) → told_at x q k ≡ Some (Err n)
-      → (failure.process < q) ⊎ ((failure.process ≡ q) × (interval ≤ k))
+-- this is found of an item in a run with races
+pub data IsCleanBy (r : Recording) (q k j : ℕ) (found : CleanOr) : Type 0 where
+  -- where the interval begins in an edge whose past has a race, the first such edge
+  begins_raced : is_reached (first_edge (get_or r.logs.lists q []) k) (first_raced_of r q k) ≡ true
+      → found ≡ unclean_or q (first_raced_of r q k) no_item → IsCleanBy r q k j found
+  -- else, where the replays give no such item, that edge if the interval reaches it
+  ends_before : is_reached (first_edge (get_or r.logs.lists q []) k) (first_raced_of r q k) ≡ false
+      → slice_get (get_or (seen_at (cut_seens r q k j) q).items k []) j ≡ None
+      → found ≡ (if is_reached (left_edge (get_or r.logs.lists q []) k) (first_raced_of r q k)
+      then unclean_or q (first_raced_of r q k) no_item else no_item) → IsCleanBy r q k j found
+  -- where they give the item, and its past has a race, the edge whose past has one
+  is_raced : is_reached (first_edge (get_or r.logs.lists q []) k) (first_raced_of r q k) ≡ false
+      → (t : Item) → slice_get (get_or (seen_at (cut_seens r q k j) q).items k []) j ≡ Some t
+      → is_item_raced r q k j t ≡ true
+      → found ≡ unclean_or q (first_raced_of r q k) no_item → IsCleanBy r q k j found
+  -- and where it has none, the item with some edges, or a write that is missing
+  has_edges : is_reached (first_edge (get_or r.logs.lists q []) k) (first_raced_of r q k) ≡ false
+      → (t : Item) → slice_get (get_or (seen_at (cut_seens r q k j) q).items k []) j ≡ Some t
+      → is_item_raced r q k j t ≡ false
+      → ((es : List FlowEdge) × (found ≡ clean t es))
+      ⊎ ((m : Missing) × (found ≡ unwritten m) × IsMissingWrite r.logs (cut_seens r q k j) m) → IsCleanBy r q k j found
 
 -- ---- answers
 
@@ -85,11 +73,15 @@ IsAnsweredBy r x (Clean a) schedule text = (schedule ≡ []) × ((q : ℕ) × (p
     × ((found : CleanOr) × IsCleanBy r q a.interval a.item found
     × (clean_text r.program r.plan a.item found ≡ Some text)))
 
--- or a replay that the answer needs fails; of an item in a run with races, that of some interval from the cut logs, or
--- a write that the entry records is missing
+-- or a replay that the answer needs fails: of the whole trace that of the first interval, by process and number, that is
+-- told to fail; of an item in a run with races, that of some interval from the cut logs, or a write that the entry
+-- records is missing
 abbrev pub IsFailedBy : Recording → Known → Query → SessionError → Type 0
 IsFailedBy r x (Slice a) error = IsSliceFailure x error
-IsFailedBy r x (Whole workers) (Diverged failure) = IsFirstFailure x failure
+IsFailedBy r x (Whole workers) (Diverged failure) = (interval : ℕ)
+    × (told_at x failure.process interval ≡ Some (Err failure.entry))
+    × ((q k n : ℕ) → told_at x q k ≡ Some (Err n)
+    → (failure.process < q) ⊎ ((failure.process ≡ q) × (interval ≤ k)))
 IsFailedBy r x (Whole workers) (Sets failure) = ⊥
 IsFailedBy r x (Whole workers) Memory = ⊥
 IsFailedBy r x Rerun error = ⊥

@@ -1,12 +1,12 @@
 -- What is answered of the recording of a whole run, by the run itself.
-use Rattle.std.specs.Prelude.{◌≡◌, ℕ, List, [], Some, None, slice_get}
+use Rattle.law_clean.specs.Answers.{answer_of}
+use Rattle.ppd_ast.specs.Valid.{IsValid}
 use Rattle.ppd_ast.specs.declared.plan.Plan.{Plan}
 use Rattle.ppd_ast.specs.declared.program.Program.{Program}
 use Rattle.ppd_blocks.specs.Blocks.{plan_of}
 use Rattle.ppd_codec.specs.declared.recording.Header.{Header}
 use Rattle.ppd_codec.specs.declared.recording.Recording.{Recording}
 use Rattle.ppd_codec_runs.specs.Recordings.{IsAccepted, IsRunRecorded}
-use Rattle.law_clean.specs.Answers.{answer_of}
 use Rattle.ppd_model.specs.Agreement.{Agree}
 use Rattle.ppd_model.specs.FullTrace.{full_trace}
 use Rattle.ppd_model.specs.Intervals.{Span, Split, splits}
@@ -15,20 +15,29 @@ use Rattle.ppd_model.specs.Story.{story}
 use Rattle.ppd_rerun_model.specs.declared.verdict.Verdict.TheVariants as verdict
 use Rattle.ppd_session.specs.Known.{known_of_run}
 use Rattle.ppd_session.specs.Questions.{process_named}
+use Rattle.ppd_slice_search.specs.OfRuns.{origins}
+use Rattle.ppd_slice_search.specs.Reach.{IsReach, at}
+use Rattle.ppd_slice_search.specs.declared.reached.Reached.{Reached}
+use Rattle.ppd_top_query.specs.Queries.{Gives, IsSliceAnswer, ItemAsked, Query, clean_text, reached_line, refusal}
+use Rattle.ppd_top_query.specs.Queries.Query.{Clean, Rerun, Slice, Whole}
 use Rattle.ppd_top_query.specs.VerdictTexts.{verdict_text}
-use Rattle.ppd_top_query.specs.Queries.{Gives, Query, clean_text, refusal}
-use Rattle.ppd_top_query.specs.Queries.Query.{Slice, Whole, Rerun, Clean}
-use Rattle.ppd_top_query.specs.SlicesOfRuns.{IsSliceOfRun}
 use Rattle.ppd_whole.specs.WholeText.{whole_text}
+use Rattle.std.specs.List.{flat_map}
+use Rattle.std.specs.Prelude.{List, None, Some, [], slice_get, ℕ, ◌≡◌}
 
--- a slice that is not refused has what the flowback edges of the run reach; the whole trace is the text of its full
+-- a slice that is not refused has a line for each item that the run's flowback edges lead to from the item that is asked
+-- for, of the process of that name, and no other; the whole trace is the text of its full
 -- trace; a run again is confirmed, by a schedule that agrees with it; and clean flowback of an item of an interval that
 -- is there is what is to be answered by the run itself
 abbrev pub IsOfRun : Program → Plan → ℕ → List ℕ → Query → (schedule text : List ℕ) → Type 0
 IsOfRun program plan budget h (Slice a) schedule text =
-    refusal (known_of_run program plan budget h) (Slice a) ≡ None → IsSliceOfRun program plan budget h a text
+    refusal (known_of_run program plan budget h) (Slice a) ≡ None → (q : ℕ)
+    × (process_named program a.process ≡ Some q)
+    × ((slice : List Reached)
+    × IsReach (origins program plan budget (story program plan budget h)) (at q a.interval a.item) slice
+    × (text ≡ flat_map (reached_line program) slice))
 IsOfRun program plan budget h (Whole workers) schedule text =
-    text ≡ whole_text program (full_trace program plan budget h)
+    text ≡ whole_text program (full_trace program plan budget (story program plan budget h))
 IsOfRun program plan budget h Rerun schedule text = Agree program plan budget h schedule
     × (text ≡ verdict_text program (verdict.Yes schedule))
 IsOfRun program plan budget h (Clean a) schedule text =
@@ -36,6 +45,13 @@ IsOfRun program plan budget h (Clean a) schedule text =
     → slice_get (splits program plan budget (story program plan budget h)) q ≡ Some x
     → slice_get x.spans a.interval ≡ Some i
     → clean_text program plan a.item (answer_of program plan budget h q a.interval a.item) ≡ Some text
+
+-- so is a slice by what is known of a run
+abbrev pub SlicesAreOfRuns : Type 0
+SlicesAreOfRuns =
+    (program : Program) (plan : Plan) (budget : ℕ) (h : List ℕ) (a : ItemAsked) (schedule text : List ℕ)
+    → IsValid program → IsSliceAnswer (known_of_run program plan budget h) a schedule text
+    → IsOfRun program plan budget h (Slice a) schedule text
 
 -- clean flowback is so of each whole run of which the bytes are the recording, with races or without; and the others of
 -- each without a race, and of each schedule that agrees with it

@@ -1,47 +1,45 @@
 -- What is asked of a recording without an input, and what is answered.
+use Rattle.law_clean.specs.Answers.{CleanOr, clean, is_reached, no_item, unclean, unwritten}
 use Rattle.law_clean.specs.Cuts.{cut_logs}
-use Rattle.std.specs.Prelude.{◌≡◌, ℕ, ◌++◌, nat_lt, false, List, [], ◌∷◌, length, Option, Some, None, Ok, Err, codes, decimal, if◌then◌else◌}
-use Rattle.std.specs.List.{flat_map}
-use Rattle.std.specs.Option.{option_map_or}
-use Rattle.ppd_ast.specs.declared.program.Program.{Program}
-use Rattle.ppd_codec.specs.declared.recording.Recording.{Recording}
-use Rattle.ppd_model.specs.declared.graph.Race.{Race}
-use Rattle.ppd_entry.specs.declared.entry.At.{At}
-use Rattle.ppd_flow_past.specs.ByReplays.{first_failed}
-use Rattle.ppd_flow_past.specs.declared.flow_error.FlowError.TheVariants as flow_error
-use Rattle.ppd_top_query.specs.declared.query.AskedItem.{AskedItem as GivenItem}
-use Rattle.ppd_top_query.specs.declared.query.Query.{Query as GivenQuery}
-use Rattle.ppd_top_query.specs.declared.query.Query.TheVariants as given
-use Rattle.ppd_slice_search.specs.declared.reached.ItemAt.{ItemAt}
-use Rattle.ppd_slice_search.specs.declared.reached.Reached.{Reached}
-use Rattle.ppd_slice_search.specs.Reach.{IsReach, at}
-use Rattle.law_clean.specs.Answers.{CleanOr, clean, no_item, unclean, unwritten}
-use Rattle.law_clean.specs.Search.{clean_by, first_raced, last_wanted}
+use Rattle.law_clean.specs.Pasts.{first_raced}
+use Rattle.law_clean.specs.Search.{clean_by, last_wanted}
 use Rattle.law_whole.specs.Linked.{joined_trace}
 use Rattle.ppd_ast.specs.declared.plan.Plan.{Plan}
-use Rattle.ppd_clean.specs.Answers.{is_begun_unclean}
-use Rattle.ppd_entry.specs.Entries.{entries_at}
+use Rattle.ppd_ast.specs.declared.program.Program.{Program}
+use Rattle.ppd_codec.specs.declared.recording.Recording.{Recording}
+use Rattle.ppd_codec_runs.specs.Recordings.{known_of}
+use Rattle.ppd_entry.specs.declared.entry.At.{At}
 use Rattle.ppd_entry.specs.declared.entry.Logs.{Logs}
 use Rattle.ppd_flow_model.specs.Ends.{first_edge}
+use Rattle.ppd_flow_past.specs.ByReplays.{first_failed}
 use Rattle.ppd_flow_past.specs.SeenBy.{failed_at}
+use Rattle.ppd_flow_past.specs.declared.flow_error.FlowError.TheVariants as flow_error
 use Rattle.ppd_model.specs.RecordedSets.{record_in}
 use Rattle.ppd_model.specs.declared.graph.EdgeId.{EdgeId}
-use Rattle.ppd_text.specs.Edges.{why_text}
-use Rattle.ppd_race.specs.Races.{races_of_logs}
+use Rattle.ppd_race.specs.Races.{edges_of_logs, races_among}
 use Rattle.ppd_rerun_model.specs.Verdicts.{IsVerdict}
 use Rattle.ppd_rerun_model.specs.declared.verdict.Verdict.{Verdict}
 use Rattle.ppd_rerun_model.specs.declared.verdict.Verdict.TheVariants as verdict
-use Rattle.ppd_session.specs.Known.{Flow, Known, Told}
+use Rattle.ppd_session.specs.Known.{Flow, Known, Told, seens}
 use Rattle.ppd_session.specs.Questions.{process_named}
-use Rattle.ppd_session.specs.Texts.{flow_at, intervals_at, no_event, no_process, raced, refused_replay, told_at}
+use Rattle.ppd_session.specs.Texts.{flow_at, no_event, no_process, races_refusal, refused_replay, told_at}
 use Rattle.ppd_session.specs.declared.reply.SessionError.{SessionError}
-use Rattle.ppd_session.specs.declared.reply.SessionError.TheVariants.{Diverged, Sets, Memory}
-use Rattle.ppd_slice.specs.Slices.{places_found}
-use Rattle.ppd_codec_runs.specs.Recordings.{known_of, seens_of}
+use Rattle.ppd_session.specs.declared.reply.SessionError.TheVariants.{Diverged, Memory, Sets}
+use Rattle.ppd_slice_search.specs.Reach.{IsReach, at, places_of}
+use Rattle.ppd_slice_search.specs.declared.reached.ItemAt.{ItemAt}
+use Rattle.ppd_slice_search.specs.declared.reached.Reached.{Reached}
 use Rattle.ppd_text.specs.CellNames.{process_name}
+use Rattle.ppd_text.specs.Edges.{why_text}
 use Rattle.ppd_top_query.specs.VerdictTexts.{verdict_text}
+use Rattle.ppd_top_query.specs.declared.query.AskedItem.{AskedItem as GivenItem}
+use Rattle.ppd_top_query.specs.declared.query.Query.{Query as GivenQuery}
+use Rattle.ppd_top_query.specs.declared.query.Query.TheVariants as given
 use Rattle.ppd_whole.specs.Intervals.{intervals_from}
 use Rattle.ppd_whole.specs.WholeText.{whole_text}
+use Rattle.std.specs.List.{flat_map}
+use Rattle.std.specs.Option.{option_map_or, option_or}
+use Rattle.std.specs.Prelude.{Err, List, None, Ok, Option, Some, [], codes, decimal, false, get_or, if◌then◌else◌, length, nat_lt, ℕ, ◌++◌, ◌∷◌, ◌≡◌}
+use Rattle.std.specs.Result.{result_unwrap_or}
 
 -- ---- what is asked
 
@@ -72,20 +70,12 @@ query_of (given.Clean a) = Clean (asked_of a)
 
 -- ---- refusals, each with what stands in its place where it does not apply
 
-abbrev pub Refusal : Type 0
-Refusal = Option (List ℕ)
-
--- there are races
-abbrev pub races_refusal : List Race → Refusal → Refusal
-races_refusal [] rest = rest
-races_refusal (r ∷ rs) rest = Some (raced (r ∷ rs) [])
-
 -- process q has no such interval
-abbrev pub block_refusal : Known → (q k : ℕ) → Refusal → Refusal
-block_refusal x q k rest = if nat_lt k (length (intervals_at x q)) then rest else Some (codes "? block\n")
+abbrev pub block_refusal : Known → (q k : ℕ) → Option (List ℕ) → Option (List ℕ)
+block_refusal x q k rest = if nat_lt k (length (get_or x.intervals q [])) then rest else Some (codes "? block\n")
 
 -- the interval, of which this is told, has no such item
-abbrev pub event_refusal : Option Told → (j : ℕ) → Refusal
+abbrev pub event_refusal : Option Told → (j : ℕ) → Option (List ℕ)
 event_refusal (Some (Ok items)) j = if nat_lt j (length items) then None else Some no_event
 event_refusal told j = None
 
@@ -93,7 +83,7 @@ event_refusal told j = None
 
 -- the items that an item comes from: it is told with these edges
 abbrev pub origins_told : Option Told → (j : ℕ) → Flow → List ItemAt
-origins_told (Some (Ok items)) j flow = if nat_lt j (length items) then places_found flow else []
+origins_told (Some (Ok items)) j flow = if nat_lt j (length items) then places_of (result_unwrap_or flow []) else []
 origins_told told j flow = []
 
 abbrev pub reached_line : Program → Reached → List ℕ
@@ -126,12 +116,14 @@ IsSliceFailure x Memory = ⊥
 
 -- the failure of the first interval, by process and number, whose replay fails, if one does
 abbrev pub first_failure : Recording → Option At
-first_failure r = first_failed r.program r.plan r.header.budget r.logs (intervals_from 0 (seens_of r))
+first_failure r =
+    first_failed r.program r.plan r.header.budget r.logs
+    (intervals_from 0 (seens r.program r.plan r.header.budget r.logs))
 
 -- the text of the trace that the items of all replays make
 abbrev pub IsWholeAnswer : Recording → (schedule text : List ℕ) → Type 0
 IsWholeAnswer r schedule text = (schedule ≡ []) × (first_failure r ≡ None)
-    × (text ≡ whole_text r.program (joined_trace r.program r.logs (seens_of r)))
+    × (text ≡ whole_text r.program (joined_trace r.program r.logs (seens r.program r.plan r.header.budget r.logs)))
 
 abbrev pub IsWholeFailure : Recording → SessionError → Type 0
 IsWholeFailure r (Diverged failure) = first_failure r ≡ Some failure
@@ -165,25 +157,27 @@ clean_text p plan j (unwritten m) = None
 
 -- what is found of item j of interval k of process q by the logs of a recording, cut off where its races are
 abbrev pub clean_of : Recording → (q k j : ℕ) → CleanOr
-clean_of r q k j = clean_by r.program r.plan r.header.budget r.logs (races_of_logs r.program r.logs) q k j
+clean_of r q k j = clean_by r.program r.plan r.header.budget r.logs (races_among (edges_of_logs r.program r.logs)) q k j
 
 -- the least edge of process q, from the one in which the interval begins, whose past has a race
-abbrev pub first_raced_of : Recording → (q k j : ℕ) → Option ℕ
-first_raced_of r q k j =
-    first_raced r.program r.plan r.header.budget r.logs (record_in r.logs) (races_of_logs r.program r.logs) q k j
+abbrev pub first_raced_of : Recording → (q k : ℕ) → Option ℕ
+first_raced_of r q k =
+    first_raced r.program (record_in r.logs)
+    (races_among (edges_of_logs r.program r.logs)) (get_or r.logs.lists q []) q k
 
 -- the logs that are cut off there
 abbrev pub cut_of : Recording → (q k j : ℕ) → Logs
 cut_of r q k j =
     cut_logs
-    (last_wanted r.program (record_in r.logs) (races_of_logs r.program r.logs) q (first_raced_of r q k j)) r.logs
+    (last_wanted r.program (record_in r.logs) (races_among (edges_of_logs r.program r.logs)) q (first_raced_of r q k))
+    r.logs
 
 -- the interval does not begin there or later, and the replay of some interval of process p from these logs fails at
 -- entry n
 abbrev pub Diverges : Recording → (q k j : ℕ) → (p n : ℕ) → Type 0
 Diverges r q k j p n =
-    (is_begun_unclean (first_edge (entries_at r.logs q) k) (first_raced_of r q k j) ≡ false)
-    × ((m : ℕ) × (failed_at r.program r.plan r.header.budget (entries_at (cut_of r q k j) p) m ≡ Some n))
+    (is_reached (first_edge (get_or r.logs.lists q []) k) (first_raced_of r q k) ≡ false)
+    × ((m : ℕ) × (failed_at r.program r.plan r.header.budget (get_or (cut_of r q k j).lists p []) m ≡ Some n))
 
 abbrev pub IsCleanAnswer : Recording → ItemAsked → (schedule text : List ℕ) → Type 0
 IsCleanAnswer r a schedule text = (schedule ≡ []) × ((q : ℕ) × (process_named r.program a.process ≡ Some q)
@@ -201,12 +195,12 @@ IsCleanFailure r a Memory = ⊥
 -- ---- answers
 
 -- the refusal that stands in place of the answer, if one does: there are races, or no such process, interval or item
-abbrev pub refusal : Known → Query → Refusal
+abbrev pub refusal : Known → Query → Option (List ℕ)
 refusal x (Slice a) =
-    races_refusal x.races
+    option_or (races_refusal x.races)
     (option_map_or (λ q. block_refusal x q a.interval (event_refusal (told_at x q a.interval) a.item))
     (process_named x.program a.process) (Some no_process))
-refusal x (Whole workers) = races_refusal x.races None
+refusal x (Whole workers) = races_refusal x.races
 refusal x Rerun = None
 refusal x (Clean a) =
     option_map_or (λ q. block_refusal x q a.interval None) (process_named x.program a.process) (Some no_process)
@@ -227,8 +221,9 @@ IsFailure r (Clean a) error = IsCleanFailure r a error
 
 -- what is written in all, with which status, and the schedule that was taken: a refusal or the answer; or, where nothing
 -- is refused, the line of a replay that fails
-pub data IsWritten (refused : Refusal) (Answers : (schedule text : List ℕ) → Type 0) (Fails : SessionError → Type 0)
-    (program : Program) : (schedule : List ℕ) → (status : ℕ) → (text : List ℕ) → Type 0 where
+pub data IsWritten (refused : Option (List ℕ)) (Answers : (schedule text : List ℕ) → Type 0)
+    (Fails : SessionError → Type 0) (program : Program)
+    : (schedule : List ℕ) → (status : ℕ) → (text : List ℕ) → Type 0 where
   refuses : (line : List ℕ) → refused ≡ Some line → IsWritten refused Answers Fails program [] 0 line
   answers : (schedule text : List ℕ) → refused ≡ None → Answers schedule text
       → IsWritten refused Answers Fails program schedule 0 text

@@ -1,9 +1,10 @@
 // What is kept of a recording that was accepted, and its races.
+ghost use Rattle.std.specs.Option.{unwrap_or};
+ghost use Rattle.ppd_session.specs.Texts.{races_refusal};
 ghost use Rattle.std.specs.Prelude.{◌≡◌, [], IfErr, IfOk};
 ghost use Rattle.ppd_codec.specs.declared.recording.Recording.{Recording};
 ghost use Rattle.ppd_codec_runs.specs.Recordings.{IsRecalled, known_of};
 ghost use Rattle.ppd_flow_past.specs.Pasts.{IsPast};
-ghost use Rattle.ppd_session.specs.Texts.{raced};
 ghost use Rattle.ppd_session.specs.declared.reply.SessionError.TheVariants as session_error;
 ghost use Rattle.ppd_top_query.specs.Queries.{Query};
 ghost use Rattle.ppd_top_query.specs.Replies.{IsReply, IsTextReply};
@@ -57,7 +58,7 @@ pub(crate) fn races_of(
 
 /// How many races there are, as a text.
 pub(crate) fn racy(alloc: Global, races: &[Race]) -> Result<Vec<u8>, SessionError>
-    ensures text { IfOk result (λ text. text.items ≡ raced races.now []) }
+    ensures text { IfOk result (λ text. text.items ≡ unwrap_or (races_refusal races.now) []) }
     ensures error { IfErr result (λ e. e ≡ session_error.Memory) }
 {
     let mut text = Vec::new(alloc);

@@ -1,8 +1,8 @@
 ghost use Rattle.ppd_top_query.specs.Determined.{AnswersAreDetermined, FailedAreMissing};
 ghost use Rattle.ppd_top_query.specs.Laws.{QueriesEnd, RunsAreTold};
 ghost use Rattle.ppd_top_query.specs.Missing.{FailuresAreMissing};
-ghost use Rattle.ppd_top_query.specs.OfRuns.{AnswersAreOfRuns};
-ghost use Rattle.ppd_top_query.specs.SlicesOfRuns.{SliceTextsAreOfRuns, SlicesAreOfRuns};
+ghost use Rattle.ppd_top_query.specs.OfRuns.{AnswersAreOfRuns, SlicesAreOfRuns};
+ghost use Rattle.ppd_top_query.specs.SlicesOfRuns.{SliceTextsAreOfRuns};
 
 use ppd_model::items_are_whole;
 use ppd_slice_search::{reaches_are_slices, slices_are_one};

@@ -18,9 +18,9 @@ use Rattle.ppd_codec_runs.specs.Sessions.{FlowError, IsWhy, error_of}
 use Rattle.ppd_codec_runs.specs.Texts.{failure_of, refused_replay, text_of}
 use Rattle.ppd_codec_runs.specs.SessionError.{SessionError}
 use Rattle.ppd_codec_runs.specs.SessionError.TheVariants as session_error
-use Rattle.ppd_top_runs.specs.Asking.{Becomes, Goes, IsAsked, IsFailed, IsReadAtNeed, IsReadTo}
+use Rattle.ppd_top_runs.specs.Asking.{AreAnswered, Becomes, Goes, IsAsked, IsFailed, IsReadAtNeed, IsReadTo}
 use Rattle.ppd_top_runs.specs.Asking.Becomes.{answered, quit, refused, unwritten as unwritten_line, unfinished as unfinished_line}
-use Rattle.ppd_top_runs.specs.Output.{AreAnswered, AreCommands, AppendsFront, IsReadNoFurther, Output, Standing, Talks, answers, answers_from, before, ended, output, through_quit, Finished, AreNotYetTaken}
+use Rattle.ppd_top_runs.specs.Output.{AreCommands, AppendsFront, IsReadNoFurther, Output, Standing, Talks, answers, answers_from, before, ended, output, through_quit, Finished, AreNotYetTaken}
 use Rattle.ppd_top_runs.specs.Output.Talks.{whole, unread, unwritten, unfinished}
 use Rattle.ppd_top_runs.proofs.Split.{Goes_on, Is_long, after_all, after_long, after_more, at_end, append_more, both_bytes, need_more, no_further, plain_more, read_more, taken_so_far}
 use Rattle.ppd_model.proofs.Changes.{some}
@@ -152,6 +152,17 @@ many_through x n (l ∷ ls) rest few h =
     one_through x n l (ls ++ rest) here h.0 h.1 h.2
     ∙ ap (option_map (λ through. l ∷ through)) (many_through x (n + 1) ls rest (omega arith) h.3 ∙ ap (λ k. with_lines ls (through_quit x k rest)) count)
 
+-- lines that were answered do not end the answers
+none_ends : (x : Known) (ls : List (List ℕ)) → length ls ≤ MOST_INPUT_LINES → AreAnswered x ls → through_quit x 0 ls ≡ None
+none_ends x ls few h =
+    let few' : 0 + length ls ≤ MOST_INPUT_LINES = omega arith in
+    ap (through_quit x 0) (sym (append-nil ls)) ∙ (many_through x 0 ls [] few' h ∙ with_none ls)
+
+all_go_on : (x : Known) (ls : List (List ℕ)) → length ls ≤ MOST_INPUT_LINES → AreAnswered x ls → answers_from x 0 ls ≡ output 0 (flat_map (text_of x) ls)
+all_go_on x ls few h =
+    let few' : 0 + length ls ≤ MOST_INPUT_LINES = omega arith in
+    ap (answers_from x 0) (sym (append-nil ls)) ∙ (many_answered x 0 ls [] few' h ∙ ap (output 0) (append-nil (flat_map (text_of x) ls)))
+
 -- no `quit` ended the answers
 not_quit : (x : Known) (a c : Option (List ℕ)) (ls rest : List (List ℕ)) (g : Goes_on a c ls rest) (n : ℕ) → length ls ≡ n → n ≤ MOST_INPUT_LINES → AreAnswered x ls → through_quit x n rest ≡ None → (last : Option (List ℕ)) → IsReadNoFurther x g.commands c last
 not_quit x a c ls rest g n count few h none last =
@@ -239,8 +250,8 @@ module _ (x : Known) (n : ℕ) (a b c : Standing) where
             is = refl;
             plain = q.plain;
             open_end = g.0;
-            answered = q.answered;
-            few = omega (arith, q.count);
+            unended = none_ends x q.lines (omega (arith, q.count)) q.answered;
+            answered = all_go_on x q.lines (omega (arith, q.count)) q.answered;
             written = subst (λ w. Appends a.written w (flat_map (text_of x) q.lines)) (sym same) q.written;
           })
 
@@ -431,8 +442,8 @@ module _ (x : Known) (head : List ℕ) (a m c : Standing) (left : m.left ≡ a.l
     is = broken.is;
     plain = broken.plain;
     open_end = broken.open_end;
+    unended = broken.unended;
     answered = broken.answered;
-    few = broken.few;
     written = appends_twice a.written m.written c.written head (flat_map (text_of x) broken.lines) first broken.written;
   })
   headed status (unwritten commands told rose part) =

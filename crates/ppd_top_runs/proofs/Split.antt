@@ -5,8 +5,10 @@ use Rattle.ppd_ast.specs.declared.limits.TheConstants.{MOST_LINE_BYTES}
 use Rattle.ppd_io.specs.declared.bytes.TheConstants.{CHUNK_BYTES}
 use Rattle.ppd_io.specs.Content.{Takes}
 use Rattle.ppd_io.specs.declared.lines.LineError.TheVariants.{Failed, LongLine}
-use Rattle.ppd_io.specs.Lines.{EndsLine, GivesLine, HasNoNewline, IsAtNeed, Lined, before_lines, lines_of}
-use Rattle.ppd_io.proofs.Lining.{line_front, line_whole, told, took_all}
+use Rattle.ppd_io.specs.Lines.{EndsLine, GivesLine, IsAtNeed, Lined, lines_of}
+use Rattle.std.specs.List.{onto_first}
+use Rattle.std.specs.Str.Iter.{LacksByte}
+use Rattle.ppd_io.proofs.Lining.{line_front, line_whole, plain_first, plain_rest, told, took_all}
 use Rattle.ppd_top_runs.specs.Asking.{IsReadAtNeed, IsReadTo, IsSplit}
 use Rattle.ppd_top_runs.specs.Output.{AreCommands, ended, AreNotYetTaken}
 use Rattle.ppd_top_runs.proofs.RunWords.{ArePlain}
@@ -15,7 +17,7 @@ pub ended_more : (ls : List (List ℕ)) (l : List ℕ) → ended (ls ++ l ∷ []
 ended_more [] l = append-nil (l ++ 10 ∷ [])
 ended_more (k ∷ ls) l = ap (λ w. (k ++ 10 ∷ []) ++ w) (ended_more ls l) ∙ sym (append_assoc (k ++ 10 ∷ []) (ended ls) (l ++ 10 ∷ []))
 
-pub plain_more : (ls : List (List ℕ)) (l : List ℕ) → ArePlain ls → HasNoNewline l → ArePlain (ls ++ l ∷ [])
+pub plain_more : (ls : List (List ℕ)) (l : List ℕ) → ArePlain ls → LacksByte 10 l → ArePlain (ls ++ l ∷ [])
 plain_more [] l h k = (k, tt)
 plain_more (m ∷ ls) l h k = (h.0, plain_more ls l h.1 k)
 
@@ -37,7 +39,7 @@ split_line xs ls before line rest a b =
     a ∙ (ap (λ w. ended ls ++ w) b ∙ sym (ap (λ w. w ++ rest) (ended_more ls line) ∙ (append_assoc (ended ls) (line ++ 10 ∷ []) rest ∙ ap (λ w. ended ls ++ w) (append_assoc line (10 ∷ []) rest))))
 
 -- of what a call gave with a line, all bytes at hand before are the line and those at hand after
-gave_line : (xs ys zs : List ℕ) (ls : List (List ℕ)) (was now : Lined) → was.ended ≡ false → ArePlain ls → HasNoNewline now.line → length now.line ≤ MOST_LINE_BYTES → IsSplit was.ended xs ls (was.held ++ ys) → EndsLine (Some ys) (Some zs) was.held now → IsSplit now.ended xs (ls ++ now.line ∷ []) (now.held ++ zs)
+gave_line : (xs ys zs : List ℕ) (ls : List (List ℕ)) (was now : Lined) → was.ended ≡ false → ArePlain ls → LacksByte 10 now.line → length now.line ≤ MOST_LINE_BYTES → IsSplit was.ended xs ls (was.held ++ ys) → EndsLine (Some ys) (Some zs) was.held now → IsSplit now.ended xs (ls ++ now.line ∷ []) (now.held ++ zs)
 gave_line xs ys zs ls was now still plain here few split (inl t) =
     let s : xs ≡ ended ls ++ (was.held ++ ys) = subst (λ b. IsSplit b xs ls (was.held ++ ys)) still split in
     let e : was.held ++ ys ≡ now.line ++ 10 ∷ (now.held ++ zs) = took_all ys zs was.held _ t.0 ∙ append_assoc now.line (10 ∷ now.held) zs in
@@ -137,7 +139,7 @@ taken_so_far (Some xs) (Some ys) (Some zs) ls was now still read g =
 
 -- ---- how far was read
 
-first_line_ended : (b : ℕ) (ls : List (List ℕ)) (n : ℕ) → n ≤ length (ended ls) → n + 1 ≤ length (ended (before_lines b ls))
+first_line_ended : (b : ℕ) (ls : List (List ℕ)) (n : ℕ) → n ≤ length (ended ls) → n + 1 ≤ length (ended (onto_first b ls))
 first_line_ended b [] n le = omega arith
 first_line_ended b (l ∷ ls) n le = omega arith
 
@@ -146,7 +148,7 @@ pub all_ended : (bs : List ℕ) → length bs ≤ length (ended (lines_of bs))
 all_ended [] = omega arith
 all_ended (b ∷ bs) =
     let h = all_ended bs in
-    elim (b == 10) as (λ v. suc (length bs) ≤ length (ended (if v then [] ∷ lines_of bs else before_lines b (lines_of bs)))) [
+    elim (b == 10) as (λ v. suc (length bs) ≤ length (ended (if v then [] ∷ lines_of bs else onto_first b (lines_of bs)))) [
       | true ↦ omega arith
       | false ↦ let f = first_line_ended b (lines_of bs) (length bs) h in omega arith
     ]
@@ -170,14 +172,14 @@ no_further (Some xs) (Some zs) lines now commands told read few = by now.ended r
 -- ---- when did the last read begin
 
 -- bytes without a newline, before others, where a line stands
-within_line : (before rest line tail : List ℕ) → HasNoNewline before → before ++ rest ≡ line ++ 10 ∷ tail → length before ≤ length line
+within_line : (before rest line tail : List ℕ) → LacksByte 10 before → before ++ rest ≡ line ++ 10 ∷ tail → length before ≤ length line
 within_line [] rest line tail plain e = omega arith
 within_line (b ∷ before) rest [] tail plain e =
     let first : b ≡ 10 = cc in
-    absurd (plain.0 first)
+    absurd (plain_first b before plain first)
 within_line (b ∷ before) rest (l ∷ line) tail plain e =
     let later : before ++ rest ≡ line ++ 10 ∷ tail = cc in
-    let few = within_line before rest line tail plain.1 later in
+    let few = within_line before rest line tail (plain_rest b before plain) later in
     omega (arith, few)
 
 -- or where the last line stands

@@ -1,4 +1,6 @@
 -- A run whose recording is stored, by the schedule that was taken.
+use Rattle.ppd_blocks.specs.Blocks.{plan_of}
+use Rattle.ppd_race.specs.Races.{races_among, edges_of_logs}
 use Rattle.std.specs.Prelude.{Option}
 use Rattle.std.proofs.Common.{◌≡◌, ℕ, List, inl, inr, subst, ◌∙◌, ap}
 use Rattle.ppd_io.specs.Causes.{Rose}
@@ -12,11 +14,10 @@ use Rattle.ppd_model.specs.declared.closed.Closed.{Closed}
 use Rattle.ppd_model.specs.Logs.{close, closed_logs}
 use Rattle.ppd_model.specs.Schedule.{IsWhole}
 use Rattle.ppd_entry.specs.declared.entry.Logs.{Logs}
-use Rattle.ppd_race.specs.Races.{races_of_logs}
 use Rattle.ppd_codec_runs.specs.Recordings.{AreOfSomeRun}
 use Rattle.ppd_top_runs.specs.declared.options.Options.{Options}
 use Rattle.ppd_top_runs.specs.declared.run.ClosedRun.{ClosedRun}
-use Rattle.ppd_top_runs.specs.Commands.{Keeping, Keeps, Records, WasRecorded, keeping, header_of, plan_of, AreInRange}
+use Rattle.ppd_top_runs.specs.Commands.{Keeping, Keeps, Records, WasRecorded, keeping, header_of, AreInRange}
 use Rattle.ppd_top_runs.specs.Commands.Keeps.{not_kept, store_failed, kept}
 use Rattle.ppd_top_runs.specs.Runs.{IsRunOf}
 use Rattle.ppd_top_runs.specs.Summary.{summary_of}
@@ -27,14 +28,14 @@ keeps_as P Q name summary x y status f (not_kept is unstored written) = not_kept
 keeps_as P Q name summary x y status f (store_failed is rose others written) = store_failed is rose others written
 keeps_as P Q name summary x y status f (kept b p s others end) = kept b (f b p) s others end
 
-module _ (source : List ℕ) (program : Program) (options : Options) (plan : Plan) (closed : Closed) (h : List ℕ) (accepted : IsRead source program) (p : plan ≡ plan_of program options) (whole : IsWhole program plan options.budget h) (is : closed ≡ close program plan options.budget h) where
-  as_close : closed ≡ close program (plan_of program options) options.budget h
+module _ (source : List ℕ) (program : Program) (options : Options) (plan : Plan) (closed : Closed) (h : List ℕ) (accepted : IsRead source program) (p : plan ≡ plan_of program options.policy) (whole : IsWhole program plan options.budget h) (is : closed ≡ close program plan options.budget h) where
+  as_close : closed ≡ close program (plan_of program options.policy) options.budget h
   as_close = is ∙ ap (λ (q : Plan). close program q options.budget h) p
 
-  as_whole : IsWhole program (plan_of program options) options.budget h
+  as_whole : IsWhole program (plan_of program options.policy) options.budget h
   as_whole = subst (λ (q : Plan). IsWhole program q options.budget h) p whole
 
-  as_logs : closed.logs ≡ closed_logs program (plan_of program options) options.budget h
+  as_logs : closed.logs ≡ closed_logs program (plan_of program options.policy) options.budget h
   as_logs = ap (λ (c : Closed). c.logs) as_close
 
   -- its logs are those of a run
@@ -51,7 +52,7 @@ module _ (source : List ℕ) (program : Program) (options : Options) (plan : Pla
   }
 
   pub was_recorded : (name : List ℕ) (x y : Keeping) (status : ℕ) → IsValid program
-      → Keeps (IsRecordingOf source (header_of options) closed.logs) name (summary_of program closed.ends (races_of_logs program closed.logs)) x y status → WasRecorded source program options name h x y status
+      → Keeps (IsRecordingOf source (header_of options) closed.logs) name (summary_of program closed.ends (races_among (edges_of_logs program closed.logs))) x y status → WasRecorded source program options name h x y status
   was_recorded name x y status valid k = record {
     whole = as_whole;
     keeps =
@@ -66,10 +67,10 @@ module _ (source : List ℕ) (program : Program) (options : Options) (h : List �
   of_some_run_by range = of_some_run source program options run.plan run.closed h accepted r.plan_is r.whole r.closed_is range
 
   pub was_recorded_by : (name : List ℕ) (x y : Keeping) (status : ℕ) → IsValid program
-      → Keeps (IsRecordingOf source (header_of options) run.closed.logs) name (summary_of run.program.now run.closed.ends (races_of_logs run.program.now run.closed.logs)) x y status → WasRecorded source program options name h x y status
+      → Keeps (IsRecordingOf source (header_of options) run.closed.logs) name (summary_of run.program.now run.closed.ends (races_among (edges_of_logs run.program.now run.closed.logs))) x y status → WasRecorded source program options name h x y status
   was_recorded_by name x y status valid k =
       was_recorded source program options run.plan run.closed h accepted r.plan_is r.whole r.closed_is name x y status valid
-      (subst (λ (p : Program). Keeps (IsRecordingOf source (header_of options) run.closed.logs) name (summary_of p run.closed.ends (races_of_logs p run.closed.logs)) x y status) r.program_is k)
+      (subst (λ (p : Program). Keeps (IsRecordingOf source (header_of options) run.closed.logs) name (summary_of p run.closed.ends (races_among (edges_of_logs p run.closed.logs))) x y status) r.program_is k)
 
 -- ---- after a load, which stored nothing
 

@@ -1,17 +1,19 @@
 -- How the lines of an input are read and answered, one after another.
-use Rattle.std.specs.List.{AllByRecursion, flat_map}
-use Rattle.std.specs.Prelude.{◌≡◌, ◌≢◌, ◌⊎◌, ℕ, ◌+◌, ◌≤◌, Bool, true, false, List, [], ◌++◌, length, Option, Some, None}
-use Rattle.ppd_io.specs.Causes.{Rose}
-use Rattle.ppd_io.specs.Content.{Appends, AppendsPart}
-use Rattle.ppd_io.specs.Lines.{HasNoNewline, Lined, lines_of}
+use Rattle.ppd_ast.specs.declared.limits.TheConstants.{MOST_LINE_BYTES}
+use Rattle.ppd_ast.specs.declared.program.Program.{Program}
 use Rattle.ppd_codec_runs.specs.Known.{Known}
 use Rattle.ppd_codec_runs.specs.Questions.{is_quit}
-use Rattle.ppd_ast.specs.declared.program.Program.{Program}
-use Rattle.ppd_codec_runs.specs.Sessions.{FlowError, error_of}
-use Rattle.ppd_codec_runs.specs.Texts.{failure_of, refused_replay, text_of}
 use Rattle.ppd_codec_runs.specs.SessionError.{SessionError}
 use Rattle.ppd_codec_runs.specs.SessionError.TheVariants.{Memory}
-use Rattle.ppd_top_runs.specs.Output.{Finished, AreAnswered, Standing, Talks, ended, AreNotYetTaken}
+use Rattle.ppd_codec_runs.specs.Sessions.{FlowError, error_of}
+use Rattle.ppd_codec_runs.specs.Texts.{failure_of, refused_replay, text_of}
+use Rattle.ppd_io.specs.Causes.{Rose}
+use Rattle.ppd_io.specs.Content.{Appends, AppendsPart}
+use Rattle.ppd_io.specs.Lines.{Lined, lines_of}
+use Rattle.ppd_top_runs.specs.Output.{AreNotYetTaken, Finished, Standing, Talks, ended}
+use Rattle.std.specs.List.{AllByRecursion, flat_map}
+use Rattle.std.specs.Prelude.{Bool, List, None, Option, Some, [], false, length, true, ℕ, ◌++◌, ◌+◌, ◌∷◌, ◌≡◌, ◌≢◌, ◌≤◌, ◌⊎◌}
+use Rattle.std.specs.Str.Iter.{LacksByte}
 
 -- these lines were read of these bytes, and what is left of them: before the end was met, and after it
 abbrev pub IsSplit : Bool → (bytes : List ℕ) → (lines : List (List ℕ)) → (rest : List ℕ) → Type 0
@@ -31,11 +33,16 @@ IsReadAtNeed None new last r lines = Unit {0}
 IsReadAtNeed (Some xs) None last r lines = Unit {0}
 IsReadAtNeed (Some xs) (Some ys) last r lines = ((lines ≡ []) × (r.held ≡ [])) ⊎ AreNotYetTaken xs lines last
 
+-- none of these lines ends the answers: none is too long or is `quit`, and no replay fails
+abbrev pub AreAnswered : Known → List (List ℕ) → Type 0
+AreAnswered x [] = Unit {0}
+AreAnswered x (l ∷ ls) = (length l ≤ MOST_LINE_BYTES) × (is_quit l ≡ false) × (failure_of x l ≡ None) × AreAnswered x ls
+
 -- n lines were read and answered
 pub record IsAsked (x : Known) (n : ℕ) (r : Lined) (a b : Standing) : Type 0 where
   pub lines : List (List ℕ)
   pub count : length lines ≡ n
-  pub plain : AllByRecursion HasNoNewline lines
+  pub plain : AllByRecursion (LacksByte 10) lines
   pub answered : AreAnswered x lines
   pub read : IsReadTo a.left b.left r lines
   pub need : IsReadAtNeed a.left b.left b.last r lines

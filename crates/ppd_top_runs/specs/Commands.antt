@@ -2,16 +2,17 @@
 use Rattle.std.specs.Prelude.{◌≡◌, ◌⊎◌, ℕ, List, [], Option, ◌≤◌}
 use Rattle.ppd_io.specs.Causes.{Rose}
 use Rattle.ppd_io.specs.Content.{StoreFails, Stores}
-use Rattle.ppd_ast.specs.declared.plan.Plan.{Plan}
 use Rattle.ppd_ast.specs.declared.program.Program.{Program}
 use Rattle.ppd_ast.specs.declared.limits.TheConstants.{MOST_BUDGET}
-use Rattle.ppd_blocks.specs.Blocks.{plan_of as plan_by_policy}
+use Rattle.ppd_blocks.specs.Blocks.{plan_of}
+use Rattle.ppd_model.specs.Logs.{close}
+use Rattle.ppd_model.specs.Races.{races}
 use Rattle.ppd_model.specs.Schedule.{IsWhole}
 use Rattle.ppd_codec_runs.specs.Known.{Known, known_of_run}
 use Rattle.ppd_text.specs.Table.{table_of}
 use Rattle.ppd_top_runs.specs.declared.options.Options.{Options}
 use Rattle.ppd_top_runs.specs.Output.{IsUnread, Standing, Talks, Finished}
-use Rattle.ppd_top_runs.specs.Summary.{summary}
+use Rattle.ppd_top_runs.specs.Summary.{summary_of}
 use Rattle.ppd_codec.specs.declared.recording.Header.{Header}
 use Rattle.ppd_codec_runs.specs.Recordings.{IsRunRecorded}
 use Rattle.ppd_ast.specs.ValidPlan.{IsValidPolicy}
@@ -24,21 +25,19 @@ pub record AreInRange (options : Options) : Type 0 where
   pub most : options.budget ≤ MOST_BUDGET
   pub policy : IsValidPolicy options.policy
 
--- the plan that a program runs with: the blocks and units of the policy, with their cells
-abbrev pub plan_of : Program → Options → Plan
-plan_of program options = plan_by_policy program options.policy
-
 -- the schedule is one that the processes take until nobody can take a step
 abbrev pub IsWholeRun : Program → Options → List ℕ → Type 0
-IsWholeRun program options schedule = IsWhole program (plan_of program options) options.budget schedule
+IsWholeRun program options schedule = IsWhole program (plan_of program options.policy) options.budget schedule
 
 -- the summary of that run
 abbrev pub summary_of_run : Program → Options → List ℕ → List ℕ
-summary_of_run program options schedule = summary program (plan_of program options) options.budget schedule
+summary_of_run program options schedule =
+    summary_of program (close program (plan_of program options.policy) options.budget schedule).ends
+    (races program (plan_of program options.policy) options.budget schedule)
 
 -- what is known of that run
 abbrev pub known_of : Program → Options → List ℕ → Known
-known_of program options schedule = known_of_run program (plan_of program options) options.budget schedule
+known_of program options schedule = known_of_run program (plan_of program options.policy) options.budget schedule
 
 -- with what a source is run, as its recording says it
 abbrev pub header_of : Options → Header
@@ -68,7 +67,7 @@ abbrev pub Shows : Program → Options → (schedule : List ℕ) → (a b : Stan
 Shows program options schedule a b status =
     ((status ≡ 5) × DidNothing schedule a b)
     ⊎ ((schedule ≡ []) × Finished a.written b.written a.writes b.writes status 0
-    (table_of program (plan_of program options)))
+    (table_of program (plan_of program options.policy)))
 
 -- how a shelf and an output stand: what they are told to hold, and their counts of stores and writes that failed
 pub record Keeping : Type 0 where

@@ -1,16 +1,18 @@
 -- What is written of a run and of the command lines that are asked about it, and with which status that ends.
-use Rattle.std.specs.Prelude.{◌≡◌, ◌||◌, is_some, ℕ, ◌+◌, ◌<◌, ◌≤◌, nat_lt, nat_le, Bool, false, List, [], ◌∷◌, ◌++◌, length, take, Option, Some, None, IfSome, codes, if◌then◌else◌, option_map}
-use Rattle.std.specs.List.{AllByRecursion, flat_map}
 use Rattle.ppd_ast.specs.declared.limits.TheConstants.{MOST_INPUT_LINES, MOST_LINE_BYTES}
-use Rattle.ppd_io.specs.declared.bytes.TheConstants.{CHUNK_BYTES}
-use Rattle.ppd_io.specs.Causes.{Rose}
-use Rattle.ppd_io.specs.Content.{Appends, AppendsPart, Takes}
-use Rattle.ppd_io.specs.Lines.{HasNoNewline, lines_of}
 use Rattle.ppd_codec_runs.specs.Known.{Known}
 use Rattle.ppd_codec_runs.specs.Questions.{is_quit}
-use Rattle.ppd_codec_runs.specs.Sessions.{FlowError, error_of}
+use Rattle.ppd_codec_runs.specs.Sessions.{error_of}
 use Rattle.ppd_codec_runs.specs.Texts.{failure_of, refused_replay, text_of}
+use Rattle.ppd_io.specs.Causes.{Rose}
+use Rattle.ppd_io.specs.Content.{Appends, AppendsPart, Takes}
+use Rattle.ppd_io.specs.Lines.{lines_of}
+use Rattle.ppd_io.specs.declared.bytes.TheConstants.{CHUNK_BYTES}
 pub use Rattle.ppd_top_output.specs.Finishing.{Finished}
+use Rattle.std.specs.List.{AllByRecursion, flat_map}
+use Rattle.std.specs.Option.{option_map_or}
+use Rattle.std.specs.Prelude.{IfSome, List, None, Option, Some, [], codes, if◌then◌else◌, is_some, length, nat_le, nat_lt, option_map, take, ℕ, ◌++◌, ◌+◌, ◌<◌, ◌||◌, ◌∷◌, ◌≡◌, ◌≤◌}
+use Rattle.std.specs.Str.Iter.{LacksByte}
 
 -- a status, and all that is written with it
 pub record Output : Type 0 where
@@ -24,19 +26,15 @@ output status text = record { status = status; text = text }
 abbrev pub before : List ℕ → Output → Output
 before text o = output o.status (text ++ o.text)
 
--- the answer to a line and what comes after it: `quit` ends them, and so does a replay that fails, with its own line
-abbrev pub answered : Known → (line : List ℕ) → (quits : Bool) → (failure : Option FlowError) → (rest : Output) → Output
-answered x l quits None rest = if quits then output 0 (text_of x l) else before (text_of x l) rest
-answered x l quits (Some error) rest = output 6 (refused_replay x.program (error_of error))
-
 -- the answers to lines, after n lines before them: one after another through the first `quit`. A line that is the one
--- too many, or else is too long, ends them
+-- too many, or else is too long, ends them, and so does a replay that fails, with its own line
 abbrev pub answers_from : Known → ℕ → List (List ℕ) → Output
 answers_from x n [] = output 0 []
 answers_from x n (l ∷ ls) =
     if nat_le MOST_INPUT_LINES n then output 8 (codes "many lines\n")
     else if nat_lt MOST_LINE_BYTES (length l) then output 7 (codes "long line\n")
-    else answered x l (is_quit l) (failure_of x l) (answers_from x (n + 1) ls)
+    else option_map_or (λ error. output 6 (refused_replay x.program (error_of error))) (failure_of x l)
+    (if is_quit l then output 0 (text_of x l) else before (text_of x l) (answers_from x (n + 1) ls))
 
 -- the answers to the lines of all commands
 abbrev pub answers : Known → List ℕ → Output
@@ -47,16 +45,6 @@ answers x commands = answers_from x 0 (lines_of commands)
 -- each line with a newline after it
 abbrev pub ended : List (List ℕ) → List ℕ
 ended lines = flat_map (λ l. l ++ 10 ∷ []) lines
-
--- none of these lines ends the answers: none is too long or is `quit`, and no replay fails
-abbrev pub AreAnswered : Known → List (List ℕ) → Type 0
-AreAnswered x [] = Unit {0}
-AreAnswered x (l ∷ ls) = (length l ≤ MOST_LINE_BYTES) × (is_quit l ≡ false) × (failure_of x l ≡ None) × AreAnswered x ls
-
--- after n lines before them the answers to these lines end at the first `quit` or with the last line
-abbrev pub AreFine : ℕ → List (List ℕ) → Type 0
-AreFine n [] = Unit {0}
-AreFine n (l ∷ ls) = (n < MOST_INPUT_LINES) × (length l ≤ MOST_LINE_BYTES) × (is_quit l ≡ false → AreFine (n + 1) ls)
 
 -- of these lines, after n before them, those through the `quit` or the failed replay that ends the answers, if one does
 abbrev pub through_quit : Known → ℕ → List (List ℕ) → Option (List (List ℕ))
@@ -112,7 +100,7 @@ pub record IsUnread (a b : Standing) : Type 0 where
   pub reads : b.reads ≡ a.reads
 
 -- a read failed: the answers to the whole lines among the bytes taken, after which some bytes of a line stand, were
--- written, and none of these lines ends the answers
+-- written, and none of these lines ends the answers: none is `quit`, and they are answered with status 0
 pub record IsBroken (x : Known) (head : List ℕ) (a b : Standing) : Type 0 where
   pub rose : Rose a.reads b.reads
   pub taken : List ℕ
@@ -120,10 +108,10 @@ pub record IsBroken (x : Known) (head : List ℕ) (a b : Standing) : Type 0 wher
   pub rest : List ℕ
   pub takes : Takes a.left b.left taken
   pub is : taken ≡ ended lines ++ rest
-  pub plain : AllByRecursion HasNoNewline lines
-  pub open_end : HasNoNewline rest
-  pub answered : AreAnswered x lines
-  pub few : length lines ≤ MOST_INPUT_LINES
+  pub plain : AllByRecursion (LacksByte 10) lines
+  pub open_end : LacksByte 10 rest
+  pub unended : through_quit x 0 lines ≡ None
+  pub answered : answers_from x 0 lines ≡ output 0 (flat_map (text_of x) lines)
   pub written : Appends a.written b.written (head ++ flat_map (text_of x) lines)
 
 -- from one standing to another by this status: all was written; a read failed; a write failed, after a proper prefix;

@@ -1,21 +1,18 @@
 -- What is written of a run: how each process ended and what it printed, and the races.
-use Rattle.std.specs.Prelude.{ℕ, ℤ, List, ◌++◌, codes, decimal, slice_get}
-use Rattle.std.specs.List.{enumerate_from, flat_map}
-use Rattle.std.specs.Option.{option_map_or}
-use Rattle.std.specs.Fmt.{signed_decimal}
+use Rattle.ppd_ast.specs.Lookups.{body_numbered}
 use Rattle.ppd_ast.specs.declared.program.Place.{Place}
 use Rattle.ppd_ast.specs.declared.program.Program.{Program}
-use Rattle.ppd_ast.specs.declared.plan.Plan.{Plan}
 use Rattle.ppd_ast.specs.declared.status.Status.{Status}
 use Rattle.ppd_ast.specs.declared.status.Status.TheVariants as status
-use Rattle.ppd_ast.specs.Lookups.{name_of_body}
-use Rattle.ppd_model.specs.declared.closed.ProcEnd.{ProcEnd}
-use Rattle.ppd_text.specs.Texts.{place_text}
-use Rattle.ppd_model.specs.declared.graph.Race.{Race}
-use Rattle.ppd_model.specs.Logs.{close}
-use Rattle.ppd_model.specs.Races.{races}
 use Rattle.ppd_codec_runs.specs.Texts.{races_text}
+use Rattle.ppd_model.specs.declared.closed.ProcEnd.{ProcEnd}
+use Rattle.ppd_model.specs.declared.graph.Race.{Race}
 use Rattle.ppd_text.specs.CellNames.{trap_word}
+use Rattle.ppd_text.specs.Texts.{place_text}
+use Rattle.std.specs.Fmt.{signed_decimal}
+use Rattle.std.specs.List.{enumerate_from, flat_map}
+use Rattle.std.specs.Option.{option_map_or}
+use Rattle.std.specs.Prelude.{List, codes, decimal, slice_get, ℕ, ℤ, ◌++◌}
 
 abbrev pub status_text : Status → Place → List ℕ
 status_text status.Ended place = codes "ended"
@@ -37,10 +34,6 @@ end_text program name e =
 -- how the processes ended, in order, whose bodies stand behind those of the functions; then the race list
 abbrev pub summary_of : Program → List ProcEnd → List Race → List ℕ
 summary_of program ends races =
-    flat_map (λ e. end_text program (name_of_body (slice_get program.bodies e.0)) e.1)
+    flat_map (λ e. end_text program (body_numbered program e.0).name e.1)
     (enumerate_from program.functions ends)
     ++ races_text program races
-
--- the summary of a whole schedule
-abbrev pub summary : Program → Plan → ℕ → List ℕ → List ℕ
-summary program plan budget h = summary_of program (close program plan budget h).ends (races program plan budget h)

@@ -2,8 +2,8 @@
 ghost use Rattle.std.specs.Prelude.{◌≡◌, ◌++◌, ◌+◌, ◌<◌, ◌^◌, length, OnOk, IfOk, slice_get};
 ghost use Rattle.std.specs.Option.{option_map_or};
 ghost use Rattle.std.specs.List.{enumerate_from, flat_map};
-ghost use Rattle.ppd_ast.specs.Lookups.{name_of_body};
 ghost use Rattle.ppd_top_runs.specs.Summary.{end_text, summary_of};
+ghost use Rattle.ppd_ast.specs.Lookups.{body_numbered};
 
 use crate::text::{put_prints, put_status};
 use ppd_ast::{Memory, Place, Program};
@@ -47,7 +47,7 @@ fn put_ends(
     requires { length ends.now < 2 ^ 62 }
     ensures { OnOk result (text.new.items
         ≡ text.old.items
-        ++ flat_map (λ e. end_text program.now (name_of_body (slice_get program.now.bodies e.0)) e.1)
+        ++ flat_map (λ e. end_text program.now (body_numbered program.now e.0).name e.1)
         (enumerate_from first ends.now)) }
 {
     for index in 0..ends.len() {

@@ -1,11 +1,11 @@
 // What is told of a run: its summary, and then the answers to the lines of an input.
+ghost use Rattle.ppd_race.specs.Races.{races_among, edges_of_logs};
 ghost use Rattle.std.specs.Prelude.{◌≡◌, ◌<◌, ◌^◌, [], length, IfOk, OnOk};
 ghost use Rattle.ppd_graph.specs.Graphs.{IsGraphOf};
 ghost use Rattle.ppd_graph.specs.declared.refusal.BadSync.TheVariants as no_graph;
 ghost use Rattle.ppd_index.specs.Fitting.{AreFittingLogs};
 ghost use Rattle.ppd_index.specs.Indexes.{IsIndexOf};
 ghost use Rattle.ppd_index.specs.declared.refusal.BadLog.TheVariants as no_index;
-ghost use Rattle.ppd_race.specs.Races.{races_of_logs};
 ghost use Rattle.ppd_codec_runs.specs.Known.{known_of_logs};
 ghost use Rattle.ppd_top_runs.specs.Output.{Talks, standing};
 ghost use Rattle.ppd_top_runs.specs.Runs.{CanBeTold};
@@ -99,7 +99,7 @@ pub fn summarize(
 ) -> Result<Vec<u8>, Memory>
     requires { CanBeTold run.now.program.now run.now.plan run.now.budget run.now.closed }
     ensures { IfOk result (λ text. text.items ≡ summary_of run.now.program.now run.now.closed.ends
-        (races_of_logs run.now.program.now run.now.closed.logs)) }
+        (races_among (edges_of_logs run.now.program.now run.now.closed.logs))) }
 {
     let index = index_of(alloc, run)?;
     let graph = graph_of(alloc, run)?;
@@ -129,7 +129,8 @@ pub fn tell<I: Source, O: Sink>(
 ) -> u8
     requires { CanBeTold run.now.program.now run.now.plan run.now.budget run.now.closed }
     ensures { Talks (known_of_logs run.now.program.now run.now.plan run.now.budget run.now.closed.logs)
-        (summary_of run.now.program.now run.now.closed.ends (races_of_logs run.now.program.now run.now.closed.logs))
+        (summary_of run.now.program.now run.now.closed.ends
+        (races_among (edges_of_logs run.now.program.now run.now.closed.logs)))
         (standing (I.left input.old) (I.before_last input.old)
         (I.faults input.old) (O.written output.old) (O.faults output.old))
         (standing (I.left input.new) (I.before_last input.new)

@@ -23,10 +23,10 @@ use Rattle.ppd_top_words.proofs.Clap.Spelled.{given_alike}
 use Rattle.ppd_top_words.proofs.Clap.Taken.{clap_rows, row, rows_for, unless}
 use Rattle.ppd_top_words.proofs.Clap.Walking.{AllRead}
 use Rattle.ppd_top_words.proofs.Clap.Whole.{can_read, clap_is_given, made}
-use Rattle.ppd_top_words.specs.Reads.{Reads, texts_in}
+use Rattle.ppd_top_words.specs.Reads.{Reads}
+use Rattle.ppd_top_words.specs.Words.{Uses, texts, value_of}
 use Rattle.ppd_top_words.specs.Shape.{app_with, bare, name_rule, option_rule}
 use Rattle.ppd_top_words.specs.Spelling.{HaveNoEquals, words_give}
-use Rattle.ppd_top_words.specs.Words.{Uses, value_of}
 
 -- ---- it is simple
 
@@ -88,40 +88,40 @@ first_for id (x ∷ u) = go (bytes_eq x.0 id) (first_for id u)
     go true e = refl
     go false e = e
 
-pub all_read : (words : List (Bor Text)) → All (λ (s : Bor Text). IsUtf8 s.now) words → AllRead (texts_in words)
+pub all_read : (words : List (Bor Text)) → All (λ (s : Bor Text). IsUtf8 s.now) words → AllRead (texts words)
 all_read [] h = tt
 all_read (w ∷ ws) h = (can_read w.now (h 0 w (omega arith)), all_read ws (λ k d lt. h (suc k) d (omega arith)))
 
-module _ (title : Text) (longs ids : List Text) (lack : HaveNoEquals longs) (words : List (Bor Text)) (few : length ids < usize_max) (texts : All (λ (s : Bor Text). IsUtf8 s.now) words) where
-  pub reads : (app : App) (m : ArgMatches) → app ≡ app_with title longs ids → (is_simple_and_free app ≡ true → fault_of app (texts_in words) ≡ []) → (is_simple app ≡ true → rows_of (found_of m) ≡ matches_of app (texts_in words))
-      → Reads longs ids (texts_in words) m
+module _ (title : Text) (longs ids : List Text) (lack : HaveNoEquals longs) (words : List (Bor Text)) (few : length ids < usize_max) (utf8 : All (λ (s : Bor Text). IsUtf8 s.now) words) where
+  pub reads : (app : App) (m : ArgMatches) → app ≡ app_with title longs ids → (is_simple_and_free app ≡ true → fault_of app (texts words) ≡ []) → (is_simple app ≡ true → rows_of (found_of m) ≡ matches_of app (texts words))
+      → Reads longs ids (texts words) m
   reads app m is faults rows =
       let a : App = app_with title longs ids in
-      let none : fault_of a (texts_in words) ≡ [] = ap (λ (x : App). fault_of x (texts_in words)) (sym is) ∙ faults (ap is_simple_and_free is ∙ is_free title longs ids) in
-      let same : rows_of (found_of m) ≡ matches_of a (texts_in words) = rows (ap is_simple is ∙ is_plain title longs ids) ∙ ap (λ (x : App). matches_of x (texts_in words)) is in
-      let law : clap_rows a (texts_in words) ≡ option_map rows_for (words_give longs ids (texts_in words)) = clap_is_given title longs ids (texts_in words) few (all_read words texts) ∙ ap (option_map rows_for) (given_alike longs ids (texts_in words) lack) in
-      let taken : Some (rows_of (found_of m)) ≡ option_map rows_for (words_give longs ids (texts_in words)) = ap Some same ∙ ap (λ (k : Kinds). unless k (Some (matches_of a (texts_in words)))) (sym none) ∙ law in
-      go (words_give longs ids (texts_in words)) refl taken
+      let none : fault_of a (texts words) ≡ [] = ap (λ (x : App). fault_of x (texts words)) (sym is) ∙ faults (ap is_simple_and_free is ∙ is_free title longs ids) in
+      let same : rows_of (found_of m) ≡ matches_of a (texts words) = rows (ap is_simple is ∙ is_plain title longs ids) ∙ ap (λ (x : App). matches_of x (texts words)) is in
+      let law : clap_rows a (texts words) ≡ option_map rows_for (words_give longs ids (texts words)) = clap_is_given title longs ids (texts words) few (all_read words utf8) ∙ ap (option_map rows_for) (given_alike longs ids (texts words) lack) in
+      let taken : Some (rows_of (found_of m)) ≡ option_map rows_for (words_give longs ids (texts words)) = ap Some same ∙ ap (λ (k : Kinds). unless k (Some (matches_of a (texts words)))) (sym none) ∙ law in
+      go (words_give longs ids (texts words)) refl taken
     where
-      go : (g : Option Uses) → words_give longs ids (texts_in words) ≡ g → Some (rows_of (found_of m)) ≡ option_map rows_for g → Reads longs ids (texts_in words) m
+      go : (g : Option Uses) → words_give longs ids (texts words) ≡ g → Some (rows_of (found_of m)) ≡ option_map rows_for g → Reads longs ids (texts words) m
       go None e t = cc
       go (Some u) e t =
           let here : rows_of (found_of m) ≡ rows_for u = cc in
           record { uses = u; is = e; value = λ id. first_value-rows (found_of m) id ∙ ap (first_of id) here ∙ first_for id u }
 
-  pub reads_none : (app : App) (e : Error) → app ≡ app_with title longs ids → (is_simple_and_free app ≡ true → HasKind (fault_of app (texts_in words)) e) → (kind_of e ≡ kind.OutOfMemory → ⊥) → words_give longs ids (texts_in words) ≡ None
-  reads_none app e is faults other = by (fault_of app (texts_in words)) refl (faults (ap is_simple_and_free is ∙ is_free title longs ids))
+  pub reads_none : (app : App) (e : Error) → app ≡ app_with title longs ids → (is_simple_and_free app ≡ true → HasKind (fault_of app (texts words)) e) → (kind_of e ≡ kind.OutOfMemory → ⊥) → words_give longs ids (texts words) ≡ None
+  reads_none app e is faults other = by (fault_of app (texts words)) refl (faults (ap is_simple_and_free is ∙ is_free title longs ids))
     where
       none : (g : Option Uses) → None ≡ option_map rows_for g → g ≡ None
       none None e = refl
       none (Some u) e = cc
 
-      by : (k : Kinds) → fault_of app (texts_in words) ≡ k → HasKind k e → words_give longs ids (texts_in words) ≡ None
+      by : (k : Kinds) → fault_of app (texts words) ≡ k → HasKind k e → words_give longs ids (texts words) ≡ None
       by k k_is (inl m) = absurd (other m)
       by [] k_is (inr i) = absurd i
       by (x ∷ xs) k_is (inr i) =
           let a : App = app_with title longs ids in
-          none (words_give longs ids (texts_in words)) (ap (λ (ks : Kinds). unless ks (Some (matches_of a (texts_in words)))) (sym (ap (λ (x : App). fault_of x (texts_in words)) (sym is) ∙ k_is)) ∙ clap_is_given title longs ids (texts_in words) few (all_read words texts) ∙ ap (option_map rows_for) (given_alike longs ids (texts_in words) lack))
+          none (words_give longs ids (texts words)) (ap (λ (ks : Kinds). unless ks (Some (matches_of a (texts words)))) (sym (ap (λ (x : App). fault_of x (texts words)) (sym is) ∙ k_is)) ∙ clap_is_given title longs ids (texts words) few (all_read words utf8) ∙ ap (option_map rows_for) (given_alike longs ids (texts words) lack))
 
 -- ---- one more rule
 
@@ -136,19 +136,19 @@ more_names : (title : Text) (longs ids : List Text) (id : Text) → with_rule (a
 more_names title longs ids id =
     ap (with_rules title) (append_assoc (map option_rule longs) (map name_rule ids) (name_rule id ∷ []) ∙ ap (λ (rs : List Rule). map option_rule longs ++ rs) (sym (map-append name_rule ids (id ∷ []))))
 
-taken_text : (xs : List (Bor Text)) (i : ℕ) (d : Bor Text) → i < length xs → texts_in (take (i + 1) xs) ≡ texts_in (take i xs) ++ (slice_index_or xs i d).now ∷ []
-taken_text xs i d lt = ap texts_in (take_more xs i d lt) ∙ map-append (λ (s : Bor Text). s.now) (take i xs) (slice_index_or xs i d ∷ [])
+taken_text : (xs : List (Bor Text)) (i : ℕ) (d : Bor Text) → i < length xs → texts (take (i + 1) xs) ≡ texts (take i xs) ++ (slice_index_or xs i d).now ∷ []
+taken_text xs i d lt = ap texts (take_more xs i d lt) ∙ map-append (λ (s : Bor Text). s.now) (take i xs) (slice_index_or xs i d ∷ [])
 
-pub step_options : (title : Text) (xs : List (Bor Text)) (i : ℕ) (d : Bor Text) (a b : App) → i < length xs → a ≡ app_with title (texts_in (take i xs)) [] → b ≡ with_rule a (option_rule (slice_index_or xs i d).now)
-    → b ≡ app_with title (texts_in (take (i + 1) xs)) []
+pub step_options : (title : Text) (xs : List (Bor Text)) (i : ℕ) (d : Bor Text) (a b : App) → i < length xs → a ≡ app_with title (texts (take i xs)) [] → b ≡ with_rule a (option_rule (slice_index_or xs i d).now)
+    → b ≡ app_with title (texts (take (i + 1) xs)) []
 step_options title xs i d a b lt before is =
-    is ∙ ap (λ (x : App). with_rule x (option_rule (slice_index_or xs i d).now)) before ∙ more_options title (texts_in (take i xs)) (slice_index_or xs i d).now
+    is ∙ ap (λ (x : App). with_rule x (option_rule (slice_index_or xs i d).now)) before ∙ more_options title (texts (take i xs)) (slice_index_or xs i d).now
     ∙ ap (λ (ls : List Text). app_with title ls []) (sym (taken_text xs i d lt))
 
-pub step_names : (title : Text) (longs : List Text) (xs : List (Bor Text)) (i : ℕ) (d : Bor Text) (a b : App) → i < length xs → a ≡ app_with title longs (texts_in (take i xs)) → b ≡ with_rule a (name_rule (slice_index_or xs i d).now)
-    → b ≡ app_with title longs (texts_in (take (i + 1) xs))
+pub step_names : (title : Text) (longs : List Text) (xs : List (Bor Text)) (i : ℕ) (d : Bor Text) (a b : App) → i < length xs → a ≡ app_with title longs (texts (take i xs)) → b ≡ with_rule a (name_rule (slice_index_or xs i d).now)
+    → b ≡ app_with title longs (texts (take (i + 1) xs))
 step_names title longs xs i d a b lt before is =
-    is ∙ ap (λ (x : App). with_rule x (name_rule (slice_index_or xs i d).now)) before ∙ more_names title longs (texts_in (take i xs)) (slice_index_or xs i d).now
+    is ∙ ap (λ (x : App). with_rule x (name_rule (slice_index_or xs i d).now)) before ∙ more_names title longs (texts (take i xs)) (slice_index_or xs i d).now
     ∙ ap (λ (ls : List Text). app_with title longs ls) (sym (taken_text xs i d lt))
 
 -- ---- each is text

@@ -31,20 +31,16 @@ longs_of Rerun = []
 longs_of Clean = []
 longs_of Whole = codes "workers" ∷ []
 
--- the names of an item of a recording
-abbrev pub item_names : List Text
-item_names = codes "recording" ∷ codes "process" ∷ codes "interval" ∷ codes "item" ∷ []
-
+-- the names, which of `slice` and `clean` are those of an item of a recording
 abbrev pub names_of : Command → List Text
 names_of Flow = codes "source" ∷ []
 names_of Run = codes "source" ∷ codes "recording" ∷ []
 names_of Debug = codes "recording" ∷ []
 names_of Show = codes "source" ∷ []
 names_of Drill = codes "number" ∷ []
-names_of Slice = item_names
 names_of Rerun = codes "recording" ∷ []
-names_of Clean = item_names
 names_of Whole = codes "recording" ∷ []
+names_of _ = codes "recording" ∷ codes "process" ∷ codes "interval" ∷ codes "item" ∷ []
 
 -- what the words after the program's name give: a command, and what the words after it give to its options and
 -- its names

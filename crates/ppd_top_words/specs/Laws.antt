@@ -2,12 +2,11 @@
 use Rattle.std.specs.Prelude.{◌≡◌, ℕ, Bool, List}
 use Rattle.std.specs.Borrow.{Bor}
 use Rattle.ppd_top_words.specs.declared.commands.Command.TheVariants.{Flow, Show}
-use Rattle.ppd_top_words.specs.Words.{Text, nothing_given}
+use Rattle.ppd_top_words.specs.Words.{Text, nothing_given, texts}
 use Rattle.ppd_top_words.specs.Spelling.{spelled, words_give}
 use Rattle.ppd_top_words.specs.Commands.{longs_of, names_of}
 use Rattle.ppd_top_words.specs.Tested.{only_good, tested_from}
 use Rattle.ppd_top_words.specs.Numbers.{Choice, asked_of, good, no_numbers, numbers_from, shown_from}
-use Rattle.ppd_top_words.specs.Reads.{texts_in}
 
 -- a test of each value as it comes is the test of all values at the end
 abbrev pub TestsMayComeLast : Type 0
@@ -20,11 +19,11 @@ abbrev pub FlowTestsNumbersLast : Type 0
 FlowTestsNumbersLast =
     (allowed : Choice → ℕ → Bool) (words : List (Bor Text))
     → numbers_from allowed no_numbers words
-    ≡ asked_of (only_good (good allowed) (words_give (longs_of Flow) (names_of Flow) (texts_in words)))
+    ≡ asked_of (only_good (good allowed) (words_give (longs_of Flow) (names_of Flow) (texts words)))
 
 -- the same with a budget that is refused at the end: what the words give to `show`, which knows no budget
 abbrev pub ShowTestsNumbersLast : Type 0
 ShowTestsNumbersLast =
     (allowed : Choice → ℕ → Bool) (words : List (Bor Text))
     → shown_from allowed no_numbers words
-    ≡ asked_of (only_good (good allowed) (words_give (longs_of Show) (names_of Show) (texts_in words)))
+    ≡ asked_of (only_good (good allowed) (words_give (longs_of Show) (names_of Show) (texts words)))

@@ -1,12 +1,13 @@
 -- The words of `flow` and of `show` as they are read by hand, an option of a number after the other: numbers are
 -- tested as they come. The top call has the same definition of its own; here it is the other side of a law.
-use Rattle.std.specs.Prelude.{ℕ, Bool, true, false, not, ◌&&◌, ◌||◌, nat_le, List, [], ◌∷◌, drop}
+use Rattle.std.specs.Prelude.{ℕ, Bool, true, false, not, ◌&&◌, ◌||◌, nat_eq, nat_le, List, [], ◌∷◌, drop}
 use Rattle.std.specs.Prelude.{length, Option, Some, None, is_none, is_some, if◌then◌else◌, codes, option_and_then}
 use Rattle.std.specs.Borrow.{Bor}
+use Rattle.std.specs.List.{starts_with}
 use Rattle.std.specs.Str.{bytes_eq}
 use Rattle.ppd_ast.specs.Digits.{number_in}
 use Rattle.ppd_top_words.specs.Words.{Text, Uses, value_of}
-use Rattle.ppd_top_words.specs.Spelling.{begins, is_dashed}
+use Rattle.ppd_top_words.specs.Spelling.{is_dashed}
 
 pub data Choice : Type 0 where
   budget : Choice
@@ -26,9 +27,9 @@ spelled_word w =
     else if bytes_eq w (codes "--budget") then Waits budget
     else if bytes_eq w (codes "--leaf") then Waits leaf
     else if bytes_eq w (codes "--loops") then Waits loops
-    else if begins (codes "--budget=") w then Sets budget (number_in (drop 9 w))
-    else if begins (codes "--leaf=") w then Sets leaf (number_in (drop 7 w))
-    else if begins (codes "--loops=") w then Sets loops (number_in (drop 8 w))
+    else if starts_with nat_eq w (codes "--budget=") then Sets budget (number_in (drop 9 w))
+    else if starts_with nat_eq w (codes "--leaf=") then Sets leaf (number_in (drop 7 w))
+    else if starts_with nat_eq w (codes "--loops=") then Sets loops (number_in (drop 8 w))
     else if is_dashed w then Other else Name
 
 pub record NumbersGiven : Type 0 where

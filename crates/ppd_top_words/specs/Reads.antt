@@ -1,15 +1,11 @@
 -- What clap's matches say of the words.
-use Rattle.std.specs.Prelude.{◌≡◌, List, Some, map}
-use Rattle.std.specs.Borrow.{Bor}
+use Rattle.std.specs.Prelude.{◌≡◌, List, Some}
 use Rattle.clap.specs.Matches.{first_value, found_of}
 use Rattle.clap.specs.declared.parser.matches.ArgMatches.{ArgMatches}
 use Rattle.ppd_top_words.specs.Words.{Text, Uses, value_of}
 use Rattle.ppd_top_words.specs.Spelling.{words_give}
 use Rattle.ppd_top_words.specs.Commands.{command_gives}
 use Rattle.ppd_top_words.specs.declared.commands.CommandWords.{CommandWords}
-
-abbrev pub texts_in : List (Bor Text) → List Text
-texts_in = map (λ s. s.now)
 
 -- the words give something, and the matches hold just that
 pub record Reads (longs names words : List Text) (m : ArgMatches) : Type 0 where

@@ -1,5 +1,6 @@
 -- How a word is spelled where options of these long names may stand, and what the words give.
-use Rattle.std.specs.Prelude.{◌≡◌, ◌==◌, Bool, false, List, Option, [], ◌∷◌, ◌++◌, if◌then◌else◌, length, take, drop, ⊤}
+use Rattle.std.specs.Prelude.{◌≡◌, ◌==◌, Bool, false, List, Option, [], ◌∷◌, ◌++◌, if◌then◌else◌, length, drop, nat_eq, ⊤}
+use Rattle.std.specs.List.{starts_with}
 use Rattle.std.specs.Str.{bytes_eq}
 use Rattle.clap.specs.Lexer.{has_byte}
 use Rattle.ppd_top_words.specs.Words.{Kind, Text, Uses, ends, given_from, name, nothing_given, other, sets, waits}
@@ -10,15 +11,12 @@ is_dashed [] = false
 is_dashed (b ∷ []) = false
 is_dashed (b ∷ c ∷ bs) = b == 45
 
-abbrev pub begins : Text → Text → Bool
-begins front w = bytes_eq (take (length front) w) front
-
 -- `--name` waits for a value, and `--name=` has it; what else begins with `-` is no name, but for `-` alone
 abbrev pub by_beginning : List Text → Text → Kind
 by_beginning [] w = if is_dashed w then other else name
 by_beginning (l ∷ ls) w =
     if bytes_eq w (45 ∷ 45 ∷ l) then waits l
-    else if begins (45 ∷ 45 ∷ (l ++ 61 ∷ [])) w then sets l (drop (length (45 ∷ 45 ∷ (l ++ 61 ∷ []))) w)
+    else if starts_with nat_eq w (45 ∷ 45 ∷ (l ++ 61 ∷ [])) then sets l (drop (length (45 ∷ 45 ∷ (l ++ 61 ∷ []))) w)
     else by_beginning ls w
 
 -- `--` is the end of the options

@@ -1,11 +1,9 @@
 -- What words give to options that take a value each and to names, where it is known how a word is spelled.
+pub use Rattle.clap.specs.Walk.{Text, texts}
 use Rattle.std.specs.Prelude.{ℕ, ◌+◌, Bool, true, false, ◌&&◌, List, [], ◌∷◌, ◌++◌, Option, Some, None, is_none}
 use Rattle.std.specs.Prelude.{if◌then◌else◌, option_and_then, option_map, slice_get}
 use Rattle.std.specs.List.{find, list_any, list_all}
 use Rattle.std.specs.Str.{bytes_eq}
-
-abbrev pub Text : Type 0
-Text = List ℕ
 
 -- the options and the names that were used, each with its word
 abbrev pub Uses : Type 0

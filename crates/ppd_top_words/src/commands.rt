@@ -2,7 +2,8 @@ ghost use Rattle.std.specs.Prelude.{◌≡◌, None, IfOk, MatchOption, option_m
 ghost use Rattle.clap.specs.Matches.{first_value, found_of};
 ghost use Rattle.ppd_top_words.specs.Commands.{command_gives, command_of as command_named, longs_of, names_of};
 ghost use Rattle.ppd_top_words.specs.Spelling.{words_give};
-ghost use Rattle.ppd_top_words.specs.Reads.{Reads, ReadsCommand, texts_in};
+ghost use Rattle.ppd_top_words.specs.Reads.{Reads, ReadsCommand};
+ghost use Rattle.ppd_top_words.specs.Words.{texts};
 
 use crate::read::read_words;
 use clap::ArgMatches;
@@ -86,8 +87,8 @@ fn read_rest<'a>(
     words: &'a [&'a str],
 ) -> Result<Option<ArgMatches<'a>>, Memory>
     ensures { IfOk result
-        (λ r. MatchOption r (words_give (longs_of command) (names_of command) (texts_in words.entry.now) ≡ None)
-        (Reads (longs_of command) (names_of command) (texts_in words.entry.now))) }
+        (λ r. MatchOption r (words_give (longs_of command) (names_of command) (texts words.entry.now) ≡ None)
+        (Reads (longs_of command) (names_of command) (texts words.entry.now))) }
 {
     match command {
         Command::Flow => read_words(
@@ -146,8 +147,8 @@ pub fn read_command<'a>(
     alloc: Global,
     words: &'a [&'a str],
 ) -> Result<Option<CommandWords<'a>>, Memory>
-    ensures { IfOk result (λ r. MatchOption r (command_gives (texts_in words.entry.now) ≡ None)
-        (ReadsCommand (texts_in words.entry.now))) }
+    ensures { IfOk result (λ r. MatchOption r (command_gives (texts words.entry.now) ≡ None)
+        (ReadsCommand (texts words.entry.now))) }
 {
     let [word, rest @ ..] = words else {
         return Ok(None);

@@ -3,7 +3,8 @@ ghost use Rattle.std.specs.Borrow.{Bor};
 ghost use Rattle.std.specs.List.{All};
 ghost use Rattle.std.specs.Str.{IsUtf8};
 ghost use Rattle.ppd_top_words.specs.Spelling.{HaveNoEquals, words_give};
-ghost use Rattle.ppd_top_words.specs.Reads.{Reads, texts_in};
+ghost use Rattle.ppd_top_words.specs.Reads.{Reads};
+ghost use Rattle.ppd_top_words.specs.Words.{texts};
 
 use crate::shape::command_with;
 use clap::ArgMatches;
@@ -43,10 +44,10 @@ pub fn read_words<'a>(
     names: &[&'a str],
     words: &'a [&'a str],
 ) -> Result<Option<ArgMatches<'a>>, Memory>
-    requires { HaveNoEquals (texts_in longs.now) }
+    requires { HaveNoEquals (texts longs.now) }
     ensures { IfOk result
-        (λ r. MatchOption r (words_give (texts_in longs.now) (texts_in names.now) (texts_in words.entry.now) ≡ None)
-        (Reads (texts_in longs.now) (texts_in names.now) (texts_in words.entry.now))) }
+        (λ r. MatchOption r (words_give (texts longs.now) (texts names.now) (texts words.entry.now) ≡ None)
+        (Reads (texts longs.now) (texts names.now) (texts words.entry.now))) }
 {
     texts_law(words);
     let command = command_with(alloc, title, longs, names)?;

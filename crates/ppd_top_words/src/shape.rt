@@ -1,7 +1,7 @@
 ghost use Rattle.std.specs.Prelude.{◌≡◌, IfOk};
 ghost use Rattle.clap.specs.Simple.{app_of, with_rule};
 ghost use Rattle.ppd_top_words.specs.Shape.{app_with, name_rule, option_rule};
-ghost use Rattle.ppd_top_words.specs.Reads.{texts_in};
+ghost use Rattle.ppd_top_words.specs.Words.{texts};
 
 use clap::{Arg, ArgAction, Command};
 use std::alloc::{AllocError, Global};
@@ -36,7 +36,7 @@ pub(crate) fn command_with<'a>(
     longs: &[&'a str],
     names: &[&'a str],
 ) -> Result<Command<'a>, AllocError>
-    ensures { IfOk result (λ c. app_of c ≡ app_with title.entry.now (texts_in longs.now) (texts_in names.now)) }
+    ensures { IfOk result (λ c. app_of c ≡ app_with title.entry.now (texts longs.now) (texts names.now)) }
 {
     let mut command = Command::new(alloc, title)
         .no_binary_name(true)

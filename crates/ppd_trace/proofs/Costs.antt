@@ -1,18 +1,18 @@
 -- The bounds on steps, added up.
 use Rattle.std.proofs.Common.{◌≡◌, ℕ, zero, suc, ◌+◌, ◌*◌, ◌<◌, ◌≤◌, List, [], ◌∷◌, length, take, get_or, Option, Some, None, refl, ap, sym, ◌∙◌, arith}
-use Rattle.std.specs.Prelude.{slice_get}
+use Rattle.std.specs.Prelude.{slice_get, unwrap_or}
 use Rattle.std.specs.List.{sum_by}
 use Rattle.std.proofs.Math.Nat.{add-mul, mul-add}
 use Rattle.std.proofs.lemmas.List.Sums.{sum_by-take-le, sum_by_more}
 use Rattle.std.proofs.lemmas.Nat.{mul-le}
 use Rattle.std.proofs.lemmas.Option.{slice_get-get_or}
-use Rattle.ppd_sem.specs.Runs.{size_if}
 use Rattle.ppd_ast.specs.declared.program.Body.{Body}
 use Rattle.ppd_ast.specs.declared.program.Program.{Program}
 use Rattle.ppd_model.specs.declared.tracing.Story.{Story}
 use Rattle.ppd_model.specs.declared.tracing.Taken.{Taken}
 use Rattle.ppd_model.proofs.Changes.{some}
 use Rattle.ppd_trace.specs.Spending.{extent, steps_in}
+use Rattle.ppd_ast.specs.Lookups.{body_numbered, no_body}
 
 -- ---- a loop of turns of k steps
 
@@ -40,15 +40,15 @@ some_there (x ∷ xs) (suc i) lt e = some_there xs i (omega arith) e
 abbrev cells_to : List Body → ℕ → ℕ
 cells_to bodies i = sum_by (λ b. b.cells) (take i bodies)
 
-one_body : (bodies : List Body) (i : ℕ) → i < length bodies → cells_to bodies (i + 1) ≡ cells_to bodies i + size_if (slice_get bodies i)
+one_body : (bodies : List Body) (i : ℕ) → i < length bodies → cells_to bodies (i + 1) ≡ cells_to bodies i + (unwrap_or (slice_get bodies i) no_body).cells
 one_body bodies i lt = by (slice_get bodies i) refl
   where
-    by : (o : Option Body) → slice_get bodies i ≡ o → cells_to bodies (i + 1) ≡ cells_to bodies i + size_if (slice_get bodies i)
+    by : (o : Option Body) → slice_get bodies i ≡ o → cells_to bodies (i + 1) ≡ cells_to bodies i + (unwrap_or (slice_get bodies i) no_body).cells
     by None is = absurd (some_there bodies i lt (sym is))
     by (Some b) is =
         let same : b ≡ get_or bodies i b = some (sym is ∙ slice_get-get_or bodies i b lt) in
         let more : cells_to bodies (i + 1) ≡ cells_to bodies i + (get_or bodies i b).cells = sum_by_more (λ b. b.cells) bodies i b lt in
-        more ∙ ap (λ (x : Body). cells_to bodies i + x.cells) (sym same) ∙ ap (λ (o : Option Body). cells_to bodies i + size_if o) (sym is)
+        more ∙ ap (λ (x : Body). cells_to bodies i + x.cells) (sym same) ∙ ap (λ (o : Option Body). cells_to bodies i + (unwrap_or o no_body).cells) (sym is)
 
 module _ (program : Program) (s : Story) (k old : ℕ) where
   -- the steps for the first processes, of k for each of their steps
@@ -56,9 +56,9 @@ module _ (program : Program) (s : Story) (k old : ℕ) where
   spent_to i = old + 4 * i + 2 * cells_to program.bodies (program.functions + i) + k * sum_by length (take i s.steps)
 
   pub process_on : (i : ℕ) (own : List Taken) (before now : ℕ) → i < length s.steps → own ≡ get_or s.steps i own → program.functions + i < length program.bodies → before ≤ spent_to i
-      → now ≤ before + 4 + 2 * size_if (slice_get program.bodies (program.functions + i)) + k * length own → now ≤ spent_to (i + 1)
+      → now ≤ before + 4 + 2 * (body_numbered program (program.functions + i)).cells + k * length own → now ≤ spent_to (i + 1)
   process_on i own before now lt is there h g =
-      let body : cells_to program.bodies (program.functions + i + 1) ≡ cells_to program.bodies (program.functions + i) + size_if (slice_get program.bodies (program.functions + i)) = one_body program.bodies (program.functions + i) there in
+      let body : cells_to program.bodies (program.functions + i + 1) ≡ cells_to program.bodies (program.functions + i) + (body_numbered program (program.functions + i)).cells = one_body program.bodies (program.functions + i) there in
       let next : program.functions + (i + 1) ≡ program.functions + i + 1 = omega arith in
       let all : cells_to program.bodies (program.functions + (i + 1)) ≡ cells_to program.bodies (program.functions + i + 1) = ap (λ (n : ℕ). cells_to program.bodies n) next in
       let steps : sum_by length (take (i + 1) s.steps) ≡ sum_by length (take i s.steps) + length (get_or s.steps i own) = sum_by_more length s.steps i own lt in
@@ -77,7 +77,7 @@ module _ (program : Program) (s : Story) (k old : ℕ) where
 
   -- the same of a process's turn after which no other is taken
   pub process_ends : (i : ℕ) (own : List Taken) (before now : ℕ) → i < length s.steps → own ≡ get_or s.steps i own → program.functions + i < length program.bodies → before ≤ spent_to i
-      → now ≤ before + 4 + 2 * size_if (slice_get program.bodies (program.functions + i)) + k * length own
+      → now ≤ before + 4 + 2 * (body_numbered program (program.functions + i)).cells + k * length own
       → now ≤ old + 4 * length program.bodies + 2 * sum_by (λ b. b.cells) program.bodies + k * steps_in s
   process_ends i own before now lt is there h g =
       processes_within (i + 1) now (omega (arith, there)) (process_on i own before now lt is there h g)

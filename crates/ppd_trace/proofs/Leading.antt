@@ -16,7 +16,7 @@ use Rattle.ppd_model.specs.declared.tracing.Taken.{Taken}
 use Rattle.std.specs.Option.{option_or}
 use Rattle.ppd_model.specs.Numbers.{sync}
 use Rattle.ppd_sem.specs.Tables.{capacity_of}
-use Rattle.ppd_model.specs.Synchronizations.{Sync, is_number, kind_of_sync, leading_from, leading_in, leads_at, led_to, numbered, paired_of, sync_of}
+use Rattle.ppd_model.specs.Synchronizations.{Sync, is_number, kind_of_sync, leading_from, leading_in, leads_at, led_to, numbered, sync_of}
 use Rattle.ppd_model.proofs.OrderWords.{event_or}
 use Rattle.ppd_model.proofs.Lists.{get_or_any}
 use Rattle.ppd_trace.specs.Leading.{HavePairs, KeepsFirst, found_in, is_target, looked_up, target, with_number}
@@ -49,7 +49,7 @@ nothing_from program b apart p (steps ∷ rest) =
 none_from : (program : Program) (p : ℕ) (lists : List (List Taken)) → leading_from program None p lists ≡ None
 none_from program p lists = nothing_from program None (leads_to_none program) p lists
 
-pub unpaired : (program : Program) (story : Story) (x : Taken) → x.number ≡ None → None ≡ paired_of program story x
+pub unpaired : (program : Program) (story : Story) (x : Taken) → x.number ≡ None → None ≡ leading_from program (sync_of x) 0 story.steps
 unpaired program story x e =
     sym (ap (λ (k : Option ℕ). leading_from program (numbered (kind_of_sync x.need) k) 0 story.steps) e
     ∙ ap (λ (b : Option Sync). leading_from program b 0 story.steps) (unnumbered (kind_of_sync x.need)) ∙ none_from program 0 story.steps)
@@ -193,6 +193,6 @@ module _ {S : Type 0} where
   by_need program story takes receives sends completes h n k = sym (none_from program 0 story.steps)
 
   pub paired_as : (program : Program) (story : Story) (takes receives sends completes : HashMap (ℕ × ℕ) EventId S) (x : Taken) (k : ℕ) (r : Option EventId) → HavePairs program story takes receives sends completes → x.number ≡ Some k
-      → r ≡ looked_up takes receives sends completes x.need k → r ≡ paired_of program story x
+      → r ≡ looked_up takes receives sends completes x.need k → r ≡ leading_from program (sync_of x) 0 story.steps
   paired_as program story takes receives sends completes x k r h e found =
       found ∙ by_need program story takes receives sends completes h x.need k ∙ ap (λ (number : Option ℕ). leading_from program (numbered (kind_of_sync x.need) number) 0 story.steps) (sym e)

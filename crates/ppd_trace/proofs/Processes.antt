@@ -1,6 +1,6 @@
 -- The trace of a process, step by step.
 use Rattle.std.proofs.Common.{◌≡◌, ℕ, ◌+◌, ◌-◌, ◌<◌, ◌≤◌, ℤ, List, [], ◌∷◌, length, map, take, drop, get_or, pos, Option, Some, None, Result, Ok, Err, OnOk, refl, ap, sym, ◌∙◌, subst, arith}
-use Rattle.std.specs.Prelude.{fold, replicate, slice_get}
+use Rattle.std.specs.Prelude.{fold, replicate, slice_get, unwrap_or}
 use Rattle.std.specs.FinMap.{empty}
 use Rattle.std.proofs.lemmas.List.{drop_more, length-replicate, take_all, take_more}
 use Rattle.std.proofs.lemmas.List.Sums.{fold-append}
@@ -8,9 +8,8 @@ use Rattle.ppd_ast.specs.declared.plan.Plan.{Plan}
 use Rattle.ppd_ast.specs.declared.program.Body.{Body}
 use Rattle.ppd_ast.specs.declared.program.Program.{Program}
 use Rattle.ppd_sem.specs.declared.proc.Proc.{Proc}
-use Rattle.ppd_sem.specs.Process.{act, started, top_cells}
+use Rattle.ppd_sem.specs.Process.{act, started, top_frame}
 use Rattle.ppd_sem.proofs.NeedWords.{cells_for}
-use Rattle.ppd_sem.specs.Runs.{size_if}
 use Rattle.ppd_model.specs.declared.tracing.Story.{Story}
 use Rattle.ppd_model.specs.declared.tracing.Taken.{Taken}
 use Rattle.ppd_model.specs.declared.tracing.Tracing.{Tracing}
@@ -22,6 +21,7 @@ use Rattle.ppd_activations.specs.declared.runs.Run.{Run}
 use Rattle.ppd_trace.specs.declared.tracer.Tracer.{Tracer}
 use Rattle.ppd_trace.specs.Runs.{begun_body, trace_by, trace_step, tracer_of}
 use Rattle.ppd_trace.proofs.Keeping.{few_events, parts, same_proc, step_as}
+use Rattle.ppd_ast.specs.Lookups.{body_numbered, no_body}
 
 -- ---- the steps of a process
 
@@ -43,25 +43,25 @@ none_tags (v ∷ vs) = ap (λ (l : List Tag). None ∷ l) (none_tags vs)
 abbrev tracer : Proc → List Run → Tracer
 tracer s runs = parts s runs [] []
 
-pub begun_is : (program : Program) (plan : Plan) (p budget : ℕ) (s : Proc) (cells : List ℤ) (runs : List Run) (t : Tracer) → t ≡ tracer s runs → s ≡ started program plan p budget → cells ≡ top_cells s.frames
+pub begun_is : (program : Program) (plan : Plan) (p budget : ℕ) (s : Proc) (cells : List ℤ) (runs : List Run) (t : Tracer) → t ≡ tracer s runs → s ≡ started program plan p budget → cells ≡ (top_frame s.frames).cells
     → runs ≡ begun_body (length cells) → t ≡ tracer_of (begun_tracing (started program plan p budget))
 begun_is program plan p budget s cells runs t t_is s_is c_is r_is =
-    let first : List ℤ = top_cells (started program plan p budget).frames in
+    let first : List ℤ = (top_frame (started program plan p budget).frames).cells in
     t_is ∙ ap (λ (x : Proc). tracer x runs) s_is
-    ∙ ap (λ (l : List Run). tracer (started program plan p budget) l) (r_is ∙ ap (λ (l : List ℤ). begun_body (length l)) c_is ∙ ap (λ (x : Proc). begun_body (length (top_cells x.frames))) s_is)
+    ∙ ap (λ (l : List Run). tracer (started program plan p budget) l) (r_is ∙ ap (λ (l : List ℤ). begun_body (length l)) c_is ∙ ap (λ (x : Proc). begun_body (length (top_frame x.frames).cells)) s_is)
     ∙ ap (λ (l : List Tag). tracer (started program plan p budget) (record { call = None; tags = l; latest = empty } ∷ [])) (none_tags first)
 
-first_cells : (body : Option Body) → length (cells_for body []) ≡ size_if body
+first_cells : (body : Option Body) → length (cells_for body []) ≡ (unwrap_or body no_body).cells
 first_cells None = refl
 first_cells (Some body) =
     let all : body.cells - 0 ≡ body.cells = omega arith in
     length-replicate (body.cells - 0) (pos 0) ∙ all
 
 -- as many cells as its body has
-pub cells_begun : (program : Program) (plan : Plan) (p budget : ℕ) (s : Proc) (cells : List ℤ) → s ≡ started program plan p budget → cells ≡ top_cells s.frames
-    → length cells ≡ size_if (slice_get program.bodies (program.functions + p))
+pub cells_begun : (program : Program) (plan : Plan) (p budget : ℕ) (s : Proc) (cells : List ℤ) → s ≡ started program plan p budget → cells ≡ (top_frame s.frames).cells
+    → length cells ≡ (body_numbered program (program.functions + p)).cells
 cells_begun program plan p budget s cells s_is c_is =
-    ap length c_is ∙ ap (λ (x : Proc). length (top_cells x.frames)) s_is ∙ first_cells (slice_get program.bodies (program.functions + p))
+    ap length c_is ∙ ap (λ (x : Proc). length (top_frame x.frames).cells) s_is ∙ first_cells (slice_get program.bodies (program.functions + p))
 
 -- ---- a whole step, and the next one
 

@@ -1,9 +1,10 @@
 -- The cells of a step are those of its statement at most, and the steps of a story those of its schedule.
 use Rattle.std.proofs.Common.{◌≡◌, ℕ, zero, suc, ◌+◌, ◌≤◌, ℤ, Bool, true, false, cond, List, [], ◌∷◌, ◌++◌, length, map, Option, Some, None, Ok, Err, refl, ap, sym, ◌∙◌, subst, arith, length-append}
-use Rattle.std.specs.Prelude.{fold, slice_get}
+use Rattle.std.specs.Prelude.{fold, slice_get, get_or, pos}
 use Rattle.std.specs.List.{sum_by}
 use Rattle.std.proofs.lemmas.List.{length-map, length-set}
 use Rattle.std.proofs.lemmas.List.Sums.{sum_by-cons}
+use Rattle.std.specs.Ordering.{int_eq}
 use Rattle.ppd_ast.specs.declared.plan.Plan.{Plan}
 use Rattle.ppd_ast.specs.declared.program.Expr.{Expr}
 use Rattle.ppd_ast.specs.declared.program.Kind.{Kind}
@@ -14,23 +15,22 @@ use Rattle.ppd_ast.specs.declared.program.Target.TheVariants as target
 use Rattle.ppd_ast.specs.declared.status.Trap.TheVariants as trap
 use Rattle.ppd_ast.specs.Term.{Term, const, local, local_at, shared, shared_at, neg, not, two, and, or, term}
 use Rattle.ppd_ast.specs.Uses.{kind_uses}
-use Rattle.ppd_ast.specs.Lookups.{kind_of}
+use Rattle.ppd_ast.specs.Lookups.{kind_of, body_numbered}
 use Rattle.ppd_ast.proofs.Vocabulary.{kind_of_stmt}
 use Rattle.ppd_sem.specs.declared.asking.Pause.TheVariants.{Traps}
 use Rattle.ppd_sem.specs.declared.proc.Need.{Need}
 use Rattle.ppd_sem.specs.declared.proc.Need.TheVariants.{Write}
 use Rattle.ppd_sem.specs.declared.proc.Proc.{Proc}
 use Rattle.ppd_sem.specs.declared.proc.Todo.{Todo}
-use Rattle.ppd_sem.specs.Ask.{ask, element, is_zero}
+use Rattle.ppd_sem.specs.Ask.{ask, element}
 use Rattle.ppd_sem.specs.Asked.{Asked, and_then, gives, lift, once, outcome}
 use Rattle.ppd_sem.specs.Deed.{Deed, ask_all, ask_deed, clear, invoke, leave, pass, turn}
 use Rattle.ppd_sem.specs.Passed.{arguments_at, arguments_by, deed_at, deed_by, deed_of_head, kind_if}
 use Rattle.ppd_sem.proofs.EventWords.{arguments_of_head}
-use Rattle.ppd_sem.specs.Process.{head_deed, need_of, top_cells}
+use Rattle.ppd_sem.specs.Process.{head_deed, need_of, top_frame}
 use Rattle.ppd_sem.specs.Described.{evaluates}
 use Rattle.ppd_sem.specs.declared.event.Access.{Access}
-use Rattle.ppd_sem.specs.Reads.{ask_place, local_read, reads_of, reads_of_all, reads_of_kind, reads_of_stored, shared_read}
-use Rattle.ppd_sem.specs.Runs.{size_if}
+use Rattle.ppd_sem.specs.Reads.{ask_place, reads_of, reads_of_all, reads_of_kind, reads_of_stored, shared_read, local_accesses}
 use Rattle.ppd_model.specs.declared.tracing.Taken.{Taken}
 use Rattle.ppd_model.specs.FullTrace.{Tag, event_of}
 use Rattle.ppd_model.specs.Schedule.{started_world}
@@ -69,8 +69,8 @@ module _ (frame : ℕ) (cells : List ℤ) where
   few_reads (const v) answers = zero_le 0
   few_reads (local c) answers = omega arith
   few_reads (local_at base len i) answers =
-      both (reads_of frame i cells answers) (once (ask_place i base len cells answers) (λ c left. local_read frame cells c)) (reads_in i) 1 (few_reads i answers)
-      (brought (ask_place i base len cells answers) (λ c left. local_read frame cells c) 1 (λ c left. omega arith))
+      both (reads_of frame i cells answers) (once (ask_place i base len cells answers) (λ c left. local_accesses frame c (get_or cells c (pos 0) ∷ []))) (reads_in i) 1 (few_reads i answers)
+      (brought (ask_place i base len cells answers) (λ c left. local_accesses frame c (get_or cells c (pos 0) ∷ [])) 1 (λ c left. omega arith))
   few_reads (shared c) answers = one_shared c answers
   few_reads (shared_at base len i) answers =
       both (reads_of frame i cells answers) (once (ask_place i base len cells answers) (λ c left. shared_read c left)) (reads_in i) 1 (few_reads i answers)
@@ -81,11 +81,11 @@ module _ (frame : ℕ) (cells : List ℤ) where
       both (reads_of frame a cells answers) (once (ask a cells answers) (λ x left. reads_of frame b cells left)) (reads_in a) (reads_in b) (few_reads a answers)
       (brought (ask a cells answers) (λ x left. reads_of frame b cells left) (reads_in b) (λ x left. few_reads b left))
   few_reads (and a b) answers =
-      both (reads_of frame a cells answers) (once (ask a cells answers) (λ x left. cond (is_zero x) [] (reads_of frame b cells left))) (reads_in a) (reads_in b) (few_reads a answers)
-      (brought (ask a cells answers) (λ x left. cond (is_zero x) [] (reads_of frame b cells left)) (reads_in b) (λ x left. few_if (is_zero x) (reads_of frame b cells left) (reads_in b) (few_reads b left)))
+      both (reads_of frame a cells answers) (once (ask a cells answers) (λ x left. cond (int_eq x (pos 0)) [] (reads_of frame b cells left))) (reads_in a) (reads_in b) (few_reads a answers)
+      (brought (ask a cells answers) (λ x left. cond (int_eq x (pos 0)) [] (reads_of frame b cells left)) (reads_in b) (λ x left. few_if (int_eq x (pos 0)) (reads_of frame b cells left) (reads_in b) (few_reads b left)))
   few_reads (or a b) answers =
-      both (reads_of frame a cells answers) (once (ask a cells answers) (λ x left. cond (is_zero x) (reads_of frame b cells left) [])) (reads_in a) (reads_in b) (few_reads a answers)
-      (brought (ask a cells answers) (λ x left. cond (is_zero x) (reads_of frame b cells left) []) (reads_in b) (λ x left. few_unless (is_zero x) (reads_of frame b cells left) (reads_in b) (few_reads b left)))
+      both (reads_of frame a cells answers) (once (ask a cells answers) (λ x left. cond (int_eq x (pos 0)) (reads_of frame b cells left) [])) (reads_in a) (reads_in b) (few_reads a answers)
+      (brought (ask a cells answers) (λ x left. cond (int_eq x (pos 0)) (reads_of frame b cells left) []) (reads_in b) (λ x left. few_unless (int_eq x (pos 0)) (reads_of frame b cells left) (reads_in b) (few_reads b left)))
 
   module _ (es : List Expr) where
     few_of_all : (as' : List ℕ) (answers : List ℤ) → length (reads_of_all frame es as' cells answers) ≤ reads_in_all es as'
@@ -145,12 +145,12 @@ few_values es (a ∷ as') cells answers =
 -- the cells that a deed with these arguments clears or begins a call with
 abbrev written_with : Program → List ℤ → Option Deed → ℕ
 written_with program values (Some (clear base len)) = len
-written_with program values (Some (invoke f vs into)) = length values + size_if (slice_get program.bodies f)
+written_with program values (Some (invoke f vs into)) = length values + (body_numbered program f).cells
 written_with program values deed = 0
 
 module _ (program : Program) where
   abbrev written : Asked Deed → ℕ
-  written asked = written_with program (arguments_by (outcome asked)) (deed_by (outcome asked))
+  written asked = written_with program (arguments_by asked) (deed_by (outcome asked))
 
   after : {A : Type 0} (r : Asked A) (next : A → List ℤ → Asked Deed) (n : ℕ) → ((x : A) (left : List ℤ) → written (next x left) ≤ n) → written (and_then r next) ≤ n
   after (Ok p) next n h = h p.0 p.1
@@ -173,12 +173,12 @@ module _ (program : Program) where
         plain i _ answers (λ at left. after (lift left (element base len at)) _ 0 (λ c mid. plain e _ mid (λ v last. zero_le 0)))
     few_of_deed (Zero base len) answers = omega arith
     few_of_deed (If e first second) answers = plain e _ answers (λ v left. zero_le 0)
-    few_of_deed (While e body) answers = plain e _ answers (λ v left. turns (is_zero v) body left)
+    few_of_deed (While e body) answers = plain e _ answers (λ v left. turns (int_eq v (pos 0)) body left)
     few_of_deed (Call f arguments into) answers = by (ask_all es arguments cells answers) (few_values es arguments cells answers)
       where
-        by : (r : Asked (List ℤ)) → count r ≤ length arguments → written (and_then r (λ vs left. gives left (invoke f vs into))) ≤ length arguments + size_if (slice_get program.bodies f)
+        by : (r : Asked (List ℤ)) → count r ≤ length arguments → written (and_then r (λ vs left. gives left (invoke f vs into))) ≤ length arguments + (body_numbered program f).cells
         by (Ok q) few = omega arith
-        by (Err pause) few = zero_le (length arguments + size_if (slice_get program.bodies f))
+        by (Err pause) few = zero_le (length arguments + (body_numbered program f).cells)
     few_of_deed (Return None) answers = zero_le 0
     few_of_deed (Return (Some e)) answers = plain e _ answers (λ v left. zero_le 0)
     few_of_deed (P s) answers = zero_le 0
@@ -186,7 +186,7 @@ module _ (program : Program) where
     few_of_deed (Send c e) answers = plain e _ answers (λ v left. zero_le 0)
     few_of_deed (Recv c into) answers = zero_le 0
     few_of_deed (Print e) answers = plain e _ answers (λ v left. zero_le 0)
-    few_of_deed (Assert e) answers = plain e _ answers (λ v left. asserts (is_zero v) left)
+    few_of_deed (Assert e) answers = plain e _ answers (λ v left. asserts (int_eq v (pos 0)) left)
       where
         asserts : (b : Bool) (left : List ℤ) → written (cond b (Err (Traps trap.Assert)) (gives left pass)) ≤ 0
         asserts true left = zero_le 0
@@ -208,7 +208,7 @@ few_of_head program s (t ∷ ts) e =
     let same : written_by program s (deed_at program s) ≡ written program (head_deed program t s) =
     same_written program s (deed_at program s)
     ∙ ap (λ (l : List Todo). written_with program (arguments_of_head program s (slice_get l 0)) (deed_of_head program s (slice_get l 0))) e in
-    subst (λ (n : ℕ). n ≤ writes_in program (kind_of program t.stmt)) (sym same) (few_of_deed program program.exprs (top_cells s.frames) (kind_of program t.stmt) s.answers)
+    subst (λ (n : ℕ). n ≤ writes_in program (kind_of program t.stmt)) (sym same) (few_of_deed program program.exprs (top_frame s.frames).cells (kind_of program t.stmt) s.answers)
 
 few_evaluated : (b : Bool) (xs : List Access) (n : ℕ) → length xs ≤ n → length (cond b xs []) ≤ n
 few_evaluated true xs n h = h
@@ -217,7 +217,7 @@ few_evaluated false xs n h = zero_le n
 few_of_event : (program : Program) (plan : Plan) (s : Proc) (x : Taken) (todo : List Todo) → length (event_of program plan s x todo).reads ≤ reads_in_all program.exprs (kind_uses (kind_if program (slice_get todo 0)))
 few_of_event program plan s x [] = zero_le 0
 few_of_event program plan s x (t ∷ ts) =
-    few_evaluated (evaluates (need_of program plan s)) _ _ (few_of_kind _ (top_cells s.frames) program.exprs (kind_of program t.stmt) s.answers)
+    few_evaluated (evaluates (need_of program plan s)) _ _ (few_of_kind _ (top_frame s.frames).cells program.exprs (kind_of program t.stmt) s.answers)
 
 most_at : (program : Program) (ss : List Stmt) (i : ℕ) → cells_in program (kind_of_stmt (slice_get ss i)) ≤ most (map (λ s. cells_in program s.kind) ss)
 most_at program [] i = zero_le 0

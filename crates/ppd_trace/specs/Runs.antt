@@ -1,27 +1,27 @@
 -- What is kept of a trace while it is made.
-use Rattle.std.specs.Prelude.{ℕ, zero, suc, ◌+◌, List, [], ◌∷◌, ◌++◌, map, drop, length, Option, Some, None, if◌then◌else◌}
+use Rattle.ppd_activations.specs.Runs.{begun_run, called, parent_of, run_of, tagged, tagged_into, top_tags, with_test}
+use Rattle.ppd_activations.specs.declared.runs.Run.{Run}
 use Rattle.ppd_ast.specs.declared.plan.Plan.{Plan}
 use Rattle.ppd_ast.specs.declared.program.Program.{Program}
-use Rattle.ppd_sem.specs.declared.event.Event.{Event}
-use Rattle.ppd_sem.specs.declared.proc.Need.{Need}
-use Rattle.ppd_sem.specs.declared.proc.Need.TheVariants.{Trap}
-use Rattle.ppd_sem.specs.declared.proc.Proc.{Proc}
-use Rattle.ppd_sem.specs.declared.proc.Todo.{Todo}
-use Rattle.ppd_sem.specs.Deed.{Deed, set_local, clear, invoke, back, receive}
-use Rattle.ppd_sem.specs.Described.{is_event}
-use Rattle.ppd_sem.specs.Passed.{arguments_at, deed_at}
-use Rattle.ppd_sem.specs.Process.{act, top_call}
+use Rattle.ppd_model.specs.FullTrace.{Tag, event_of, tags_of}
+use Rattle.ppd_model.specs.Synchronizations.{leading_from, sync_of}
 use Rattle.ppd_model.specs.declared.trace.EventId.{EventId}
 use Rattle.ppd_model.specs.declared.trace.TracedEvent.{TracedEvent}
 use Rattle.ppd_model.specs.declared.tracing.Story.{Story}
 use Rattle.ppd_model.specs.declared.tracing.Taken.{Taken}
 use Rattle.ppd_model.specs.declared.tracing.Tracing.{Tracing}
-use Rattle.ppd_model.specs.FullTrace.{Tag, event_of, into_at, tags_of}
-use Rattle.ppd_model.specs.Synchronizations.{paired_of}
-use Rattle.ppd_activations.specs.declared.runs.Run.{Run}
-use Rattle.ppd_activations.specs.Runs.{begun_run, called, parent_of, run_of, tagged, tagged_into, top_tags, with_test}
-use Rattle.ppd_trace.specs.declared.tracer.Tracer.{Tracer}
+use Rattle.ppd_sem.specs.Deed.{Deed, back, clear, invoke, receive, set_local}
+use Rattle.ppd_sem.specs.Described.{is_event}
+use Rattle.ppd_sem.specs.Passed.{arguments_at, deed_at}
+use Rattle.ppd_sem.specs.Process.{act, into_at, top_frame}
+use Rattle.ppd_sem.specs.declared.event.Event.{Event}
+use Rattle.ppd_sem.specs.declared.proc.Need.{Need}
+use Rattle.ppd_sem.specs.declared.proc.Need.TheVariants.{Trap}
+use Rattle.ppd_sem.specs.declared.proc.Proc.{Proc}
+use Rattle.ppd_sem.specs.declared.proc.Todo.{Todo}
 use Rattle.ppd_trace.specs.Tagging.{answers_by}
+use Rattle.ppd_trace.specs.declared.tracer.Tracer.{Tracer}
+use Rattle.std.specs.Prelude.{List, None, Option, Some, [], drop, if◌then◌else◌, length, map, suc, zero, ℕ, ◌++◌, ◌+◌, ◌∷◌}
 
 -- what is kept of a trace
 abbrev pub tracer_of : Tracing → Tracer
@@ -43,7 +43,8 @@ abbrev pub tagged_deed : Program → Proc → Tag → Option Deed → List Run �
 tagged_deed program s me (Some (set_local c v)) xs = tagged c me xs
 tagged_deed program s me (Some (clear base len)) xs = all_tagged base len me xs
 tagged_deed program s me (Some (invoke f values into)) xs = begun_call program s f me xs
-tagged_deed program s me (Some (back value)) xs = tagged_into (into_at program (top_call s.frames)) value me (drop 1 xs)
+tagged_deed program s me (Some (back value)) xs =
+    tagged_into (into_at program (top_frame s.frames).call) value me (drop 1 xs)
 tagged_deed program s me (Some (receive chan into)) xs = tagged into me xs
 tagged_deed program s me deed xs = xs
 
@@ -73,7 +74,7 @@ traced_by program story x t e = record {
   event = e;
   writers = tags_of (top_tags t.runs) t.answers e.reads;
   parent = parent_at program t.runs t.proc.todo;
-  paired = paired_of program story x;
+  paired = leading_from program (sync_of x) 0 story.steps;
 }
 
 -- a step that finishes or traps a statement

@@ -1,5 +1,5 @@
 -- How many cells a statement reads and writes at most, by which the steps of making a trace are bounded.
-use Rattle.std.specs.Prelude.{ℕ, ◌+◌, max, List, [], ◌∷◌, length, map, Option, Some, slice_get}
+use Rattle.std.specs.Prelude.{ℕ, ◌+◌, max, List, [], ◌∷◌, length, map, Option, Some}
 use Rattle.std.specs.List.{sum_by}
 use Rattle.ppd_ast.specs.declared.plan.Plan.{Plan}
 use Rattle.ppd_ast.specs.declared.program.Expr.{Expr}
@@ -11,10 +11,10 @@ use Rattle.ppd_ast.specs.Uses.{kind_uses}
 use Rattle.ppd_sem.specs.declared.proc.Proc.{Proc}
 use Rattle.ppd_sem.specs.Deed.{Deed, clear, invoke}
 use Rattle.ppd_sem.specs.Passed.{arguments_at, deed_at}
-use Rattle.ppd_sem.specs.Runs.{size_if}
 use Rattle.ppd_model.specs.declared.tracing.Story.{Story}
 use Rattle.ppd_model.specs.declared.tracing.Taken.{Taken}
 use Rattle.ppd_model.specs.FullTrace.{event_of}
+use Rattle.ppd_ast.specs.Lookups.{body_numbered}
 
 -- ---- of a program
 
@@ -39,7 +39,7 @@ reads_in_all es (e ∷ rest) = reads_in (term es e) + reads_in_all es rest
 -- the cells that a statement clears, or that a call gives to its parameters and to the frame that it begins
 abbrev pub writes_in : Program → Kind → ℕ
 writes_in program (Zero base len) = len
-writes_in program (Call f arguments into) = length arguments + size_if (slice_get program.bodies f)
+writes_in program (Call f arguments into) = length arguments + (body_numbered program f).cells
 writes_in program k = 0
 
 -- the cells of a statement
@@ -64,7 +64,7 @@ extent program = length program.starts + length program.bodies + sum_by (λ b. b
 abbrev pub written_by : Program → Proc → Option Deed → ℕ
 written_by program s (Some (clear base len)) = len
 written_by program s (Some (invoke f values into)) =
-    length (arguments_at program s) + size_if (slice_get program.bodies f)
+    length (arguments_at program s) + (body_numbered program f).cells
 written_by program s deed = 0
 
 -- the cells of the event of a process's next step

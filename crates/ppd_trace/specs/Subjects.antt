@@ -1,15 +1,16 @@
 -- The process that is traced, as its trace is made step by step.
-use Rattle.std.specs.Prelude.{◌≡◌, ℕ, ◌+◌, ◌<◌, ◌^◌, length, slice_get}
+use Rattle.std.specs.Prelude.{◌≡◌, ℕ, ◌+◌, ◌<◌, ◌^◌, length}
 use Rattle.ppd_ast.specs.declared.program.Program.{Program}
 use Rattle.ppd_sem.specs.declared.proc.Proc.{Proc}
 use Rattle.ppd_sem.specs.Process.{need_of, started}
-use Rattle.ppd_sem.specs.Runs.{IsNumbered, IsRunnable, IsRunning, size_if}
+use Rattle.ppd_sem.specs.Runs.{IsNumbered, IsRunnable, IsRunning}
 use Rattle.ppd_model.specs.declared.tracing.Taken.{Taken}
 use Rattle.ppd_trace.specs.declared.pairs.PairedStory.{PairedStory}
 use Rattle.ppd_trace.specs.declared.subject.Subject.{Subject}
 use Rattle.ppd_trace.specs.declared.tracer.Tracer.{Tracer}
 use Rattle.ppd_trace.specs.Leading.{HavePairs}
 use Rattle.ppd_trace.specs.Runs.{trace_by, trace_step}
+use Rattle.ppd_ast.specs.Lookups.{body_numbered}
 
 -- the maps of this story have the first events that lead to each synchronization
 abbrev pub ArePaired : Program → PairedStory → Type 0
@@ -22,7 +23,7 @@ pub record HasBody (s : Subject) : Type 0 where
 
 -- the cells of its body
 abbrev pub body_size : Subject → ℕ
-body_size s = size_if (slice_get s.program.now.bodies (s.program.now.functions + s.process))
+body_size s = (body_numbered s.program.now (s.program.now.functions + s.process)).cells
 
 -- its state before its first step, with this budget
 abbrev pub started_with : Subject → ℕ → Proc

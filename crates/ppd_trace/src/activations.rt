@@ -1,9 +1,10 @@
-ghost use Rattle.std.specs.Prelude.{◌≡◌, ◌+◌, ◌*◌, ◌≤◌, length, slice_get, Some, IfOk, OnOk};
+ghost use Rattle.std.specs.Prelude.{◌≡◌, ◌+◌, ◌*◌, ◌≤◌, length, Some, IfOk, OnOk};
 ghost use Rattle.ppd_sem.specs.Passed.{arguments_at, deed_at};
-ghost use Rattle.ppd_sem.specs.Process.{top_call};
-ghost use Rattle.ppd_sem.specs.Runs.{IsRunnable, IsRunning, size_if};
+ghost use Rattle.ppd_sem.specs.Runs.{IsRunnable, IsRunning};
 ghost use Rattle.ppd_trace.specs.Runs.{all_tagged, begun_body, begun_call, tagged_after, tagged_deed};
 ghost use Rattle.ppd_trace.specs.Spending.{written_by};
+ghost use Rattle.ppd_sem.specs.Process.{top_frame};
+ghost use Rattle.ppd_ast.specs.Lookups.{body_numbered};
 
 use crate::subject::Subject;
 use ppd_activations::{Run, begun_run, called_run, return_tag, set_tag};
@@ -33,7 +34,7 @@ fn set_tags<L: Ledger>(
 
 /// The call that began the top frame.
 fn call_of(proc: &Proc) -> Option<u32>
-    ensures { result ≡ top_call proc.now.frames }
+    ensures { result ≡ (top_frame proc.now.frames).call }
 {
     match proc.frames.top() {
         Some(frame) => frame.call,
@@ -56,7 +57,7 @@ fn begin_call<L: Ledger>(
     ensures cost { steps.new
         ≤ steps.old + 2
         + 2 * (length (arguments_at subject.now.program.now proc.now)
-        + size_if (slice_get subject.now.program.now.bodies function)) }
+        + (body_numbered subject.now.program.now function).cells) }
 {
     steps.tick();
     let values = call_values(subject.alloc, subject.program, proc)?;

@@ -2,7 +2,7 @@ ghost use Rattle.std.specs.Prelude.{◌≡◌, ℕ, ◌+◌, ◌*◌, ◌<◌, �
 ghost use Rattle.std.specs.List.{All};
 ghost use Rattle.std.specs.Option.{option_map_or, option_or};
 ghost use Rattle.ppd_model.specs.Numbers.{sync};
-ghost use Rattle.ppd_model.specs.Synchronizations.{kind_of_sync as kind_of, leading_in, led_to as number_led_to, paired_of, sync_of};
+ghost use Rattle.ppd_model.specs.Synchronizations.{kind_of_sync as kind_of, leading_in, led_to as number_led_to, sync_of, leading_from};
 ghost use Rattle.ppd_sem.specs.Described.{is_event};
 ghost use Rattle.ppd_trace.specs.Leading.{HavePairs, KeepsFirst, LeadTo, found_in, looked_up, target};
 ghost use Rattle.ppd_trace.specs.Spending.{steps_in};
@@ -259,7 +259,7 @@ pub(crate) fn paired<L: Ledger>(
 ) -> Option<EventId>
     requires { HavePairs program.now told.now.story told.now.takes told.now.receives told.now.sends told.now.completes }
     ensures cost { steps.new ≤ steps.old + 1 }
-    ensures value { result ≡ paired_of program.now told.now.story step.now }
+    ensures value { result ≡ leading_from program.now (sync_of step.now) 0 told.now.story.steps }
 {
     match step.number {
         Some(number) => look_up(told, step.need, u64::from(number), steps),

@@ -1,5 +1,5 @@
-ghost use Rattle.std.specs.Prelude.{◌≡◌, ◌+◌, ◌*◌, ◌≤◌, ◌++◌, get_or, length, None, IfOk, OnOk};
-ghost use Rattle.ppd_model.specs.FullTrace.{answers_past as answers_past_spot, tag_at as tag_at_spot, tags_of as tags_of_reads};
+ghost use Rattle.std.specs.Prelude.{◌≡◌, ◌+◌, ◌*◌, ◌≤◌, ◌++◌, length, IfOk, OnOk};
+ghost use Rattle.ppd_model.specs.FullTrace.{tag_past as tag_past_spot, tags_of as tags_of_reads};
 
 use ppd_activations::tag_in;
 use ppd_ast::{Memory, Seq, Steps};
@@ -8,34 +8,20 @@ use ppd_sem::{Access, Spot};
 use std::alloc::Global;
 use std::sync::ledger::Ledger;
 
-fn first_tag(tags: &[Option<EventId>]) -> Option<EventId>
-    ensures { result ≡ get_or tags.now 0 None }
-{
-    match tags {
-        [] => None,
-        [first, ..] => *first,
-    }
-}
-
-/// The tag of a place that is read: a shared one has the next answer's.
-fn tag_at(locals: &[Option<EventId>], answers: &[Option<EventId>], spot: Spot) -> Option<EventId>
-    ensures { result ≡ tag_at_spot locals.now answers.now spot }
+/// The tag of a place that is read, and the answers that are left: a shared one takes the next answer.
+fn tag_past<'a>(
+    locals: &[Option<EventId>],
+    answers: &'a [Option<EventId>],
+    spot: Spot,
+) -> (Option<EventId>, &'a [Option<EventId>])
+    ensures tag { result.0 ≡ (tag_past_spot locals.now answers.now spot).0 }
+    ensures left { result.1.now ≡ (tag_past_spot locals.now answers.now spot).1 }
 {
     match spot {
-        Spot::Local { cell, .. } => tag_in(locals, cell as usize),
-        Spot::Shared(_) => first_tag(answers),
-    }
-}
-
-/// The answers that are left after a read.
-fn answers_past(answers: &[Option<EventId>], spot: Spot) -> &[Option<EventId>]
-    ensures { result.now ≡ answers_past_spot answers.now spot }
-{
-    match spot {
-        Spot::Local { .. } => answers,
+        Spot::Local { cell, .. } => (tag_in(locals, cell as usize), answers),
         Spot::Shared(_) => match answers {
-            [] => answers,
-            [_, rest @ ..] => rest,
+            [] => (None, answers),
+            [first, rest @ ..] => (*first, rest),
         },
     }
 }
@@ -56,8 +42,9 @@ fn push_tags<L: Ledger>(
         [first, rest @ ..] => {
             steps.tick();
             steps.tick();
-            tags.push(tag_at(locals, answers, first.spot))?;
-            push_tags(tags, locals, answers_past(answers, first.spot), rest, steps)
+            let (tag, left) = tag_past(locals, answers, first.spot);
+            tags.push(tag)?;
+            push_tags(tags, locals, left, rest, steps)
         }
     }
 }

@@ -2,7 +2,7 @@ ghost use Rattle.std.specs.Prelude.{◌≡◌, ◌+◌, ◌*◌, ◌<◌, ◌≤
 ghost use Rattle.std.specs.List.{sum_by};
 ghost use Rattle.ppd_ast.specs.Valid.{IsValid};
 ghost use Rattle.ppd_ast.specs.ValidPlan.{IsValidPlan};
-ghost use Rattle.ppd_model.specs.FullTrace.{trace_of};
+ghost use Rattle.ppd_model.specs.FullTrace.{full_trace};
 ghost use Rattle.ppd_trace.specs.Subjects.{ArePaired};
 ghost use Rattle.ppd_trace.specs.Spending.{extent, most_statement_cells, steps_in};
 ghost use Rattle.ppd_trace.specs.Traced.{IsTraceOf, IsTraceOfAgreeing, IsTraceable};
@@ -29,7 +29,7 @@ fn trace_all<L: Ledger>(
     requires pairs { ArePaired setting.now.program told.now }
     ensures trace { IfOk result
         (λ trace. trace
-        ≡ trace_of setting.now.program setting.now.plan setting.now.budget told.now.story) }
+        ≡ full_trace setting.now.program setting.now.plan setting.now.budget told.now.story) }
     ensures cost { steps.new
         ≤ steps.old + 4 * length setting.now.program.bodies + 2 * sum_by (λ b. b.cells) setting.now.program.bodies
         + (3 * most_statement_cells setting.now.program + 12) * steps_in told.now.story }
@@ -62,7 +62,7 @@ fn trace_story<L: Ledger>(
 ) -> Result<Trace, Memory>
     requires story { IsTraceable setting.now.program setting.now.plan setting.now.budget story }
     ensures trace { IfOk result
-        (λ trace. trace ≡ trace_of setting.now.program setting.now.plan setting.now.budget story) }
+        (λ trace. trace ≡ full_trace setting.now.program setting.now.plan setting.now.budget story) }
     ensures cost { steps.new
         ≤ steps.old + 8 * extent setting.now.program
         + (3 * most_statement_cells setting.now.program + 24) * steps_in story }

@@ -13,7 +13,7 @@ use Rattle.ppd_sem.specs.declared.event.Spot.TheVariants.{Local, Shared}
 use Rattle.ppd_model.specs.declared.trace.EventId.{EventId}
 use Rattle.ppd_model.specs.declared.tracing.Activation.{Activation}
 use Rattle.ppd_model.specs.FullTrace as trace
-use Rattle.ppd_model.specs.FullTrace.{Tag, into_at}
+use Rattle.ppd_model.specs.FullTrace.{Tag}
 use Rattle.law_whole.specs.Following as following
 use Rattle.law_whole.specs.Following.{Followed, calls_unless, edge_past, top_of}
 use Rattle.ppd_activations.specs.declared.runs.Run.{Run}
@@ -22,6 +22,7 @@ use Rattle.ppd_activations.proofs.Keeping.{parent_in_as, returned_as, tagged_as,
 use Rattle.ppd_whole_link.specs.declared.follower.Follower.{Follower}
 use Rattle.ppd_whole_link.specs.Runs.{begun, follow, follower_of, tagged_unless}
 use Rattle.ppd_whole_writes.specs.Tags.{tag_write, tagged_by_kind}
+use Rattle.ppd_sem.specs.Process.{into_at}
 
 -- ---- control
 

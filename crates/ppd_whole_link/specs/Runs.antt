@@ -1,10 +1,9 @@
 -- What is kept of a process that is followed.
-use Rattle.std.specs.Prelude.{ℕ, ◌+◌, List, [], ◌∷◌, map, slice_get, Option, Some, None}
+use Rattle.std.specs.Prelude.{ℕ, ◌+◌, List, [], ◌∷◌, map, Option, Some, None}
 use Rattle.ppd_ast.specs.declared.program.Program.{Program}
 use Rattle.ppd_ast.specs.declared.status.Trap.{Trap}
-use Rattle.ppd_ast.specs.Lookups.{kind_of}
+use Rattle.ppd_ast.specs.Lookups.{kind_of, body_numbered}
 use Rattle.ppd_sem.specs.declared.event.Event.{Event}
-use Rattle.ppd_sem.specs.Runs.{size_if}
 use Rattle.ppd_model.specs.declared.trace.EventId.{EventId}
 use Rattle.ppd_model.specs.FullTrace.{Tag}
 use Rattle.law_whole.specs.Following.{Followed, calls_unless, edge_past, top_of}
@@ -42,7 +41,7 @@ follow program p f e = record {
 -- process p before its first event
 abbrev pub begun : Program → ℕ → Follower
 begun program p = record {
-  runs = begun_run (size_if (slice_get program.bodies (program.functions + p))) ∷ [];
+  runs = begun_run (body_numbered program (program.functions + p)).cells ∷ [];
   calls = None ∷ [];
   number = 0;
   edge = 0;

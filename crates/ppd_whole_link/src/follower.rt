@@ -1,7 +1,6 @@
 // A process, followed by its events alone.
-ghost use Rattle.std.specs.Prelude.{◌≡◌, ◌+◌, ◌<◌, get_or, slice_get, None, Some, IfOk, OnOk};
-ghost use Rattle.ppd_ast.specs.Lookups.{kind_of};
-ghost use Rattle.ppd_sem.specs.Runs.{size_if};
+ghost use Rattle.std.specs.Prelude.{◌≡◌, ◌+◌, ◌<◌, get_or, None, Some, IfOk, OnOk};
+ghost use Rattle.ppd_ast.specs.Lookups.{kind_of, body_numbered};
 ghost use Rattle.law_whole.specs.Following.{calls_by_kind, calls_unless, edge_past as edge_past_of, top_of};
 ghost use Rattle.ppd_activations.specs.Runs.{begun_run as begun_run_of, parent_of as parent_of_runs, top_tags as top_tags_of, with_test};
 ghost use Rattle.ppd_whole_link.specs.Runs.{begun, follow as follow_of, tagged_unless};
@@ -48,7 +47,7 @@ pub(crate) fn edge_past(edge: u32, number: Option<u32>) -> Result<u32, Memory>
 
 /// How many local cells a process's body has.
 fn cells_of(program: &Program, process: u8) -> usize
-    ensures { result ≡ size_if (slice_get program.now.bodies (program.now.functions + process)) }
+    ensures { result ≡ (body_numbered program.now (program.now.functions + process)).cells }
 {
     match program
         .bodies

@@ -7,9 +7,10 @@ use Rattle.ppd_sem.specs.declared.event.Access.{Access}
 use Rattle.ppd_sem.specs.declared.event.Event.{Event}
 use Rattle.ppd_sem.specs.declared.event.Spot.{Spot}
 use Rattle.ppd_sem.specs.declared.event.Spot.TheVariants.{Local, Shared}
-use Rattle.ppd_model.specs.FullTrace.{Tag, into_at}
+use Rattle.ppd_model.specs.FullTrace.{Tag}
 use Rattle.ppd_activations.specs.declared.runs.Run.{Run}
 use Rattle.ppd_activations.specs.Runs.{called, tagged, tagged_into}
+use Rattle.ppd_sem.specs.Process.{into_at}
 
 abbrev pub tag_spot : Tag → List Run → Spot → List Run
 tag_spot me xs (Local frame c) = tagged c me xs

@@ -1,5 +1,5 @@
 -- The parts of a step of a world.
-use Rattle.std.specs.Prelude.{◌+◌, ◌-◌, ◌<◌, ◌^◌, ℤ, List, [], ◌∷◌, ◌++◌, length, map, take, slice_set, Option, Some, None}
+use Rattle.std.specs.Prelude.{◌+◌, ◌-◌, ◌<◌, ◌^◌, ℤ, List, ◌++◌, length, map, take, slice_set, Option, Some, None}
 use Rattle.std.specs.List.{All}
 use Rattle.ppd_ast.specs.declared.plan.Plan.{Plan}
 use Rattle.ppd_ast.specs.declared.program.Program.{Program}
@@ -14,6 +14,7 @@ use Rattle.ppd_model.specs.declared.state.Counts.{Counts}
 use Rattle.ppd_model.specs.declared.state.Logging.{Logging}
 use Rattle.ppd_model.specs.Logs.{rest_after}
 use Rattle.ppd_model.specs.World.{World, change}
+pub use Rattle.ppd_model.specs.World.{one_taken, one_given, with_value, one_received, one_completed}
 use Rattle.ppd_world_steps.specs.declared.note.Note.{Note}
 use Rattle.ppd_world_steps.specs.Objects.{IsSmallChan, IsSmallSem}
 use Rattle.ppd_world_steps.specs.Entries.{noted}
@@ -57,26 +58,6 @@ needs_of program plan loggings = map (λ l. need_of program plan l.proc) logging
 abbrev pub or_stopped : Option Need → Need
 or_stopped None = Stopped
 or_stopped (Some n) = n
-
--- a semaphore taken once more
-abbrev pub one_taken : Counts → Counts
-one_taken x = record x { taken = x.taken + 1 }
-
--- a semaphore given once more
-abbrev pub one_given : Counts → Counts
-one_given x = record x { given = x.given + 1 }
-
--- a channel with one more value
-abbrev pub with_value : ℤ → Channel → Channel
-with_value v x = record x { sent = x.sent ++ v ∷ [] }
-
--- a channel from which one more was received
-abbrev pub one_received : Channel → Channel
-one_received x = record x { received = x.received + 1 }
-
--- a channel on which one more send was completed
-abbrev pub one_completed : Channel → Channel
-one_completed x = record x { completed = x.completed + 1 }
 
 -- the shared cells after a step of this need
 abbrev pub shared_after : List ℤ → Need → List ℤ

@@ -1,5 +1,7 @@
-ghost use Rattle.std.specs.Prelude.{◌≡◌, ◌<◌, ◌∷◌, map, slice_get, vec_len, IfOk};
-ghost use Rattle.ppd_model.specs.Logs.{closed_log, end_of as end_of_proc, ends, ends_from, last_of};
+ghost use Rattle.std.specs.Option.{option_map_or};
+ghost use Rattle.std.specs.Prelude.{◌≡◌, ◌-◌, ◌<◌, ◌∷◌, map, slice_get, vec_len, IfOk};
+ghost use Rattle.std.specs.Option.{option_map_or};
+ghost use Rattle.ppd_model.specs.Logs.{closed_log, end_of as end_of_proc, ends, ends_from};
 ghost use Rattle.ppd_world.specs.Starts.{blocked_of};
 
 use ppd_ast::{Memory, Program, Seq, Status};
@@ -11,7 +13,7 @@ use std::alloc::Global;
 
 /// The last statement of a body, and 0 past the table.
 fn last_stmt(program: &Program, body: usize) -> u32
-    ensures { result ≡ last_of (slice_get program.now.bodies body) }
+    ensures { result ≡ option_map_or (λ b. b.end - 1) (slice_get program.now.bodies body) 0 }
 {
     match program.bodies.as_slice().get(body) {
         Some(body) => body.end.saturating_sub(1),

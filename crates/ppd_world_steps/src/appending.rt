@@ -1,5 +1,6 @@
 ghost use Rattle.std.specs.Prelude.{◌≡◌, ◌++◌, ◌∷◌, [], IfOk, OnOk};
-ghost use Rattle.ppd_model.specs.Logs.{ends, passed_value as passed_of, postlogs, prelogs, status_of as status_of_need, syncs, units};
+ghost use Rattle.ppd_entry.specs.declared.entry.Entry.TheVariants as entry;
+ghost use Rattle.ppd_model.specs.Logs.{ends, passed_value as passed_of, status_of as status_of_need, syncs, units, block_entries};
 ghost use Rattle.std.specs.Option.{option_map_or};
 ghost use Rattle.ppd_model.specs.Marks.{closed, opened};
 ghost use Rattle.ppd_model.specs.Story.{unit_started as unit_started_of, values_of_unit};
@@ -64,7 +65,8 @@ pub fn push_opened(
     requires proc { IsRunning code.now.program.now proc.now }
     ensures { OnOk result
         (entries.new.items
-        ≡ entries.old.items ++ prelogs (opened code.now.program.now code.now.plan.now proc.now need)) }
+        ≡ entries.old.items
+        ++ block_entries entry.Prelog (opened code.now.program.now code.now.plan.now proc.now need)) }
 {
     match need {
         Need::Enter { block, .. } => {
@@ -97,7 +99,8 @@ pub fn push_closed(
     requires proc { IsRunning code.now.program.now proc.now }
     ensures { OnOk result
         (entries.new.items
-        ≡ entries.old.items ++ postlogs (closed code.now.program.now code.now.plan.now proc.now need)) }
+        ≡ entries.old.items
+        ++ block_entries entry.Postlog (closed code.now.program.now code.now.plan.now proc.now need)) }
 {
     match closed_block(code.alloc, code.program, code.plan, proc, need)? {
         Some((block, values)) => {

@@ -1,8 +1,8 @@
+ghost use Rattle.ppd_model.specs.World.{room_of};
 ghost use Rattle.std.specs.Prelude.{◌≡◌, [], false, get_or, length, nat_lt, pos, slice_get};
 ghost use Rattle.std.specs.Option.{option_map_or};
 ghost use Rattle.std.specs.List.{All};
 ghost use Rattle.ppd_model.specs.Story.{number_of as number_of_need};
-ghost use Rattle.ppd_model.specs.World.{room as room_of_channel};
 ghost use Rattle.ppd_world_steps.specs.Objects.{IsSmallChan, IsSmallSem, store};
 
 use ppd_model::{Channel, Counts, value_at};
@@ -20,7 +20,7 @@ pub fn can_take(sems: &[Counts], sem: u8) -> bool
 
 /// How many may have been sent.
 fn room(channel: &Channel) -> u64
-    ensures { result ≡ room_of_channel channel.now }
+    ensures { result ≡ room_of channel.now.capacity channel.now }
 {
     if channel.capacity == 0 {
         u64::from(channel.completed) + 1
@@ -31,7 +31,9 @@ fn room(channel: &Channel) -> u64
 
 /// Whether the channel is there and has room for one more.
 pub fn can_send(chans: &[Channel], chan: u8) -> bool
-    ensures { result ≡ option_map_or (λ (x : Channel). nat_lt (length x.sent) (room_of_channel x)) (slice_get chans.now chan) false }
+    ensures { result
+        ≡ option_map_or (λ (x : Channel). nat_lt (length x.sent) (room_of x.capacity x)) (slice_get chans.now chan)
+        false }
 {
     match chans.get(chan as usize) {
         Some(channel) => (channel.sent.len() as u64) < room(channel),

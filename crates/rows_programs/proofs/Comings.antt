@@ -10,7 +10,7 @@ use Rattle.ppd_sem.specs.declared.event.Spot.TheVariants.{Local, Shared}
 use Rattle.ppd_model.specs.declared.flow.Item.{Item}
 use Rattle.ppd_model.specs.declared.flow.Item.TheVariants.{Own, Nested}
 use Rattle.ppd_model.specs.Logs.{closed_logs}
-use Rattle.ppd_model.specs.Story.{told, own_moments}
+use Rattle.ppd_model.specs.Story.{told}
 use Rattle.law_replay.specs.Coming.Pieces.{Coming}
 use Rattle.law_replay.specs.Coming.Openings.{Opening, coming_in, opening_of}
 use Rattle.rows_programs.proofs.Runs.LeafLoops as leaf
@@ -24,7 +24,7 @@ use Rattle.rows_programs.proofs.Runs.Tables.{access, event, quiet}
 
 -- interval k of process p begins here, if it is there
 abbrev begun : Program → Plan → ℕ → List ℕ → ℕ → ℕ → Option Opening
-begun program plan budget h p k = opening_of program plan budget p (own_moments (told program plan budget h) p) k
+begun program plan budget h p k = opening_of program plan budget p (get_or (told program plan budget h).moments p []) k
 
 abbrev coming_by : Program → Plan → ℕ → Option Opening → Coming
 coming_by program plan k None = record { pieces = []; items = []; steps = 0 }

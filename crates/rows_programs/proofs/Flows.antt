@@ -9,7 +9,7 @@ use Rattle.ppd_ast.specs.declared.program.Op.TheVariants as op
 use Rattle.ppd_ast.specs.declared.program.Program.{Program}
 use Rattle.ppd_ast.specs.declared.program.Target.TheVariants as target
 use Rattle.ppd_cfg.specs.Flow.{flow_rows, follow_at}
-use Rattle.ppd_sets.specs.Used.{loop_used_of, loop_defined_of, sorted}
+use Rattle.ppd_sets.specs.Used.{sorted, local_in, reads_at, writes_at}
 use Rattle.rows_programs.proofs.Runs.CalleeWrite as callee
 use Rattle.rows_programs.proofs.Runs.Tables.{stmt_in, scalar, array, body_of}
 
@@ -58,11 +58,11 @@ unfolding follow_at
 branching_flows = refl
 
 -- the last is an `if`, which is no loop
-pub branching_used : map (loop_used_of branching) (7 ∷ 8 ∷ 9 ∷ 5 ∷ []) ≡ (0 ∷ []) ∷ (0 ∷ []) ∷ (0 ∷ []) ∷ [] ∷ []
+pub branching_used : map (local_in branching (reads_at false branching)) (7 ∷ 8 ∷ 9 ∷ 5 ∷ []) ≡ (0 ∷ []) ∷ (0 ∷ []) ∷ (0 ∷ []) ∷ [] ∷ []
 unfolding terms preorder sorted
 branching_used = refl
 
-pub branching_defined : map (loop_defined_of branching) (7 ∷ 8 ∷ 9 ∷ 5 ∷ []) ≡ [] ∷ (0 ∷ []) ∷ (0 ∷ []) ∷ [] ∷ []
+pub branching_defined : map (local_in branching (writes_at false branching)) (7 ∷ 8 ∷ 9 ∷ 5 ∷ []) ≡ [] ∷ (0 ∷ []) ∷ (0 ∷ []) ∷ [] ∷ []
 unfolding terms preorder sorted
 branching_defined = refl
 
@@ -90,11 +90,11 @@ arrays = record {
 }
 
 -- arrays are whole
-pub arrays_used : map (loop_used_of arrays) (3 ∷ 4 ∷ []) ≡ (0 ∷ 1 ∷ 2 ∷ 3 ∷ []) ∷ [] ∷ []
+pub arrays_used : map (local_in arrays (reads_at false arrays)) (3 ∷ 4 ∷ []) ≡ (0 ∷ 1 ∷ 2 ∷ 3 ∷ []) ∷ [] ∷ []
 unfolding terms preorder sorted
 arrays_used = refl
 
-pub arrays_defined : map (loop_defined_of arrays) (3 ∷ 4 ∷ []) ≡ (0 ∷ 1 ∷ []) ∷ [] ∷ []
+pub arrays_defined : map (local_in arrays (writes_at false arrays)) (3 ∷ 4 ∷ []) ≡ (0 ∷ 1 ∷ []) ∷ [] ∷ []
 unfolding terms preorder sorted
 arrays_defined = refl
 
@@ -124,10 +124,10 @@ unfolding follow_at
 calling_flows = refl
 
 -- a call writes its receiving local
-pub calling_used : loop_used_of calling 3 ≡ 1 ∷ []
+pub calling_used : local_in calling (reads_at false calling) 3 ≡ 1 ∷ []
 unfolding terms preorder sorted
 calling_used = refl
 
-pub calling_defined : loop_defined_of calling 3 ≡ 0 ∷ []
+pub calling_defined : local_in calling (writes_at false calling) 3 ≡ 0 ∷ []
 unfolding terms preorder sorted
 calling_defined = refl

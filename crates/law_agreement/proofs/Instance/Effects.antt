@@ -13,7 +13,7 @@ use Rattle.ppd_model.specs.declared.state.Counts.{Counts}
 use Rattle.ppd_model.specs.declared.trace.EventId.{EventId}
 use Rattle.ppd_model.specs.Story.{Telling, next_event, writers_after}
 use Rattle.ppd_model.specs.Numbers.{count_in, count_of}
-use Rattle.ppd_model.specs.World.{can, change, effect}
+use Rattle.ppd_model.specs.World.{can, change, effect, one_taken, one_given, with_value, one_received, one_completed}
 use Rattle.ppd_model.proofs.WorldWords.{can_complete, can_receive, can_send, can_take}
 use Rattle.ppd_model.specs.Prefixes.{Sizes}
 use Rattle.ppd_model.proofs.Counting.{as_before, raised}
@@ -41,22 +41,6 @@ raised_or count f (x ∷ xs) (suc o) (suc o') up = elim (raised_or count f xs o 
 ]
 
 -- ---- the five changes
-
--- a semaphore taken or given once more, and a channel with one more value, received value or completed send
-abbrev one_taken : Counts → Counts
-one_taken x = record x { taken = x.taken + 1 }
-
-abbrev one_given : Counts → Counts
-one_given x = record x { given = x.given + 1 }
-
-abbrev with_value : ℤ → Channel → Channel
-with_value v x = record x { sent = x.sent ++ v ∷ [] }
-
-abbrev one_received : Channel → Channel
-one_received x = record x { received = x.received + 1 }
-
-abbrev one_completed : Channel → Channel
-one_completed x = record x { completed = x.completed + 1 }
 
 more_sent : (v : ℤ) (x : Channel) → length (x.sent ++ v ∷ []) ≡ length x.sent + 1
 more_sent v x = length-append x.sent (v ∷ [])

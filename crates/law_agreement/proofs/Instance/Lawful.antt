@@ -1,6 +1,6 @@
 -- The machine of a program is lawful.
 use Rattle.std.proofs.Common.{◌≡◌, ℕ, zero, suc, ◌+◌, ◌<◌, ◌≤◌, [], ◌∷◌, ◌++◌, Option, Some, None, Bool, true, false, nat_eq, refl, ap, sym, subst, ◌∙◌, arith, length, length-append, eqb-true, lt-ltb, true≢false}
-use Rattle.std.specs.Prelude.{IsTrue, nat_lt, option_map, option_to_list, slice_get}
+use Rattle.std.specs.Prelude.{IsTrue, nat_lt, option_map, option_to_list, slice_get, filter_map}
 use Rattle.std.proofs.lemmas.Bool.{and_parts}
 use Rattle.ppd_ast.specs.declared.plan.Plan.{Plan}
 use Rattle.ppd_ast.specs.declared.program.Chan.{Chan}
@@ -13,7 +13,7 @@ use Rattle.ppd_sem.specs.declared.proc.Need.{Need}
 use Rattle.ppd_sem.specs.declared.proc.Need.TheVariants as n
 use Rattle.ppd_model.specs.declared.trace.EventId.{EventId}
 use Rattle.ppd_model.specs.declared.tracing.Taken.{Taken}
-use Rattle.ppd_model.specs.Synchronizations.{is_number, led_to, leads, numbered, sync_of, syncs_of}
+use Rattle.ppd_model.specs.Synchronizations.{is_number, led_to, numbered, sync_of, leads_at}
 use Rattle.ppd_model.specs.Numbers.{sync}
 use Rattle.ppd_model.proofs.Changes.{some}
 use Rattle.ppd_model.proofs.Numbers.{syncs-append}
@@ -96,7 +96,7 @@ module _ (program : Program) where
       by zero r h = at_none a b o k k0 c r e h
       by (suc n) r h = at_some n a b o k k0 c r e h
 
-  paired : (l : Line) (c : Line → ℕ) (l0 : Line) (k0 : ℕ) → ready (declared program l.1) l.0 l.1 c → IsTrue (leads program (sync l0.0 l0.1 k0) (sync l.0 l.1 (suc (c l)))) → k0 ≤ c l0
+  paired : (l : Line) (c : Line → ℕ) (l0 : Line) (k0 : ℕ) → ready (declared program l.1) l.0 l.1 c → IsTrue (leads_at program (Some (sync l0.0 l0.1 k0)) (Some (sync l.0 l.1 (suc (c l))))) → k0 ≤ c l0
   paired l c l0 k0 r h =
       let both = and_parts (nat_eq l0.1 l.1) (is_number (led_to (capacity_of program l0.1) l0.0 l.0 k0) (suc (c l))) h in
       let same : l0.1 ≡ l.1 = eqb-true l0.1 l.1 both.0 in
@@ -115,10 +115,10 @@ module _ (program : Program) where
     counted p None a k = refl
     counted p (Some xs) a k =
         let x : Taken = made program (need_after program plan budget p xs) a k in
-        let longer : length (syncs_of (xs ++ x ∷ [])) ≡ length (syncs_of xs) + length (option_to_list (sync_of x)) = ap length (syncs-append xs x) ∙ length-append (syncs_of xs) (option_to_list (sync_of x)) in
-        let ticks : length (option_to_list (sync_of x)) + length (syncs_of xs) ≡ tick (sorted program (event_after p xs) (need_after program plan budget p xs)) (length (syncs_of xs)) =
-        one_more (need_after program plan budget p xs) (event_after p xs) a k (length (syncs_of xs)) in
-        let swap : length (syncs_of xs) + length (option_to_list (sync_of x)) ≡ length (option_to_list (sync_of x)) + length (syncs_of xs) = omega arith in
+        let longer : length (filter_map sync_of (xs ++ x ∷ [])) ≡ length (filter_map sync_of xs) + length (option_to_list (sync_of x)) = ap length (syncs-append xs x) ∙ length-append (filter_map sync_of xs) (option_to_list (sync_of x)) in
+        let ticks : length (option_to_list (sync_of x)) + length (filter_map sync_of xs) ≡ tick (sorted program (event_after p xs) (need_after program plan budget p xs)) (length (filter_map sync_of xs)) =
+        one_more (need_after program plan budget p xs) (event_after p xs) a k (length (filter_map sync_of xs)) in
+        let swap : length (filter_map sync_of xs) + length (option_to_list (sync_of x)) ≡ length (option_to_list (sync_of x)) + length (filter_map sync_of xs) = omega arith in
         longer ∙ swap ∙ ticks
 
     pub lawful : Lawful (machine program plan budget)

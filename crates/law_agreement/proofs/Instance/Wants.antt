@@ -1,6 +1,6 @@
 -- A program's processes as a machine: what a process did is the list of its steps.
 use Rattle.std.proofs.Common.{ℕ, zero, suc, ◌+◌, ◌<◌, ℤ, pos, List, [], ◌∷◌, ◌++◌, Option, Some, None, Bool, true, false, length, map, get_or}
-use Rattle.std.specs.Prelude.{IsTrue, count_by, nat_lt, option_map, slice_get}
+use Rattle.std.specs.Prelude.{IsTrue, count_by, nat_lt, option_map, slice_get, filter_map}
 use Rattle.ppd_ast.specs.declared.plan.Plan.{Plan}
 use Rattle.ppd_ast.specs.declared.program.Chan.{Chan}
 use Rattle.ppd_ast.specs.declared.program.Program.{Program}
@@ -16,7 +16,7 @@ use Rattle.ppd_model.specs.declared.trace.EventId.{EventId}
 use Rattle.ppd_model.specs.States.{state_of}
 use Rattle.ppd_model.specs.declared.tracing.Taken.{Taken}
 use Rattle.ppd_model.specs.Story.{Telling, steps_of}
-use Rattle.ppd_model.specs.Synchronizations.{leads, syncs_of}
+use Rattle.ppd_model.specs.Synchronizations.{leads_at, sync_of}
 use Rattle.ppd_model.specs.Numbers.{count_of, sync}
 use Rattle.ppd_model.specs.declared.state.Channel.{Channel}
 use Rattle.ppd_model.specs.World.{World}
@@ -105,7 +105,7 @@ grown program plan budget p h a k = option_map (λ (xs : List Taken). xs ++ made
 
 abbrev pub synced_in : History → ℕ
 synced_in None = 0
-synced_in (Some xs) = length (syncs_of xs)
+synced_in (Some xs) = length (filter_map sync_of xs)
 
 -- the capacity of a channel that is there
 abbrev pub declared : Program → ℕ → Option ℕ
@@ -140,7 +140,7 @@ machine program plan budget = record {
   synced = synced_in;
   blank = blank;
   Ready = λ l c. ready (declared program l.1) l.0 l.1 c;
-  Pairs = λ l k l0 k0. IsTrue (leads program (sync l0.0 l0.1 k0) (sync l.0 l.1 k));
+  Pairs = λ l k l0 k0. IsTrue (leads_at program (Some (sync l0.0 l0.1 k0)) (Some (sync l.0 l.1 k)));
   source = λ l. source_of l.0 l.1;
 }
 

@@ -1,6 +1,7 @@
 -- Where no race is listed, steps of a run that touch one cell are ordered.
+use Rattle.ppd_model.specs.Races.{races_among, edges_of_story}
 use Rattle.std.proofs.Common.{◌≡◌, ℕ, zero, suc, ◌+◌, ◌<◌, ◌≤◌, ◌⊎◌, ◌≢◌, ◌&&◌, nat_eq, List, [], ◌∷◌, Option, Some, refl, ap, sym, subst, ◌∙◌, arith, length, map, get_or, eqb-true, inl, inr, ⊎_elim}
-use Rattle.std.specs.Prelude.{IsTrue, is_some, slice_get}
+use Rattle.std.specs.Prelude.{IsTrue, is_some, slice_get, filter_map}
 use Rattle.std.proofs.lemmas.Bool.{and_parts, cases_eq, cases_lt, or_cases, or_left}
 use Rattle.ppd_ast.specs.declared.plan.Plan.{Plan}
 use Rattle.ppd_ast.specs.declared.program.Program.{Program}
@@ -8,14 +9,13 @@ use Rattle.ppd_model.specs.declared.graph.NodeId.{NodeId}
 use Rattle.ppd_model.specs.declared.tracing.Story.{Story}
 use Rattle.ppd_model.specs.declared.tracing.Taken.{Taken}
 use Rattle.ppd_model.specs.HappenedBefore as hb
-use Rattle.ppd_model.specs.HappenedBefore.{Before, EdgeBefore, direct, edge, is_direct, node, own_syncs, sync_at, through}
+use Rattle.ppd_model.specs.HappenedBefore.{Before, EdgeBefore, direct, edge, is_direct, node, sync_at, through}
 use Rattle.ppd_model.proofs.OrderWords.{is_next}
 use Rattle.ppd_model.specs.Laws.{DoConflict}
 use Rattle.ppd_model.specs.Numbers.{sync}
-use Rattle.ppd_model.specs.Races.{races_of}
 use Rattle.ppd_model.specs.Record.{accesses_from, record_of}
 use Rattle.ppd_model.specs.Synchronizations as s
-use Rattle.ppd_model.specs.Synchronizations.{leads_at, syncs_of}
+use Rattle.ppd_model.specs.Synchronizations.{leads_at, sync_of}
 use Rattle.ppd_model.proofs.RaceFree.{no_race}
 use Rattle.ppd_model.proofs.LastEdges.{before_from}
 use Rattle.ppd_model.proofs.Tested.{before_there, below_length}
@@ -27,7 +27,7 @@ use Rattle.law_agreement.proofs.Schedules.Records.{IsAccess, access, accesses_in
 
 -- ---- what a record calls before is there
 
-pub syncs_at : (steps : List (List Taken)) (p : ℕ) → get_or (map syncs_of steps) p [] ≡ syncs_in (slice_get steps p)
+pub syncs_at : (steps : List (List Taken)) (p : ℕ) → get_or (map (filter_map sync_of) steps) p [] ≡ syncs_in (slice_get steps p)
 syncs_at [] p = refl
 syncs_at (xs ∷ rest) zero = refl
 syncs_at (xs ∷ rest) (suc p) = syncs_at rest p
@@ -39,10 +39,10 @@ accesses_at (xs ∷ rest) (suc p) = accesses_at rest p
 
 module _ (program : Program) (syncs : List (List s.Sync)) where
   abbrev IsThere : NodeId → Type 0
-  IsThere a = a.sync < length (own_syncs syncs a.process)
+  IsThere a = a.sync < length (get_or syncs a.process [])
 
   some_there : (a : NodeId) → IsTrue (is_some (sync_at syncs a)) → IsThere a
-  some_there a h = below_length is_some (own_syncs syncs a.process) a.sync h refl
+  some_there a h = below_length is_some (get_or syncs a.process []) a.sync h refl
 
   -- the next of its process
   record IsNext (a b : NodeId) : Type 0 where
@@ -105,10 +105,10 @@ module _ (program : Program) (plan : Plan) (budget : ℕ) {first : Scene History
       (cases_eq q (R.who m)))
       (cases_lt i (synced_in ((R.at m).hist q)))
 
-  module _ (syncs : List (List s.Sync)) (same : (p : ℕ) → own_syncs syncs p ≡ syncs_in ((R.at R.ends).hist p)) where
-    time_of : (q i : ℕ) → i < length (own_syncs syncs q) → SyncAt q i
+  module _ (syncs : List (List s.Sync)) (same : (p : ℕ) → get_or syncs p [] ≡ syncs_in ((R.at R.ends).hist p)) where
+    time_of : (q i : ℕ) → i < length (get_or syncs q []) → SyncAt q i
     time_of q i lt =
-        let count : synced_in ((R.at R.ends).hist q) ≡ length (own_syncs syncs q) = synced_is ((R.at R.ends).hist q) ∙ ap length (sym (same q)) in
+        let count : synced_in ((R.at R.ends).hist q) ≡ length (get_or syncs q []) = synced_is ((R.at R.ends).hist q) ∙ ap length (sym (same q)) in
         sync_time q i R.ends (omega arith) (omega (arith, lt, count))
 
     entry_is : (q i : ℕ) (a : SyncAt q i) → sync_at syncs (node q i) ≡ Some (sync a.line.0 a.line.1 (suc ((R.at a.time).count a.line)))
@@ -182,10 +182,10 @@ module _ (program : Program) (plan : Plan) (budget : ℕ) {first : Scene History
         (Then one.time two.time j middle (Own two.time j last_part two.own))
 
   -- a story with the steps of the run that lists no race
-  pub ordered : (story : Story) → ((p : ℕ) → slice_get story.steps p ≡ (R.at R.ends).hist p) → length story.cells ≡ length program.starts → races_of program story ≡ [] → IsOrdered R
+  pub ordered : (story : Story) → ((p : ℕ) → slice_get story.steps p ≡ (R.at R.ends).hist p) → length story.cells ≡ length program.starts → races_among (edges_of_story program story) ≡ [] → IsOrdered R
   ordered story steps cells none i j x hi hj ne w t no_ij no_ji =
       let syncs : List (List s.Sync) = record_of story in
-      let same : (p : ℕ) → own_syncs syncs p ≡ syncs_in ((R.at R.ends).hist p) = λ p. syncs_at story.steps p ∙ ap syncs_in (steps p) in
+      let same : (p : ℕ) → get_or syncs p [] ≡ syncs_in ((R.at R.ends).hist p) = λ p. syncs_at story.steps p ∙ ap syncs_in (steps p) in
       let ti : Touches x (want_at R i) = writes_touches x (want_at R i) w in
       let a : IsAccess program plan budget R i x = is_access program plan budget R i x hi ti in
       let b : IsAccess program plan budget R j x = is_access program plan budget R j x hj t in

@@ -1,6 +1,6 @@
 -- The record and the accesses of a run of the machine.
 use Rattle.std.proofs.Common.{◌≡◌, ℕ, suc, ◌+◌, ◌<◌, ◌≤◌, List, [], ◌∷◌, ◌++◌, Option, Some, None, Bool, true, false, refl, ap, sym, subst, ◌∙◌, arith, length, ltb-true, ⊎_elim}
-use Rattle.std.specs.Prelude.{nat_lt, option_to_list, slice_get}
+use Rattle.std.specs.Prelude.{nat_lt, option_to_list, slice_get, filter_map}
 use Rattle.std.proofs.lemmas.Bool.{cases_eq}
 use Rattle.ppd_ast.specs.declared.plan.Plan.{Plan}
 use Rattle.ppd_ast.specs.declared.program.Program.{Program}
@@ -12,7 +12,7 @@ use Rattle.ppd_model.specs.declared.tracing.Taken.{Taken}
 use Rattle.ppd_model.specs.Numbers.{sync}
 use Rattle.ppd_model.specs.Record.{SharedAccess, access_at, accesses_from}
 use Rattle.ppd_model.specs.Synchronizations as s
-use Rattle.ppd_model.specs.Synchronizations.{sync_of, syncs_of}
+use Rattle.ppd_model.specs.Synchronizations.{sync_of}
 use Rattle.ppd_model.proofs.Accesses.{accesses-append}
 use Rattle.ppd_model.proofs.CountedOn.{kept_at, last_at}
 use Rattle.ppd_model.proofs.Numbers.{syncs-append}
@@ -23,7 +23,7 @@ use Rattle.law_agreement.proofs.Instance.Lawful.{sync_made}
 
 abbrev pub syncs_in : History → List s.Sync
 syncs_in None = []
-syncs_in (Some xs) = syncs_of xs
+syncs_in (Some xs) = filter_map sync_of xs
 
 abbrev pub accesses_in : History → List SharedAccess
 accesses_in None = []
@@ -117,14 +117,14 @@ module _ (program : Program) (plan : Plan) (budget : ℕ) {first : Scene History
   entry_keeps i x p None a k e = e
   entry_keeps i x p (Some xs) a k e =
       ap (λ (ss : List s.Sync). slice_get ss i) (syncs-append xs (made program (need_after program plan budget p xs) a k))
-      ∙ kept_at (syncs_of xs) (option_to_list (sync_of (made program (need_after program plan budget p xs) a k))) i x e
+      ∙ kept_at (filter_map sync_of xs) (option_to_list (sync_of (made program (need_after program plan budget p xs) a k))) i x e
 
   entry_new : (p : ℕ) (h : History) (a : Tagged) (k : ℕ) (l : Line) (v : Tagged) → want_after program plan budget p h ≡ Sync l v → slice_get (syncs_in (grown program plan budget p h a k)) (synced_in h) ≡ Some (sync l.0 l.1 k)
   entry_new p None a k l v is = cc
   entry_new p (Some xs) a k l v is =
-      ap (λ (ss : List s.Sync). slice_get ss (length (syncs_of xs))) (syncs-append xs (made program (need_after program plan budget p xs) a k))
-      ∙ ap (λ (o : Option s.Sync). slice_get (syncs_of xs ++ option_to_list o) (length (syncs_of xs))) (sync_made program (need_after program plan budget p xs) (event_after p xs) a k l v is)
-      ∙ last_at (syncs_of xs) (sync l.0 l.1 k)
+      ap (λ (ss : List s.Sync). slice_get ss (length (filter_map sync_of xs))) (syncs-append xs (made program (need_after program plan budget p xs) a k))
+      ∙ ap (λ (o : Option s.Sync). slice_get (filter_map sync_of xs ++ option_to_list o) (length (filter_map sync_of xs))) (sync_made program (need_after program plan budget p xs) (event_after p xs) a k l v is)
+      ∙ last_at (filter_map sync_of xs) (sync l.0 l.1 k)
 
   -- the record at the end has the entry that the step at time i made
   pub entry_at : (i : ℕ) (l : Line) (v : Tagged) → i < R.ends → want_at R i ≡ Sync l v → slice_get (syncs_in ((R.at R.ends).hist (R.who i))) (synced_in ((R.at i).hist (R.who i))) ≡ Some (sync l.0 l.1 (suc ((R.at i).count l)))
@@ -151,7 +151,7 @@ module _ (program : Program) (plan : Plan) (budget : ℕ) {first : Scene History
   access_keeps x p None a k f = f
   access_keeps x p (Some xs) a k f =
       let y : Taken = made program (need_after program plan budget p xs) a k in
-      (f.0, ap (λ (as' : List SharedAccess). slice_get as' f.0) (accesses-append 0 xs y) ∙ kept_at (accesses_from 0 xs) (access_at (0 + length (syncs_of xs)) y.need) f.0 x f.1)
+      (f.0, ap (λ (as' : List SharedAccess). slice_get as' f.0) (accesses-append 0 xs y) ∙ kept_at (accesses_from 0 xs) (access_at (0 + length (filter_map sync_of xs)) y.need) f.0 x f.1)
 
   -- the step at this time accesses the cell, as the accesses at the end have it
   pub record IsAccess (i x : ℕ) : Type 0 where
@@ -166,7 +166,7 @@ module _ (program : Program) (plan : Plan) (budget : ℕ) {first : Scene History
   access_new p (Some xs) a k x t =
       let y : Taken = made program (need_after program plan budget p xs) a k in
       let r : Accesses program (event_after p xs) (need_after program plan budget p xs) x = touched program (event_after p xs) (need_after program plan budget p xs) x t in
-      let e : ℕ = length (syncs_of xs) in
+      let e : ℕ = length (filter_map sync_of xs) in
       let zero_more : 0 + e ≡ e = omega arith in (
         r.writes,
         (

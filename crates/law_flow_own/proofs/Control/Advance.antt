@@ -14,7 +14,6 @@ use Rattle.ppd_sem.specs.declared.proc.Need.TheVariants as need
 use Rattle.ppd_sem.specs.declared.proc.Proc.{Proc}
 use Rattle.ppd_sem.specs.declared.proc.Todo.{Todo}
 use Rattle.ppd_sem.specs.Described.{trap_of}
-use Rattle.ppd_sem.specs.Process.{top_body}
 use Rattle.ppd_sem.specs.Runs.{returns}
 use Rattle.ppd_sem.specs.Tables.{block_of}
 use Rattle.ppd_model.specs.FullTrace.{is_passed}
@@ -29,6 +28,7 @@ use Rattle.law_flow_own.proofs.Control.Returns.{returns_block, returns_leaf}
 use Rattle.law_flow_own.proofs.Control.Steps.{Step, backs, calls, chooses, enters, leaves, offers, passes, reads, stops, turns}
 use Rattle.law_flow_own.proofs.Control.Along.{EventOf, runs_after, Given, own_runs, put, by_need, same, in_level}
 use Rattle.law_steps.proofs.OpenBlocks.DeedKinds.{while_stays}
+use Rattle.ppd_sem.specs.Process.{top_frame}
 
 module _ (program : Program) (policy : Policy) (p : ℕ) (v : IsValid program) (s : Proc) (n number : ℕ) (e : Event)
     (m : Need) where
@@ -50,7 +50,7 @@ module _ (program : Program) (policy : Policy) (p : ℕ) (v : IsValid program) (
       -- a return
       by_return : (sort : Sort) → Holds program policy p (record x { sort = sort; todo = []; last = t ∷ [] }) (y ∷ ys)
           → TopLeaf program policy p (ending sort) → returns (kind_of program t.stmt) ≡ true
-          → ((u : Option ℕ) → m ≡ need.Back (block_of (plan_of program policy) (block.Function (top_body s.frames))) u
+          → ((u : Option ℕ) → m ≡ need.Back (block_of (plan_of program policy) (block.Function (top_frame s.frames).body)) u
           → todo ≡ todo_of (y ∷ ys) → now ≡ drop 1
           (tested program (me_of program policy p n) e (views_of (ending sort))) → To (ending sort))
           → StepAt sort → To (ending sort)
@@ -72,12 +72,12 @@ module _ (program : Program) (policy : Policy) (p : ℕ) (v : IsValid program) (
           (true≢false (sym is ∙ (calls_simply (kind_of program t.stmt) f call).1))
       by_return sort h top is back (backs u need_is returning a b) = back u need_is a b
 
-      body_of_level : body_of program t.stmt ≡ x.body → top_body s.frames ≡ x.body
+      body_of_level : body_of program t.stmt ≡ x.body → (top_frame s.frames).body ≡ x.body
       body_of_level home = ev.home ∙ home
 
       from_function : Holds program policy p (record x { sort = function; todo = []; last = t ∷ [] }) (y ∷ ys)
           → body_of program t.stmt ≡ x.body → (u : Option ℕ)
-          → m ≡ need.Back (block_of (plan_of program policy) (block.Function (top_body s.frames))) u
+          → m ≡ need.Back (block_of (plan_of program policy) (block.Function (top_frame s.frames).body)) u
           → todo ≡ todo_of (y ∷ ys) → now ≡ drop 1
           (tested program (me_of program policy p n) e (views_of (ending function))) → To (ending function)
       from_function h home u is a b = by (block_of (plan_of program policy) (block.Function x.body)) refl
@@ -95,7 +95,7 @@ module _ (program : Program) (policy : Policy) (p : ℕ) (v : IsValid program) (
 
       from_leaf : Holds program policy p (record x { sort = leaf; todo = []; last = t ∷ [] }) (y ∷ ys)
           → body_of program t.stmt ≡ x.body → returns (kind_of program t.stmt) ≡ true → (u : Option ℕ)
-          → m ≡ need.Back (block_of (plan_of program policy) (block.Function (top_body s.frames))) u
+          → m ≡ need.Back (block_of (plan_of program policy) (block.Function (top_frame s.frames).body)) u
           → todo ≡ todo_of (y ∷ ys) → now ≡ drop 1
           (tested program (me_of program policy p n) e (views_of (ending leaf))) → To (ending leaf)
       from_leaf h home returning u is a b =

@@ -1,11 +1,10 @@
 -- One step of a statement that is to do in the top level.
 use Rattle.std.proofs.Common.{◌≡◌, ℕ, true, List, [], ◌∷◌, ◌++◌, Option, Some, None, refl, ap, sym, ◌∙◌, true≢false, append_assoc}
-use Rattle.std.specs.Prelude.{slice_get}
 use Rattle.ppd_ast.specs.Valid.{IsValid}
 use Rattle.ppd_ast.specs.declared.plan.BlockKind.TheVariants as block
 use Rattle.ppd_ast.specs.declared.plan.Policy.{Policy}
 use Rattle.ppd_ast.specs.declared.program.Program.{Program}
-use Rattle.ppd_ast.specs.Lookups.{kind_of, top_of_body, body_of}
+use Rattle.ppd_ast.specs.Lookups.{kind_of, body_of, body_numbered}
 use Rattle.law_replay.specs.Beside.Relation.{IsCallOf}
 use Rattle.ppd_blocks.specs.Blocks.{plan_of}
 use Rattle.ppd_sem.specs.declared.event.Event.{Event}
@@ -14,7 +13,7 @@ use Rattle.ppd_sem.specs.declared.proc.Need.TheVariants as need
 use Rattle.ppd_sem.specs.declared.proc.Proc.{Proc}
 use Rattle.ppd_sem.specs.declared.proc.Todo.{Todo}
 use Rattle.ppd_sem.specs.Described.{trap_of, is_event}
-use Rattle.ppd_sem.specs.Process.{todos, top_body}
+use Rattle.ppd_sem.specs.Process.{todos, top_frame}
 use Rattle.ppd_sem.specs.Tables.{block_of}
 use Rattle.ppd_model.specs.FullTrace.{is_passed}
 use Rattle.ppd_model.specs.Marks.{closed, opened}
@@ -36,7 +35,7 @@ module _ (program : Program) (policy : Policy) (p : ℕ) (v : IsValid program) (
     pub is : e.stmt ≡ t.stmt
     pub trap_is : e.trap ≡ trap_of m
     pub value_is : e.value ≡ value_in program s t m
-    pub home : top_body s.frames ≡ body_of program t.stmt
+    pub home : (top_frame s.frames).body ≡ body_of program t.stmt
 
   -- the running intervals after the step
   abbrev pub runs_after : List Run → List Run
@@ -113,9 +112,9 @@ module _ (program : Program) (policy : Policy) (p : ℕ) (v : IsValid program) (
 
       pub calling : (f u : ℕ) (o : Option ℕ) → block_of (plan_of program policy) (block.Function f) ≡ o
           → m ≡ need.Invoke o u → IsCallOf (kind_of program t.stmt) f
-          → AreTop program (top_of_body (slice_get program.bodies f))
-          → AreTopOf program f (top_of_body (slice_get program.bodies f))
-          → todo ≡ todos (top_of_body (slice_get program.bodies f)) ++ rest
+          → AreTop program (body_numbered program f).top
+          → AreTopOf program f (body_numbered program f).top
+          → todo ≡ todos (body_numbered program f).top ++ rest
           → now ≡ (Some (me_of program policy p n), []) ∷ tested program (me_of program policy p n) e (views_of here)
           → To here
       calling f u None at is call tops homes a b =

@@ -1,5 +1,6 @@
 -- What is claimed of each part of an interval, and where a step adds a part.
 use Rattle.std.proofs.Common.{◌≡◌, ℕ, ◌-◌, Bool, true, false, List, [], ◌∷◌, Option, Some, None, refl, ap, sym, ◌∙◌, append-nil, true≢false}
+use Rattle.std.specs.Option.{option_map_or}
 use Rattle.std.specs.Prelude.{slice_get}
 use Rattle.ppd_ast.specs.Valid.{IsValid}
 use Rattle.ppd_ast.specs.declared.plan.BlockKind.{BlockKind}
@@ -18,8 +19,8 @@ use Rattle.ppd_model.specs.declared.flow.Origin.TheVariants as origin
 use Rattle.ppd_model.specs.declared.trace.EventId.{EventId}
 use Rattle.ppd_model.specs.declared.trace.TracedEvent.{TracedEvent}
 use Rattle.ppd_model.specs.declared.tracing.Story.{Story}
-use Rattle.ppd_model.specs.FlowbackEdges.{from_parent, part_at}
-use Rattle.ppd_model.specs.Intervals.{Part, own, nested, Span, Split, splits}
+use Rattle.ppd_model.specs.FlowbackEdges.{part_at}
+use Rattle.ppd_model.specs.Intervals.{Part, own, nested, Span, Split, splits, ref}
 use Rattle.ppd_model.specs.NearIntervals.{is_loop}
 use Rattle.ppd_model.specs.Story.{story}
 use Rattle.ppd_model.proofs.Changes.{some}
@@ -41,7 +42,7 @@ module _ (program : Program) (policy : Policy) (budget : ℕ) (h : List ℕ) (p 
   xs = splits program plan budget s
 
   abbrev pub Found : ℕ → ℕ → ℕ → Option EventId → Type 0
-  Found k j st parent = control_origin program plan (seen_of y) p k j st ≡ from_parent xs parent
+  Found k j st parent = control_origin program plan (seen_of y) p k j st ≡ option_map_or (ref xs) parent origin.Entry
 
   -- ---- what is claimed of a part
 
@@ -50,7 +51,7 @@ module _ (program : Program) (policy : Policy) (budget : ℕ) (h : List ℕ) (p 
   Claim k j (nested m) =
       (i : Span) → slice_get y.spans m ≡ Some i
       → ((l : ℕ) → block_kind plan i.block ≡ block.Loop l → Found k j l i.control)
-      × (is_loop (block_kind plan i.block) ≡ false → origin.Item p k (j - 1) ≡ from_parent xs i.control)
+      × (is_loop (block_kind plan i.block) ≡ false → origin.Item p k (j - 1) ≡ option_map_or (ref xs) i.control origin.Entry)
 
   abbrev pub Claims : Split → Type 0
   Claims x = (k j : ℕ) (q : Part) → part_at x k j ≡ Some q → Claim k j q

@@ -1,5 +1,6 @@
 -- The control of each new part is found.
 use Rattle.std.proofs.Common.{◌≡◌, ℕ, ◌+◌, ◌-◌, ◌<◌, Bool, true, false, List, [], ◌∷◌, ◌++◌, Option, Some, None, refl, ap, sym, subst, ◌∙◌, arith, length, length-append, inl, inr, true≢false, if◌then◌else◌}
+use Rattle.std.specs.Option.{option_map_or}
 use Rattle.std.specs.Prelude.{slice_get}
 use Rattle.std.proofs.lemmas.Option.{none-some}
 use Rattle.ppd_ast.specs.Valid.{IsValid}
@@ -21,9 +22,9 @@ use Rattle.ppd_model.specs.declared.trace.EventId.{EventId}
 use Rattle.ppd_model.specs.declared.trace.TracedEvent.{TracedEvent}
 use Rattle.ppd_model.specs.declared.tracing.Story.{Story}
 use Rattle.ppd_model.specs.declared.tracing.Taken.{Taken}
-use Rattle.ppd_model.specs.FlowbackEdges.{from_parent, part_at}
+use Rattle.ppd_model.specs.FlowbackEdges.{part_at}
 use Rattle.ppd_model.specs.FullTrace.{event_of, me_in, parent_at, traced_by}
-use Rattle.ppd_model.specs.Intervals.{Part, own, nested, Span, Split, control_by, split_step, splits}
+use Rattle.ppd_model.specs.Intervals.{Part, own, nested, Span, Split, control_by, split_step, splits, ref}
 use Rattle.ppd_model.specs.Marks.{Mark, opened}
 use Rattle.ppd_model.specs.NearIntervals.{is_loop}
 use Rattle.ppd_model.specs.Story.{story}
@@ -172,7 +173,7 @@ module _ (program : Program) (policy : Policy) (budget : ℕ) (h : List ℕ) (p 
           λ l is_l. absurd (true≢false (sym (ap is_loop (sym kind ∙ is_l)))),
           λ isnt. ap (λ j. origin.Item p k j) (before parts)
               ∙ sym (refers program policy budget h p y v at n k (length parts) (call_part.1) call_part.0)
-              ∙ ap (from_parent (splits program plan budget s)) (sym control),
+              ∙ ap (λ o. option_map_or (ref (splits program plan budget s)) o origin.Entry) (sym control),
         )
       where
         before : (ps : List Part) → length (ps ++ own n ∷ []) - 1 ≡ length ps

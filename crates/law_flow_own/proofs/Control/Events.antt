@@ -1,13 +1,13 @@
 -- An event at the top level: what is known of the level with it.
 use Rattle.std.proofs.Common.{◌≡◌, ℕ, ◌<◌, true, false, ◌&&◌, List, [], ◌∷◌, ◌++◌, Some, None, refl, ap, sym, subst, ◌∙◌, inl, inr}
-use Rattle.std.specs.Prelude.{⊤, nat_eq, slice_get}
+use Rattle.std.specs.Prelude.{⊤, nat_eq, slice_get, option_and_then}
 use Rattle.std.proofs.lemmas.Bool.{both_ways, cases_eq, ne_eqb}
 use Rattle.ppd_ast.specs.Numbered.{is_while}
 use Rattle.ppd_ast.specs.Valid.{IsValid}
 use Rattle.ppd_ast.specs.declared.plan.Policy.{Policy}
 use Rattle.ppd_ast.specs.declared.program.Kind.TheVariants as kind
 use Rattle.ppd_ast.specs.declared.program.Program.{Program}
-use Rattle.ppd_ast.specs.Lookups.{kind_of, body_of, parent_if}
+use Rattle.ppd_ast.specs.Lookups.{kind_of, body_of}
 use Rattle.ppd_blocks.specs.Blocks.{plan_of}
 use Rattle.ppd_sem.specs.declared.event.Event.{Event}
 use Rattle.ppd_sem.specs.declared.proc.Todo.{Todo}
@@ -129,7 +129,7 @@ module _ (program : Program) (policy : Policy) (p : ℕ) where
     outer_at leaf h = h
     outer_at (loop l) h = tt
 
-    child_at : (sort : Sort) (i : ℕ) → MayTest program policy sort t → parent_if (slice_get program.stmts i) ≡ Some t
+    child_at : (sort : Sort) (i : ℕ) → MayTest program policy sort t → option_and_then (λ x. x.parent) (slice_get program.stmts i) ≡ Some t
         → StandsAt program policy p sort i
     child_at process i h parent = child_calm program policy i t v parent h
     child_at function i h parent = child_calm program policy i t v parent h

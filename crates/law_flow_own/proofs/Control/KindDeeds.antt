@@ -1,13 +1,14 @@
 -- What the deed of a statement tells of its kind, and a loop that is left of its value.
 use Rattle.std.proofs.Common.{◌≡◌, ℕ, ℤ, Bool, true, false, List, Ok, Err, refl, ap, sym, inl, inr, if◌then◌else◌, true≢false}
-use Rattle.std.specs.Prelude.{⊤, not}
+use Rattle.std.specs.Prelude.{⊤, not, pos}
+use Rattle.std.specs.Ordering.{int_eq}
 use Rattle.ppd_ast.specs.Numbered.{is_call, is_while}
 use Rattle.ppd_ast.specs.declared.program.Expr.{Expr}
 use Rattle.ppd_ast.specs.declared.program.Kind.{Kind}
 use Rattle.ppd_ast.specs.declared.program.Kind.TheVariants as kind
 use Rattle.ppd_ast.specs.Term.{term}
 use Rattle.law_replay.specs.Beside.Relation.{IsCallOf, IsListOf}
-use Rattle.ppd_sem.specs.Ask.{ask, is_zero}
+use Rattle.ppd_sem.specs.Ask.{ask}
 use Rattle.ppd_sem.specs.Asked.{Asked, and_then, gives}
 use Rattle.ppd_sem.specs.Deed.{Deed, branch, turn, leave, invoke, back, finish, ask_deed}
 use Rattle.ppd_sem.specs.Described.{value_at, valued}
@@ -58,13 +59,13 @@ unfolding goes_on
 turn_no_leave body l m e = true≢false (ap goes_on e)
 
 left_asked : (r : Asked ℤ) (body : List ℕ) (left : List ℤ)
-    → and_then r (λ v left. gives left (if is_zero v then leave else turn body)) ≡ Ok (leave, left)
+    → and_then r (λ v left. gives left (if int_eq v (pos 0) then leave else turn body)) ≡ Ok (leave, left)
     → is_passed (value_if r) ≡ false
 left_asked (Err pause) body left e = absurd (cc)
-left_asked (Ok q) body left e = by (is_zero q.0) refl e
+left_asked (Ok q) body left e = by (int_eq q.0 (pos 0)) refl e
   where
-    by : (b : Bool) → is_zero q.0 ≡ b → gives q.1 (if b then leave else turn body) ≡ Ok (leave, left)
-        → not (is_zero q.0) ≡ false
+    by : (b : Bool) → int_eq q.0 (pos 0) ≡ b → gives q.1 (if b then leave else turn body) ≡ Ok (leave, left)
+        → not (int_eq q.0 (pos 0)) ≡ false
     by true z g = ap not z
     by false z g = absurd (turn_no_leave body q.1 left g)
 

@@ -1,13 +1,13 @@
 -- What a process does by levels, the innermost first: its own body, the functions that are blocks, a function that is
 -- none, and block loops; each with its interval as the search sees it, and the tests of its activation.
 use Rattle.std.proofs.Common.{◌≡◌, ℕ, suc, ◌+◌, ◌<◌, Bool, true, false, ◌⊎◌, List, [], ◌∷◌, ◌++◌, Option, Some, None, length}
-use Rattle.std.specs.Prelude.{⊤, drop, is_some, slice_get}
+use Rattle.std.specs.Prelude.{⊤, drop, is_some, slice_get, option_and_then}
 use Rattle.ppd_ast.specs.declared.plan.BlockKind.{BlockKind}
 use Rattle.ppd_ast.specs.declared.plan.BlockKind.TheVariants as block
 use Rattle.ppd_ast.specs.declared.plan.Policy.{Policy}
 use Rattle.ppd_ast.specs.declared.program.Program.{Program}
 use Rattle.ppd_ast.specs.Numbered.{is_while}
-use Rattle.ppd_ast.specs.Lookups.{kind_of, body_of, parent_if}
+use Rattle.ppd_ast.specs.Lookups.{kind_of, body_of}
 use Rattle.ppd_blocks.specs.Blocks.{plan_of}
 use Rattle.ppd_sem.specs.declared.event.Event.{Event}
 use Rattle.ppd_sem.specs.declared.proc.Todo.{Todo}
@@ -149,7 +149,7 @@ module _ (program : Program) (policy : Policy) (p : ℕ) where
   pub record Fact (sort : Sort) (body : ℕ) (sight : List Sign) (v : View) (s : ℕ) : Type 0 where
     pub home : body_of program s ≡ body
     pub stands : StandsAt sort s
-    pub outer : (o : ℕ) → parent_if (slice_get program.stmts s) ≡ Some o → Outer sort body sight v o
+    pub outer : (o : ℕ) → option_and_then (λ x. x.parent) (slice_get program.stmts s) ≡ Some o → Outer sort body sight v o
 
   -- and is neither entered nor a return
   abbrev pub Facts : Sort → ℕ → List Sign → View → List Todo → Type 0

@@ -1,36 +1,36 @@
 -- The search at the place at which a process stands finds what the search over its running intervals finds.
-use Rattle.std.proofs.Common.{◌≡◌, ℕ, ◌+◌, ◌-◌, false, List, [], ◌∷◌, ◌++◌, Option, Some, None, refl, ap, sym, subst, ◌∙◌, arith, length, append-nil, eq-eqb}
-use Rattle.std.specs.List.{AllByRecursion as Each, flat_map, position_from}
-use Rattle.std.specs.Prelude.{⊤, option_map, slice_get, take, unwrap_or}
-use Rattle.std.proofs.lemmas.Iterator.Adapters.{position_from-zero}
-use Rattle.std.proofs.lemmas.List.{take_at}
-use Rattle.std.proofs.lemmas.List.Concat.{flat_map-append}
-use Rattle.ppd_ast.specs.declared.plan.BlockKind.{BlockKind}
-use Rattle.ppd_ast.specs.declared.plan.BlockKind.TheVariants as block
-use Rattle.ppd_ast.specs.declared.plan.Plan.{Plan}
-use Rattle.ppd_ast.specs.declared.plan.Policy.{Policy}
-use Rattle.ppd_ast.specs.declared.program.Program.{Program}
-use Rattle.ppd_ast.specs.Lookups.{kind_of, parent_if}
-use Rattle.ppd_blocks.specs.Blocks.{plan_of}
-use Rattle.ppd_sem.specs.Blocks.{block_kind}
-use Rattle.std.specs.Option.{option_or}
-use Rattle.ppd_model.specs.Intervals.{Part, own, nested, Span, Split, is_closed, item_of, items_of}
-use Rattle.ppd_model.specs.declared.flow.Item.{Item}
-use Rattle.ppd_model.specs.declared.flow.Item.TheVariants as item
-use Rattle.ppd_model.specs.declared.flow.Origin.TheVariants as origin
-use Rattle.ppd_model.proofs.Lists.{get_mapped}
-use Rattle.ppd_flow_model.specs.declared.leaf_call.LeafCall.{LeafCall}
-use Rattle.ppd_flow_model.specs.Control.{Tests, begun_tests, call_or_entry, control_above, control_among, control_in, control_origin, control_outside, last_test, leaf_call_at, test_of_run, test_round}
-use Rattle.ppd_flow_model.specs.Locals.{frame_in, leaf_at}
-use Rattle.ppd_flow_model.specs.Seen.{call_of, first_or, is_item_of, items_at, kind_at, outer_of, outer_place, place_of, seen_of}
-use Rattle.law_flow_own.specs.Places.Levels.{AreBelow, numbers, Level as Place}
-use Rattle.law_flow_own.proofs.Places.Scans.{nested_item}
-use Rattle.law_flow_own.proofs.Places.Whole.{AreWhole, first_items, first_whole}
 use Rattle.law_flow_own.proofs.Control.Levels.{Run}
 use Rattle.law_flow_own.proofs.Control.Searching.{AllAt, SpanAt, event_none, found_past, leaf_match, span_none, tests_match}
 use Rattle.law_flow_own.proofs.Control.Seen.{AreSeen, SightIs, sight_length}
 use Rattle.law_flow_own.proofs.Control.Sides.{above_over, among_over, begun_by, control_over, found_over, round_over}
 use Rattle.law_flow_own.proofs.Control.Sights.{Sign, leaf_over, tests_over}
+use Rattle.law_flow_own.proofs.Places.Scans.{nested_item}
+use Rattle.law_flow_own.proofs.Places.Whole.{AreWhole, first_items, first_whole}
+use Rattle.law_flow_own.specs.Places.Levels.{AreBelow, Level as Place, numbers}
+use Rattle.ppd_ast.specs.Lookups.{kind_of}
+use Rattle.ppd_ast.specs.declared.plan.BlockKind.{BlockKind}
+use Rattle.ppd_ast.specs.declared.plan.BlockKind.TheVariants as block
+use Rattle.ppd_ast.specs.declared.plan.Plan.{Plan}
+use Rattle.ppd_ast.specs.declared.plan.Policy.{Policy}
+use Rattle.ppd_ast.specs.declared.program.Program.{Program}
+use Rattle.ppd_blocks.specs.Blocks.{plan_of}
+use Rattle.ppd_flow_model.specs.Control.{Tests, begun_tests, call_or_entry, control_above, control_among, control_in, control_origin, control_outside, last_test, leaf_call_at, test_of_run, test_round}
+use Rattle.ppd_flow_model.specs.Locals.{frame_in, leaf_at}
+use Rattle.ppd_flow_model.specs.Seen.{call_of, first_or, is_item_of, kind_at, outer_of, outer_place, place_of, seen_of}
+use Rattle.ppd_flow_model.specs.declared.leaf_call.LeafCall.{LeafCall}
+use Rattle.ppd_model.proofs.Lists.{get_mapped}
+use Rattle.ppd_model.specs.Intervals.{Part, Span, Split, item_of, items_of, nested, own}
+use Rattle.ppd_model.specs.declared.flow.Item.{Item}
+use Rattle.ppd_model.specs.declared.flow.Item.TheVariants as item
+use Rattle.ppd_model.specs.declared.flow.Origin.TheVariants as origin
+use Rattle.ppd_sem.specs.Blocks.{block_kind}
+use Rattle.std.proofs.Common.{List, None, Option, Some, [], ap, append-nil, arith, eq-eqb, false, length, refl, subst, sym, ℕ, ◌++◌, ◌+◌, ◌-◌, ◌∙◌, ◌∷◌, ◌≡◌}
+use Rattle.std.proofs.lemmas.Iterator.Adapters.{position_from-zero}
+use Rattle.std.proofs.lemmas.List.{take_at}
+use Rattle.std.proofs.lemmas.List.Concat.{flat_map-append}
+use Rattle.std.specs.List.{AllByRecursion as Each, flat_map, position_from}
+use Rattle.std.specs.Option.{option_or}
+use Rattle.std.specs.Prelude.{get_or, is_some, option_and_then, option_map, slice_get, take, unwrap_or, ⊤}
 
 -- the outermost run is the process's
 abbrev pub EndsInProcess : List Run → Type 0
@@ -52,10 +52,10 @@ module _ (program : Program) (policy : Policy) (p : ℕ) (y : Split) (whole : Ar
     own_items : length (flat_map (item_of y) l.parts) ≡ length l.parts
     own_items = first_whole y l.parts (inner ++ at.more) all_items
 
-    items_are : items_at (seen_of y) l.interval ≡ flat_map (item_of y) (l.parts ++ (inner ++ at.more))
+    items_are : get_or (seen_of y).items l.interval [] ≡ flat_map (item_of y) (l.parts ++ (inner ++ at.more))
     items_are = get_mapped (items_of y) y.spans l.interval [] at.span at.there ∙ ap (flat_map (item_of y)) at.parts_are
 
-    first_ones : take (length l.parts) (items_at (seen_of y) l.interval) ≡ flat_map (item_of y) l.parts
+    first_ones : take (length l.parts) (get_or (seen_of y).items l.interval []) ≡ flat_map (item_of y) l.parts
     first_ones = ap (take (length l.parts)) items_are ∙ first_items y l.parts (inner ++ at.more) all_items
 
     kind_is : kind_at plan (seen_of y) l.interval ≡ block_kind plan l.block
@@ -83,12 +83,12 @@ module _ (program : Program) (policy : Policy) (p : ℕ) (y : Split) (whole : Ar
       among_is call =
           ap (λ t. option_or (test_of_run p k (kind_of program st) t)
           (option_or (test_round program plan p k (frame_in call) (flat_map (item_of y) l.parts)
-          (parent_if (slice_get program.stmts st))) (leaf_call_at p k call))) (test_is (frame_in call) st)
+          (option_and_then (λ x. x.parent) (slice_get program.stmts st))) (leaf_call_at p k call))) (test_is (frame_in call) st)
           ∙ ap (λ r. option_or (test_of_run p k (kind_of program st) (tests_over program plan (frame_in call) st sight))
-          (option_or r (leaf_call_at p k call))) (round_is (frame_in call) (parent_if (slice_get program.stmts st)))
+          (option_or r (leaf_call_at p k call))) (round_is (frame_in call) (option_and_then (λ x. x.parent) (slice_get program.stmts st)))
 
-      pub found_is : control_among program plan p k st (take (length l.parts) (items_at (seen_of y) l.interval))
-          (leaf_at program plan (take (length l.parts) (items_at (seen_of y) l.interval))) ≡ found_over program policy
+      pub found_is : control_among program plan p k st (take (length l.parts) (get_or (seen_of y).items l.interval []))
+          (leaf_at program plan (take (length l.parts) (get_or (seen_of y).items l.interval []))) ≡ found_over program policy
           p k st sight
       found_is =
           ap (λ xs. control_among program plan p k st xs (leaf_at program plan xs)) first_ones
@@ -105,19 +105,19 @@ module _ (program : Program) (policy : Policy) (p : ℕ) (y : Split) (whole : Ar
       (none_among m ps h.1)
 
   place_is : (m : ℕ) (o : Place) (outside : List ℕ) (i : Span) → slice_get y.spans m ≡ Some i
-      → (out : SpanAt y m (nested m ∷ []) outside o) → place_of m (items_at (seen_of y) o.interval) ≡ length o.parts
+      → (out : SpanAt y m (nested m ∷ []) outside o) → place_of m (get_or (seen_of y).items o.interval []) ≡ length o.parts
   place_is m o outside i at out =
       let split : flat_map (item_of y) (o.parts ++ nested m ∷ out.more) ≡ flat_map
-      (item_of y) o.parts ++ (item.Nested m i.block i.values (is_closed i) ∷ flat_map (item_of y) out.more) =
+      (item_of y) o.parts ++ (item.Nested m i.block i.values (is_some i.closed) ∷ flat_map (item_of y) out.more) =
       flat_map-append (item_of y) o.parts (nested m ∷ out.more)
       ∙ ap (λ xs. flat_map (item_of y) o.parts ++ (xs ++ flat_map (item_of y) out.more)) (nested_item y m i at) in
       let counted : length (flat_map (item_of y) o.parts) ≡ length o.parts = own_items m
       (nested m ∷ []) outside o out in
       let z : 0 + length (flat_map (item_of y) o.parts) ≡ length o.parts = omega (arith, counted) in
       ap (λ r. unwrap_or r 0)
-      (position_from-zero (is_item_of m) (items_at (seen_of y) o.interval)
+      (position_from-zero (is_item_of m) (get_or (seen_of y).items o.interval [])
       ∙ ap (position_from (is_item_of m) 0) (items_are m (nested m ∷ []) outside o out ∙ split)
-      ∙ found_past m 0 (flat_map (item_of y) o.parts) (item.Nested m i.block i.values (is_closed i))
+      ∙ found_past m 0 (flat_map (item_of y) o.parts) (item.Nested m i.block i.values (is_some i.closed))
       (flat_map (item_of y) out.more) (none_among m o.parts out.below) (eq-eqb m m refl)
       ∙ ap (λ k. Some k) z)
 
@@ -129,7 +129,7 @@ module _ (program : Program) (policy : Policy) (p : ℕ) (y : Split) (whole : Ar
   module _ (n : ℕ) (inner : List Part) (l o : Place) (os : List Place) (at : SpanAt y n inner (numbers (o ∷ os)) l)
       (out : SpanAt y l.interval (nested l.interval ∷ []) (numbers os) o) where
     outer_place_is : outer_place (seen_of y) l.interval ≡ length o.parts
-    outer_place_is = ap (λ k. place_of l.interval (items_at (seen_of y) k)) (outer_is n inner l (o ∷ os) at)
+    outer_place_is = ap (λ k. place_of l.interval (get_or (seen_of y).items k [])) (outer_is n inner l (o ∷ os) at)
         ∙ place_is l.interval o (numbers os) at.span at.there out
 
     call_is : call_of (seen_of y) p l.interval ≡ origin.Item p o.interval (length o.parts - 1)

@@ -1,11 +1,11 @@
 -- The parent of a statement in a block loop, and of the loop itself, is found.
 use Rattle.std.proofs.Common.{◌≡◌, ℕ, suc, true, false, List, [], ◌∷◌, Option, Some, None, refl, ap, sym, subst, ◌∙◌, inl, inr, arith}
-use Rattle.std.specs.Prelude.{drop, option_map, slice_get, take, unwrap_or}
+use Rattle.std.specs.Prelude.{drop, option_map, slice_get, take, unwrap_or, option_and_then}
 use Rattle.std.proofs.lemmas.List.{take_at}
 use Rattle.ppd_ast.specs.Valid.{IsValid}
 use Rattle.ppd_ast.specs.declared.plan.Policy.{Policy}
 use Rattle.ppd_ast.specs.declared.program.Program.{Program}
-use Rattle.ppd_ast.specs.Lookups.{kind_of, body_of, parent_if}
+use Rattle.ppd_ast.specs.Lookups.{kind_of, body_of}
 use Rattle.ppd_blocks.specs.Blocks.{plan_of}
 use Rattle.law_replay.proofs.Facts.Within.{within_cases}
 use Rattle.ppd_sem.specs.declared.proc.Todo.{Todo}
@@ -25,6 +25,7 @@ use Rattle.law_flow_own.proofs.Control.Levels.{Fact, Holds, Knows, Level, Loopin
 use Rattle.law_flow_own.proofs.Control.Sides.{Again, Answer, Side, above_over, among_over, answered, begun_by, found_over, none_run, outside_over, parent_of, round_over, run_side}
 use Rattle.law_flow_own.proofs.Control.Queries.{first_run, Query, plain_query, query_before, LeafAt, leaf_before, leaf_at, test_at, near_side, else_some, sure}
 use Rattle.law_flow_own.proofs.Control.PlainAnswers.{plain_answer}
+use Rattle.ppd_ast.specs.declared.program.Stmt.{Stmt}
 
 module _ (program : Program) (policy : Policy) (p : ℕ) (v : IsValid program) where
   -- ---- the level of a loop
@@ -86,15 +87,15 @@ module _ (program : Program) (policy : Policy) (p : ℕ) (v : IsValid program) w
 
     -- a statement round which another one was tested
     pub inner_answer : (s outer : ℕ) (f : Origin) → body_of program s ≡ x.body → stands_in program s l ≡ true
-        → parent_if (slice_get program.stmts s) ≡ Some outer → Met program policy p 0 x.run.sight x.view outer
+        → option_and_then (λ x. x.parent) (slice_get program.stmts s) ≡ Some outer → Met program policy p 0 x.run.sight x.view outer
         → Answer program policy p rs (unwrap_or (found_over program policy p x.run.number s x.run.sight) f)
         (parent_of program s x.view)
     inner_answer s outer f home inside parent m =
         let tests : List _ = x.view.1 in
-        let test : of_outer (parent_if (slice_get program.stmts s)) tests ≡ Some m.test.event = ap
+        let test : of_outer (option_and_then (λ x. x.parent) (slice_get program.stmts s)) tests ≡ Some m.test.event = ap
         (λ z. of_outer z tests) parent ∙ ap (option_map (λ t. t.event)) m.test_is in
         let whole : option_or (of_run (kind_of program s) (latest s tests))
-        (option_or (of_outer (parent_if (slice_get program.stmts s)) tests) None) ≡ parent_of program s x.view =
+        (option_or (of_outer (option_and_then (λ x. x.parent) (slice_get program.stmts s)) tests) None) ≡ parent_of program s x.view =
         ap (λ z. option_or (of_run (kind_of program s) (latest s tests)) (option_or z None)) test
         ∙ sym (ap (λ z. option_or (of_run (kind_of program s) (latest s tests)) (option_or z x.view.0)) test) in
         subst (λ c. Answer program policy p rs
@@ -102,15 +103,15 @@ module _ (program : Program) (policy : Policy) (p : ℕ) (v : IsValid program) w
         (subst (λ call. Answer program policy p rs
         (unwrap_or (among_over program policy p x.run.number s x.run.sight call) f)
         (option_or (of_run (kind_of program s) (latest s tests))
-        (option_or (of_outer (parent_if (slice_get program.stmts s)) tests) None))) (sym no_call)
+        (option_or (of_outer (option_and_then (λ x. x.parent) (slice_get program.stmts s)) tests) None))) (sym no_call)
         (sure program policy p v rs x.run 0 x.run.sight (among_over program policy p x.run.number s x.run.sight None)
         (option_or (of_run (kind_of program s) (latest s tests))
-        (option_or (of_outer (parent_if (slice_get program.stmts s)) tests) None)) f refl (λ j q at. at)
+        (option_or (of_outer (option_and_then (λ x. x.parent) (slice_get program.stmts s)) tests) None)) f refl (λ j q at. at)
         (near_side program policy p v x.run.number 0 x.run.sight x.view s (loop_again s home inside)
         (λ i e. subst (λ z. Met program policy p 0 x.run.sight x.view z) (one_outer outer i (sym parent ∙ e)) m)
         None None tt)
         (λ e. else_none (of_run (kind_of program s) (latest s tests))
-        (of_outer (parent_if (slice_get program.stmts s)) tests) m.test.event test e)))
+        (of_outer (option_and_then (λ x. x.parent) (slice_get program.stmts s)) tests) m.test.event test e)))
       where
         one_outer : (a b : ℕ) → Some a ≡ Some b → a ≡ b
         one_outer a b e = ap (λ z. elim z [ None ↦ a | Some k ↦ k ]) e
@@ -134,7 +135,7 @@ module _ (program : Program) (policy : Policy) (p : ℕ) (v : IsValid program) w
     above = outside_over program policy p x.run.place (runs_of (y ∷ ys)) l
 
     pub above_answer : Answer program policy p rs above
-        (option_or (of_outer (parent_if (slice_get program.stmts l)) x.view.1) x.view.0)
+        (option_or (of_outer (option_and_then (λ x. x.parent) (slice_get program.stmts l)) x.view.1) x.view.0)
     above_answer =
         let before : List Sign = o.before in
         let rest : List Run = rest_with y.sort (runs_of ys) in
@@ -160,14 +161,14 @@ module _ (program : Program) (policy : Policy) (p : ℕ) (v : IsValid program) w
         let cut : take x.run.place y.run.sight ≡ before = ap (take x.run.place) o.sight_is
         ∙ take_at before (None ∷ []) x.run.place (sym o.place_is) in
         let parent : parent_of program l y.view ≡ option_or
-        (of_outer (parent_if (slice_get program.stmts l)) x.view.1) x.view.0 =
-        ap (λ z. option_or z (option_or (of_outer (parent_if (slice_get program.stmts l)) y.view.1) y.view.0))
+        (of_outer (option_and_then (λ x. x.parent) (slice_get program.stmts l)) x.view.1) x.view.0 =
+        ap (λ z. option_or z (option_or (of_outer (option_and_then (λ x. x.parent) (slice_get program.stmts l)) y.view.1) y.view.0))
         (none_run (kind_of program l) (latest l y.view.1)
         (quiet_at y.sort y.body y.run.sight y.view y.todo l o.not_loop hy.knows o.is_loop))
         ∙ ap (λ z. option_or z y.view.0) (sym
-        (outer_same (parent_if (slice_get program.stmts l))
+        (outer_same (option_and_then (λ x. x.parent) (slice_get program.stmts l))
         (λ i e. free_at y.sort l o.not_loop o.is_loop i (o.fact.outer i e).stands)))
-        ∙ ap (λ z. option_or (of_outer (parent_if (slice_get program.stmts l)) x.view.1) z) (sym o.call_is) in
+        ∙ ap (λ z. option_or (of_outer (option_and_then (λ x. x.parent) (slice_get program.stmts l)) x.view.1) z) (sym o.call_is) in
         subst (λ c. Answer program policy p rs above c) parent
         (subst (λ zs. Answer program policy p rs (outside_over program policy p x.run.place zs l)
         (parent_of program l y.view)) (sym (runs_are y.sort y.run (runs_of ys)))
@@ -189,7 +190,7 @@ module _ (program : Program) (policy : Policy) (p : ℕ) (v : IsValid program) w
 
     -- where the statement round the loop was not tested since
     pub outer_answer : round_over program policy p x.run.number 0 x.run.sight
-        (parent_if (slice_get program.stmts l)) ≡ None → Found l
+        (option_and_then (λ x. x.parent) (slice_get program.stmts l)) ≡ None → Found l
     outer_answer none =
         subst (λ k. Answer program policy p rs
         (unwrap_or (found_over program policy p x.run.number l x.run.sight)
@@ -199,19 +200,19 @@ module _ (program : Program) (policy : Policy) (p : ℕ) (v : IsValid program) w
         (parent_of program l x.view)) (sym no_call)
         (answered program policy p rs x.run 0 x.run.sight (among_over program policy p x.run.number l x.run.sight None)
         (of_run (kind_of program l) (latest l x.view.1))
-        (option_or (of_outer (parent_if (slice_get program.stmts l)) x.view.1) x.view.0) above refl
+        (option_or (of_outer (option_and_then (λ x. x.parent) (slice_get program.stmts l)) x.view.1) x.view.0) above refl
         (λ j q at. at)
         (side_drop x.run.number x.run.sight (test_at program policy p v x.run.number 0 x.run.sight l)
-        (round_over program policy p x.run.number 0 x.run.sight (parent_if (slice_get program.stmts l)))
+        (round_over program policy p x.run.number 0 x.run.sight (option_and_then (λ x. x.parent) (slice_get program.stmts l)))
         (of_run (kind_of program l) (latest l x.view.1)) none
         (run_side program policy p x.run.number 0 x.run.sight x.view l
         (loop_again l o.home (in_own_loop program policy l))))
         above_answer))
 
     pub loop_answer : Found l
-    loop_answer = by (parent_if (slice_get program.stmts l)) refl
+    loop_answer = by (option_and_then (λ x. x.parent) (slice_get program.stmts l)) refl
       where
-        by : (parent : Option ℕ) → parent_if (slice_get program.stmts l) ≡ parent → Found l
+        by : (parent : Option ℕ) → option_and_then (λ x. x.parent) (slice_get program.stmts l) ≡ parent → Found l
         by None e = outer_answer (ap (round_over program policy p x.run.number 0 x.run.sight) e)
         by (Some i) e =
             let outer = o.fact.outer i e in
@@ -226,7 +227,7 @@ module _ (program : Program) (policy : Policy) (p : ℕ) (v : IsValid program) w
     pub inside_answer : (s : ℕ) → Fact program policy p (loop l) x.body x.run.sight x.view s → Found s
     inside_answer s f = elim (within_cases program l s f.stands.0) [
       | inl same ↦ absurd (f.stands.1 same)
-      | inr out ↦ (let parent : parent_if (slice_get program.stmts s) ≡ Some out.outer = ap parent_if out.there
+      | inr out ↦ (let parent : option_and_then (λ x. x.parent) (slice_get program.stmts s) ≡ Some out.outer = ap (option_and_then (λ (x : Stmt). x.parent)) out.there
           ∙ out.parent in
           inner_answer s out.outer (above_over program policy p x.run (runs_of (y ∷ ys)) x.run.kind) f.home f.stands.0
           parent (f.outer out.outer parent).met)

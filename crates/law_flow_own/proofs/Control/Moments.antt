@@ -18,7 +18,7 @@ use Rattle.ppd_sem.specs.declared.proc.Need.TheVariants as need
 use Rattle.ppd_sem.specs.declared.proc.Proc.{Proc}
 use Rattle.ppd_sem.specs.declared.proc.Todo.{Todo}
 use Rattle.ppd_sem.specs.Described.{trap_of, is_event}
-use Rattle.ppd_sem.specs.Process.{act, act_by_need, need_of, top_body}
+use Rattle.ppd_sem.specs.Process.{act, act_by_need, need_of, top_frame}
 use Rattle.ppd_sem.proofs.NeedWords.{act_at, need_of_running}
 use Rattle.ppd_sem.proofs.Progress.{act-stopped, need_at_status, need_at_todo}
 use Rattle.ppd_sem.specs.Runs.{bodies_in}
@@ -77,7 +77,7 @@ events_after program plan story p x need.Stopped t e = absurd (cc)
 events_after program plan story p x n t e = refl
 
 home_of : (program : Program) (frames : List Frame) (t : Todo) (ts : List Todo)
-    → AreHome program (bodies_in frames) (t ∷ ts) → top_body frames ≡ body_of program t.stmt
+    → AreHome program (bodies_in frames) (t ∷ ts) → (top_frame frames).body ≡ body_of program t.stmt
 home_of program [] t ts h = absurd h
 home_of program (f ∷ fs) t ts h = sym h.0
 

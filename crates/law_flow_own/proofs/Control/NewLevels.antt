@@ -1,6 +1,6 @@
 -- Calls: a new level begins over the top one.
 use Rattle.std.proofs.Common.{◌≡◌, ℕ, suc, true, false, ◌&&◌, List, [], ◌∷◌, ◌++◌, Some, None, refl, ap, sym, ◌∙◌, length, length-append, inl, arith, true≢false, append_assoc}
-use Rattle.std.specs.Prelude.{drop, is_some, nat_eq, not, slice_get}
+use Rattle.std.specs.Prelude.{drop, is_some, nat_eq, not}
 use Rattle.std.proofs.lemmas.Bool.{both_ways}
 use Rattle.ppd_ast.specs.Numbered.{is_while}
 use Rattle.ppd_ast.specs.Valid.{IsValid}
@@ -10,7 +10,7 @@ use Rattle.ppd_ast.specs.declared.plan.Policy.{Policy}
 use Rattle.ppd_ast.specs.declared.program.Kind.{Kind}
 use Rattle.ppd_ast.specs.declared.program.Kind.TheVariants as kind
 use Rattle.ppd_ast.specs.declared.program.Program.{Program}
-use Rattle.ppd_ast.specs.Lookups.{kind_of, top_of_body}
+use Rattle.ppd_ast.specs.Lookups.{kind_of, body_numbered}
 use Rattle.law_replay.specs.Beside.Relation.{IsCallOf}
 use Rattle.ppd_blocks.specs.Blocks.{plan_of}
 use Rattle.law_replay.proofs.Facts.Placed.{IsCallee, callee}
@@ -73,8 +73,8 @@ module _ (program : Program) (policy : Policy) (p : ℕ) (v : IsValid program) (
 
   module _ (n : ℕ) (e : Event) (is : e.stmt ≡ t.stmt) (fine : e.trap ≡ None) (f : ℕ)
       (calls : IsCallOf (kind_of program t.stmt) f)
-      (tops : AreTop program (top_of_body (slice_get program.bodies f)))
-      (homes : AreTopOf program f (top_of_body (slice_get program.bodies f))) where
+      (tops : AreTop program (body_numbered program f).top)
+      (homes : AreTopOf program f (body_numbered program f).top) where
     frame_zero : frame_of x.sort ≡ 0
     frame_zero = called_from program policy p here t.stmt f v calls h.facts.0.0.home x.sort xs h.over
 
@@ -93,14 +93,14 @@ module _ (program : Program) (policy : Policy) (p : ℕ) (v : IsValid program) (
         ∙ leaf_kind (plan_of program policy) (kind_of program t.stmt) f calls
 
     -- the levels below the new one have this to do
-    todos_are : (first : List Todo) (last : Todo) → todos (top_of_body (slice_get program.bodies f)) ≡ first ++ last ∷ []
-        → todos (top_of_body (slice_get program.bodies f)) ++ rest ≡ first ++ (last ∷ rest)
+    todos_are : (first : List Todo) (last : Todo) → todos (body_numbered program f).top ≡ first ++ last ∷ []
+        → todos (body_numbered program f).top ++ rest ≡ first ++ (last ∷ rest)
     todos_are first last e = ap (λ ts. ts ++ rest) e ∙ append_assoc first (last ∷ []) rest
 
     -- ---- a call without an interval
 
     pub calls_leaf : block_of (plan_of program policy) (block.Function f) ≡ None
-        → Moved program policy p (todos (top_of_body (slice_get program.bodies f)) ++ rest)
+        → Moved program policy p (todos (body_numbered program f).top ++ rest)
         ((Some (me_of program policy p n), []) ∷ tested program (me_of program policy p n) e (views_of (here ∷ xs)))
         (add (Some (n, e)) (runs_of (here ∷ xs)))
     calls_leaf none =
@@ -109,8 +109,8 @@ module _ (program : Program) (policy : Policy) (p : ℕ) (v : IsValid program) (
         let begins : begins_leaf program (plan_of program policy) e ≡ true = called_leaf
         ∙ ap (λ o. not (is_some o)) none in
         let split : TopSplit program policy p leaf f sight view
-        (top_of_body (slice_get program.bodies f)) = top_split program policy p leaf f sight view
-        (top_of_body (slice_get program.bodies f)) (λ j c. c) tops homes in
+        (body_numbered program f).top = top_split program policy p leaf f sight view
+        (body_numbered program f).top (λ j c. c) tops homes in
         let found : IsCallee program f = callee program t.stmt f v calls in
         let other : (s : ℕ) → is_choice (kind_of program s) ≡ true → e.stmt ≡ s
         → ⊥ = λ s choice same. both_ways (is_choice (kind_of program t.stmt)) simple.0
@@ -175,7 +175,7 @@ module _ (program : Program) (policy : Policy) (p : ℕ) (v : IsValid program) (
     -- ---- a call of a block
 
     pub calls_block : (b number : ℕ) → block_of (plan_of program policy) (block.Function f) ≡ Some b
-        → Moved program policy p (todos (top_of_body (slice_get program.bodies f)) ++ rest)
+        → Moved program policy p (todos (body_numbered program f).top ++ rest)
         ((Some (me_of program policy p n), []) ∷ tested program (me_of program policy p n) e (views_of (here ∷ xs)))
         (opens number (block_kind (plan_of program policy) b) (add (Some (n, e)) (runs_of (here ∷ xs))))
     calls_block b number some =
@@ -183,8 +183,8 @@ module _ (program : Program) (policy : Policy) (p : ℕ) (v : IsValid program) (
         let begins : begins_leaf program (plan_of program policy) e ≡ false = called_leaf
         ∙ ap (λ o. not (is_some o)) some in
         let split : TopSplit program policy p function f [] view
-        (top_of_body (slice_get program.bodies f)) = top_split program policy p function f [] view
-        (top_of_body (slice_get program.bodies f)) (λ j c. c) tops homes in
+        (body_numbered program f).top = top_split program policy p function f [] view
+        (body_numbered program f).top (λ j c. c) tops homes in
         let isnt : is_while (kind_of program t.stmt) ≡ false = no_while program policy p t.stmt simple.0 in
         let a : AtLevel program policy p here t.stmt n e = record {
           is = is;

@@ -1,6 +1,6 @@
 -- A level to which a nested interval or a new activation is added, and the statements of a function.
 use Rattle.std.proofs.Common.{◌≡◌, ℕ, ◌<◌, Bool, true, false, List, [], ◌∷◌, ◌++◌, Some, None, refl, ap, sym, subst, ◌∙◌, inl, inr, true≢false}
-use Rattle.std.specs.Prelude.{⊤, is_some, slice_get}
+use Rattle.std.specs.Prelude.{⊤, is_some, slice_get, option_and_then}
 use Rattle.std.proofs.lemmas.Bool.{both_ways}
 use Rattle.std.proofs.lemmas.Option.{none-some}
 use Rattle.ppd_ast.specs.Numbered.{is_while}
@@ -8,7 +8,7 @@ use Rattle.ppd_ast.specs.Valid.{IsValid}
 use Rattle.ppd_ast.specs.declared.plan.BlockKind.TheVariants as block
 use Rattle.ppd_ast.specs.declared.plan.Policy.{Policy}
 use Rattle.ppd_ast.specs.declared.program.Program.{Program}
-use Rattle.ppd_ast.specs.Lookups.{kind_of, body_of, parent_if}
+use Rattle.ppd_ast.specs.Lookups.{kind_of, body_of}
 use Rattle.law_replay.specs.Beside.Relation.{IsCallOf}
 use Rattle.ppd_blocks.specs.Blocks.{plan_of}
 use Rattle.law_replay.proofs.Facts.Counted.{calling_block}
@@ -186,7 +186,7 @@ module _ (program : Program) (policy : Policy) (p : ℕ) where
 
   top_fact : (sort : Sort) (f : ℕ) (sight : List Sign) (v : View) (i : ℕ)
       → ((j : ℕ) → Calm program policy j → StandsAt program policy p sort j)
-      → body_of program i ≡ f → parent_if (slice_get program.stmts i) ≡ None → Fact program policy p sort f sight v i
+      → body_of program i ≡ f → option_and_then (λ x. x.parent) (slice_get program.stmts i) ≡ None → Fact program policy p sort f sight v i
   top_fact sort f sight v i calm home none = record {
     home = home;
     stands = calm i (top_calm program policy i none);

@@ -1,10 +1,10 @@
 -- The parent of a statement of a level that is no loop's is found.
 use Rattle.std.proofs.Common.{◌≡◌, ℕ, ◌-◌, List, [], ◌∷◌, ◌++◌, Option, Some, None, refl, ap, sym, subst, ◌∙◌, length, arith}
-use Rattle.std.specs.Prelude.{slice_get, unwrap_or}
+use Rattle.std.specs.Prelude.{slice_get, unwrap_or, option_and_then}
 use Rattle.ppd_ast.specs.Valid.{IsValid}
 use Rattle.ppd_ast.specs.declared.plan.Policy.{Policy}
 use Rattle.ppd_ast.specs.declared.program.Program.{Program}
-use Rattle.ppd_ast.specs.Lookups.{kind_of, parent_if}
+use Rattle.ppd_ast.specs.Lookups.{kind_of}
 use Rattle.ppd_blocks.specs.Blocks.{plan_of}
 use Rattle.ppd_model.specs.declared.flow.Origin.{Origin}
 use Rattle.ppd_model.specs.declared.flow.Origin.TheVariants as origin
@@ -28,7 +28,7 @@ module _ (program : Program) (policy : Policy) (p : ℕ) (v : IsValid program) w
     A' = of_run (kind_of program s) (latest s x.view.1)
 
     abbrev pub B' : Option EventId
-    B' = of_outer (parent_if (slice_get program.stmts s)) x.view.1
+    B' = of_outer (option_and_then (λ x. x.parent) (slice_get program.stmts s)) x.view.1
 
     -- where no activation without an interval goes on
     pub own_answer : (rs : List Run) (i : ℕ) → slice_get rs i ≡ Some x.run

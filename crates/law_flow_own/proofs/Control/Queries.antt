@@ -1,12 +1,12 @@
 -- What is asked at a level that is no loop's: the tests of a statement, of the one round it, and the call that goes on.
 use Rattle.std.proofs.Common.{◌≡◌, ℕ, zero, suc, false, ◌⊎◌, List, [], ◌∷◌, ◌++◌, Option, Some, None, refl, ap, sym, ◌∙◌, inl, inr}
-use Rattle.std.specs.Prelude.{is_some, slice_get, unwrap_or}
+use Rattle.std.specs.Prelude.{is_some, slice_get, unwrap_or, option_and_then}
 use Rattle.std.proofs.lemmas.Option.{none-some}
 use Rattle.ppd_ast.specs.Valid.{IsValid}
 use Rattle.ppd_ast.specs.declared.plan.BlockKind.TheVariants as block
 use Rattle.ppd_ast.specs.declared.plan.Policy.{Policy}
 use Rattle.ppd_ast.specs.declared.program.Program.{Program}
-use Rattle.ppd_ast.specs.Lookups.{kind_of, body_of, parent_if}
+use Rattle.ppd_ast.specs.Lookups.{kind_of, body_of}
 use Rattle.ppd_blocks.specs.Blocks.{plan_of}
 use Rattle.ppd_sem.specs.declared.event.Event.{Event}
 use Rattle.ppd_sem.specs.Tables.{block_of}
@@ -44,7 +44,7 @@ module _ (program : Program) (policy : Policy) (p : ℕ) (v : IsValid program) w
   -- its tests and those of the statement round it, and the call that goes on
   pub record Query (sort : Sort) (sight : List Sign) (w : View) (s : ℕ) : Type 0 where
     pub again : Again program policy p 0 (frame_of sort) sight w s
-    pub outer : (o : ℕ) → parent_if (slice_get program.stmts s) ≡ Some o
+    pub outer : (o : ℕ) → option_and_then (λ x. x.parent) (slice_get program.stmts s) ≡ Some o
         → Met program policy p (frame_of sort) sight w o
 
   pub plain_again : (frame body : ℕ) (sight : List Sign) (w : View) (s : ℕ) → Plain program policy p frame body sight w
@@ -143,23 +143,23 @@ module _ (program : Program) (policy : Policy) (p : ℕ) (v : IsValid program) w
 
   -- among the items, but for what began the activation of an interval
   pub near_side : (k : ℕ) (frame : ℕ) (sight : List Sign) (w : View) (s : ℕ) → Again program policy p 0 frame sight w s
-      → ((o : ℕ) → parent_if (slice_get program.stmts s) ≡ Some o → Met program policy p frame sight w o)
+      → ((o : ℕ) → option_and_then (λ x. x.parent) (slice_get program.stmts s) ≡ Some o → Met program policy p frame sight w o)
       → (a : Option Origin) (c : Option EventId)
       → Side program policy p k sight a c
       → Side program policy p k sight
       (option_or (test_at k frame sight s)
-      (option_or (round_over program policy p k frame sight (parent_if (slice_get program.stmts s))) a))
+      (option_or (round_over program policy p k frame sight (option_and_then (λ x. x.parent) (slice_get program.stmts s))) a))
       (option_or (of_run (kind_of program s) (latest s w.1))
-      (option_or (of_outer (parent_if (slice_get program.stmts s)) w.1) c))
+      (option_or (of_outer (option_and_then (λ x. x.parent) (slice_get program.stmts s)) w.1) c))
   near_side k frame sight w s again outer a c h =
       side_else program policy p k sight (test_at k frame sight s)
-      (option_or (round_over program policy p k frame sight (parent_if (slice_get program.stmts s))) a)
-      (of_run (kind_of program s) (latest s w.1)) (option_or (of_outer (parent_if (slice_get program.stmts s)) w.1) c)
+      (option_or (round_over program policy p k frame sight (option_and_then (λ x. x.parent) (slice_get program.stmts s))) a)
+      (of_run (kind_of program s) (latest s w.1)) (option_or (of_outer (option_and_then (λ x. x.parent) (slice_get program.stmts s)) w.1) c)
       (run_side program policy p k frame sight w s again)
       (side_else program policy p k sight
-      (round_over program policy p k frame sight (parent_if (slice_get program.stmts s))) a
-      (of_outer (parent_if (slice_get program.stmts s)) w.1) c
-      (outers_side program policy p k frame sight w (parent_if (slice_get program.stmts s)) outer) h)
+      (round_over program policy p k frame sight (option_and_then (λ x. x.parent) (slice_get program.stmts s))) a
+      (of_outer (option_and_then (λ x. x.parent) (slice_get program.stmts s)) w.1) c
+      (outers_side program policy p k frame sight w (option_and_then (λ x. x.parent) (slice_get program.stmts s)) outer) h)
 
   -- ---- options
 

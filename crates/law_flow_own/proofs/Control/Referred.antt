@@ -1,5 +1,6 @@
 -- What is found in the running intervals is where the trace refers to, at the head of each moment.
 use Rattle.std.proofs.Common.{◌≡◌, ℕ, zero, suc, ◌<◌, List, [], ◌∷◌, ◌++◌, Option, Some, None, refl, ap, sym, subst, ◌∙◌, length}
+use Rattle.std.specs.Option.{option_map_or}
 use Rattle.std.specs.Prelude.{⊤, slice_get}
 use Rattle.std.proofs.lemmas.Option.{none-some}
 use Rattle.ppd_ast.specs.Valid.{IsValid}
@@ -16,7 +17,7 @@ use Rattle.ppd_model.specs.declared.trace.EventId.{EventId}
 use Rattle.ppd_model.specs.declared.trace.TracedEvent.{TracedEvent}
 use Rattle.ppd_model.specs.declared.tracing.Activation.{Activation}
 use Rattle.ppd_model.specs.declared.tracing.Story.{Story}
-use Rattle.ppd_model.specs.FlowbackEdges.{from_parent, part_at}
+use Rattle.ppd_model.specs.FlowbackEdges.{part_at}
 use Rattle.ppd_model.specs.FullTrace.{parent_at}
 use Rattle.ppd_model.specs.Intervals.{Part, own, nested, Span, Split, ref, splits}
 use Rattle.ppd_model.specs.Items.{HasWholeItems, IsReferred}
@@ -127,7 +128,7 @@ module _ (program : Program) (policy : Policy) (budget : ℕ) (h : List ℕ) (p 
       run_at i l.interval (nested l.interval ∷ []) (None ∷ []) ls rs q j m e tt a.1 seen.1 there event
 
   pub from_answer : (n : ℕ) (ls : List Place) (rs : List Run) (o : Origin) (parent : Option EventId) → AllAt y n [] ls
-      → AreSeen plan y.trace.events [] ls rs → Answer program policy p rs o parent → o ≡ from_parent xs parent
+      → AreSeen plan y.trace.events [] ls rs → Answer program policy p rs o parent → o ≡ option_map_or (ref xs) parent origin.Entry
   from_answer n ls rs o None a seen h = h
   from_answer n ls rs o (Some e) a seen h =
       let found = run_at h.1 n [] [] ls rs h.0 h.3 e.number h.4 tt a seen h.2 h.7 in
@@ -143,7 +144,7 @@ module _ (program : Program) (policy : Policy) (budget : ℕ) (h : List ℕ) (p 
   same_parent t ts (a ∷ as') = refl
 
   abbrev pub Found : ℕ → ℕ → ℕ → Option EventId → Type 0
-  Found k j st parent = control_origin program plan (seen_of y) p k j st ≡ from_parent xs parent
+  Found k j st parent = control_origin program plan (seen_of y) p k j st ≡ option_map_or (ref xs) parent origin.Entry
 
   pub head_runs : (n : ℕ) (l : Place) (ls : List Place) (rs : List Run) (st : ℕ) (parent : Option EventId)
       → AllAt y n [] (l ∷ ls) → AreSeen plan y.trace.events [] (l ∷ ls) rs → EndsInProcess rs

@@ -1,10 +1,10 @@
 -- The search over what is seen of a process, at the place at which it stands: it goes as over its running intervals.
 use Rattle.std.proofs.Common.{◌≡◌, ℕ, suc, ◌+◌, ◌<◌, true, false, List, [], ◌∷◌, ◌++◌, Option, Some, None, refl, ap, sym, ◌∙◌, arith, length, append-nil, append_assoc, ne_eqb, if◌then◌else◌}
 use Rattle.std.specs.List.{AllByRecursion as Each, flat_map, position_from}
-use Rattle.std.specs.Prelude.{⊤, fold, slice_get}
+use Rattle.std.specs.Prelude.{⊤, fold, slice_get, is_some}
 use Rattle.ppd_ast.specs.declared.plan.Plan.{Plan}
 use Rattle.ppd_ast.specs.declared.program.Program.{Program}
-use Rattle.ppd_model.specs.Intervals.{Part, own, nested, Span, Split, is_closed, item_of}
+use Rattle.ppd_model.specs.Intervals.{Part, own, nested, Span, Split, item_of}
 use Rattle.ppd_model.proofs.IntervalWords.{item_of_event, item_of_span}
 use Rattle.ppd_model.specs.declared.flow.Item.{Item}
 use Rattle.ppd_model.specs.declared.flow.Item.TheVariants as item
@@ -93,7 +93,7 @@ module _ (program : Program) (plan : Plan) (y : Split) (whole : AreWhole y) wher
   sign_of n o t e = ap item_of_event e
 
   span_there : (m : ℕ) (o : Option Span) → length (item_of_span m o ++ []) ≡ 1 → (i : Span)
-      × (item_of_span m o ≡ item.Nested m i.block i.values (is_closed i) ∷ [])
+      × (item_of_span m o ≡ item.Nested m i.block i.values (is_some i.closed) ∷ [])
   span_there m None h = absurd (omega (arith, h))
   span_there m (Some i) h = (i, refl)
 
@@ -121,7 +121,7 @@ module _ (program : Program) (plan : Plan) (y : Split) (whole : AreWhole y) wher
       let is = span_there m (slice_get y.spans m) (one_item (nested m) ps w) in
       ap (λ xs. fold (test_item program plan frame s) t (xs ++ flat_map (item_of y) ps)) is.1
       ∙ tests_match frame s ps qs (record t { next = t.next + 1 }) h
-      (rest_items (nested m) ps (item.Nested m is.0.block is.0.values (is_closed is.0)) is.1 w)
+      (rest_items (nested m) ps (item.Nested m is.0.block is.0.values (is_some is.0.closed)) is.1 w)
   tests_match frame s (nested m ∷ ps) (Some q ∷ qs) t h w = absurd h
 
   snoc : (xs : List Item) (i : Item) (rest : List Item) → xs ++ (i ∷ rest) ≡ (xs ++ i ∷ []) ++ rest
@@ -151,11 +151,11 @@ module _ (program : Program) (plan : Plan) (y : Split) (whole : AreWhole y) wher
       longer (z ∷ zs) i = (let r : length (zs ++ i ∷ []) ≡ length zs + 1 = longer zs i in omega (arith, r))
   leaf_match xs t (nested m ∷ ps) (None ∷ qs) e l h w =
       let is = span_there m (slice_get y.spans m) (one_item (nested m) ps w) in
-      let i : Item = item.Nested m is.0.block is.0.values (is_closed is.0) in
+      let i : Item = item.Nested m is.0.block is.0.values (is_some is.0.closed) in
       ap (λ zs. leaf_at program plan (xs ++ (zs ++ flat_map (item_of y) ps))) is.1
       ∙ ap (leaf_at program plan) (snoc xs i (flat_map (item_of y) ps))
       ∙ leaf_match (xs ++ i ∷ []) (t.0 + 1, t.1) ps qs
-      (leaf_past program plan xs m is.0.block is.0.values (is_closed is.0) ∙ e)
+      (leaf_past program plan xs m is.0.block is.0.values (is_some is.0.closed) ∙ e)
       (longer xs i ∙ ap (λ k. k + 1) l) h (rest_items (nested m) ps i is.1 w)
     where
       longer : (xs : List Item) (i : Item) → length (xs ++ i ∷ []) ≡ length xs + 1

@@ -1,6 +1,6 @@
 -- What the search for control finds among the items of a level, beside what the trace has.
 use Rattle.std.proofs.Common.{◌≡◌, ℕ, ◌-◌, Bool, true, false, ◌⊎◌, List, [], ◌∷◌, Option, Some, None, refl, ap, sym, subst, inl, inr, true≢false, if◌then◌else◌}
-use Rattle.std.specs.Prelude.{⊤, option_map, slice_get, take, unwrap_or}
+use Rattle.std.specs.Prelude.{⊤, option_map, slice_get, take, unwrap_or, option_and_then}
 use Rattle.ppd_ast.specs.Numbered.{is_while}
 use Rattle.ppd_ast.specs.declared.plan.BlockKind.{BlockKind}
 use Rattle.ppd_ast.specs.declared.plan.BlockKind.TheVariants as block
@@ -8,7 +8,7 @@ use Rattle.ppd_ast.specs.declared.plan.Policy.{Policy}
 use Rattle.ppd_ast.specs.declared.program.Kind.{Kind}
 use Rattle.ppd_ast.specs.declared.program.Kind.TheVariants as kind
 use Rattle.ppd_ast.specs.declared.program.Program.{Program}
-use Rattle.ppd_ast.specs.Lookups.{kind_of, parent_if}
+use Rattle.ppd_ast.specs.Lookups.{kind_of}
 use Rattle.ppd_blocks.specs.Blocks.{plan_of}
 use Rattle.ppd_sem.specs.declared.event.Event.{Event}
 use Rattle.ppd_model.specs.declared.flow.Origin.{Origin}
@@ -30,7 +30,7 @@ use Rattle.law_flow_own.proofs.Control.Levels.{IsUnfound, Met, Run, passes}
 abbrev pub parent_of : Program → ℕ → View → Option EventId
 parent_of program s v =
     option_or (of_run (kind_of program s) (latest s v.1))
-    (option_or (of_outer (parent_if (slice_get program.stmts s)) v.1) v.0)
+    (option_or (of_outer (option_and_then (λ x. x.parent) (slice_get program.stmts s)) v.1) v.0)
 
 -- no run goes on
 pub none_run : (x : Kind) (o : Option Test) → passes o ≡ false → of_run x o ≡ None
@@ -50,7 +50,7 @@ module _ (program : Program) (policy : Policy) (p : ℕ) where
   among_over k s sight call =
       option_or (test_of_run p k (kind_of program s)
       (tests_over program (plan_of program policy) (frame_in call) s sight))
-      (option_or (round_over k (frame_in call) sight (parent_if (slice_get program.stmts s))) (leaf_call_at p k call))
+      (option_or (round_over k (frame_in call) sight (option_and_then (λ x. x.parent) (slice_get program.stmts s))) (leaf_call_at p k call))
 
   abbrev pub found_over : ℕ → ℕ → List Sign → Option Origin
   found_over k s sight = among_over k s sight (leaf_over program (plan_of program policy) sight)

@@ -1,8 +1,9 @@
 -- Before its first step a process is at the one level of its body; and its level is always the outermost one.
 use Rattle.std.proofs.Common.{◌≡◌, ℕ, suc, ◌+◌, true, List, [], ◌∷◌, Option, Some, None, refl, ap, sym, subst, ◌∙◌, arith, append-nil, inl}
-use Rattle.std.specs.Prelude.{drop, is_some, slice_get}
+use Rattle.std.specs.Prelude.{drop, is_some, slice_get, option_and_then, unwrap_or}
 use Rattle.std.specs.List.{All}
 use Rattle.std.proofs.lemmas.Option.{none-some}
+use Rattle.std.specs.Option.{option_map_or}
 use Rattle.ppd_ast.specs.Order.{StandIn}
 use Rattle.ppd_ast.specs.Valid.{IsValid}
 use Rattle.ppd_ast.specs.declared.plan.BlockKind.TheVariants as block
@@ -11,7 +12,6 @@ use Rattle.ppd_ast.specs.declared.program.Body.{Body}
 use Rattle.ppd_ast.specs.declared.program.Program.{Program}
 use Rattle.ppd_ast.specs.declared.program.Stmt.{Stmt}
 use Rattle.ppd_ast.proofs.ValidLaws.{some_and}
-use Rattle.ppd_ast.specs.Lookups.{top_of_body, body_of_stmt, parent_if}
 use Rattle.ppd_blocks.specs.Blocks.{plan_of}
 use Rattle.law_steps.proofs.OpenBlocks.Planned.{kind_is}
 use Rattle.law_steps.specs.OpenBlocks.Stack.{process_block}
@@ -31,6 +31,7 @@ use Rattle.law_flow_own.proofs.Control.Located.{EndsInProcess}
 use Rattle.law_flow_own.proofs.Control.Moments.{Moment}
 use Rattle.law_flow_own.proofs.Control.Statics.{top_calm}
 use Rattle.law_flow_own.proofs.Places.Frames.{is_there}
+use Rattle.ppd_ast.specs.Lookups.{no_body}
 
 module _ (program : Program) (policy : Policy) (p : ℕ) where
   -- ---- the outermost level
@@ -73,8 +74,8 @@ module _ (program : Program) (policy : Policy) (p : ℕ) where
   -- ---- the start
 
   stands : (o : Option Stmt) (body : ℕ) → (s : Stmt) × (o ≡ Some s) × ((s.parent ≡ None) × (s.body ≡ body))
-      → (body_of_stmt o ≡ body) × (parent_if o ≡ None)
-  stands o body h = (ap body_of_stmt h.1 ∙ h.2.1, ap parent_if h.1 ∙ h.2.0)
+      → (option_map_or (λ (x : Stmt). x.body) o 0 ≡ body) × (option_and_then (λ (x : Stmt). x.parent) o ≡ None)
+  stands o body h = (ap (λ o. option_map_or (λ (x : Stmt). x.body) o 0) h.1 ∙ h.2.1, ap (option_and_then (λ (x : Stmt). x.parent)) h.1 ∙ h.2.0)
 
   top_facts : (n body : ℕ) (v : View) (stmts : List ℕ) → All (IsInner program n) stmts
       → StandIn program.stmts None body stmts → Facts program policy p process body [] v (todos stmts)
@@ -97,12 +98,12 @@ module _ (program : Program) (policy : Policy) (p : ℕ) where
       )
 
   body_facts : (v : View) → IsValid program → (o : Option Body) → slice_get program.bodies (program.functions + p) ≡ o
-      → Facts program policy p process (program.functions + p) [] v (todos (top_of_body o))
+      → Facts program policy p process (program.functions + p) [] v (todos (unwrap_or o no_body).top)
   body_facts v valid None e = tt
   body_facts v valid (Some b) e =
       let inner = process_stays program (program.functions + p) valid (omega arith) in
       top_facts inner.0 (program.functions + p) v b.top
-      (subst (λ o. All (IsInner program inner.0) (top_of_body o)) e inner.1)
+      (subst (λ o. All (IsInner program inner.0) (unwrap_or o no_body).top) e inner.1)
       (body_top program (program.functions + p) b valid e)
 
   pub start_moment : (v : IsValid program) (story : Story) (budget : ℕ)

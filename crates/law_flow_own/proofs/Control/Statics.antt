@@ -1,7 +1,7 @@
 -- Of a valid program and the plan of a policy: block loops do not stand in one another, what is called without an
 -- interval calls nothing, and what blocks are the code of.
 use Rattle.std.proofs.Common.{◌-◌, ◌≡◌, ℕ, zero, suc, ◌≤◌, Bool, true, false, ◌⊎◌, List, Option, Some, None, refl, ap, sym, ◌∙◌, arith, inl, inr, true≢false}
-use Rattle.std.specs.Prelude.{◌&&◌, is_some, nat_eq, nat_lt, nat_le, not, slice_get}
+use Rattle.std.specs.Prelude.{◌&&◌, is_some, nat_eq, nat_lt, nat_le, not, slice_get, option_and_then}
 use Rattle.std.proofs.lemmas.Bool.{and_parts, both_ways, cases_Bool, cases_eq, eqb-true, or_cases, or_left, or_right}
 use Rattle.std.proofs.lemmas.Option.{none-some}
 use Rattle.ppd_ast.specs.declared.limits.TheConstants.{MOST_NESTING}
@@ -12,7 +12,7 @@ use Rattle.ppd_ast.specs.declared.program.Stmt.{Stmt}
 use Rattle.ppd_ast.specs.Numbered.{in_while, is_while}
 use Rattle.ppd_ast.proofs.Vocabulary.{inside_count, while_or}
 use Rattle.ppd_ast.specs.Valid.{IsValid}
-use Rattle.ppd_ast.specs.Lookups.{kind_of, parent_if}
+use Rattle.ppd_ast.specs.Lookups.{kind_of}
 use Rattle.ppd_blocks.specs.Blocks.{plan_of}
 use Rattle.ppd_blocks.proofs.Listing.{IsLoop, by_policy}
 use Rattle.law_steps.proofs.Course.Standing.{as_parent, in_itself}
@@ -26,13 +26,13 @@ use Rattle.ppd_model.proofs.Changes.{some}
 -- ---- where statements stand
 
 -- a statement with a parent is there
-pub stmt_with_parent : (o : Option Stmt) (t : ℕ) → parent_if o ≡ Some t → (y : Stmt) × (o ≡ Some y)
+pub stmt_with_parent : (o : Option Stmt) (t : ℕ) → option_and_then (λ (x : Stmt). x.parent) o ≡ Some t → (y : Stmt) × (o ≡ Some y)
     × (y.parent ≡ Some t)
 stmt_with_parent None t e = absurd (none-some t e)
 stmt_with_parent (Some y) t e = (y, refl, e)
 
 module _ (program : Program) (v : IsValid program) (c t q : ℕ)
-    (is : parent_if (slice_get program.stmts c) ≡ Some t) where
+    (is : option_and_then (λ x. x.parent) (slice_get program.stmts c) ≡ Some t) where
   -- what stands in a statement stands where that does, and nowhere else
   pub child_stands_in : stands_in program t q ≡ true → stands_in program c q ≡ true
   child_stands_in h = let y = stmt_with_parent
@@ -59,13 +59,13 @@ stands_while zero e stmts q x at w le o h = absurd (true≢false (sym h))
 stands_while (suc d) zero stmts q x at w le o h = absurd (omega (arith, le))
 stands_while (suc d) (suc e) stmts q x at w le None h = absurd (true≢false (sym h))
 stands_while (suc d) (suc e) stmts q x at w le (Some n) h =
-    elim (or_cases (nat_eq n q) (stands_at d stmts q (parent_if (slice_get stmts n))) h) [
+    elim (or_cases (nat_eq n q) (stands_at d stmts q (option_and_then (λ x. x.parent) (slice_get stmts n))) h) [
       | inl same ↦ while_there (in_while e stmts) (slice_get stmts n) x
           (ap (slice_get stmts) (eqb-true n q same) ∙ at) w
       | inr outer ↦ by (slice_get stmts n) outer (λ o g. stands_while d e stmts q x at w (omega (arith, le)) o g)
     ]
   where
-    by : (s : Option Stmt) → stands_at d stmts q (parent_if s) ≡ true
+    by : (s : Option Stmt) → stands_at d stmts q (option_and_then (λ (x : Stmt). x.parent) s) ≡ true
         → ((o : Option ℕ) → stands_at d stmts q o ≡ true → in_while e stmts o ≡ true)
         → while_or (in_while e stmts) s ≡ true
     by None g further = absurd (true≢false (sym g ∙ stands_none d stmts q))
@@ -154,17 +154,17 @@ module _ (program : Program) (policy : Policy) where
   calm_free = free_calm
 
   -- what stands directly in a free statement is calm
-  pub child_calm : (c t : ℕ) → IsValid program → parent_if (slice_get program.stmts c) ≡ Some t → Free t → Calm c
+  pub child_calm : (c t : ℕ) → IsValid program → option_and_then (λ x. x.parent) (slice_get program.stmts c) ≡ Some t → Free t → Calm c
   child_calm c t v is free l loop h = elim (child_cases program v c t l is h) [
     | inl e ↦ e
     | inr outer ↦ absurd (both_ways (stands_in program t l) (free l loop) outer)
   ]
 
   -- and so is what stands in none
-  pub top_calm : (c : ℕ) → parent_if (slice_get program.stmts c) ≡ None → Calm c
+  pub top_calm : (c : ℕ) → option_and_then (λ x. x.parent) (slice_get program.stmts c) ≡ None → Calm c
   top_calm c none l loop h = elim (within_cases program l c h) [
     | inl e ↦ e
-    | inr out ↦ absurd (none-some out.outer (sym none ∙ ap parent_if out.there ∙ out.parent))
+    | inr out ↦ absurd (none-some out.outer (sym none ∙ ap (option_and_then (λ (x : Stmt). x.parent)) out.there ∙ out.parent))
   ]
 
   pub in_own_loop : (l : ℕ) → stands_in program l l ≡ true

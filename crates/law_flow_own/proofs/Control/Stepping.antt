@@ -1,6 +1,6 @@
 -- One step of a process that goes on: what is then to do, the activations that are then there, and what it needed.
 use Rattle.std.proofs.Common.{◌≡◌, ℕ, zero, suc, ◌+◌, ℤ, Bool, true, false, nat_lt, List, ◌∷◌, length, Option, Some, None, Ok, Err, refl, ap, sym, subst, ◌∙◌, if◌then◌else◌}
-use Rattle.std.specs.Prelude.{drop, slice_get}
+use Rattle.std.specs.Prelude.{drop}
 use Rattle.std.proofs.lemmas.Option.{none-some}
 use Rattle.ppd_ast.specs.Numbered.{is_while}
 use Rattle.ppd_ast.specs.Valid.{IsValid}
@@ -9,7 +9,7 @@ use Rattle.ppd_ast.specs.declared.plan.Plan.{Plan}
 use Rattle.ppd_ast.specs.declared.plan.Start.TheVariants as start
 use Rattle.ppd_ast.specs.declared.program.Program.{Program}
 use Rattle.ppd_ast.specs.declared.status.Trap.TheVariants.{Depth}
-use Rattle.ppd_ast.specs.Lookups.{kind_of, top_of_body, body_of}
+use Rattle.ppd_ast.specs.Lookups.{kind_of, body_of, body_numbered}
 use Rattle.ppd_ast.specs.declared.limits.TheConstants.{MOST_CALLS}
 use Rattle.law_replay.specs.Beside.Relation.{IsCallOf}
 use Rattle.ppd_sem.specs.declared.asking.Pause.TheVariants.{Wants, Traps}
@@ -21,7 +21,7 @@ use Rattle.ppd_sem.specs.declared.proc.Todo.{Todo}
 use Rattle.ppd_sem.specs.Asked.{Asked}
 use Rattle.ppd_sem.specs.Deed.{Deed, set_local, set_shared, clear, branch, turn, leave, invoke, back, take, give, send, receive, print, pass, finish}
 use Rattle.ppd_sem.specs.Described.{evaluates, value_at, valued}
-use Rattle.ppd_sem.specs.Process.{act_by_asked, act_by_need, call_unit, chan_of, cost, entry_of, head_deed, loop_of, need_of_asked, need_of_deed, need_of_head, need_of_leaving, need_of_send, offer_of, top_body, top_call, top_cells}
+use Rattle.ppd_sem.specs.Process.{act_by_asked, act_by_need, call_unit, chan_of, cost, entry_of, head_deed, loop_of, need_of_asked, need_of_deed, need_of_head, need_of_leaving, need_of_send, offer_of, top_frame}
 use Rattle.ppd_sem.proofs.NeedWords.{need_by_entry, need_by_offer, need_of_running}
 use Rattle.ppd_sem.specs.Tables.{block_of, capacity_of, unit_of}
 use Rattle.ppd_sem.proofs.TableWords.{or_zero}
@@ -84,8 +84,8 @@ module _ (program : Program) (plan : Plan) (valid : IsValid program) (a : Answer
     fails : (n : Need) (left : List ℤ) → is_while (kind_of program t.stmt) ≡ true
         → head_deed program t s ≡ Ok (leave, left) → is_passed (value_in program s t n) ≡ false
     fails n left w at = either_false (evaluates n)
-        (value_at program.exprs (top_cells s.frames) s.answers (valued (kind_of program t.stmt)))
-        (leave_fails program.exprs (kind_of program t.stmt) (top_cells s.frames) s.answers left w at)
+        (value_at program.exprs (top_frame s.frames).cells s.answers (valued (kind_of program t.stmt)))
+        (leave_fails program.exprs (kind_of program t.stmt) (top_frame s.frames).cells s.answers left w at)
 
     leaving : (o : Option ℕ) (left : List ℤ) → head_deed program t s ≡ Ok (leave, left)
         → block_of plan (block.Loop t.stmt) ≡ o → is_while (kind_of program t.stmt) ≡ true
@@ -100,7 +100,7 @@ module _ (program : Program) (plan : Plan) (valid : IsValid program) (a : Answer
 
     calling : (x : Bool) (f : ℕ) (values : List ℤ) (into : Option ℕ) (left : List ℤ)
         → head_deed program t s ≡ Ok (invoke f values into, left) → IsCallOf (kind_of program t.stmt) f
-        → AreTopOf program f (top_of_body (slice_get program.bodies f))
+        → AreTopOf program f (body_numbered program f).top
         → Tells (if x then need.Trap Depth else need.Invoke (block_of plan (block.Function f))
         (unit_of plan (start.Entry f)))
     calling true f values into left at h top = λ runs. absurd (cc)
@@ -141,9 +141,9 @@ module _ (program : Program) (plan : Plan) (valid : IsValid program) (a : Answer
     by_deed (invoke f values into) left at h g = calling
         (nat_lt MOST_CALLS (s.below + length s.frames)) f values into left at h g.1.0
     by_deed (back value) left at h g =
-        moved (need.Back (block_of plan (block.Function (top_body s.frames))) (call_unit plan (top_call s.frames)))
+        moved (need.Back (block_of plan (block.Function (top_frame s.frames).body)) (call_unit plan (top_frame s.frames).call))
         (Ok (back value, left)) at
-        (λ runs. backs (call_unit plan (top_call s.frames)) refl h refl
+        (λ runs. backs (call_unit plan (top_frame s.frames).call) refl h refl
         (into_views _ value me (drop 1 acts) ∙ drop_views acts))
     by_deed (take x) left at h g = moved (need.P x (unit_of plan (start.After t.stmt))) (Ok (take x, left)) at
         (λ runs. passes (refl, refl, refl, refl) h refl refl)
@@ -156,7 +156,7 @@ module _ (program : Program) (plan : Plan) (valid : IsValid program) (a : Answer
         (λ runs. passes (refl, refl, refl, refl) h refl refl)
     by_deed pass left at h g = moved need.Plain (Ok (pass, left)) at
         (λ runs. passes (refl, refl, refl, refl) h refl refl)
-    by_deed finish left at h g = moved (need.End (or_zero (block_of plan (block.Process (top_body s.frames)))))
+    by_deed finish left at h g = moved (need.End (or_zero (block_of plan (block.Process (top_frame s.frames).body))))
         (Ok (finish, left)) at (λ runs. absurd (cc))
 
     by_asked : (x : Asked Deed) → head_deed program t s ≡ x → AskedFits (kind_of program t.stmt) x
@@ -180,7 +180,7 @@ module _ (program : Program) (plan : Plan) (valid : IsValid program) (a : Answer
           (sym (ap (λ x. if x then None else loop_of plan t.stmt (kind_of program t.stmt)) f) ∙ e) in
           enters b (unit_of plan (start.Enter t.stmt)) refl f w.1 w.0 refl refl
   by_entry None e = by_asked e (head_deed program t s) refl
-      (asked_fits program.exprs (kind_of program t.stmt) (top_cells s.frames) s.answers) (head_of program t s valid)
+      (asked_fits program.exprs (kind_of program t.stmt) (top_frame s.frames).cells s.answers) (head_of program t s valid)
 
   by_offer : (o : Option ℕ) → offer_of program t ≡ o
       → Tells (need_by_offer plan t.stmt o
@@ -192,7 +192,7 @@ module _ (program : Program) (plan : Plan) (valid : IsValid program) (a : Answer
       same_views : (c : ℕ) → offer_of program t ≡ Some c → views (tagged_at program s me s.todo acts) ≡ views acts
       same_views c e =
           ap (λ todo. views (tagged_at program s me todo acts)) is
-          ∙ send_views program s me acts program.exprs (kind_of program t.stmt) (top_cells s.frames) s.answers c
+          ∙ send_views program s me acts program.exprs (kind_of program t.stmt) (top_frame s.frames).cells s.answers c
           (offer_there t.offered (chan_of (kind_of program t.stmt)) c e)
   by_offer None e = by_entry (entry_of program plan t) refl
 

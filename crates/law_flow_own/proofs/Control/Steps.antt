@@ -1,6 +1,6 @@
 -- The steps of a process that goes on, by what they need and leave.
 use Rattle.std.proofs.Common.{◌≡◌, ℕ, ℤ, Bool, true, false, List, [], ◌∷◌, ◌++◌, Option, Some, None, Ok, Err, refl, sym, subst, inl, inr, if◌then◌else◌, true≢false}
-use Rattle.std.specs.Prelude.{drop, slice_get}
+use Rattle.std.specs.Prelude.{drop}
 use Rattle.std.proofs.lemmas.Option.{none-some}
 use Rattle.ppd_ast.specs.Numbered.{is_while}
 use Rattle.ppd_ast.specs.declared.plan.BlockKind.TheVariants as block
@@ -10,7 +10,7 @@ use Rattle.ppd_ast.specs.declared.program.Expr.{Expr}
 use Rattle.ppd_ast.specs.declared.program.Kind.{Kind}
 use Rattle.ppd_ast.specs.declared.program.Kind.TheVariants as kind
 use Rattle.ppd_ast.specs.declared.program.Program.{Program}
-use Rattle.ppd_ast.specs.Lookups.{kind_of, top_of_body, body_of}
+use Rattle.ppd_ast.specs.Lookups.{kind_of, body_of, body_numbered}
 use Rattle.law_replay.specs.Beside.Relation.{IsCallOf, IsListOf}
 use Rattle.ppd_sem.specs.declared.proc.Need.{Need}
 use Rattle.ppd_sem.specs.declared.proc.Need.TheVariants as need
@@ -20,7 +20,7 @@ use Rattle.ppd_sem.specs.Ask.{ask}
 use Rattle.ppd_sem.specs.Asked.{Asked, and_then, gives}
 use Rattle.ppd_sem.specs.Deed.{send, ask_deed}
 use Rattle.ppd_sem.specs.Described.{evaluates, trap_of, value_at, valued, is_event}
-use Rattle.ppd_sem.specs.Process.{chan_of, loop_of, todos, top_body, top_cells}
+use Rattle.ppd_sem.specs.Process.{chan_of, loop_of, todos, top_frame}
 use Rattle.ppd_sem.specs.Runs.{returns}
 use Rattle.ppd_sem.specs.Tables.{block_of}
 use Rattle.ppd_model.specs.declared.tracing.Activation.{Activation}
@@ -43,7 +43,7 @@ IsOwn program plan s n = (is_event n ≡ true) × (opened program plan s n ≡ N
 
 -- the value of the event
 abbrev pub value_in : Program → Proc → Todo → Need → Option ℤ
-value_in program s t n = if evaluates n then value_at program.exprs (top_cells s.frames) s.answers
+value_in program s t n = if evaluates n then value_at program.exprs (top_frame s.frames).cells s.answers
     (valued (kind_of program t.stmt)) else None
 
 -- statements that stand directly in statement t, in its body
@@ -79,10 +79,10 @@ pub data Step (program : Program) (plan : Plan) (s : Proc) (t : Todo) (ts : List
       → AreInside program t.stmt stmts
       → todo ≡ todos stmts ++ t ∷ ts → now ≡ tested → Step program plan s t ts me old tested n todo now
   calls : (f u : ℕ) → n ≡ need.Invoke (block_of plan (block.Function f)) u → IsCallOf (kind_of program t.stmt) f
-      → AreTop program (top_of_body (slice_get program.bodies f)) → AreTopOf program f (top_of_body (slice_get program.bodies f))
-      → todo ≡ todos (top_of_body (slice_get program.bodies f)) ++ ts → now ≡ (me, []) ∷ tested
+      → AreTop program (body_numbered program f).top → AreTopOf program f (body_numbered program f).top
+      → todo ≡ todos (body_numbered program f).top ++ ts → now ≡ (me, []) ∷ tested
       → Step program plan s t ts me old tested n todo now
-  backs : (u : Option ℕ) → n ≡ need.Back (block_of plan (block.Function (top_body s.frames))) u
+  backs : (u : Option ℕ) → n ≡ need.Back (block_of plan (block.Function (top_frame s.frames).body)) u
       → returns (kind_of program t.stmt) ≡ true
       → todo ≡ ts → now ≡ drop 1 tested → Step program plan s t ts me old tested n todo now
 
@@ -96,9 +96,9 @@ listed_inside program t (kind.While e body) stmts h is = subst (AllInner program
 listed_inside program t k stmts h is = absurd is
 
 pub called_top : (program : Program) (t : ℕ) (k : Kind) (f : ℕ) → Leads program t k → IsCallOf k f
-    → AreTop program (top_of_body (slice_get program.bodies f))
+    → AreTop program (body_numbered program f).top
 called_top program t (kind.Call g arguments into) f h is = subst
-    (λ i. AreTop program (top_of_body (slice_get program.bodies i))) (sym is) h
+    (λ i. AreTop program (body_numbered program i).top) (sym is) h
 called_top program t k f h is = absurd is
 
 pub loop_while : (plan : Plan) (t : ℕ) (k : Kind) (b : ℕ) → loop_of plan t k ≡ Some b → (is_while k ≡ true)

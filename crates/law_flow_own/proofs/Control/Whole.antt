@@ -1,6 +1,6 @@
 -- The search finds the control edge of each item of a process.
 use Rattle.std.proofs.Common.{◌≡◌, ℕ, zero, suc, List, [], ◌∷◌, Some, None, subst}
-use Rattle.std.specs.Prelude.{fold, slice_get}
+use Rattle.std.specs.Prelude.{fold, slice_get, get_or}
 use Rattle.std.proofs.lemmas.Option.{none-some}
 use Rattle.ppd_ast.specs.Valid.{IsValid}
 use Rattle.ppd_ast.specs.declared.plan.Plan.{Plan}
@@ -12,7 +12,7 @@ use Rattle.ppd_model.specs.declared.tracing.Story.{Story}
 use Rattle.ppd_model.specs.declared.tracing.Taken.{Taken}
 use Rattle.ppd_model.specs.Intervals.{own, nested, Split, begun_split, split_step, splits}
 use Rattle.ppd_model.specs.LocalTags.{AreOwn}
-use Rattle.ppd_model.specs.Story.{own_steps, story}
+use Rattle.ppd_model.specs.Story.{story}
 use Rattle.ppd_model.proofs.Homes.{IsHome, act-home, started-home}
 use Rattle.ppd_model.proofs.LocalTags.{own_steps_told}
 use Rattle.law_steps.specs.OpenBlocks.Stack.{process_block}
@@ -63,7 +63,7 @@ module _ (program : Program) (policy : Policy) (budget : ℕ) (h : List ℕ) (p 
       let there = process_below program plan budget h p y at in
       let f = begins program policy budget h p y v at in
       all_claims (begun_split program plan p (started program plan p budget))
-      (record { interval = 0; block = process_block program plan p; parts = [] } ∷ []) (own_steps s p)
+      (record { interval = 0; block = process_block program plan p; parts = [] } ∷ []) (get_or s.steps p [])
       (own_steps_told program plan budget h p) f.stands
       (started-home program plan p budget v)
       (λ runs. start_moment program policy p v s budget

@@ -1,6 +1,6 @@
 -- What is told of the tags before each step of a process of a schedule.
 use Rattle.std.proofs.Common.{◌≡◌, ℕ, List, [], ◌∷◌, ◌++◌, Some, None, sym, subst}
-use Rattle.std.specs.Prelude.{slice_get}
+use Rattle.std.specs.Prelude.{slice_get, get_or}
 use Rattle.ppd_ast.specs.Valid.{IsValid}
 use Rattle.ppd_ast.specs.declared.plan.Plan.{Plan}
 use Rattle.ppd_ast.specs.declared.plan.Policy.{Policy}
@@ -10,7 +10,7 @@ use Rattle.law_steps.specs.OpenBlocks.Stack.{process_block}
 use Rattle.ppd_sem.specs.Process.{started}
 use Rattle.ppd_model.specs.Intervals.{Split, begun_split, split_of, splits}
 use Rattle.ppd_model.specs.LocalTags.{AreOwn, HasTags}
-use Rattle.ppd_model.specs.Story.{own_steps, story}
+use Rattle.ppd_model.specs.Story.{story}
 use Rattle.ppd_model.specs.declared.tracing.Story.{Story}
 use Rattle.ppd_model.specs.declared.tracing.Taken.{Taken}
 use Rattle.ppd_model.proofs.Homes.{started-home}
@@ -23,7 +23,7 @@ module _ (program : Program) (policy : Policy) (budget : ℕ) (h : List ℕ) (p 
     (at : slice_get (splits program (plan_of program policy) budget
     (story program (plan_of program policy) budget h)) p ≡ Some y)
     (before : List Taken) (t : Taken) (after : List Taken)
-    (steps : own_steps (story program (plan_of program policy) budget h) p ≡ before ++ t ∷ after) where
+    (steps : get_or (story program (plan_of program policy) budget h).steps p [] ≡ before ++ t ∷ after) where
   abbrev plan : Plan
   plan = plan_of program policy
 

@@ -8,7 +8,7 @@ use Rattle.ppd_sem.specs.declared.proc.Need.{Need}
 use Rattle.ppd_sem.specs.declared.proc.Need.TheVariants as need
 use Rattle.ppd_sem.specs.declared.proc.Proc.{Proc}
 use Rattle.ppd_model.specs.FullTrace.{Tag, me_in, top_tags}
-use Rattle.ppd_model.specs.Intervals.{Part, own, Span, Split, change_first, control_by, end_span, is_closed, left_by, split_step, with_own, with_step}
+use Rattle.ppd_model.specs.Intervals.{Part, own, Span, Split, change_first, control_by, end_span, left_by, split_step, with_own, with_step}
 use Rattle.ppd_model.proofs.IntervalWords.{begin_if, end_if}
 use Rattle.ppd_model.specs.Marks.{Mark, closed, opened}
 use Rattle.ppd_model.specs.declared.tracing.Story.{Story}
@@ -48,7 +48,7 @@ from_event N (k ∷ ks) l others e = (k, ks, refl, ap (λ xs. first_level_or k x
 module _ (program : Program) (plan : Plan) (story : Story) (p : ℕ) (x : Split) (t : Taken) (ls : List Level)
     (s : StandsIn x ls) (m : ℕ) (i : Span)
     (unso : closed_at m x.spans ≡ false) (at : slice_get (split_step program plan story p x t).spans m
-    ≡ Some i) (is_so : is_closed i ≡ true) where
+    ≡ Some i) (is_so : is_some i.closed ≡ true) where
   abbrev a : Split
   a = with_step t.need x
 
@@ -122,7 +122,7 @@ events program plan s n h = absurd (true≢false (sym h))
 pub closes_at : (program : Program) (plan : Plan) (story : Story) (p : ℕ) (x : Split) (t : Taken) (ls : List Level)
     → StandsIn x ls → (m : ℕ) (i : Span)
     → closed_at m x.spans ≡ false → slice_get (split_step program plan story p x t).spans m ≡ Some i
-    → is_closed i ≡ true → ClosesAt program plan p x ls t.need m i
+    → is_some i.closed ≡ true → ClosesAt program plan p x ls t.need m i
 closes_at program plan story p x t ls s m i unso at is_so =
     let q : Proc = (with_own t.need (with_step t.need x)).trace.proc in
     by_mark program plan story p x t ls s m i unso at is_so (opened program plan q t.need)
@@ -133,7 +133,7 @@ closes_at program plan story p x t ls s m i unso at is_so =
 pub record IsLeftNow (l : Level) (values : List ℤ) (parts : List Part) (after : List Span) : Type 0 where
   pub span : Span
   pub there : slice_get after l.interval ≡ Some span
-  pub left : is_closed span ≡ true
+  pub left : is_some span.closed ≡ true
   pub block_is : span.block ≡ l.block
   pub values_are : span.values ≡ values
   pub parts_are : span.parts ≡ parts

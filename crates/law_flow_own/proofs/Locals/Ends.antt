@@ -1,12 +1,12 @@
 -- What the end of an interval leaves of it.
 use Rattle.std.proofs.Common.{◌≡◌, ℕ, zero, suc, ◌+◌, ℤ, Bool, true, false, cond, List, [], ◌∷◌, ◌++◌, Option, Some, None, refl, ap, sym, subst, ◌∙◌, length, append-nil, true≢false, inl, inr}
 use Rattle.std.proofs.lemmas.Bool.{cases_eq}
-use Rattle.std.specs.Prelude.{option_map, slice_get}
+use Rattle.std.specs.Prelude.{option_map, slice_get, is_some}
 use Rattle.ppd_sem.specs.declared.proc.Need.{Need}
 use Rattle.ppd_sem.specs.declared.proc.Need.TheVariants as need
 use Rattle.ppd_sem.specs.Described.{is_event}
 use Rattle.ppd_model.specs.FullTrace.{Tag}
-use Rattle.ppd_model.specs.Intervals.{own, nested, Span, Split, change_first, end_span, innermost, is_closed, new_span, with_own, with_part, with_step}
+use Rattle.ppd_model.specs.Intervals.{own, nested, Span, Split, change_first, end_span, innermost, new_span, with_own, with_part, with_step}
 use Rattle.ppd_model.proofs.IntervalWords.{begin_if}
 use Rattle.ppd_model.specs.Marks.{Mark}
 use Rattle.ppd_model.specs.World.{change}
@@ -16,17 +16,17 @@ use Rattle.law_flow_own.specs.Places.Levels.{Level, StandsIn, numbers}
 
 abbrev pub closed_in : Option Span → Bool
 closed_in None = false
-closed_in (Some i) = is_closed i
+closed_in (Some i) = is_some i.closed
 
 abbrev pub closed_at : ℕ → List Span → Bool
 closed_at m spans = closed_in (slice_get spans m)
 
-quiet_option : (f : Span → Span) → ((i : Span) → is_closed (f i) ≡ is_closed i) → (o : Option Span)
+quiet_option : (f : Span → Span) → ((i : Span) → is_some (f i).closed ≡ is_some i.closed) → (o : Option Span)
     → closed_in (option_map f o) ≡ closed_in o
 quiet_option f same None = refl
 quiet_option f same (Some i) = same i
 
-quiet_closed : (f : Span → Span) → ((i : Span) → is_closed (f i) ≡ is_closed i) → (m k : ℕ) (spans : List Span)
+quiet_closed : (f : Span → Span) → ((i : Span) → is_some (f i).closed ≡ is_some i.closed) → (m k : ℕ) (spans : List Span)
     → closed_at m (change f k spans) ≡ closed_at m spans
 quiet_closed f same m k spans = elim (cases_eq m k) [
   | inl is ↦ subst (λ z. closed_at z (change f k spans) ≡ closed_at z spans) (sym is)
@@ -34,7 +34,7 @@ quiet_closed f same m k spans = elim (cases_eq m k) [
   | inr other ↦ ap closed_in (change-else f k m spans other)
 ]
 
-first_closed : (f : Span → Span) → ((i : Span) → is_closed (f i) ≡ is_closed i)
+first_closed : (f : Span → Span) → ((i : Span) → is_some (f i).closed ≡ is_some i.closed)
     → (m : ℕ) (ks : List ℕ) (spans : List Span) → closed_at m (change_first f ks spans) ≡ closed_at m spans
 first_closed f same m [] spans = refl
 first_closed f same m (k ∷ ks) spans = quiet_closed f same m k spans
@@ -52,7 +52,7 @@ own_closed m n x = by (is_event n)
     by true = first_closed (with_part (own (length x.trace.events))) (λ i. refl) m x.running x.spans
     by false = refl
 
-more_closed : (m : ℕ) (spans : List Span) (i : Span) → is_closed i ≡ false
+more_closed : (m : ℕ) (spans : List Span) (i : Span) → is_some i.closed ≡ false
     → closed_at m (spans ++ i ∷ []) ≡ closed_at m spans
 more_closed zero [] i runs = runs
 more_closed (suc m) [] i runs = refl
@@ -80,7 +80,7 @@ pub record IsLeftAs (x : Split) (ls : List Level) (m : ℕ) (values : List ℤ) 
 
 pub end_closes : (m : ℕ) (values : List ℤ) (left : List Tag) (x : Split) (ls : List Level) → StandsIn x ls
     → closed_at m x.spans ≡ false → (i : Span) → slice_get (end_span values left x).spans m ≡ Some i
-    → is_closed i ≡ true → IsLeftAs x ls m values left i
+    → is_some i.closed ≡ true → IsLeftAs x ls m values left i
 end_closes m values left x ls s unso i at is_so =
     by ls s (subst (λ ks. slice_get (change_first (λ (j : Span). record j {
       closed = Some (length x.edges);

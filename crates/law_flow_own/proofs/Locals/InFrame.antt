@@ -1,9 +1,10 @@
 -- The local cells that a statement reads are cells of its frame.
 use Rattle.std.proofs.Common.{◌≡◌, ℕ, zero, suc, ◌+◌, ◌<◌, ℤ, pos, negsuc, Bool, true, false, nat_lt, List, [], ◌∷◌, ◌++◌, Some, None, Ok, Err, refl, ap, sym, subst, ◌∙◌, arith, if◌then◌else◌}
-use Rattle.std.specs.Prelude.{slice_get, ⊤}
+use Rattle.std.specs.Prelude.{slice_get, ⊤, get_or}
 use Rattle.std.specs.List.{AllByRecursion as Each, All}
 use Rattle.std.proofs.lemmas.Bool.{ltb-true}
 use Rattle.std.proofs.lemmas.Option.{none-some}
+use Rattle.std.specs.Ordering.{int_eq}
 use Rattle.ppd_ast.specs.declared.program.Expr.{Expr}
 use Rattle.ppd_ast.specs.declared.program.Kind.{Kind}
 use Rattle.ppd_ast.specs.declared.program.Kind.TheVariants as K
@@ -13,9 +14,9 @@ use Rattle.ppd_ast.specs.declared.status.Trap.TheVariants.{Index}
 use Rattle.ppd_ast.specs.Term.{Term, const, local, local_at, shared, shared_at, neg, not, two, and, or, term}
 use Rattle.ppd_ast.specs.Lookups.{kind_of}
 use Rattle.ppd_ast.proofs.Vocabulary.{kind_of_stmt}
-use Rattle.ppd_sem.specs.Ask.{ask, element, is_zero}
+use Rattle.ppd_sem.specs.Ask.{ask, element}
 use Rattle.ppd_sem.specs.Asked.{Asked, and_then, lift, once}
-use Rattle.ppd_sem.specs.Reads.{ask_place, local_read, reads_of, reads_of_all, reads_of_kind, reads_of_stored, shared_read}
+use Rattle.ppd_sem.specs.Reads.{ask_place, reads_of, reads_of_all, reads_of_kind, reads_of_stored, shared_read, local_accesses}
 use Rattle.ppd_sem.specs.Runs.{AreUses, RunsOver, IsRunnable, IsRunnableStmt, IsUse, size_of, stmt_size}
 use Rattle.ppd_sem.specs.Within.{IsWithin}
 use Rattle.ppd_sem.specs.declared.event.Access.{Access}
@@ -76,8 +77,8 @@ module _ (frame n : ℕ) where
   terms_in (local c) cells answers h = ((refl, h), tt)
   terms_in (local_at base len i) cells answers h =
       both (reads_of frame i cells answers) (once (ask_place i base len cells answers)
-      (λ c left. local_read frame cells c)) (terms_in i cells answers h.1)
-      (placed_in base len (λ c left. local_read frame cells c)
+      (λ c left. local_accesses frame c (get_or cells c (pos 0) ∷ []))) (terms_in i cells answers h.1)
+      (placed_in base len (λ c left. local_accesses frame c (get_or cells c (pos 0) ∷ []))
       (λ c left lt. ((refl, (let le = h.0 in omega (arith, lt, le))), tt)) (ask i cells answers))
   terms_in (shared c) cells answers h = shared_in c answers
   terms_in (shared_at base len i) cells answers h =
@@ -92,16 +93,16 @@ module _ (frame n : ℕ) where
       (once_in (ask a cells answers) (λ x left. reads_of frame b cells left) (λ x left. terms_in b cells left h.1))
   terms_in (and a b) cells answers h =
       both (reads_of frame a cells answers)
-      (once (ask a cells answers) (λ x left. if is_zero x then [] else reads_of frame b cells left))
+      (once (ask a cells answers) (λ x left. if int_eq x (pos 0) then [] else reads_of frame b cells left))
       (terms_in a cells answers h.0)
-      (once_in (ask a cells answers) (λ x left. if is_zero x then [] else reads_of frame b cells left)
-      (λ x left. if_in (is_zero x) [] (reads_of frame b cells left) tt (terms_in b cells left h.1)))
+      (once_in (ask a cells answers) (λ x left. if int_eq x (pos 0) then [] else reads_of frame b cells left)
+      (λ x left. if_in (int_eq x (pos 0)) [] (reads_of frame b cells left) tt (terms_in b cells left h.1)))
   terms_in (or a b) cells answers h =
       both (reads_of frame a cells answers)
-      (once (ask a cells answers) (λ x left. if is_zero x then reads_of frame b cells left else []))
+      (once (ask a cells answers) (λ x left. if int_eq x (pos 0) then reads_of frame b cells left else []))
       (terms_in a cells answers h.0)
-      (once_in (ask a cells answers) (λ x left. if is_zero x then reads_of frame b cells left else [])
-      (λ x left. if_in (is_zero x) (reads_of frame b cells left) [] (terms_in b cells left h.1) tt))
+      (once_in (ask a cells answers) (λ x left. if int_eq x (pos 0) then reads_of frame b cells left else [])
+      (λ x left. if_in (int_eq x (pos 0)) (reads_of frame b cells left) [] (terms_in b cells left h.1) tt))
 
   args_in : (es : List Expr) (args : List ℕ) (cells answers : List ℤ) → All (IsUse es n) args
       → AllIn frame n (reads_of_all frame es args cells answers)

@@ -1,63 +1,65 @@
 -- The search finds the writers of the local reads of each event.
-use Rattle.std.proofs.Common.{◌≡◌, ℕ, suc, ◌+◌, ◌-◌, ◌<◌, true, nat_lt, List, [], ◌∷◌, Option, Some, None, refl, ap, ap₂, sym, subst, ◌∙◌, arith, length}
-use Rattle.std.specs.Prelude.{slice_get, zip}
-use Rattle.std.proofs.lemmas.Bool.{lt-ltb, ltb-true}
-use Rattle.ppd_ast.specs.Valid.{IsValid}
-use Rattle.ppd_ast.specs.declared.plan.Plan.{Plan}
-use Rattle.ppd_ast.specs.declared.plan.Policy.{Policy}
-use Rattle.ppd_ast.specs.declared.program.Program.{Program}
-use Rattle.ppd_ast.proofs.ValidLaws.{slice_get_below}
-use Rattle.ppd_blocks.specs.Blocks.{plan_of}
-use Rattle.law_steps.specs.OpenBlocks.Stack.{process_block}
-use Rattle.ppd_sem.specs.Blocks.{block_kind}
-use Rattle.ppd_sem.specs.Described.{frame_of, is_event}
-use Rattle.ppd_sem.specs.Process.{need_of, started, top_cells}
-use Rattle.ppd_sem.specs.declared.event.Access.{Access}
-use Rattle.ppd_sem.specs.declared.event.Spot.TheVariants.{Local}
-use Rattle.ppd_sem.specs.declared.proc.Proc.{Proc}
-use Rattle.ppd_sem.specs.declared.proc.Todo.{Todo}
-use Rattle.ppd_model.specs.FlowbackEdges.{from_writer, part_at}
-use Rattle.ppd_model.specs.FullTrace.{Tag, event_of, tags_of, top_tags, traced_by}
-use Rattle.ppd_model.specs.Intervals.{Split, begun_split, own, ref, split_of, split_step, splits}
-use Rattle.ppd_model.specs.Items.{HasWholeItems}
-use Rattle.ppd_model.specs.LocalTags.{HasTags, cells_in, local_tag}
-use Rattle.ppd_model.specs.Story.{own_steps, story}
-use Rattle.ppd_model.specs.declared.flow.Origin.{Origin}
-use Rattle.ppd_model.specs.declared.trace.TracedEvent.{TracedEvent}
-use Rattle.ppd_model.specs.declared.tracing.Story.{Story}
-use Rattle.ppd_model.specs.declared.tracing.Taken.{Taken}
-use Rattle.ppd_model.proofs.Changes.{some}
-use Rattle.ppd_model.proofs.Items.{items_whole}
-use Rattle.ppd_model.proofs.LocalTags.{top_reads}
-use Rattle.ppd_model.proofs.TestSteps.{acts_length}
-use Rattle.ppd_flow_model.specs.declared.leaf_call.LeafCall.{LeafCall}
-use Rattle.ppd_flow_model.specs.Locals.{frame_in, local_origin}
-use Rattle.ppd_flow_model.specs.Seen.{seen_of}
-use Rattle.law_flow_own.specs.Places.Levels.{IsLater, Level}
-use Rattle.law_flow_own.specs.Places.Closing.{closing}
-use Rattle.law_flow_own.specs.Places.Leaves.{leaf_of}
+use Rattle.law_flow_own.proofs.Locals.AtSteps.{tagged_at, told_at}
+use Rattle.law_flow_own.proofs.Locals.InFrame.{InFrame, each_at}
+use Rattle.law_flow_own.proofs.Locals.Moments.{event_at, need_is, next_later, running}
+use Rattle.law_flow_own.proofs.Locals.Origins.{number_at, origin_at}
+use Rattle.law_flow_own.proofs.Locals.Reading.{below_not, event_step, events_len, local_is, none_yet, reads_in, top_size}
+use Rattle.law_flow_own.proofs.Locals.Returned.{ref_at}
+use Rattle.law_flow_own.proofs.Locals.Stepping.FirstLevel.{IsFirst, is_first}
+use Rattle.law_flow_own.proofs.Locals.Tells.Tags.{TellsOf}
+use Rattle.law_flow_own.proofs.Locals.Turns.{Turns, turns}
 use Rattle.law_flow_own.proofs.Places.Following.{IsFollowed, something}
 use Rattle.law_flow_own.proofs.Places.LeafTells.{all_whole, followed_at, later_at, levels_at, split_is, there}
 use Rattle.law_flow_own.proofs.Places.Opening.{not_nil}
 use Rattle.law_flow_own.proofs.Places.Whole.{AreWhole}
+use Rattle.law_flow_own.proofs.Vocabulary.LoopTells.{own_number}
 use Rattle.law_flow_own.proofs.Vocabulary.Says.{Says, activations, with_own}
 use Rattle.law_flow_own.specs.Locals.AllReads.{AllLocalReadsAreFound}
 use Rattle.law_flow_own.specs.Locals.LocalReads.{LocalReadsAreFound}
-use Rattle.law_flow_own.proofs.Vocabulary.LoopTells.{own_number}
-use Rattle.law_flow_own.proofs.Locals.Turns.{Turns, turns}
-use Rattle.law_flow_own.proofs.Locals.Stepping.FirstLevel.{IsFirst, is_first}
-use Rattle.law_flow_own.proofs.Locals.Tells.Tags.{TellsOf}
-use Rattle.law_flow_own.proofs.Locals.InFrame.{InFrame, each_at}
-use Rattle.law_flow_own.proofs.Locals.Moments.{event_at, need_is, next_later, running}
-use Rattle.law_flow_own.proofs.Locals.Origins.{number_at, origin_at}
-use Rattle.law_flow_own.proofs.Locals.Returned.{ref_at}
-use Rattle.law_flow_own.proofs.Locals.AtSteps.{tagged_at, told_at}
-use Rattle.law_flow_own.proofs.Locals.Reading.{below_not, event_step, events_len, local_is, none_yet, reads_in, top_size}
+use Rattle.law_flow_own.specs.Places.Closing.{closing}
+use Rattle.law_flow_own.specs.Places.Leaves.{leaf_of}
+use Rattle.law_flow_own.specs.Places.Levels.{IsLater, Level}
+use Rattle.law_steps.specs.OpenBlocks.Stack.{process_block}
+use Rattle.ppd_ast.proofs.ValidLaws.{slice_get_below}
+use Rattle.ppd_ast.specs.Valid.{IsValid}
+use Rattle.ppd_ast.specs.declared.plan.Plan.{Plan}
+use Rattle.ppd_ast.specs.declared.plan.Policy.{Policy}
+use Rattle.ppd_ast.specs.declared.program.Program.{Program}
+use Rattle.ppd_blocks.specs.Blocks.{plan_of}
+use Rattle.ppd_flow_model.specs.Locals.{frame_in, local_origin}
+use Rattle.ppd_flow_model.specs.Seen.{seen_of}
+use Rattle.ppd_flow_model.specs.declared.leaf_call.LeafCall.{LeafCall}
+use Rattle.ppd_model.proofs.Changes.{some}
+use Rattle.ppd_model.proofs.Items.{items_whole}
+use Rattle.ppd_model.proofs.LocalTags.{top_reads}
+use Rattle.ppd_model.proofs.TestSteps.{acts_length}
+use Rattle.ppd_model.specs.FlowbackEdges.{part_at}
+use Rattle.ppd_model.specs.FullTrace.{Tag, event_of, tags_of, top_tags, traced_by}
+use Rattle.ppd_model.specs.Intervals.{Split, begun_split, own, ref, split_of, split_step, splits}
+use Rattle.ppd_model.specs.Items.{HasWholeItems}
+use Rattle.ppd_model.specs.LocalTags.{HasTags, cells_in, local_tag}
+use Rattle.ppd_model.specs.Story.{story}
+use Rattle.ppd_model.specs.declared.flow.Origin.{Origin}
+use Rattle.ppd_model.specs.declared.flow.Origin.TheVariants as origin
+use Rattle.ppd_model.specs.declared.trace.TracedEvent.{TracedEvent}
+use Rattle.ppd_model.specs.declared.tracing.Story.{Story}
+use Rattle.ppd_model.specs.declared.tracing.Taken.{Taken}
+use Rattle.ppd_sem.specs.Blocks.{block_kind}
+use Rattle.ppd_sem.specs.Described.{frame_of, is_event}
+use Rattle.ppd_sem.specs.Process.{need_of, started, top_frame}
+use Rattle.ppd_sem.specs.declared.event.Access.{Access}
+use Rattle.ppd_sem.specs.declared.event.Spot.TheVariants.{Local}
+use Rattle.ppd_sem.specs.declared.proc.Proc.{Proc}
+use Rattle.ppd_sem.specs.declared.proc.Todo.{Todo}
+use Rattle.std.proofs.Common.{List, None, Option, Some, [], ap, ap₂, arith, length, nat_lt, refl, subst, suc, sym, true, ℕ, ◌+◌, ◌-◌, ◌<◌, ◌∙◌, ◌∷◌, ◌≡◌}
+use Rattle.std.proofs.lemmas.Bool.{lt-ltb, ltb-true}
+use Rattle.std.specs.Option.{option_map_or}
+use Rattle.std.specs.Prelude.{get_or, slice_get, zip}
 
 -- ---- what is said is the model's origin
 
 pub says_is : (xs : List Split) (y : Split) (p : ℕ) (o : Origin) (w : Tag) → HasWholeItems xs y p → Says y p o w
-    → o ≡ from_writer xs w
+    → o ≡ option_map_or (ref xs) w origin.Initial
 says_is xs y p o None whole s = s
 says_is xs y p o (Some e) whole s = s.origin_is
     ∙ sym (ref_at xs y p s.interval s.item s.event s.traced whole s.traced_is s.at) ∙ ap (ref xs) (sym s.event_is)
@@ -88,9 +90,9 @@ module _ (program : Program) (policy : Policy) (v : IsValid program) (story : St
       let s : Proc = x.trace.proc in
       let reads : List Access = (event_of program plan s taken s.todo).reads in
       let one = local_is (top_tags x.trace.activations) x.trace.answers reads i a w fr c read local in
-      let in_frame : InFrame (frame_of program plan s) (length (top_cells s.frames)) (Local fr c) =
-      subst (InFrame (frame_of program plan s) (length (top_cells s.frames))) local
-      (each_at (frame_of program plan s) (length (top_cells s.frames)) reads i a
+      let in_frame : InFrame (frame_of program plan s) (length (top_frame s.frames).cells) (Local fr c) =
+      subst (InFrame (frame_of program plan s) (length (top_frame s.frames).cells)) local
+      (each_at (frame_of program plan s) (length (top_frame s.frames).cells) reads i a
       (reads_in program plan s taken h m.rest v m.state m.todo_is) one.0) in
       let o : Option LeafCall = leaf_of program plan y l in
       let frame_is : frame_in (leaf_of program plan y l) ≡ fr = sym m.frame ∙ sym in_frame.0 in
@@ -99,7 +101,7 @@ module _ (program : Program) (policy : Policy) (v : IsValid program) (story : St
       number_top program plan y l ls o (own_number program plan y l ls) (length s.frames) m.base m.counted in
       let acts : length x.trace.activations ≡ length s.frames = acts_length x.trace tagged in
       let last : length x.trace.activations - 1 ≡ k = omega (arith, top, acts) in
-      let size : cells_in s.frames k ≡ length (top_cells s.frames) = top_size s.frames k (omega (arith, top)) in
+      let size : cells_in s.frames k ≡ length (top_frame s.frames).cells = top_size s.frames k (omega (arith, top)) in
       let tag : w ≡ local_tag x.trace.activations k c =
       one.1 ∙ top_reads x.trace.activations [] fr c ∙ ap (λ n. local_tag x.trace.activations n c) last in
       subst (λ t. Says y p (local_origin program plan (seen_of y) p l.interval (length l.parts) fr c) t) (sym tag)
@@ -149,8 +151,8 @@ all_reads_found program policy budget h p k j n i y e a w fr c v at placed_at tr
     let s : Story = story program plan budget h in
     let start : Split = begun_split program plan p (started program plan p budget) in
     let turn : Turns (split_step program plan s p) (λ (x : Split). nat_lt n (length x.trace.events)) start
-    (own_steps s p) =
-    turns (split_step program plan s p) (λ (x : Split). nat_lt n (length x.trace.events)) start (own_steps s p)
+    (get_or s.steps p []) =
+    turns (split_step program plan s p) (λ (x : Split). nat_lt n (length x.trace.events)) start (get_or s.steps p [])
     (none_yet n)
     (ap (λ (x : Split). nat_lt n (length x.trace.events)) (split_is program plan budget h p y at)
     ∙ lt-ltb n (length y.trace.events) (slice_get_below y.trace.events n e traced)) in

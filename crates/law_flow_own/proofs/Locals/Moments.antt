@@ -1,6 +1,6 @@
 -- A step of a process in a schedule, with the levels before it.
 use Rattle.std.proofs.Common.{◌≡◌, ℕ, Bool, true, false, List, [], ◌∷◌, ◌++◌, Option, Some, None, refl, ap, sym, subst, ◌∙◌, length, true≢false}
-use Rattle.std.specs.Prelude.{fold, slice_get}
+use Rattle.std.specs.Prelude.{fold, slice_get, get_or}
 use Rattle.ppd_ast.specs.Valid.{IsValid}
 use Rattle.ppd_ast.specs.declared.plan.Plan.{Plan}
 use Rattle.ppd_ast.specs.declared.plan.Policy.{Policy}
@@ -15,7 +15,7 @@ use Rattle.ppd_sem.specs.Described.{is_event}
 use Rattle.ppd_model.specs.FullTrace.{event_of, traced_by}
 use Rattle.ppd_model.specs.Intervals.{Split, begun_split, split_of, split_step, splits}
 use Rattle.ppd_model.specs.LocalTags.{AreOwn}
-use Rattle.ppd_model.specs.Story.{own_steps, story}
+use Rattle.ppd_model.specs.Story.{story}
 use Rattle.ppd_model.specs.declared.tracing.Story.{Story}
 use Rattle.ppd_model.specs.declared.tracing.Taken.{Taken}
 use Rattle.ppd_model.proofs.LocalTags.{own_steps_told}
@@ -36,7 +36,7 @@ module _ (program : Program) (policy : Policy) (budget : ℕ) (h : List ℕ) (p 
     (at : slice_get (splits program (plan_of program policy) budget
     (story program (plan_of program policy) budget h)) p ≡ Some y)
     (before : List Taken) (t : Taken) (after : List Taken)
-    (steps : own_steps (story program (plan_of program policy) budget h) p ≡ before ++ t ∷ after) where
+    (steps : get_or (story program (plan_of program policy) budget h).steps p [] ≡ before ++ t ∷ after) where
   abbrev plan : Plan
   plan = plan_of program policy
 

@@ -1,9 +1,9 @@
 -- Under a policy without block loops no block is a loop.
 use Rattle.std.proofs.Common.{◌≡◌, ℕ, zero, suc, ◌+◌, Bool, true, false, not, ◌&&◌, List, [], ◌∷◌, ◌++◌, Option, Some, None, refl, sym, ap, ◌∙◌, subst, if◌then◌else◌}
 use Rattle.std.specs.Prelude.{nat_le, nat_lt, option_map, slice_get}
-use Rattle.std.specs.List.{AllByRecursion as Each, flat_map}
+use Rattle.std.specs.List.{AllByRecursion as Each, flat_map, enumerate_from}
 use Rattle.std.proofs.lemmas.Option.{none-some, slice_get-map}
-use Rattle.ppd_ast.specs.Numbered.{blocks_by, blocks_of, each_from, in_while, is_block_body, is_block_loop, is_while, loops_at, numbers_of}
+use Rattle.ppd_ast.specs.Numbered.{blocks_by, blocks_of, in_while, is_block_body, is_block_loop, is_while, loops_at, numbers_of}
 use Rattle.ppd_ast.proofs.Vocabulary.{body_kind}
 use Rattle.ppd_ast.proofs.Vocabulary.{inside_count, loops_of}
 use Rattle.ppd_ast.specs.declared.limits.TheConstants.{MOST_NESTING}
@@ -59,10 +59,10 @@ module _ (p : Program) (policy : Policy) (none : policy.loops ≡ 0) where
   own_kind j true true = (refl, tt)
   own_kind j true false = (refl, tt)
 
-  all_kinds : (j : ℕ) (bs : List Body) → Each IsNoLoop (each_from (blocks_of p.stmts policy) j bs)
+  all_kinds : (j : ℕ) (bs : List Body) → Each IsNoLoop (flat_map (λ e. blocks_of p.stmts policy e.0 e.1) (enumerate_from j bs))
   all_kinds j [] = tt
   all_kinds j (b ∷ bs) =
-      both (blocks_of p.stmts policy j b) (each_from (blocks_of p.stmts policy) (j + 1) bs)
+      both (blocks_of p.stmts policy j b) (flat_map (λ e. blocks_of p.stmts policy e.0 e.1) (enumerate_from (j + 1) bs))
       (both (if is_block_body p.stmts policy b then body_kind j b ∷ [] else [])
       (flat_map (loops_at p.stmts policy) (numbers_of p.stmts b))
       (own_kind j (is_block_body p.stmts policy b) b.process)

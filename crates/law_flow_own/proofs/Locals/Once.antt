@@ -9,7 +9,7 @@ use Rattle.ppd_ast.specs.declared.program.Program.{Program}
 use Rattle.ppd_ast.specs.Lookups.{kind_of}
 use Rattle.ppd_ast.proofs.Vocabulary.{params_of_body}
 use Rattle.ppd_blocks.proofs.Vocabulary.{params_of}
-use Rattle.ppd_sem.specs.Process.{into_of, top_call}
+use Rattle.ppd_sem.specs.Process.{into_of, top_frame}
 use Rattle.ppd_sem.specs.Runs.{returns}
 use Rattle.ppd_sem.specs.declared.event.Event.{Event}
 use Rattle.ppd_sem.specs.declared.proc.Frame.{Frame}
@@ -42,7 +42,7 @@ receives_none program f c e (Some call) h = by (nat_eq f 0) (not (is_some e.trap
 
 -- the first activation was begun by the top frame's call
 pub first_begun : (frames : List Frame) (xs : List Activation) (P : Begun → Type 0) (Q : List Begun → Type 0)
-    → First P Q (begun_by frames xs) → (c : Begun) × P c × (top_call frames ≡ c.stmt)
+    → First P Q (begun_by frames xs) → (c : Begun) × P c × ((top_frame frames).call ≡ c.stmt)
 first_begun [] xs P Q g = absurd g
 first_begun (f ∷ fs) [] P Q g = absurd g
 first_begun (f ∷ fs) (x ∷ xs) P Q g = (record { stmt = f.call; event = x.call }, g.0, refl)

@@ -1,6 +1,6 @@
 -- An interval that runs has no values, and one that begins has the frame of its step.
 use Rattle.std.proofs.Common.{◌≡◌, ℕ, zero, suc, ◌+◌, Bool, true, false, List, [], ◌∷◌, ◌++◌, Option, Some, None, refl, ap, sym, subst, ◌∙◌, length, inl, inr, true≢false, if◌then◌else◌}
-use Rattle.std.specs.Prelude.{fold, option_map, slice_get}
+use Rattle.std.specs.Prelude.{fold, option_map, slice_get, is_some}
 use Rattle.std.proofs.lemmas.Bool.{cases_eq}
 use Rattle.std.proofs.lemmas.Option.{none-some}
 use Rattle.ppd_ast.specs.declared.plan.Plan.{Plan}
@@ -10,7 +10,7 @@ use Rattle.ppd_sem.specs.Process.{started}
 use Rattle.ppd_sem.specs.declared.proc.Need.{Need}
 use Rattle.ppd_sem.specs.declared.proc.Need.TheVariants as need
 use Rattle.ppd_model.specs.FullTrace.{Tag, me_in, top_tags}
-use Rattle.ppd_model.specs.Intervals.{nested, own, Span, Split, begun_split, change_first, control_by, innermost, is_closed, left_by, new_span, split_of, split_step, with_own, with_part, with_step}
+use Rattle.ppd_model.specs.Intervals.{nested, own, Span, Split, begun_split, change_first, control_by, innermost, left_by, new_span, split_of, split_step, with_own, with_part, with_step}
 use Rattle.ppd_model.proofs.IntervalWords.{begin_if, end_if}
 use Rattle.ppd_model.specs.Marks.{Mark, closed, opened}
 use Rattle.ppd_model.specs.World.{change}
@@ -25,7 +25,7 @@ entered_block k = 0
 
 -- while it is not left
 abbrev pub IsEmpty : Span → Type 0
-IsEmpty i = is_closed i ≡ false → i.values ≡ []
+IsEmpty i = is_some i.closed ≡ false → i.values ≡ []
 
 abbrev pub AreEmpty : List Span → Type 0
 AreEmpty spans = (k : ℕ) (i : Span) → slice_get spans k ≡ Some i → IsEmpty i

@@ -1,6 +1,6 @@
 -- The search at the place of a level finds what is told there.
 use Rattle.std.proofs.Common.{◌≡◌, ℕ, ◌<◌, Bool, true, false, List, [], ◌∷◌, Option, Some, None, refl, ap, sym, subst, ◌∙◌, length, if◌then◌else◌}
-use Rattle.std.specs.Prelude.{take, unwrap_or}
+use Rattle.std.specs.Prelude.{take, unwrap_or, get_or}
 use Rattle.ppd_ast.specs.declared.plan.BlockKind.{BlockKind}
 use Rattle.ppd_ast.specs.declared.plan.BlockKind.TheVariants as block
 use Rattle.ppd_ast.specs.declared.plan.Plan.{Plan}
@@ -14,7 +14,7 @@ use Rattle.ppd_model.specs.declared.flow.Origin.TheVariants as origin
 use Rattle.ppd_model.proofs.Lists.{get_mapped}
 use Rattle.ppd_flow_model.specs.declared.leaf_call.LeafCall.{LeafCall}
 use Rattle.ppd_flow_model.specs.Locals.{frame_in, leaf_at, local_above, local_in, local_origin, local_outside, outer_frame, parameter, scan}
-use Rattle.ppd_flow_model.specs.Seen.{call_of, items_at, kind_at, outer_of, outer_place, seen_of}
+use Rattle.ppd_flow_model.specs.Seen.{call_of, kind_at, outer_of, outer_place, seen_of}
 use Rattle.law_flow_own.specs.Places.Levels.{AreLevels, IsLater, Level, StandsIn, numbers}
 use Rattle.law_flow_own.specs.Places.Leaves.{leaf_of}
 use Rattle.law_flow_own.proofs.Places.Whole.{AreWhole, LevelAt}
@@ -98,8 +98,8 @@ module _ (program : Program) (plan : Plan) (p : ℕ) (y : Split) (whole : AreWho
       let place : outer_place (seen_of y) l.interval ≡ length o.parts = place_of_is y whole l o os at out in
       let at_o : LevelAt y o (numbers os) = level_from x y l.interval (nested l.interval ∷ []) o os s.1 h in
       let frame : outer_frame program plan (seen_of y) l.interval ≡ frame_in (leaf_of program plan y o) =
-      ap (λ j. frame_in (leaf_at program plan (take j (items_at (seen_of y) (outer_of (seen_of y) l.interval))))) place
-      ∙ ap (λ k. frame_in (leaf_at program plan (take (length o.parts) (items_at (seen_of y) k)))) outer
+      ap (λ j. frame_in (leaf_at program plan (take j (get_or (seen_of y).items (outer_of (seen_of y) l.interval) [])))) place
+      ∙ ap (λ k. frame_in (leaf_at program plan (take (length o.parts) (get_or (seen_of y).items k [])))) outer
       ∙ ap (λ xs. frame_in (leaf_at program plan xs)) (first_ones y whole o (numbers os) at_o) in
       subst (λ k. Says y p (local_outside program plan (seen_of y) p k (outer_place (seen_of y) l.interval)
       (outer_frame program plan (seen_of y) l.interval) c) w) (sym outer)

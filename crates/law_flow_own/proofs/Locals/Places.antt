@@ -1,18 +1,18 @@
 -- What is seen of a level's items, and where its interval stands in the one outside.
 use Rattle.std.proofs.Common.{◌≡◌, ℕ, ◌+◌, ◌-◌, false, List, [], ◌∷◌, ◌++◌, Some, refl, ap, subst, ◌∙◌, arith, length, append_assoc, eq-eqb}
 use Rattle.std.specs.List.{AllByRecursion as Each, flat_map, position_from}
-use Rattle.std.specs.Prelude.{slice_get, take, unwrap_or}
+use Rattle.std.specs.Prelude.{slice_get, take, unwrap_or, is_some, get_or}
 use Rattle.std.proofs.lemmas.Iterator.Adapters.{position_from-zero}
 use Rattle.std.proofs.lemmas.List.Concat.{flat_map-append}
 use Rattle.ppd_ast.specs.declared.plan.BlockKind.TheVariants as block
 use Rattle.ppd_ast.specs.declared.plan.Plan.{Plan}
 use Rattle.ppd_sem.specs.Blocks.{block_kind}
-use Rattle.ppd_model.specs.Intervals.{Part, own, nested, Span, Split, is_closed, item_of, items_of}
+use Rattle.ppd_model.specs.Intervals.{Part, own, nested, Span, Split, item_of, items_of}
 use Rattle.ppd_model.specs.declared.flow.Item.{Item}
 use Rattle.ppd_model.specs.declared.flow.Item.TheVariants as item
 use Rattle.ppd_model.specs.declared.flow.Origin.TheVariants as origin
 use Rattle.ppd_model.proofs.Lists.{get_mapped}
-use Rattle.ppd_flow_model.specs.Seen.{call_of, first_or, is_item_of, items_at, kind_at, outer_of, outer_place, place_of, seen_of}
+use Rattle.ppd_flow_model.specs.Seen.{call_of, first_or, is_item_of, kind_at, outer_of, outer_place, place_of, seen_of}
 use Rattle.law_flow_own.specs.Places.Levels.{AreBelow, AreLevels, IsLater, Level, numbers}
 use Rattle.law_flow_own.specs.Places.Leaves.{items_so_far}
 use Rattle.law_flow_own.proofs.Places.Scans.{nested_item}
@@ -73,7 +73,7 @@ outer_is {y = y} l ls at = ap (first_or l.interval)
 
 module _ (y : Split) (whole : AreWhole y) where
   pub first_ones : (l : Level) (outside : List ℕ) (at : LevelAt y l outside)
-      → take (length l.parts) (items_at (seen_of y) l.interval) ≡ items_so_far y l
+      → take (length l.parts) (get_or (seen_of y).items l.interval []) ≡ items_so_far y l
   first_ones l outside at =
       ap (take (length l.parts)) (get_mapped (items_of y) y.spans l.interval [] at.span at.there
       ∙ ap (flat_map (item_of y)) at.parts_are)
@@ -81,12 +81,12 @@ module _ (y : Split) (whole : AreWhole y) where
       (whole l.interval at.span at.there))
 
   place_is : (m : ℕ) (o : Level) (i : Span) → slice_get y.spans m ≡ Some i → OuterAt y m o
-      → place_of m (items_at (seen_of y) o.interval) ≡ length o.parts
+      → place_of m (get_or (seen_of y).items o.interval []) ≡ length o.parts
   place_is m o i at out =
-      let items : items_at (seen_of y) o.interval ≡ flat_map (item_of y) (o.parts ++ nested m ∷ out.more) =
+      let items : get_or (seen_of y).items o.interval [] ≡ flat_map (item_of y) (o.parts ++ nested m ∷ out.more) =
       get_mapped (items_of y) y.spans o.interval [] out.span out.there ∙ ap (flat_map (item_of y)) out.parts_are in
       let split : flat_map (item_of y) (o.parts ++ nested m ∷ out.more)
-      ≡ flat_map (item_of y) o.parts ++ (item.Nested m i.block i.values (is_closed i) ∷ flat_map
+      ≡ flat_map (item_of y) o.parts ++ (item.Nested m i.block i.values (is_some i.closed) ∷ flat_map
       (item_of y) out.more) =
       flat_map-append (item_of y) o.parts (nested m ∷ out.more)
       ∙ ap (λ xs. flat_map (item_of y) o.parts ++ (xs ++ flat_map (item_of y) out.more)) (nested_item y m i at) in
@@ -95,9 +95,9 @@ module _ (y : Split) (whole : AreWhole y) where
       ≡ length ps) out.parts_are (whole o.interval out.span out.there)) in
       let z : 0 + length (flat_map (item_of y) o.parts) ≡ length o.parts = omega (arith, counted) in
       ap (λ r. unwrap_or r 0)
-      (position_from-zero (is_item_of m) (items_at (seen_of y) o.interval)
+      (position_from-zero (is_item_of m) (get_or (seen_of y).items o.interval [])
       ∙ ap (position_from (is_item_of m) 0) (items ∙ split)
-      ∙ found_past m 0 (flat_map (item_of y) o.parts) (item.Nested m i.block i.values (is_closed i))
+      ∙ found_past m 0 (flat_map (item_of y) o.parts) (item.Nested m i.block i.values (is_some i.closed))
       (flat_map (item_of y) out.more) (none_among y m o.parts out.below) (eq-eqb m m refl)
       ∙ ap (λ k. Some k) z)
 
@@ -106,11 +106,11 @@ module _ (y : Split) (whole : AreWhole y) where
       → call_of (seen_of y) p l.interval ≡ origin.Item p o.interval (length o.parts - 1)
   call_is p l o os at out =
       let outer : outer_of (seen_of y) l.interval ≡ o.interval = outer_is l (o ∷ os) at in
-      ap (λ k. origin.Item p k (place_of l.interval (items_at (seen_of y) k) - 1)) outer
+      ap (λ k. origin.Item p k (place_of l.interval (get_or (seen_of y).items k []) - 1)) outer
       ∙ ap (λ j. origin.Item p o.interval (j - 1)) (place_is l.interval o at.span at.there out)
 
   pub place_of_is : (l o : Level) (os : List Level) → LevelAt y l (numbers (o ∷ os)) → OuterAt y l.interval o
       → outer_place (seen_of y) l.interval ≡ length o.parts
   place_of_is l o os at out =
-      ap (λ k. place_of l.interval (items_at (seen_of y) k)) (outer_is l (o ∷ os) at)
+      ap (λ k. place_of l.interval (get_or (seen_of y).items k [])) (outer_is l (o ∷ os) at)
       ∙ place_is l.interval o at.span at.there out

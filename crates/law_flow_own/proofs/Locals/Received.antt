@@ -10,16 +10,16 @@ use Rattle.ppd_ast.specs.Term.{term}
 use Rattle.ppd_ast.specs.Lookups.{kind_of}
 use Rattle.law_steps.proofs.Course.Deeds.{DeedFits, Fits, deed_fits}
 use Rattle.ppd_sem.specs.Ask.{ask}
-use Rattle.ppd_sem.specs.Asked.{Asked, and_then, gives, outcome}
+use Rattle.ppd_sem.specs.Asked.{Asked, and_then, gives}
 use Rattle.ppd_sem.specs.Deed.{Deed, back, invoke, ask_deed}
 use Rattle.ppd_sem.specs.Described.{evaluates, value_at, valued}
 use Rattle.ppd_sem.proofs.EventWords.{result_of_head, value_if}
 use Rattle.ppd_sem.specs.Passed.{result_at, result_by}
-use Rattle.ppd_sem.specs.Process.{head_deed, need_of, top_call, top_cells}
+use Rattle.ppd_sem.specs.Process.{head_deed, need_of, top_frame, into_at}
 use Rattle.ppd_sem.specs.Runs.{returns}
 use Rattle.ppd_sem.specs.declared.proc.Proc.{Proc}
 use Rattle.ppd_sem.specs.declared.proc.Todo.{Todo}
-use Rattle.ppd_model.specs.FullTrace.{event_of, into_at}
+use Rattle.ppd_model.specs.FullTrace.{event_of}
 use Rattle.ppd_model.specs.LocalTags.{is_into, is_received, is_received_by}
 use Rattle.ppd_model.specs.Synchronizations.{is_number}
 use Rattle.ppd_model.specs.declared.tracing.Taken.{Taken}
@@ -53,7 +53,7 @@ module _ (program : Program) (plan : Plan) (s : Proc) (h : Todo) (hs : List Todo
   -- another statement gives none
   pub received_other : IsOther (kind_of program h.stmt) → (k c : ℕ) → is_received program s k c s.todo ≡ false
   received_other o k c = at_head k c
-      ∙ by (head_deed program h s) (deed_fits program.exprs (top_cells s.frames) s.answers (kind_of program h.stmt))
+      ∙ by (head_deed program h s) (deed_fits program.exprs (top_frame s.frames).cells s.answers (kind_of program h.stmt))
     where
       by_deed : (d : Deed) (left : List ℤ) → DeedFits (kind_of program h.stmt) d
           → is_received_by program s.frames k c (Ok (d, left)) ≡ false
@@ -71,7 +71,7 @@ module _ (program : Program) (plan : Plan) (s : Proc) (h : Todo) (hs : List Todo
   -- a return gives its value to the cell of the call that began the top frame, in the frame below
   pub received_back : (value : Option ℤ) (left : List ℤ) → head_deed program h s ≡ Ok (back value, left) → (k c : ℕ)
       → is_received program s k c s.todo
-      ≡ (nat_eq (k + 2) (length s.frames) && is_into (into_at program (top_call s.frames)) value c)
+      ≡ (nat_eq (k + 2) (length s.frames) && is_into (into_at program (top_frame s.frames).call) value c)
   received_back value left at k c = at_head k c ∙ ap (is_received_by program s.frames k c) at
 
   -- the event's value is the returned one
@@ -80,14 +80,14 @@ module _ (program : Program) (plan : Plan) (s : Proc) (h : Todo) (hs : List Todo
       → (event_of program plan s taken s.todo).value ≡ value
   value_now taken value left at ret ev =
       ap (λ todo. (event_of program plan s taken todo).value) is
-      ∙ ap (λ b. cond b (value_at program.exprs (top_cells s.frames) s.answers (valued (kind_of program h.stmt)))
+      ∙ ap (λ b. cond b (value_at program.exprs (top_frame s.frames).cells s.answers (valued (kind_of program h.stmt)))
       None) ev
-      ∙ value_of_return program.exprs (kind_of program h.stmt) (top_cells s.frames) s.answers value left ret at
+      ∙ value_of_return program.exprs (kind_of program h.stmt) (top_frame s.frames).cells s.answers value left ret at
 
   pub result_is : (value : Option ℤ) (left : List ℤ) → head_deed program h s ≡ Ok (back value, left)
       → result_at program s ≡ option_to_list value
   result_is value left at = ap (λ todo. option_to_list (result_of_head program s (slice_get todo 0))) is
-      ∙ ap (λ x. option_to_list (result_by (outcome x))) at
+      ∙ ap (λ x. option_to_list (result_by x)) at
 
 -- a value is given to the cell where there are both
 pub into_is : (into : Option ℕ) (value : Option ℤ) (c : ℕ) → is_into into value c ≡ (is_some value && is_number into c)

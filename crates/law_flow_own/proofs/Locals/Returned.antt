@@ -1,54 +1,55 @@
 -- A closed interval of a function ends with the event that returned its value.
-use Rattle.std.proofs.Common.{◌≡◌, ℕ, zero, suc, ◌+◌, ◌-◌, true, false, List, [], ◌∷◌, ◌++◌, Option, Some, None, refl, ap, sym, subst, ◌∙◌, arith, length, true≢false}
-use Rattle.std.specs.Prelude.{is_some, slice_get}
-use Rattle.std.proofs.lemmas.List.{length_push}
+use Rattle.law_flow_own.proofs.Locals.Closes.{ClosesAt, closes_at}
+use Rattle.law_flow_own.proofs.Locals.Ends.{closed_at, closed_in}
+use Rattle.law_flow_own.proofs.Locals.Moments.{event_at, ls, need_is, next, next_later, now, running}
+use Rattle.law_flow_own.proofs.Locals.Turns.{Turns, turns}
+use Rattle.law_flow_own.proofs.Places.Following.{IsFollowed, something}
+use Rattle.law_flow_own.proofs.Places.LeafTells.{all_whole, followed_at, split_is, stands_at}
+use Rattle.law_flow_own.proofs.Places.Opening.{first_block}
+use Rattle.law_flow_own.proofs.Places.Steps.{IsStep, step_is}
+use Rattle.law_flow_own.proofs.Places.Whole.{AreWhole}
+use Rattle.law_flow_own.specs.Locals.Returned.{ReturnsAreFound}
+use Rattle.law_flow_own.specs.Places.Closing.{closing}
+use Rattle.law_flow_own.specs.Places.Leaves.{leaf_of, open_at}
+use Rattle.law_flow_own.specs.Places.Levels.{Level}
+use Rattle.law_steps.proofs.OpenBlocks.Planned.{kind_is}
+use Rattle.law_steps.specs.OpenBlocks.Stack.{process_block}
+use Rattle.ppd_ast.proofs.ValidLaws.{slice_get_below}
 use Rattle.ppd_ast.specs.Valid.{IsValid}
 use Rattle.ppd_ast.specs.declared.plan.BlockKind.TheVariants as block
 use Rattle.ppd_ast.specs.declared.plan.Plan.{Plan}
 use Rattle.ppd_ast.specs.declared.plan.Policy.{Policy}
 use Rattle.ppd_ast.specs.declared.program.Program.{Program}
-use Rattle.ppd_ast.proofs.ValidLaws.{slice_get_below}
 use Rattle.ppd_blocks.specs.Blocks.{plan_of}
-use Rattle.law_steps.specs.OpenBlocks.Stack.{process_block}
-use Rattle.law_steps.proofs.OpenBlocks.Planned.{kind_is}
+use Rattle.ppd_flow_model.specs.Seen.{seen_of}
+use Rattle.ppd_model.proofs.Changes.{some}
+use Rattle.ppd_model.proofs.CountedOn.{last_at}
+use Rattle.ppd_model.proofs.EdgeWords.{part_in}
+use Rattle.ppd_model.proofs.Items.{items_whole}
+use Rattle.ppd_model.proofs.Lists.{get_mapped}
+use Rattle.ppd_model.specs.FlowbackEdges.{part_at}
+use Rattle.ppd_model.specs.FullTrace.{Tag, me_in, top_tags}
+use Rattle.ppd_model.specs.Intervals.{Part, Span, Split, begun_split, items_of, left_by, own, ref, split_of, split_step, splits}
+use Rattle.ppd_model.specs.Items.{HasWholeItems, IsReferred}
+use Rattle.ppd_model.specs.Logs.{status_of}
+use Rattle.ppd_model.specs.Marks.{closed}
+use Rattle.ppd_model.specs.NearIntervals.{is_loop}
+use Rattle.ppd_model.specs.Story.{story}
+use Rattle.ppd_model.specs.declared.flow.Origin.TheVariants as origin
+use Rattle.ppd_model.specs.declared.trace.EventId.{EventId}
+use Rattle.ppd_model.specs.declared.trace.TracedEvent.{TracedEvent}
+use Rattle.ppd_model.specs.declared.tracing.Story.{Story}
+use Rattle.ppd_model.specs.declared.tracing.Taken.{Taken}
 use Rattle.ppd_sem.specs.Blocks.{block_kind}
 use Rattle.ppd_sem.specs.Process.{act, need_of, started}
 use Rattle.ppd_sem.specs.declared.proc.Need.{Need}
 use Rattle.ppd_sem.specs.declared.proc.Need.TheVariants as need
 use Rattle.ppd_sem.specs.declared.proc.Proc.{Proc}
 use Rattle.ppd_sem.specs.declared.proc.Todo.{Todo}
-use Rattle.ppd_model.specs.FlowbackEdges.{from_writer, part_at}
-use Rattle.ppd_model.proofs.EdgeWords.{part_in}
-use Rattle.ppd_model.specs.FullTrace.{Tag, me_in, top_tags}
-use Rattle.ppd_model.specs.Intervals.{Part, own, Span, Split, begun_split, is_closed, items_of, left_by, ref, split_of, split_step, splits}
-use Rattle.ppd_model.specs.Items.{HasWholeItems, IsReferred}
-use Rattle.ppd_model.specs.Logs.{status_of}
-use Rattle.ppd_model.specs.Marks.{closed}
-use Rattle.ppd_model.specs.NearIntervals.{is_loop}
-use Rattle.ppd_model.specs.Story.{own_steps, story}
-use Rattle.ppd_model.specs.declared.flow.Origin.TheVariants as origin
-use Rattle.ppd_model.specs.declared.trace.EventId.{EventId}
-use Rattle.ppd_model.specs.declared.trace.TracedEvent.{TracedEvent}
-use Rattle.ppd_model.specs.declared.tracing.Story.{Story}
-use Rattle.ppd_model.specs.declared.tracing.Taken.{Taken}
-use Rattle.ppd_model.proofs.Changes.{some}
-use Rattle.ppd_model.proofs.CountedOn.{last_at}
-use Rattle.ppd_model.proofs.Items.{items_whole}
-use Rattle.ppd_model.proofs.Lists.{get_mapped}
-use Rattle.ppd_flow_model.specs.Seen.{items_at, seen_of}
-use Rattle.law_flow_own.specs.Places.Levels.{Level}
-use Rattle.law_flow_own.proofs.Places.Following.{IsFollowed, something}
-use Rattle.law_flow_own.proofs.Places.LeafTells.{all_whole, followed_at, split_is, stands_at}
-use Rattle.law_flow_own.proofs.Places.Opening.{first_block}
-use Rattle.law_flow_own.proofs.Places.Steps.{IsStep, step_is}
-use Rattle.law_flow_own.specs.Locals.Returned.{ReturnsAreFound}
-use Rattle.law_flow_own.proofs.Locals.Closes.{ClosesAt, closes_at}
-use Rattle.law_flow_own.proofs.Locals.Ends.{closed_at, closed_in}
-use Rattle.law_flow_own.proofs.Locals.Turns.{Turns, turns}
-use Rattle.law_flow_own.proofs.Locals.Moments.{event_at, ls, need_is, next, next_later, now, running}
-use Rattle.law_flow_own.specs.Places.Closing.{closing}
-use Rattle.law_flow_own.specs.Places.Leaves.{leaf_of, open_at}
-use Rattle.law_flow_own.proofs.Places.Whole.{AreWhole}
+use Rattle.std.proofs.Common.{List, None, Option, Some, [], ap, arith, false, length, refl, subst, suc, sym, true, true≢false, zero, ℕ, ◌++◌, ◌+◌, ◌-◌, ◌∙◌, ◌∷◌, ◌≡◌}
+use Rattle.std.proofs.lemmas.List.{length_push}
+use Rattle.std.specs.Option.{option_map_or}
+use Rattle.std.specs.Prelude.{get_or, is_some, slice_get}
 
 -- ---- look-ups
 
@@ -66,7 +67,7 @@ pub part_there : (y : Split) (k j : ℕ) (i : Span) (q : Part) → slice_get y.s
     → slice_get i.parts j ≡ Some q → part_at y k j ≡ Some q
 part_there y k j i q there at = ap (λ o. part_in o j) there ∙ at
 
-closed_there : (o : Option Span) → closed_in o ≡ true → (i : Span) × (o ≡ Some i) × (is_closed i ≡ true)
+closed_there : (o : Option Span) → closed_in o ≡ true → (i : Span) × (o ≡ Some i) × (is_some i.closed ≡ true)
 closed_there None h = absurd (true≢false (sym h))
 closed_there (Some i) h = (i, refl, h)
 
@@ -81,7 +82,7 @@ module _ (program : Program) (policy : Policy) (budget : ℕ) (h : List ℕ) (p 
     (v : IsValid program)
     (at : slice_get (splits program (plan_of program policy) budget
     (story program (plan_of program policy) budget h)) p ≡ Some y)
-    (there : slice_get y.spans m ≡ Some i) (is_so : is_closed i ≡ true) where
+    (there : slice_get y.spans m ≡ Some i) (is_so : is_some i.closed ≡ true) where
   abbrev plan : Plan
   plan = plan_of program policy
 
@@ -89,10 +90,10 @@ module _ (program : Program) (policy : Policy) (budget : ℕ) (h : List ℕ) (p 
   s = story program plan budget h
 
   pub leaving : Turns (split_step program plan s p) (λ (x : Split). closed_at m x.spans)
-      (begun_split program plan p (started program plan p budget)) (own_steps s p)
+      (begun_split program plan p (started program plan p budget)) (get_or s.steps p [])
   leaving =
       turns (split_step program plan s p) (λ (x : Split). closed_at m x.spans)
-      (begun_split program plan p (started program plan p budget)) (own_steps s p)
+      (begun_split program plan p (started program plan p budget)) (get_or s.steps p [])
       (start_closed program plan p (started program plan p budget) m)
       (ap (λ (x : Split). closed_at m x.spans) (split_is program plan budget h p y at) ∙ ap closed_in there ∙ is_so)
 
@@ -156,7 +157,7 @@ pub left_by_return : (program : Program) (policy : Policy) (budget : ℕ) (h : L
     (v : IsValid program)
     (at : slice_get (splits program (plan_of program policy) budget
     (story program (plan_of program policy) budget h)) p ≡ Some y)
-    (there : slice_get y.spans m ≡ Some i) (is_so : is_closed i ≡ true)
+    (there : slice_get y.spans m ≡ Some i) (is_so : is_some i.closed ≡ true)
     → is_loop (block_kind (plan_of program policy) i.block) ≡ false
     → i.left ≡ Some (me_in p (split_of program (plan_of program policy) budget
     (story program (plan_of program policy) budget h) p
@@ -198,11 +199,11 @@ returns_found program policy budget h p m y i w v at there is_so no_loop w_is =
     part_there y m (length c.level.parts) i (own (length x.trace.events)) there
     (ap (λ ps. slice_get ps (length c.level.parts)) c.parts_are
     ∙ last_at c.level.parts (own (length x.trace.events))) in
-    let items : length (items_at (seen_of y) m) ≡ length c.level.parts + 1 =
+    let items : length (get_or (seen_of y).items m []) ≡ length c.level.parts + 1 =
     ap length (get_mapped (items_of y) y.spans m [] i there) ∙ whole.whole m i there ∙ ap length c.parts_are
     ∙ length_push c.level.parts (own (length x.trace.events)) in
-    let last : length (items_at (seen_of y) m) - 1 ≡ length c.level.parts = omega (arith, items) in
+    let last : length (get_or (seen_of y).items m []) - 1 ≡ length c.level.parts = omega (arith, items) in
     ap (λ j. origin.Item p m j) last
     ∙ sym (ref_at (splits program plan budget s) y p m (length c.level.parts)
     (length x.trace.events) _ whole event stands)
-    ∙ ap (from_writer (splits program plan budget s)) (sym tag)
+    ∙ ap (λ w. option_map_or (ref (splits program plan budget s)) w origin.Initial) (sym tag)

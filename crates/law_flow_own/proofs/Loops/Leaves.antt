@@ -1,58 +1,58 @@
 -- At the step that leaves a loop's interval: what it leaves, and what the search finds after the loop.
-use Rattle.std.proofs.Common.{◌≡◌, ℕ, suc, ◌+◌, ◌-◌, ◌<◌, ℤ, true, List, [], ◌∷◌, ◌++◌, Option, Some, None, refl, ap, sym, subst, ◌∙◌, arith, length, map, get_or, true≢false}
-use Rattle.std.specs.Prelude.{is_some, slice_get}
-use Rattle.std.proofs.lemmas.Option.{none-some}
-use Rattle.ppd_ast.specs.Valid.{IsValid}
-use Rattle.ppd_ast.specs.declared.plan.BlockKind.TheVariants as block
-use Rattle.ppd_ast.specs.declared.plan.Plan.{Plan}
-use Rattle.ppd_ast.specs.declared.plan.Policy.{Policy}
-use Rattle.ppd_ast.specs.declared.program.Program.{Program}
-use Rattle.ppd_blocks.specs.Blocks.{plan_of}
-use Rattle.law_steps.specs.OpenBlocks.Stack.{process_block}
-use Rattle.law_steps.proofs.OpenBlocks.Planned.{kind_is}
-use Rattle.ppd_sem.specs.Blocks.{block_kind, postlog_cells}
-use Rattle.ppd_sem.specs.Process.{need_of, top_body, top_cells}
-use Rattle.ppd_sem.specs.declared.proc.Need.{Need}
-use Rattle.ppd_sem.specs.declared.proc.Need.TheVariants as need
-use Rattle.ppd_sem.specs.declared.proc.Todo.{Todo}
-use Rattle.ppd_sem.proofs.Running.{head_over}
-use Rattle.ppd_model.specs.FullTrace.{me_in, top_tags}
-use Rattle.ppd_model.specs.Intervals.{nested, own, Span, Split, left_by, split_step}
-use Rattle.ppd_model.specs.LocalTags.{HasTags, cells_in, local_tag}
-use Rattle.ppd_model.specs.Logs.{status_of}
-use Rattle.ppd_model.specs.Marks.{closed, mark}
-use Rattle.ppd_model.specs.NearIntervals.{is_loop}
-use Rattle.ppd_model.specs.Story.{story}
-use Rattle.ppd_model.specs.declared.tracing.Story.{Story}
-use Rattle.ppd_model.specs.declared.tracing.Taken.{Taken}
-use Rattle.ppd_model.proofs.Changes.{some}
-use Rattle.ppd_model.proofs.LocalTags.{top_reads}
-use Rattle.ppd_model.proofs.LocalSteps.{tags_its_writes}
-use Rattle.ppd_model.proofs.Statuses.{status_after}
-use Rattle.ppd_model.proofs.TestSteps.{acts_length}
-use Rattle.ppd_flow_model.specs.Locals.{frame_in, local_origin}
-use Rattle.ppd_flow_model.specs.Seen.{seen_of}
-use Rattle.law_flow_own.specs.Places.Closing.{closing}
-use Rattle.law_flow_own.specs.Places.Leaves.{leaf_of, open_at}
-use Rattle.law_flow_own.specs.Places.Levels.{IsLater, Level}
-use Rattle.law_flow_own.proofs.Vocabulary.Levels.{levels_after, put}
+use Rattle.law_flow_own.proofs.Locals.Closes.{IsLeftNow, left_now}
+use Rattle.law_flow_own.proofs.Locals.EachStep.{AtMoment}
+use Rattle.law_flow_own.proofs.Locals.Inside.{loop_number, not_function}
+use Rattle.law_flow_own.proofs.Locals.Moments.{need_is}
+use Rattle.law_flow_own.proofs.Locals.Reading.{top_size}
+use Rattle.law_flow_own.proofs.Locals.Stepping.FirstLevel.{TellsThen, count_of, is_first}
+use Rattle.law_flow_own.proofs.Locals.Stepping.Going.{tells_step}
+use Rattle.law_flow_own.proofs.Loops.InFrame.{postlog_below}
+use Rattle.law_flow_own.proofs.Loops.JustLeft.{left_says}
 use Rattle.law_flow_own.proofs.Places.Following.{IsFollowed, followed_step, something}
 use Rattle.law_flow_own.proofs.Places.LeafTells.{there}
 use Rattle.law_flow_own.proofs.Places.Moves.{IsLeft}
 use Rattle.law_flow_own.proofs.Places.Opening.{first_block, leaf_interval, not_nil}
 use Rattle.law_flow_own.proofs.Places.Steps.{IsStep, step_is}
 use Rattle.law_flow_own.proofs.Places.Whole.{AreWhole}
-use Rattle.law_flow_own.proofs.Vocabulary.Says.{Says, activations, with_own}
-use Rattle.law_flow_own.proofs.Locals.Closes.{IsLeftNow, left_now}
-use Rattle.law_flow_own.proofs.Locals.Moments.{need_is}
-use Rattle.law_flow_own.proofs.Locals.Reading.{top_size}
-use Rattle.law_flow_own.proofs.Locals.Stepping.FirstLevel.{TellsThen, count_of, is_first}
+use Rattle.law_flow_own.proofs.Vocabulary.Levels.{levels_after, put}
 use Rattle.law_flow_own.proofs.Vocabulary.LoopTells.{IsFramed}
-use Rattle.law_flow_own.proofs.Locals.EachStep.{AtMoment}
-use Rattle.law_flow_own.proofs.Locals.Stepping.Going.{tells_step}
-use Rattle.law_flow_own.proofs.Locals.Inside.{not_function, loop_number}
-use Rattle.law_flow_own.proofs.Loops.InFrame.{postlog_below}
-use Rattle.law_flow_own.proofs.Loops.JustLeft.{left_says}
+use Rattle.law_flow_own.proofs.Vocabulary.Says.{Says, activations, with_own}
+use Rattle.law_flow_own.specs.Places.Closing.{closing}
+use Rattle.law_flow_own.specs.Places.Leaves.{leaf_of, open_at}
+use Rattle.law_flow_own.specs.Places.Levels.{IsLater, Level}
+use Rattle.law_steps.proofs.OpenBlocks.Planned.{kind_is}
+use Rattle.law_steps.specs.OpenBlocks.Stack.{process_block}
+use Rattle.ppd_ast.specs.Valid.{IsValid}
+use Rattle.ppd_ast.specs.declared.plan.BlockKind.TheVariants as block
+use Rattle.ppd_ast.specs.declared.plan.Plan.{Plan}
+use Rattle.ppd_ast.specs.declared.plan.Policy.{Policy}
+use Rattle.ppd_ast.specs.declared.program.Program.{Program}
+use Rattle.ppd_blocks.specs.Blocks.{plan_of}
+use Rattle.ppd_flow_model.specs.Locals.{frame_in, local_origin}
+use Rattle.ppd_flow_model.specs.Seen.{seen_of}
+use Rattle.ppd_model.proofs.Changes.{some}
+use Rattle.ppd_model.proofs.LocalSteps.{tags_its_writes}
+use Rattle.ppd_model.proofs.LocalTags.{top_reads}
+use Rattle.ppd_model.proofs.Statuses.{status_after}
+use Rattle.ppd_model.proofs.TestSteps.{acts_length}
+use Rattle.ppd_model.specs.FullTrace.{me_in, top_tags}
+use Rattle.ppd_model.specs.Intervals.{Span, Split, left_by, nested, own, split_step}
+use Rattle.ppd_model.specs.LocalTags.{HasTags, cells_in, local_tag}
+use Rattle.ppd_model.specs.Logs.{status_of}
+use Rattle.ppd_model.specs.Marks.{closed}
+use Rattle.ppd_model.specs.NearIntervals.{is_loop}
+use Rattle.ppd_model.specs.Story.{story}
+use Rattle.ppd_model.specs.declared.tracing.Story.{Story}
+use Rattle.ppd_model.specs.declared.tracing.Taken.{Taken}
+use Rattle.ppd_sem.proofs.Running.{head_over}
+use Rattle.ppd_sem.specs.Blocks.{block_kind, postlog_cells}
+use Rattle.ppd_sem.specs.Process.{need_of, top_frame}
+use Rattle.ppd_sem.specs.declared.proc.Need.{Need}
+use Rattle.ppd_sem.specs.declared.proc.Need.TheVariants as need
+use Rattle.ppd_sem.specs.declared.proc.Todo.{Todo}
+use Rattle.std.proofs.Common.{List, None, Option, Some, [], ap, arith, get_or, length, map, refl, subst, suc, sym, true, true≢false, ℕ, ℤ, ◌++◌, ◌+◌, ◌-◌, ◌<◌, ◌∙◌, ◌∷◌, ◌≡◌}
+use Rattle.std.proofs.lemmas.Option.{none-some}
+use Rattle.std.specs.Prelude.{is_some, slice_get}
 
 module _ (program : Program) (policy : Policy) (v : IsValid program) (story : Story) (p : ℕ) (y : Split)
     (whole : AreWhole y) (there_is : program.functions + p < length program.bodies) where
@@ -99,12 +99,12 @@ module _ (program : Program) (policy : Policy) (v : IsValid program) (story : St
     is_leave ls f i i_there n value value_is (need.Back None w) e closes = absurd (true≢false (sym closes))
     is_leave ls f i i_there n value value_is (need.Back (Some b) w) e closes =
         let st = step_of ls f (need.Back (Some b) w) e refl in
-        absurd (not_function (top_body x.trace.proc.frames) q
+        absurd (not_function (top_frame x.trace.proc.frames).body q
         (sym (ap (block_kind plan) (first_of ls f b st.moves).1
-        ∙ kind_is program policy (block.Function (top_body x.trace.proc.frames)) b (sym st.of.block)) ∙ kind))
+        ∙ kind_is program policy (block.Function (top_frame x.trace.proc.frames).body) b (sym st.of.block)) ∙ kind))
     is_leave ls f i i_there n value value_is (need.End b) e closes =
         let left : IsLeftNow l [] (l.parts ++ own (length x.trace.events) ∷ []) next.spans =
-        left_now program plan story p x taken l ls f.stands (mark b []) (ap (closed program plan x.trace.proc) e) in
+        left_now program plan story p x taken l ls f.stands (record { block = b; values = [] }) (ap (closed program plan x.trace.proc) e) in
         let end = later.spans l.interval left.span left.there in
         let same : i ≡ left.span = some (sym i_there ∙ end.1) ∙ end.2.stays left.left in
         absurd (none-some value (sym (ap (λ (j : Span). slice_get j.values n) same
@@ -165,7 +165,7 @@ module _ (program : Program) (policy : Policy) (v : IsValid program) (story : St
         let one : length x.trace.proc.frames ≡ suc (length x.trace.proc.frames - 1) =
         omega (arith, same, counted, least) in
         let size : cells_in x.trace.proc.frames (length x.trace.proc.frames - 1)
-        ≡ length (top_cells x.trace.proc.frames) =
+        ≡ length (top_frame x.trace.proc.frames).cells =
         top_size x.trace.proc.frames (length x.trace.proc.frames - 1) one in
         let acts : length x.trace.activations ≡ length x.trace.proc.frames = acts_length x.trace tagged in
         record {
@@ -173,8 +173,8 @@ module _ (program : Program) (policy : Policy) (v : IsValid program) (story : St
           others = os;
           levels_are = refl;
           says = λ j c at.
-              let below : c < length (top_cells x.trace.proc.frames) =
-              postlog_below program policy v h.stmt b (length (top_cells x.trace.proc.frames)) ends.block
+              let below : c < length (top_frame x.trace.proc.frames).cells =
+              postlog_below program policy v h.stmt b (length (top_frame x.trace.proc.frames).cells) ends.block
               (head_over program x.trace.proc h f.state.runs (ap (λ ys. slice_get ys 0) is)) j c
               (ap (λ d. slice_get (postlog_cells plan d) j) (sym first.1) ∙ at) in
               let tag : get_or (top_tags x.trace.activations) c None

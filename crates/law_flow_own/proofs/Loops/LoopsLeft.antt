@@ -1,48 +1,50 @@
 -- The search finds the writers of what each loop left.
-use Rattle.std.proofs.Common.{◌≡◌, ℕ, ◌+◌, ◌<◌, ℤ, true, List, [], ◌∷◌, ◌++◌, Option, Some, None, refl, ap, ap₂, sym, subst, ◌∙◌, length, map, get_or}
-use Rattle.std.specs.Prelude.{is_some, slice_get, zip}
-use Rattle.std.proofs.lemmas.Option.{none-some}
+use Rattle.law_flow_own.proofs.Locals.AtSteps.{tagged_at, told_at}
+use Rattle.law_flow_own.proofs.Locals.EachStep.{AtMoment}
+use Rattle.law_flow_own.proofs.Locals.LocalReads.{says_is}
+use Rattle.law_flow_own.proofs.Locals.Moments.{need_is, next_later, running}
+use Rattle.law_flow_own.proofs.Locals.Places.{OuterAt, first_ones, level_from, outer_from}
+use Rattle.law_flow_own.proofs.Locals.Returned.{closing_step, leaving}
+use Rattle.law_flow_own.proofs.Loops.InFrame.{zipped}
+use Rattle.law_flow_own.proofs.Loops.Leaves.{left_in}
+use Rattle.law_flow_own.proofs.Places.Following.{IsFollowed}
+use Rattle.law_flow_own.proofs.Places.LeafTells.{all_whole, followed_at, later_at, split_is, there}
+use Rattle.law_flow_own.proofs.Places.Whole.{AreWhole, LevelAt}
+use Rattle.law_flow_own.proofs.Vocabulary.LoopTells.{IsFramed}
+use Rattle.law_flow_own.proofs.Vocabulary.Says.{activations}
+use Rattle.law_flow_own.specs.Loops.LoopsLeft.{LoopsLeftAreFound}
+use Rattle.law_flow_own.specs.Places.Leaves.{leaf_of}
+use Rattle.law_flow_own.specs.Places.Levels.{IsLater, StandsIn, numbers}
+use Rattle.law_flow_shared.proofs.Edges.Near.Tree.{IsTree, has_tree}
 use Rattle.ppd_ast.specs.Valid.{IsValid}
 use Rattle.ppd_ast.specs.declared.plan.BlockKind.TheVariants as block
 use Rattle.ppd_ast.specs.declared.plan.Plan.{Plan}
 use Rattle.ppd_ast.specs.declared.plan.Policy.{Policy}
 use Rattle.ppd_ast.specs.declared.program.Program.{Program}
 use Rattle.ppd_blocks.specs.Blocks.{plan_of}
-use Rattle.ppd_sem.specs.Blocks.{block_kind, postlog_cells}
-use Rattle.ppd_sem.specs.Process.{need_of}
-use Rattle.ppd_sem.specs.declared.proc.Need.TheVariants as need
-use Rattle.ppd_model.specs.FlowbackEdges.{from_writer, part_at}
-use Rattle.ppd_model.proofs.EdgeWords.{part_in}
-use Rattle.ppd_model.specs.FullTrace.{Tag, top_tags}
-use Rattle.ppd_model.specs.Intervals.{Part, nested, Span, Split, split_of, split_step, splits, is_closed}
-use Rattle.ppd_model.specs.LocalTags.{HasTags}
-use Rattle.ppd_model.specs.Marks.{closed}
-use Rattle.ppd_model.specs.Story.{own_steps, story}
-use Rattle.ppd_model.specs.declared.tracing.Story.{Story}
-use Rattle.ppd_model.specs.declared.tracing.Taken.{Taken}
-use Rattle.ppd_model.proofs.Changes.{some}
-use Rattle.ppd_model.proofs.Items.{items_whole}
-use Rattle.ppd_model.specs.Items.{HasWholeItems}
 use Rattle.ppd_flow_model.specs.Locals.{frame_in, leaf_at, local_origin}
 use Rattle.ppd_flow_model.specs.Own.{frame_at}
 use Rattle.ppd_flow_model.specs.Seen.{seen_of}
-use Rattle.law_flow_own.specs.Places.Leaves.{leaf_of}
-use Rattle.law_flow_own.specs.Places.Levels.{IsLater, StandsIn, numbers}
-use Rattle.law_flow_own.proofs.Places.Following.{IsFollowed}
-use Rattle.law_flow_own.proofs.Places.LeafTells.{all_whole, followed_at, later_at, split_is, there}
-use Rattle.law_flow_own.proofs.Places.Whole.{AreWhole, LevelAt}
-use Rattle.law_flow_own.proofs.Vocabulary.Says.{activations}
-use Rattle.law_flow_own.proofs.Locals.LocalReads.{says_is}
-use Rattle.law_flow_own.proofs.Locals.Moments.{need_is, next_later, running}
-use Rattle.law_flow_own.proofs.Locals.Places.{OuterAt, first_ones, level_from, outer_from}
-use Rattle.law_flow_own.proofs.Locals.Returned.{closing_step, leaving}
-use Rattle.law_flow_shared.proofs.Edges.Near.Tree.{IsTree, has_tree}
-use Rattle.law_flow_own.specs.Loops.LoopsLeft.{LoopsLeftAreFound}
-use Rattle.law_flow_own.proofs.Vocabulary.LoopTells.{IsFramed}
-use Rattle.law_flow_own.proofs.Locals.AtSteps.{tagged_at, told_at}
-use Rattle.law_flow_own.proofs.Locals.EachStep.{AtMoment}
-use Rattle.law_flow_own.proofs.Loops.InFrame.{zipped}
-use Rattle.law_flow_own.proofs.Loops.Leaves.{left_in}
+use Rattle.ppd_model.proofs.Changes.{some}
+use Rattle.ppd_model.proofs.EdgeWords.{part_in}
+use Rattle.ppd_model.proofs.Items.{items_whole}
+use Rattle.ppd_model.specs.FlowbackEdges.{part_at}
+use Rattle.ppd_model.specs.FullTrace.{Tag, top_tags}
+use Rattle.ppd_model.specs.Intervals.{Part, Span, Split, nested, ref, split_of, split_step, splits}
+use Rattle.ppd_model.specs.Items.{HasWholeItems}
+use Rattle.ppd_model.specs.LocalTags.{HasTags}
+use Rattle.ppd_model.specs.Marks.{closed}
+use Rattle.ppd_model.specs.Story.{story}
+use Rattle.ppd_model.specs.declared.flow.Origin.TheVariants as origin
+use Rattle.ppd_model.specs.declared.tracing.Story.{Story}
+use Rattle.ppd_model.specs.declared.tracing.Taken.{Taken}
+use Rattle.ppd_sem.specs.Blocks.{block_kind, postlog_cells}
+use Rattle.ppd_sem.specs.Process.{need_of}
+use Rattle.ppd_sem.specs.declared.proc.Need.TheVariants as need
+use Rattle.std.proofs.Common.{List, None, Option, Some, [], ap, ap₂, get_or, length, map, refl, subst, sym, true, ℕ, ℤ, ◌++◌, ◌+◌, ◌<◌, ◌∙◌, ◌∷◌, ◌≡◌}
+use Rattle.std.proofs.lemmas.Option.{none-some}
+use Rattle.std.specs.Option.{option_map_or}
+use Rattle.std.specs.Prelude.{is_some, slice_get, zip}
 
 at_end : (xs : List Part) (x : Part) (more : List Part) → slice_get (xs ++ x ∷ more) (length xs) ≡ Some x
 at_end [] x more = refl
@@ -65,13 +67,13 @@ pub record IsLeftFrom (program : Program) (plan : Plan) (xs : List Split) (y : S
   pub left_are : i.left ≡ map tag (postlog_cells plan i.block)
   pub found : (n c : ℕ) → slice_get (postlog_cells plan i.block) n ≡ Some c
       → local_origin program plan (seen_of y) p k (j + 1) (frame_at program plan (seen_of y) k j) c
-      ≡ from_writer xs (tag c)
+      ≡ option_map_or (ref xs) (tag c) origin.Initial
 
 pub left_from : (program : Program) (policy : Policy) (budget : ℕ) (h : List ℕ) (p k j m n q : ℕ) (y : Split) (i : Span)
     (value : ℤ) → IsValid program
     → slice_get (splits program (plan_of program policy) budget (story program (plan_of program policy) budget h)) p
     ≡ Some y
-    → part_at y k j ≡ Some (nested m) → slice_get y.spans m ≡ Some i → is_closed i ≡ true
+    → part_at y k j ≡ Some (nested m) → slice_get y.spans m ≡ Some i → is_some i.closed ≡ true
     → block_kind (plan_of program policy) i.block ≡ block.Loop q → slice_get i.values n ≡ Some value
     → IsLeftFrom program (plan_of program policy)
     (splits program (plan_of program policy) budget (story program (plan_of program policy) budget h)) y p k j i
@@ -115,7 +117,7 @@ left_from program policy budget h p k j m n q y i value v at part there_i is_so 
     level_from x y cl.level.interval (nested cl.level.interval ∷ []) just.outer just.others stands.levels.1 later in
     let tree : IsTree y.spans y.running =
     subst (λ (z : Split). IsTree z.spans z.running) (split_is program plan budget h p y at)
-    (has_tree program plan s p budget (own_steps s p)) in
+    (has_tree program plan s p budget (get_or s.steps p [])) in
     let span = span_of (slice_get y.spans k) j m part in
     let parent = tree.parent k j m span.0 span.1 span.2 in
     let k_is : k ≡ just.outer.interval =
@@ -157,4 +159,4 @@ lefts_found program policy budget h p k j m n q y i c value w v at part there_i 
     left_from program policy budget h p k j m n q y i value v at part there_i is_so kind value_is in
     let cells = zipped (postlog_cells plan i.block) l.tag n c w
     (ap (λ ts. slice_get (zip (postlog_cells plan i.block) ts) n) (sym l.left_are) ∙ tag_at) in
-    l.found n c cells.0 ∙ ap (from_writer xs) (sym cells.1)
+    l.found n c cells.0 ∙ ap (λ w. option_map_or (ref xs) w origin.Initial) (sym cells.1)

@@ -1,7 +1,11 @@
 -- Of each item what is found within the process is as the model has it.
-use Rattle.std.proofs.Common.{◌≡◌, ℕ, ◌+◌, ℤ, suc, Bool, true, false, List, [], ◌∷◌, ◌++◌, Some, None, refl, ap, ap₂, sym, subst, ◌∙◌, map}
-use Rattle.std.specs.Prelude.{slice_get}
-use Rattle.std.proofs.lemmas.Option.{none-some}
+use Rattle.law_flow_own.proofs.Control.Whole.{controls_found}
+use Rattle.law_flow_own.proofs.Locals.LocalReads.{all_reads_found}
+use Rattle.law_flow_own.proofs.Locals.OpenSpans.{are_empty}
+use Rattle.law_flow_own.proofs.Locals.Returned.{leaving, left_by_return, returns_found}
+use Rattle.law_flow_own.proofs.Loops.LoopsLeft.{IsLeftFrom, left_from}
+use Rattle.law_flow_own.proofs.Places.LeafTells.{split_is}
+use Rattle.law_flow_own.specs.Loops.AllOwnParts.{AllOwnPartsAreFound}
 use Rattle.ppd_ast.specs.Valid.{IsValid}
 use Rattle.ppd_ast.specs.declared.plan.BlockKind.{BlockKind}
 use Rattle.ppd_ast.specs.declared.plan.BlockKind.TheVariants as block
@@ -9,33 +13,31 @@ use Rattle.ppd_ast.specs.declared.plan.Plan.{Plan}
 use Rattle.ppd_ast.specs.declared.plan.Policy.{Policy}
 use Rattle.ppd_ast.specs.declared.program.Program.{Program}
 use Rattle.ppd_blocks.specs.Blocks.{plan_of}
-use Rattle.ppd_sem.specs.Blocks.{block_kind, postlog_cells}
-use Rattle.ppd_sem.specs.declared.event.Spot.TheVariants.{Local}
-use Rattle.ppd_model.specs.declared.flow.EdgeKind.TheVariants.{Left, Returned, Control}
-use Rattle.ppd_model.specs.declared.flow.FlowEdge.{FlowEdge}
-use Rattle.ppd_model.specs.declared.flow.Origin.{Origin}
-use Rattle.ppd_model.specs.FlowbackEdges.{bare_edge, edges_of_nested as model_nested, from_parent, from_writer, left_edges as model_left, part_at, result_edges, returned_edges as model_returned}
-use Rattle.ppd_model.specs.FullTrace.{Tag, me_in}
-use Rattle.ppd_model.specs.Intervals.{nested, Span, Split, is_closed, split_of, splits}
-use Rattle.ppd_model.specs.NearIntervals.{is_loop}
-use Rattle.ppd_model.specs.Story.{own_steps, story}
 use Rattle.ppd_flow_model.specs.Locals.{local_origin}
 use Rattle.ppd_flow_model.specs.Own.{edges_of_nested, frame_at, left_edges, returned_edges}
 use Rattle.ppd_flow_model.specs.Seen.{seen_of}
-use Rattle.law_flow_own.proofs.Places.LeafTells.{split_is}
-use Rattle.law_flow_own.proofs.Control.Whole.{controls_found}
-use Rattle.law_flow_own.proofs.Locals.Returned.{leaving, left_by_return, returns_found}
-use Rattle.law_flow_own.specs.Loops.AllOwnParts.{AllOwnPartsAreFound}
-use Rattle.law_flow_own.proofs.Locals.LocalReads.{all_reads_found}
-use Rattle.law_flow_own.proofs.Loops.LoopsLeft.{IsLeftFrom, left_from}
-use Rattle.law_flow_own.proofs.Locals.OpenSpans.{are_empty}
+use Rattle.ppd_model.specs.FlowbackEdges.{bare_edge, edges_of_nested as model_nested, part_at, result_edges, value_edges}
+use Rattle.ppd_model.specs.FullTrace.{Tag, me_in}
+use Rattle.ppd_model.specs.Intervals.{Span, Split, nested, ref, split_of, splits}
+use Rattle.ppd_model.specs.NearIntervals.{is_loop}
+use Rattle.ppd_model.specs.Story.{story}
+use Rattle.ppd_model.specs.declared.flow.EdgeKind.TheVariants.{Control, Left, Returned}
+use Rattle.ppd_model.specs.declared.flow.FlowEdge.{FlowEdge}
+use Rattle.ppd_model.specs.declared.flow.Origin.{Origin}
+use Rattle.ppd_model.specs.declared.flow.Origin.TheVariants as origin
+use Rattle.ppd_sem.specs.Blocks.{block_kind, postlog_cells}
+use Rattle.ppd_sem.specs.declared.event.Spot.TheVariants.{Local}
+use Rattle.std.proofs.Common.{Bool, List, None, Some, [], ap, ap₂, false, map, refl, subst, suc, sym, true, ℕ, ℤ, ◌++◌, ◌+◌, ◌∙◌, ◌∷◌, ◌≡◌}
+use Rattle.std.proofs.lemmas.Option.{none-some}
+use Rattle.std.specs.Option.{option_map_or}
+use Rattle.std.specs.Prelude.{get_or, is_some, slice_get}
 
 -- a function's interval that is left has the tag of its return
 function_left : (program : Program) (policy : Policy) (budget : ℕ) (h : List ℕ) (p m : ℕ) (y : Split) (i : Span)
     → IsValid program
     → slice_get (splits program (plan_of program policy) budget (story program (plan_of program policy) budget h)) p
     ≡ Some y
-    → slice_get y.spans m ≡ Some i → is_closed i ≡ true → is_loop (block_kind (plan_of program policy) i.block) ≡ false
+    → slice_get y.spans m ≡ Some i → is_some i.closed ≡ true → is_loop (block_kind (plan_of program policy) i.block) ≡ false
     → (w : Tag) × (i.left ≡ w ∷ [])
 function_left program policy budget h p m y i v at there is_so no_loop = (
   Some (me_in p (split_of program (plan_of program policy) budget (story program (plan_of program policy) budget h) p
@@ -48,15 +50,16 @@ module _ (program : Program) (plan : Plan) (xs : List Split) (y : Split) (p k j 
   no_values frame [] = refl
   no_values frame (c ∷ cs) = refl
 
-  no_left : (frame : ℕ) (cells : List ℕ) (left : List Tag) → model_left xs frame cells [] left ≡ []
+  no_left : (frame : ℕ) (cells : List ℕ) (left : List Tag)
+      → value_edges xs Left (map (λ c. Some (Local frame c)) cells) [] left ≡ []
   no_left frame [] left = refl
   no_left frame (c ∷ cs) left = refl
 
   left_same : (frame : ℕ) (tag : ℕ → Tag) (cells : List ℕ) (values : List ℤ)
       → ((n c : ℕ) → slice_get cells n ≡ Some c
-      → local_origin program plan (seen_of y) p k (j + 1) frame c ≡ from_writer xs (tag c))
+      → local_origin program plan (seen_of y) p k (j + 1) frame c ≡ option_map_or (ref xs) (tag c) origin.Initial)
       → left_edges program plan (seen_of y) p k j frame cells values
-      ≡ model_left xs frame cells values (map tag cells)
+      ≡ value_edges xs Left (map (λ c. Some (Local frame c)) cells) values (map tag cells)
   left_same frame tag [] values h = refl
   left_same frame tag (c ∷ cs) [] h = refl
   left_same frame tag (c ∷ cs) (v ∷ vs) h =
@@ -76,23 +79,24 @@ module _ (program : Program) (policy : Policy) (budget : ℕ) (h : List ℕ) (p 
   abbrev xs : List Split
   xs = splits program plan budget (story program plan budget h)
 
-  empty : is_closed i ≡ false → i.values ≡ []
-  empty = subst (λ (z : Split). (a : ℕ) (b : Span) → slice_get z.spans a ≡ Some b → is_closed b ≡ false → b.values ≡ [])
+  empty : is_some i.closed ≡ false → i.values ≡ []
+  empty = subst (λ (z : Split). (a : ℕ) (b : Span) → slice_get z.spans a ≡ Some b → is_some b.closed ≡ false → b.values ≡ [])
       (split_is program plan budget h p y at)
-      (are_empty program plan (story program plan budget h) p budget (own_steps (story program plan budget h) p)) m i
+      (are_empty program plan (story program plan budget h) p budget (get_or (story program plan budget h).steps p [])) m i
       there
 
   -- with a value it was left
-  was_left : (value : ℤ) (values : List ℤ) → i.values ≡ value ∷ values → is_closed i ≡ true
-  was_left value values is = by (is_closed i) refl
+  was_left : (value : ℤ) (values : List ℤ) → i.values ≡ value ∷ values → is_some i.closed ≡ true
+  was_left value values is = by (is_some i.closed) refl
     where
-      by : (b : Bool) → is_closed i ≡ b → is_closed i ≡ true
+      by : (b : Bool) → is_some i.closed ≡ b → is_some i.closed ≡ true
       by true e = e
       by false e = absurd (none-some value (ap (λ vs. slice_get vs 0) (sym (empty e) ∙ is)))
 
   lefts : (q : ℕ) → block_kind plan i.block ≡ block.Loop q → (values : List ℤ) → i.values ≡ values
       → left_edges program plan (seen_of y) p k j (frame_at program plan (seen_of y) k j) (postlog_cells plan i.block)
-      values ≡ model_left xs i.frame (postlog_cells plan i.block) values i.left
+      values
+      ≡ value_edges xs Left (map (λ c. Some (Local i.frame c)) (postlog_cells plan i.block)) values i.left
   lefts q kind [] is =
       no_values program plan xs y p k j (frame_at program plan (seen_of y) k j) (postlog_cells plan i.block)
       ∙ sym (no_left program plan xs y p k j i.frame (postlog_cells plan i.block) i.left)
@@ -102,21 +106,21 @@ module _ (program : Program) (policy : Policy) (budget : ℕ) (h : List ℕ) (p 
       (ap (λ vs. slice_get vs 0) is) in
       left_same program plan xs y p k j (frame_at program plan (seen_of y) k j) l.tag (postlog_cells plan i.block)
       (z ∷ zs) l.found
-      ∙ ap₂ (λ f ts. model_left xs f (postlog_cells plan i.block) (z ∷ zs) ts) l.frame_is (sym l.left_are)
+      ∙ ap₂ (λ f ts. value_edges xs Left (map (λ c. Some (Local f c)) (postlog_cells plan i.block)) (z ∷ zs) ts) l.frame_is (sym l.left_are)
 
   returned : is_loop (block_kind plan i.block) ≡ false → (values : List ℤ) → i.values ≡ values
-      → returned_edges (seen_of y) p m values ≡ model_returned xs values i.left
+      → returned_edges (seen_of y) p m values ≡ value_edges xs Returned (None ∷ []) values i.left
   returned isnt [] is = refl
   returned isnt (z ∷ zs) is =
-      let is_so : is_closed i ≡ true = was_left z zs is in
+      let is_so : is_some i.closed ≡ true = was_left z zs is in
       let w = function_left program policy budget h p m y i v at there is_so isnt in
       ap (λ o. record { kind = Returned; spot = None; value = Some z; from = o } ∷ [])
       (returns_found program policy budget h p m y i w.0 v at there is_so isnt (ap (λ ts. slice_get ts 0) w.1))
-      ∙ ap (model_returned xs (z ∷ zs)) (sym w.1)
+      ∙ ap (value_edges xs Returned (None ∷ []) (z ∷ zs)) (sym w.1)
 
   by_kind : (kind : BlockKind) → block_kind plan i.block ≡ kind
       → edges_of_nested program plan (seen_of y) p k j m i.block i.values kind
-      ≡ result_edges plan xs kind i ++ bare_edge Control (from_parent xs i.control) ∷ []
+      ≡ result_edges plan xs kind i ++ bare_edge Control (option_map_or (ref xs) i.control origin.Entry) ∷ []
   by_kind (block.Loop q) e =
       ap₂ (λ es o. es ++ bare_edge Control o ∷ []) (lefts q e i.values refl)
       ((controls_found program policy budget h p y v at k j).loop m q i part there e)

@@ -16,10 +16,10 @@ use Rattle.ppd_sem.specs.declared.proc.Proc.{Proc}
 use Rattle.ppd_sem.specs.declared.proc.Todo.{Todo}
 use Rattle.ppd_sem.specs.Asked.{Asked}
 use Rattle.ppd_sem.specs.Deed.{Deed, set_local, set_shared, clear, branch, turn, leave, invoke, back, take, give, send, receive, print, pass, finish}
-use Rattle.ppd_sem.specs.Process.{act_by_asked, act_by_deed, head_deed, top_call, top_cells, value_of}
+use Rattle.ppd_sem.specs.Process.{act_by_asked, act_by_deed, head_deed, value_of, top_frame, into_at}
 use Rattle.ppd_model.specs.declared.trace.EventId.{EventId}
 use Rattle.ppd_model.specs.declared.tracing.Activation.{Activation}
-use Rattle.ppd_model.specs.FullTrace.{Tag, all_tagged, into_at, tagged, tagged_by, tagged_into, with_test}
+use Rattle.ppd_model.specs.FullTrace.{Tag, all_tagged, tagged, tagged_by, tagged_into, with_test}
 use Rattle.law_flow_own.proofs.Places.Moves.{IsOther}
 
 abbrev pub events_in : List Activation → List (Option EventId)
@@ -52,7 +52,7 @@ other_deed k finish o f P p1 p2 p3 p4 p5 p6 p7 p8 p9 p10 p11 p12 p13 = p13
 
 module _ (program : Program) (plan : Plan) (a : Answer) (t : Todo) (ts : List Todo) (s : Proc) where
   fits : Fits (kind_of program t.stmt) (head_deed program t s)
-  fits = deed_fits program.exprs (top_cells s.frames) s.answers (kind_of program t.stmt)
+  fits = deed_fits program.exprs (top_frame s.frames).cells s.answers (kind_of program t.stmt)
 
   frames_by : (x : Asked Deed) → IsOther (kind_of program t.stmt) → Fits (kind_of program t.stmt) x
       → calls_of (act_by_asked program a t ts x s).frames ≡ calls_of s.frames
@@ -131,4 +131,4 @@ module _ (program : Program) (plan : Plan) (a : Answer) (t : Todo) (ts : List To
       → head_deed program t s ≡ Ok (back value, left) → events_in (tagged_by program s me (head_deed program t s) xs)
       ≡ drop 1 (events_in xs)
   tags_back me xs value left at = ap (λ x. events_in (tagged_by program s me x xs)) at
-      ∙ into_same (into_at program (top_call s.frames)) value me (drop 1 xs) ∙ drop_in xs
+      ∙ into_same (into_at program (top_frame s.frames).call) value me (drop 1 xs) ∙ drop_in xs

@@ -1,7 +1,7 @@
 -- After all steps of a process the levels are told.
 use Rattle.std.proofs.Common.{◌≡◌, ℕ, suc, ◌+◌, ◌<◌, true, List, [], ◌∷◌, ◌++◌, Option, Some, None, refl, ap, sym, subst, ◌∙◌, arith, length, true≢false}
 use Rattle.std.specs.List.{All}
-use Rattle.std.specs.Prelude.{fold, is_some, slice_get}
+use Rattle.std.specs.Prelude.{fold, is_some}
 use Rattle.std.proofs.lemmas.Bool.{le-leb}
 use Rattle.std.proofs.lemmas.Option.{none-some}
 use Rattle.ppd_ast.specs.Valid.{IsValid}
@@ -11,7 +11,6 @@ use Rattle.ppd_ast.specs.declared.plan.Plan.{Plan}
 use Rattle.ppd_ast.specs.declared.plan.Policy.{Policy}
 use Rattle.ppd_ast.specs.declared.program.Program.{Program}
 use Rattle.ppd_ast.specs.declared.status.Status.{Status}
-use Rattle.ppd_ast.specs.Lookups.{top_of_body}
 use Rattle.ppd_blocks.specs.Blocks.{plan_of}
 use Rattle.law_steps.specs.Course.{EndsWithEnd}
 use Rattle.law_replay.proofs.Facts.State.{IsState, act_state, started_state}
@@ -49,6 +48,7 @@ use Rattle.law_flow_own.proofs.Places.Steps.{IsStep, event_there, step_is}
 use Rattle.law_flow_own.proofs.Places.Telling.{event_now}
 use Rattle.law_flow_own.proofs.Places.Told.{IsThere, Tells, Told, function_begins, function_left, leaf_begins_at, leaf_left, loop_begins, loop_left, other}
 use Rattle.law_flow_own.proofs.Places.Whole.{AreWhole}
+use Rattle.ppd_ast.specs.Lookups.{body_numbered}
 
 -- a process that has not stopped has something to do
 pub something : (program : Program) (plan : Plan) (p : ℕ) (s : Proc) → IsInOrder program plan p s → s.status ≡ None
@@ -250,7 +250,7 @@ module _ (program : Program) (policy : Policy) (v : IsValid program) (story : St
         state = started_state program plan v p budget lt;
         told = λ runs. record {
           open_is = ap (λ c. c ++ Some (process_block program plan p) ∷ [])
-              (sym (none_closed inner.0 (top_of_body (slice_get program.bodies (program.functions + p))) inner.1));
+              (sym (none_closed inner.0 (body_numbered program (program.functions + p)).top inner.1));
           begun = from_own program plan p y first_level [] _ (block.Process (program.functions + p)) refl
               (process_kind lt) (refl, refl);
         };

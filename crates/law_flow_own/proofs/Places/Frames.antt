@@ -23,7 +23,7 @@ use Rattle.law_steps.specs.OpenBlocks.Stack.{IsInOrder, process_block, returning
 use Rattle.law_steps.proofs.OpenBlocks.DeedKinds.{loop_is, return_no_loop, while_block}
 use Rattle.law_steps.proofs.OpenBlocks.Framed.{head_returns, head_stays}
 use Rattle.ppd_sem.specs.Described.{ends_body, frame_of, is_block, is_in_loop}
-use Rattle.ppd_sem.specs.Process.{loop_of, top_body}
+use Rattle.ppd_sem.specs.Process.{loop_of, top_frame}
 use Rattle.ppd_sem.specs.Runs.{returns, bodies_in}
 use Rattle.ppd_sem.specs.Tables.{block_of}
 use Rattle.ppd_sem.specs.declared.proc.Frame.{Frame}
@@ -241,16 +241,16 @@ frame_tells program policy p y s l ls v order state is_process at =
     ap (λ b. if b then 0 else 1)
     (first_open program policy v (program.functions + p)
     (process_block program (plan_of program policy) p) is_process s.todo (calls_of s.frames)
-    (top_body s.frames) first.0 first.1 state.ready.0 order.course
+    (top_frame s.frames).body first.0 first.1 state.ready.0 order.course
     top (λ fs h. subst (λ n. n < program.functions) (sym (below fs h).0) (below fs h).1) (sym at ∙ first.2))
     ∙ first.3
   where
     top_of_frames : (rs : List ℕ) → bodies_in s.frames ≡ rs ++ (program.functions + p) ∷ []
-        → (gs : List ℕ) × (rs ++ (program.functions + p) ∷ [] ≡ top_body s.frames ∷ gs)
+        → (gs : List ℕ) × (rs ++ (program.functions + p) ∷ [] ≡ (top_frame s.frames).body ∷ gs)
     top_of_frames rs e = by s.frames (sym e)
       where
         by : (frames : List Frame) → rs ++ (program.functions + p) ∷ [] ≡ bodies_in frames
-            → (gs : List ℕ) × (rs ++ (program.functions + p) ∷ [] ≡ top_body frames ∷ gs)
+            → (gs : List ℕ) × (rs ++ (program.functions + p) ∷ [] ≡ (top_frame frames).body ∷ gs)
         by [] h = absurd (nothing rs h)
           where
             nothing : (rs : List ℕ) → rs ++ (program.functions + p) ∷ [] ≡ [] → ⊥
@@ -258,7 +258,7 @@ frame_tells program policy p y s l ls v order state is_process at =
             nothing (r ∷ rs) h = cc
         by (f ∷ fs) h = (bodies_in fs, h)
 
-    below : (fs : List ℕ) → returning program s.todo ≡ top_body s.frames ∷ fs
-        → (top_body s.frames ≡ top_body s.frames) × (top_body s.frames < program.functions)
-    below fs h = top_function program s.frames (top_body s.frames) fs (program.functions + p) v state.called
+    below : (fs : List ℕ) → returning program s.todo ≡ (top_frame s.frames).body ∷ fs
+        → ((top_frame s.frames).body ≡ (top_frame s.frames).body) × ((top_frame s.frames).body < program.functions)
+    below fs h = top_function program s.frames (top_frame s.frames).body fs (program.functions + p) v state.called
         (order.frames ∙ ap (λ ys. ys ++ (program.functions + p) ∷ []) h)

@@ -1,7 +1,7 @@
 -- The intervals and events of a process at later times.
 use Rattle.std.proofs.Common.{◌≡◌, ℕ, ◌+◌, Bool, true, false, cond, List, [], ◌∷◌, ◌++◌, Option, Some, None, refl, ap, sym, subst, ◌∙◌, length, append-nil, append_assoc, true≢false, inl, inr}
 use Rattle.std.proofs.lemmas.Bool.{cases_eq}
-use Rattle.std.specs.Prelude.{fold, option_map, slice_get}
+use Rattle.std.specs.Prelude.{fold, option_map, slice_get, is_some}
 use Rattle.ppd_ast.specs.declared.plan.Plan.{Plan}
 use Rattle.ppd_ast.specs.declared.program.Program.{Program}
 use Rattle.ppd_sem.specs.Described.{frame_of, is_event}
@@ -11,7 +11,7 @@ use Rattle.ppd_model.specs.declared.trace.EventId.{EventId}
 use Rattle.ppd_model.specs.declared.trace.TracedEvent.{TracedEvent}
 use Rattle.ppd_model.specs.declared.tracing.Tracing.{Tracing}
 use Rattle.ppd_model.specs.FullTrace.{Tag, me_in, top_tags, trace_by}
-use Rattle.ppd_model.specs.Intervals.{Part, own, nested, Span, Split, change_first, control_by, innermost, is_closed, left_by, new_span, split_step, with_own, with_part, with_step}
+use Rattle.ppd_model.specs.Intervals.{Part, own, nested, Span, Split, change_first, control_by, innermost, left_by, new_span, split_step, with_own, with_part, with_step}
 use Rattle.ppd_model.proofs.IntervalWords.{begin_if, end_if}
 use Rattle.ppd_model.specs.Marks.{Mark, closed, opened}
 use Rattle.ppd_model.specs.declared.tracing.Story.{Story}
@@ -48,7 +48,7 @@ span_then i j k h g = record {
   control = g.control ∙ h.control;
   more = h.more ++ g.more;
   parts = g.parts ∙ ap (λ ps. ps ++ g.more) h.parts ∙ append_assoc i.parts h.more g.more;
-  stays = λ c. g.stays (ap is_closed (h.stays c) ∙ c) ∙ h.stays c;
+  stays = λ c. g.stays (ap (λ (i : Span). is_some i.closed) (h.stays c) ∙ c) ∙ h.stays c;
 }
 
 spans_same : (xs : List Span) → SpansLater xs xs
@@ -85,16 +85,16 @@ changed_later f m spans h k i e = elim (cases_eq k m) [
   | inr other ↦ (i, change-else f m k spans other ∙ e, same_span i)
 ]
 
-first_later : (f : Span → Span) → ((i : Span) → is_closed i ≡ false → IsLaterSpan i (f i))
+first_later : (f : Span → Span) → ((i : Span) → is_some i.closed ≡ false → IsLaterSpan i (f i))
     → (x : Split) (ls : List Level) → StandsIn x ls → SpansLater x.spans (change_first f x.running x.spans)
 first_later f h x ls s = subst (λ ks. SpansLater x.spans (change_first f ks x.spans)) (sym s.running) (by ls s)
   where
     by : (ls : List Level) → StandsIn x ls → SpansLater x.spans (change_first f (numbers ls) x.spans)
     by [] s = spans_same x.spans
-    by (l ∷ ls) s = changed_later f l.interval x.spans (λ i e. h i (ap is_closed (some (sym e ∙ s.levels.0.there))
+    by (l ∷ ls) s = changed_later f l.interval x.spans (λ i e. h i (ap (λ (i : Span). is_some i.closed) (some (sym e ∙ s.levels.0.there))
         ∙ s.levels.0.runs))
 
-part_later : (q : Part) (i : Span) → is_closed i ≡ false → IsLaterSpan i (with_part q i)
+part_later : (q : Part) (i : Span) → is_some i.closed ≡ false → IsLaterSpan i (with_part q i)
 part_later q i runs = record {
   block = refl;
   round = refl;

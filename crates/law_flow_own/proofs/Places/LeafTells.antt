@@ -1,6 +1,6 @@
 -- At each moment at which a process runs, the items tell which activation goes on.
 use Rattle.std.proofs.Common.{◌≡◌, ℕ, ◌+◌, ◌<◌, true, List, [], ◌∷◌, ◌++◌, Some, ap, sym, subst, ◌∙◌, arith, length}
-use Rattle.std.specs.Prelude.{fold, is_some, slice_get}
+use Rattle.std.specs.Prelude.{fold, is_some, slice_get, get_or}
 use Rattle.std.proofs.lemmas.List.{length-map}
 use Rattle.std.proofs.lemmas.List.Sums.{fold-append}
 use Rattle.std.proofs.lemmas.Option.{slice_get_within}
@@ -19,7 +19,7 @@ use Rattle.ppd_sem.specs.Tables.{block_of}
 use Rattle.ppd_sem.specs.declared.proc.Proc.{Proc}
 use Rattle.ppd_model.specs.Intervals.{Split, begun_split, split_of, split_step, splits}
 use Rattle.ppd_model.specs.LocalTags.{AreOwn}
-use Rattle.ppd_model.specs.Story.{Telling, own_steps, steps_of, story, told}
+use Rattle.ppd_model.specs.Story.{Telling, steps_of, story, told}
 use Rattle.ppd_model.specs.declared.tracing.Story.{Story}
 use Rattle.ppd_model.specs.declared.tracing.Taken.{Taken}
 use Rattle.ppd_model.proofs.Items.{items_whole, split_found, splits_length}
@@ -49,11 +49,11 @@ process_below program plan budget h p y at =
 -- a process in its intervals is so by its own steps
 pub split_is : (program : Program) (plan : Plan) (budget : ℕ) (h : List ℕ) (p : ℕ) (y : Split)
     → slice_get (splits program plan budget (story program plan budget h)) p ≡ Some y
-    → split_of program plan budget (story program plan budget h) p (own_steps (story program plan budget h) p) ≡ y
+    → split_of program plan budget (story program plan budget h) p (get_or (story program plan budget h).steps p []) ≡ y
 split_is program plan budget h p y at =
     let s : Story = story program plan budget h in
     let z : 0 + p ≡ p = omega arith in
-    ap (λ k. split_of program plan budget s k (own_steps s p)) (sym z)
+    ap (λ k. split_of program plan budget s k (get_or s.steps p [])) (sym z)
     ∙ split_found program plan budget s 0 s.steps p y at
 
 frame_any : (program : Program) (policy : Policy) (p : ℕ) (y : Split) (s : Proc) (ls : List Level) → IsValid program
@@ -104,7 +104,7 @@ module _ (program : Program) (policy : Policy) (budget : ℕ) (h : List ℕ) (p 
   } ∷ [])
   begins = followed_start program policy v s p y all_whole budget there
 
-  module _ (before after : List Taken) (steps : own_steps s p ≡ before ++ after) where
+  module _ (before after : List Taken) (steps : get_or s.steps p [] ≡ before ++ after) where
     pub comes_to : fold (split_step program plan s p) (split_of program plan budget s p before) after ≡ y
     comes_to = sym (fold-append (split_step program plan s p) start before after)
         ∙ ap (split_of program plan budget s p) (sym steps) ∙ split_is program plan budget h p y at

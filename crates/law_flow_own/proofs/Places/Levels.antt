@@ -1,7 +1,7 @@
 -- The levels of a process's intervals as its steps change them.
 use Rattle.std.proofs.Common.{◌≡◌, ℕ, zero, suc, ◌<◌, ◌≤◌, ℤ, List, [], ◌∷◌, ◌++◌, Option, Some, None, refl, ap, sym, subst, ◌∙◌, arith, length, append-nil}
-use Rattle.std.specs.Prelude.{drop, option_map, slice_get}
-use Rattle.ppd_model.specs.Intervals.{Part, own, nested, Span, Split, begin_span, change_first, end_span, innermost, is_closed, new_span, with_part}
+use Rattle.std.specs.Prelude.{drop, option_map, slice_get, is_some}
+use Rattle.ppd_model.specs.Intervals.{Part, own, nested, Span, Split, begin_span, change_first, end_span, innermost, new_span, with_part}
 use Rattle.ppd_model.proofs.IntervalWords.{begin_if, end_if}
 use Rattle.ppd_model.specs.FullTrace.{Tag}
 use Rattle.ppd_model.specs.Marks.{Mark}
@@ -61,7 +61,7 @@ changed_below f spans m k lt = change-else f m k spans (λ e. omega (arith, lt, 
 
 -- a change that keeps the interval running, in its block and round
 pub record IsQuiet (f : Span → Span) : Type 0 where
-  pub same_closed : (i : Span) → is_closed (f i) ≡ is_closed i
+  pub same_closed : (i : Span) → is_some (f i).closed ≡ is_some i.closed
   pub same_block : (i : Span) → (f i).block ≡ i.block
   pub same_round : (i : Span) → (f i).round ≡ i.round
 

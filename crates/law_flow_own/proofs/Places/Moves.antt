@@ -1,7 +1,7 @@
 -- What is open after each step, and which statement the step is of.
 use Rattle.std.proofs.Common.{◌≡◌, ℕ, zero, suc, ◌+◌, ℤ, Bool, true, false, nat_lt, List, [], ◌∷◌, ◌++◌, length, Option, Some, None, Ok, Err, refl, ap, sym, subst, ◌∙◌, if◌then◌else◌}
 use Rattle.std.proofs.lemmas.Option.{none-some}
-use Rattle.std.specs.Prelude.{slice_get, ⊤}
+use Rattle.std.specs.Prelude.{⊤}
 use Rattle.ppd_ast.specs.Numbered.{is_call, is_while}
 use Rattle.ppd_ast.specs.Valid.{IsValid}
 use Rattle.ppd_ast.specs.declared.plan.BlockKind.TheVariants as block
@@ -10,7 +10,7 @@ use Rattle.ppd_ast.specs.declared.plan.Start.TheVariants as start
 use Rattle.ppd_ast.specs.declared.program.Kind.{Kind}
 use Rattle.ppd_ast.specs.declared.program.Program.{Program}
 use Rattle.ppd_ast.specs.declared.status.Trap.TheVariants as trap
-use Rattle.ppd_ast.specs.Lookups.{kind_of, top_of_body, body_of}
+use Rattle.ppd_ast.specs.Lookups.{kind_of, body_of, body_numbered}
 use Rattle.ppd_ast.specs.declared.limits.TheConstants.{MOST_CALLS}
 use Rattle.law_steps.proofs.Course.Deeds.{IsLoopDeed}
 use Rattle.ppd_model.proofs.Deeds.{AskedOf as DoesIf, asked_of as does}
@@ -22,7 +22,7 @@ use Rattle.ppd_sem.specs.declared.proc.Proc.{Proc}
 use Rattle.ppd_sem.specs.declared.proc.Todo.{Todo}
 use Rattle.ppd_sem.specs.Asked.{Asked}
 use Rattle.ppd_sem.specs.Deed.{Deed, set_local, set_shared, clear, branch, turn, leave, invoke, back, take, give, send, receive, print, pass, finish}
-use Rattle.ppd_sem.specs.Process.{act_by_asked, act_by_deed, act_by_need, call_unit, chan_of, cost, entry_of, head_deed, loop_of, need_of_asked, need_of_deed, need_of_head, need_of_leaving, need_of_send, offer_of, top_body, top_call, top_cells}
+use Rattle.ppd_sem.specs.Process.{act_by_asked, act_by_deed, act_by_need, call_unit, chan_of, cost, entry_of, head_deed, loop_of, need_of_asked, need_of_deed, need_of_head, need_of_leaving, need_of_send, offer_of, top_frame}
 use Rattle.ppd_sem.proofs.NeedWords.{need_by_entry, need_by_offer, need_of_running}
 use Rattle.ppd_sem.specs.Runs.{returns, bodies_in}
 use Rattle.ppd_sem.specs.Tables.{block_of, capacity_of, unit_of}
@@ -59,7 +59,7 @@ pub record IsReturning (program : Program) (plan : Plan) (t : Todo) (s : Proc) (
   pub left : List ℤ
   pub deed : head_deed program t s ≡ Ok (back value, left)
   pub goes : returns (kind_of program t.stmt) ≡ true
-  pub block : o ≡ block_of plan (block.Function (top_body s.frames))
+  pub block : o ≡ block_of plan (block.Function (top_frame s.frames).body)
 
 -- the test of a block loop that ends
 pub record IsLeft (program : Program) (plan : Plan) (t : Todo) (s : Proc) (b : ℕ) : Type 0 where
@@ -112,10 +112,10 @@ module _ (program : Program) (plan : Plan) (p : ℕ) (v : IsValid program) (a : 
 
   module _ (d : Deed) (left : List ℤ) (at : head_deed program t s ≡ Ok (d, left)) where
     other_deed : ((body : List ℕ) → IsLoopDeed body d → ⊥) → is_while (kind_of program t.stmt) ≡ false
-    other_deed none = no_loop program.exprs (kind_of program t.stmt) (top_cells s.frames) s.answers d left at none
+    other_deed none = no_loop program.exprs (kind_of program t.stmt) (top_frame s.frames).cells s.answers d left at none
 
     other_call : (IsCallDeed d → ⊥) → is_call (kind_of program t.stmt) ≡ false
-    other_call none = no_call program.exprs (kind_of program t.stmt) (top_cells s.frames) s.answers d left at none
+    other_call none = no_call program.exprs (kind_of program t.stmt) (top_frame s.frames).cells s.answers d left at none
 
     -- a deed that only takes the head away
     plain : ((body : List ℕ) → IsLoopDeed body d → ⊥) → (IsCallDeed d → ⊥) → returns (kind_of program t.stmt) ≡ false
@@ -199,7 +199,7 @@ module _ (program : Program) (plan : Plan) (p : ℕ) (v : IsValid program) (a : 
     calling false f values into left at h = (
       moved (need.Invoke (block_of plan (block.Function f)) (unit_of plan (start.Entry f)))
           (Ok (invoke f values into, left)) at
-          (top_opens program plan f (top_of_body (slice_get program.bodies f)) ts h.1.0
+          (top_opens program plan f (body_numbered program f).top ts h.1.0
           ∙ ap (λ xs. block_of plan (block.Function f) ∷ xs)
           (sym (gone (other_deed (invoke f values into) left at (λ body z. z)) h.0))),
       record { function = f; values = values; into = into; left = left; deed = at; block = refl },
@@ -207,15 +207,15 @@ module _ (program : Program) (plan : Plan) (p : ℕ) (v : IsValid program) (a : 
 
     returning_back : (value : Option ℤ) (left : List ℤ) → head_deed program t s ≡ Ok (back value, left)
         → returns (kind_of program t.stmt) ≡ true
-        → Tells (need.Back (block_of plan (block.Function (top_body s.frames))) (call_unit plan (top_call s.frames)))
+        → Tells (need.Back (block_of plan (block.Function (top_frame s.frames).body)) (call_unit plan (top_frame s.frames).call))
     returning_back value left at ret =
         let none : of_loop program plan t ≡ [] =
         no_loop_mark program plan t (while_block plan t.stmt (kind_of program t.stmt)
         (return_no_loop (kind_of program t.stmt) ret)) in
-        let own : top_body s.frames ≡ body_of program t.stmt =
+        let own : (top_frame s.frames).body ≡ body_of program t.stmt =
         top_is s (body_of program t.stmt) (returning program ts ++ (program.functions + p) ∷ []) (framed
         ∙ ap (λ bs. bs ++ (program.functions + p) ∷ []) (head_returns program t ts ret)) in (
-          moved (need.Back (block_of plan (block.Function (top_body s.frames))) (call_unit plan (top_call s.frames)))
+          moved (need.Back (block_of plan (block.Function (top_frame s.frames).body)) (call_unit plan (top_frame s.frames).call))
               (Ok (back value, left)) at
               (ap (λ xs. (xs ++ of_return program plan t) ++ closing program plan ts) none
               ∙ ap (λ xs. xs ++ closing program plan ts) (return_mark program plan t ret)
@@ -252,7 +252,7 @@ module _ (program : Program) (plan : Plan) (p : ℕ) (v : IsValid program) (a : 
       where
         loop : is_while (kind_of program t.stmt) ≡ true
         loop = subst (DoesIf (kind_of program t.stmt)) at (does program.exprs (kind_of program t.stmt)
-            (top_cells s.frames) s.answers)
+            (top_frame s.frames).cells s.answers)
     by_deed (invoke f values into) left at h = calling (nat_lt MOST_CALLS (s.below + length s.frames)) f values into left at h
     by_deed (back value) left at h = returning_back value left at h.0
     by_deed (take x) left at h = plain (take x) left at (λ body z. z) (λ z. z) h refl

@@ -1,13 +1,13 @@
 -- A call is made in an activation that has an interval.
 use Rattle.std.proofs.Common.{◌≡◌, ℕ, ◌+◌, ◌<◌, Bool, true, false, List, [], ◌∷◌, ◌++◌, Option, Some, None, refl, ap, sym, subst, ◌∙◌, inl, inr, ◌⊎◌, if◌then◌else◌, true≢false}
-use Rattle.std.specs.Prelude.{is_some, slice_get}
+use Rattle.std.specs.Prelude.{is_some}
 use Rattle.std.proofs.lemmas.Option.{none-some}
 use Rattle.ppd_ast.specs.Valid.{IsValid}
 use Rattle.ppd_ast.specs.declared.plan.BlockKind.TheVariants as block
 use Rattle.ppd_ast.specs.declared.plan.Plan.{Plan}
 use Rattle.ppd_ast.specs.declared.plan.Policy.{Policy}
 use Rattle.ppd_ast.specs.declared.program.Program.{Program}
-use Rattle.ppd_ast.specs.Lookups.{kind_of, body_of_stmt, body_of}
+use Rattle.ppd_ast.specs.Lookups.{kind_of, body_of}
 use Rattle.law_replay.specs.Beside.Relation.{IsCallOf}
 use Rattle.ppd_blocks.specs.Blocks.{plan_of}
 use Rattle.law_steps.proofs.Course.Deeds.{Fits, IsInvoke, deed_fits}
@@ -17,7 +17,7 @@ use Rattle.law_replay.proofs.Facts.Placed.{callee}
 use Rattle.law_replay.proofs.Facts.State.{IsState, head_is_home}
 use Rattle.law_steps.specs.OpenBlocks.Stack.{IsInOrder, returning}
 use Rattle.law_steps.proofs.OpenBlocks.Framed.{head_returns, head_stays}
-use Rattle.ppd_sem.specs.Process.{loop_of, top_body, top_cells}
+use Rattle.ppd_sem.specs.Process.{loop_of, top_frame}
 use Rattle.ppd_sem.specs.Runs.{returns, bodies_in}
 use Rattle.ppd_sem.specs.Tables.{block_of}
 use Rattle.ppd_sem.specs.declared.proc.Frame.{Frame}
@@ -95,13 +95,13 @@ pub is_call_of : (program : Program) (plan : Plan) (s : Proc) (t : Todo) (o : Op
     → (c : IsCalling program plan t s o) → IsCallOf (kind_of program t.stmt) c.function
 is_call_of program plan s t o c =
     let fit : IsInvoke (kind_of program t.stmt) c.function =
-    subst (Fits (kind_of program t.stmt)) c.deed (deed_fits program.exprs (top_cells s.frames) s.answers
+    subst (Fits (kind_of program t.stmt)) c.deed (deed_fits program.exprs (top_frame s.frames).cells s.answers
     (kind_of program t.stmt)) in
     subst (λ k. IsCallOf k c.function) (sym fit.kind_is) refl
 
 -- the body of a top frame that is not the lowest is a function
 pub top_function : (program : Program) (frames : List Frame) (g : ℕ) (gs : List ℕ) (b : ℕ) → IsValid program
-    → AreCalled program frames → bodies_in frames ≡ g ∷ (gs ++ b ∷ []) → (top_body frames ≡ g) × (g < program.functions)
+    → AreCalled program frames → bodies_in frames ≡ g ∷ (gs ++ b ∷ []) → ((top_frame frames).body ≡ g) × (g < program.functions)
 top_function program [] g gs b v called e = absurd (cc)
 top_function program (f ∷ []) g gs b v called e = absurd (short gs (ap (λ xs. drop_one xs) e))
   where
@@ -135,10 +135,10 @@ call_no_leaf program policy p s t ts o (Some lf) c b xs v state order is call e 
         in_leaf program (plan_of program policy) s.todo zs (at ∙ ap (λ y. y ∷ zs) none) in
         let top = top_function program s.frames leaf.function leaf.others (program.functions + p) v state.called
         (order.frames ∙ ap (λ ys. ys ++ (program.functions + p) ∷ []) leaf.returns_to) in
-        let home : body_of_stmt (slice_get program.stmts t.stmt) ≡ leaf.function =
+        let home : body_of program t.stmt ≡ leaf.function =
         (head_is_home program (plan_of program policy) v s state t ts is).body ∙ top.0 in
         let is_block : is_some
-        (block_of (plan_of program policy) (block.Function (body_of_stmt (slice_get program.stmts t.stmt)))) ≡ true =
+        (block_of (plan_of program policy) (block.Function (body_of program t.stmt))) ≡ true =
         calling_block program policy t.stmt call.function v (is_call_of program (plan_of program policy) s t o call)
         (subst (λ n. n < program.functions) (sym home) top.1) in
         absurd (true≢false (sym is_block

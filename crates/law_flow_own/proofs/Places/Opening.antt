@@ -1,14 +1,14 @@
 -- What is open at levels, and which calls began their activations, where the first level has one part more.
 use Rattle.std.proofs.Common.{◌≡◌, ℕ, ◌+◌, List, [], ◌∷◌, ◌++◌, Option, Some, None, refl, ap, sym, subst, ◌∙◌, arith, length, length-append, get_or}
 use Rattle.std.proofs.lemmas.Option.{none-some}
-use Rattle.std.specs.Prelude.{drop, slice_get}
+use Rattle.std.specs.Prelude.{drop, slice_get, is_some}
 use Rattle.ppd_ast.specs.declared.plan.BlockKind.{BlockKind}
 use Rattle.ppd_ast.specs.declared.plan.Plan.{Plan}
 use Rattle.ppd_ast.specs.declared.program.Program.{Program}
 use Rattle.ppd_sem.specs.Blocks.{block_kind}
 use Rattle.ppd_model.specs.declared.flow.Item.TheVariants as item
 use Rattle.ppd_model.specs.declared.trace.TracedEvent.{TracedEvent}
-use Rattle.ppd_model.specs.Intervals.{Part, own, nested, Span, Split, is_closed}
+use Rattle.ppd_model.specs.Intervals.{Part, own, nested, Span, Split}
 use Rattle.ppd_model.proofs.Changes.{some}
 use Rattle.ppd_model.proofs.CountedOn.{kept_at}
 use Rattle.ppd_flow_model.specs.declared.leaf_call.LeafCall.{LeafCall}
@@ -62,8 +62,8 @@ module _ (program : Program) (plan : Plan) (p : ℕ) (y : Split) where
   pub leaf_interval : (m : ℕ) (l : Level) (i : Span) → slice_get y.spans m ≡ Some i
       → leaf_of program plan y (put (nested m) l) ≡ leaf_of program plan y l
   leaf_interval m l i at =
-      ap (leaf_at program plan) (items_more y l.parts (nested m) (item.Nested m i.block i.values (is_closed i))
-      (nested_item y m i at)) ∙ leaf_nested program plan (items_so_far y l) m i.block i.values (is_closed i)
+      ap (leaf_at program plan) (items_more y l.parts (nested m) (item.Nested m i.block i.values (is_some i.closed))
+      (nested_item y m i at)) ∙ leaf_nested program plan (items_so_far y l) m i.block i.values (is_some i.closed)
 
   pub open_put : (q : Part) (l : Level) (ls : List Level) (o : Option LeafCall) → leaf_of program plan y (put q l) ≡ o
       → open_at program plan y (put q l ∷ ls) ≡ of_leaf o ++ (Some l.block ∷ open_at program plan y ls)

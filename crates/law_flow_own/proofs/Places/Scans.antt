@@ -19,7 +19,7 @@ use Rattle.ppd_sem.specs.declared.event.Event.{Event}
 use Rattle.ppd_model.specs.declared.flow.Item.{Item}
 use Rattle.ppd_model.specs.declared.flow.Item.TheVariants as item
 use Rattle.ppd_model.specs.declared.trace.TracedEvent.{TracedEvent}
-use Rattle.ppd_model.specs.Intervals.{Part, own, nested, Span, Split, is_closed, item_of}
+use Rattle.ppd_model.specs.Intervals.{Part, own, nested, Span, Split, item_of}
 use Rattle.ppd_model.proofs.IntervalWords.{item_of_event, item_of_span}
 use Rattle.ppd_model.specs.NearIntervals.{is_in}
 use Rattle.ppd_model.specs.Synchronizations.{is_number}
@@ -39,7 +39,7 @@ pub own_item : (y : Split) (n : ℕ) (e : TracedEvent) → slice_get y.trace.eve
 own_item y n e at = ap item_of_event at
 
 pub nested_item : (y : Split) (m : ℕ) (i : Span) → slice_get y.spans m ≡ Some i
-    → item_of y (nested m) ≡ item.Nested m i.block i.values (is_closed i) ∷ []
+    → item_of y (nested m) ≡ item.Nested m i.block i.values (is_some i.closed) ∷ []
 nested_item y m i at = ap (item_of_span m) at
 
 module _ (program : Program) (plan : Plan) where

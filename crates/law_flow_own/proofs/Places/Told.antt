@@ -16,7 +16,7 @@ use Rattle.law_steps.specs.OpenBlocks.Stack.{IsInOrder, process_block}
 use Rattle.law_steps.proofs.OpenBlocks.DeedKinds.{found_while, loop_is}
 use Rattle.law_steps.proofs.OpenBlocks.Planned.{kind_is}
 use Rattle.ppd_sem.specs.Blocks.{block_kind}
-use Rattle.ppd_sem.specs.Process.{entry_of, loop_of, need_of, top_body}
+use Rattle.ppd_sem.specs.Process.{entry_of, loop_of, need_of, top_frame}
 use Rattle.ppd_sem.specs.Runs.{returns}
 use Rattle.ppd_sem.specs.Tables.{block_of}
 use Rattle.ppd_sem.specs.declared.proc.Proc.{Proc}
@@ -145,11 +145,11 @@ module _ (program : Program) (policy : Policy) (v : IsValid program) (story : St
         → Tells (without_first (with_event N ls)) now
     function_left [] b stands told moves k now same = absurd (not_nil (closing program plan s.todo) pb told.open_is)
     function_left (l ∷ ls) b stands told moves k now same =
-        left l ls b (block.Function (top_body s.frames)) stands told moves
-        (kind_is program policy (block.Function (top_body s.frames)) b (sym k.block)) now
+        left l ls b (block.Function (top_frame s.frames).body) stands told moves
+        (kind_is program policy (block.Function (top_frame s.frames).body) b (sym k.block)) now
         (λ g. subst (AreBegun program plan p y ls) (sym same) (by cs g))
       where
-        by : (xs : List Begun) → Own program plan p y (block.Function (top_body s.frames)) ls xs
+        by : (xs : List Begun) → Own program plan p y (block.Function (top_frame s.frames).body) ls xs
             → AreBegun program plan p y ls (drop 1 xs)
         by [] g = absurd g
         by (c ∷ xs) g = g.1

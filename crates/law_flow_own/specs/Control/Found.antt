@@ -1,5 +1,6 @@
 -- What the search for control finds in the items of a process is what the trace has.
 use Rattle.std.specs.Prelude.{◌≡◌, ℕ, ◌-◌, false, List, slice_get, Some}
+use Rattle.std.specs.Option.{option_map_or}
 use Rattle.ppd_ast.specs.declared.plan.BlockKind.TheVariants as block
 use Rattle.ppd_ast.specs.declared.plan.Plan.{Plan}
 use Rattle.ppd_ast.specs.declared.plan.Policy.{Policy}
@@ -10,8 +11,8 @@ use Rattle.ppd_sem.specs.Blocks.{block_kind}
 use Rattle.ppd_model.specs.declared.flow.Origin.TheVariants as origin
 use Rattle.ppd_model.specs.declared.trace.TracedEvent.{TracedEvent}
 use Rattle.ppd_model.specs.Story.{story}
-use Rattle.ppd_model.specs.Intervals.{own, nested, Span, Split, splits}
-use Rattle.ppd_model.specs.FlowbackEdges.{from_parent, part_at}
+use Rattle.ppd_model.specs.Intervals.{own, nested, Span, Split, splits, ref}
+use Rattle.ppd_model.specs.FlowbackEdges.{part_at}
 use Rattle.ppd_model.specs.NearIntervals.{is_loop}
 use Rattle.ppd_flow_model.specs.Seen.{seen_of}
 use Rattle.ppd_flow_model.specs.Control.{control_origin}
@@ -20,13 +21,13 @@ use Rattle.ppd_flow_model.specs.Control.{control_origin}
 -- loop's interval is found as that of the loop's statement; and that of any other interval is the item before it
 pub record HasFoundControl (program : Program) (plan : Plan) (xs : List Split) (x : Split) (p k j : ℕ) : Type 0 where
   pub event : (n : ℕ) (e : TracedEvent) → part_at x k j ≡ Some (own n) → slice_get x.trace.events n ≡ Some e
-      → control_origin program plan (seen_of x) p k j e.event.stmt ≡ from_parent xs e.parent
+      → control_origin program plan (seen_of x) p k j e.event.stmt ≡ option_map_or (ref xs) e.parent origin.Entry
   pub loop : (m l : ℕ) (i : Span) → part_at x k j ≡ Some (nested m) → slice_get x.spans m ≡ Some i
       → block_kind plan i.block ≡ block.Loop l
-      → control_origin program plan (seen_of x) p k j l ≡ from_parent xs i.control
+      → control_origin program plan (seen_of x) p k j l ≡ option_map_or (ref xs) i.control origin.Entry
   pub function : (m : ℕ) (i : Span) → part_at x k j ≡ Some (nested m) → slice_get x.spans m ≡ Some i
       → is_loop (block_kind plan i.block) ≡ false
-      → origin.Item p k (j - 1) ≡ from_parent xs i.control
+      → origin.Item p k (j - 1) ≡ option_map_or (ref xs) i.control origin.Entry
 
 -- so it is with each item of each process after each schedule of a valid program with the plan of a policy
 abbrev pub ControlsAreFound : Type 0

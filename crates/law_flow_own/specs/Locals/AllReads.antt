@@ -1,14 +1,16 @@
 -- What the search finds for the local reads of an event, everywhere.
 use Rattle.std.specs.Prelude.{◌≡◌, ℕ, List, slice_get, zip, Some}
+use Rattle.ppd_model.specs.declared.flow.Origin.TheVariants as origin
+use Rattle.std.specs.Option.{option_map_or}
 use Rattle.ppd_ast.specs.Valid.{IsValid}
 use Rattle.ppd_ast.specs.declared.plan.Policy.{Policy}
 use Rattle.ppd_ast.specs.declared.program.Program.{Program}
 use Rattle.ppd_blocks.specs.Blocks.{plan_of}
 use Rattle.ppd_sem.specs.declared.event.Access.{Access}
 use Rattle.ppd_sem.specs.declared.event.Spot.TheVariants.{Local}
-use Rattle.ppd_model.specs.FlowbackEdges.{from_writer, part_at}
+use Rattle.ppd_model.specs.FlowbackEdges.{part_at}
 use Rattle.ppd_model.specs.FullTrace.{Tag}
-use Rattle.ppd_model.specs.Intervals.{own, Split, splits}
+use Rattle.ppd_model.specs.Intervals.{own, Split, splits, ref}
 use Rattle.ppd_model.specs.Story.{story}
 use Rattle.ppd_model.specs.declared.trace.TracedEvent.{TracedEvent}
 use Rattle.ppd_flow_model.specs.Locals.{local_origin}
@@ -27,4 +29,6 @@ AllLocalReadsAreFound =
     → part_at y k j ≡ Some (own n) → slice_get y.trace.events n ≡ Some e
     → slice_get (zip e.event.reads e.writers) i ≡ Some (a, w) → a.spot ≡ Local frame c
     → local_origin program (plan_of program policy) (seen_of y) p k j frame c
-    ≡ from_writer (splits program (plan_of program policy) budget (story program (plan_of program policy) budget h)) w
+    ≡ option_map_or
+    (ref (splits program (plan_of program policy) budget (story program (plan_of program policy) budget h))) w
+    origin.Initial

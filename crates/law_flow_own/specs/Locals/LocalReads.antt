@@ -1,5 +1,7 @@
 -- What the search finds for the local reads of an event.
 use Rattle.std.specs.Prelude.{◌≡◌, ℕ, ◌<◌, false, List, slice_get, zip, Some}
+use Rattle.ppd_model.specs.declared.flow.Origin.TheVariants as origin
+use Rattle.std.specs.Option.{option_map_or}
 use Rattle.ppd_ast.specs.Valid.{IsValid}
 use Rattle.ppd_ast.specs.declared.plan.Plan.{Plan}
 use Rattle.ppd_ast.specs.declared.plan.Policy.{Policy}
@@ -8,9 +10,9 @@ use Rattle.ppd_blocks.specs.Blocks.{plan_of}
 use Rattle.ppd_sem.specs.Blocks.{block_kind}
 use Rattle.ppd_sem.specs.declared.event.Access.{Access}
 use Rattle.ppd_sem.specs.declared.event.Spot.TheVariants.{Local}
-use Rattle.ppd_model.specs.FlowbackEdges.{from_writer, part_at}
+use Rattle.ppd_model.specs.FlowbackEdges.{part_at}
 use Rattle.ppd_model.specs.FullTrace.{Tag}
-use Rattle.ppd_model.specs.Intervals.{nested, own, Span, Split, splits}
+use Rattle.ppd_model.specs.Intervals.{nested, own, Span, Split, splits, ref}
 use Rattle.ppd_model.specs.NearIntervals.{is_loop}
 use Rattle.ppd_model.specs.Story.{story}
 use Rattle.ppd_model.specs.declared.trace.TracedEvent.{TracedEvent}
@@ -44,4 +46,6 @@ LocalReadsAreFound =
     → slice_get (zip e.event.reads e.writers) i ≡ Some (a, w) → a.spot ≡ Local frame c
     → IsOutsideLoops (plan_of program policy) y k j frame
     → local_origin program (plan_of program policy) (seen_of y) p k j frame c
-    ≡ from_writer (splits program (plan_of program policy) budget (story program (plan_of program policy) budget h)) w
+    ≡ option_map_or
+    (ref (splits program (plan_of program policy) budget (story program (plan_of program policy) budget h))) w
+    origin.Initial

@@ -1,13 +1,14 @@
 -- What a function's interval returned comes from its last item.
-use Rattle.std.specs.Prelude.{◌≡◌, ℕ, true, false, List, slice_get, Some}
+use Rattle.std.specs.Prelude.{◌≡◌, ℕ, true, false, List, slice_get, Some, is_some}
+use Rattle.ppd_model.specs.declared.flow.Origin.TheVariants as origin
+use Rattle.std.specs.Option.{option_map_or}
 use Rattle.ppd_ast.specs.Valid.{IsValid}
 use Rattle.ppd_ast.specs.declared.plan.Policy.{Policy}
 use Rattle.ppd_ast.specs.declared.program.Program.{Program}
 use Rattle.ppd_blocks.specs.Blocks.{plan_of}
 use Rattle.ppd_sem.specs.Blocks.{block_kind}
-use Rattle.ppd_model.specs.FlowbackEdges.{from_writer}
 use Rattle.ppd_model.specs.FullTrace.{Tag}
-use Rattle.ppd_model.specs.Intervals.{Span, Split, is_closed, splits}
+use Rattle.ppd_model.specs.Intervals.{Span, Split, splits, ref}
 use Rattle.ppd_model.specs.NearIntervals.{is_loop}
 use Rattle.ppd_model.specs.Story.{story}
 use Rattle.ppd_flow_model.specs.Seen.{last_item, seen_of}
@@ -20,7 +21,10 @@ ReturnsAreFound =
     → IsValid program
     → slice_get (splits program (plan_of program policy) budget (story program (plan_of program policy) budget h)) p
     ≡ Some y
-    → slice_get y.spans m ≡ Some i → is_closed i ≡ true → is_loop (block_kind (plan_of program policy) i.block) ≡ false
+    → slice_get y.spans m ≡ Some i → is_some i.closed ≡ true
+    → is_loop (block_kind (plan_of program policy) i.block) ≡ false
     → slice_get i.left 0 ≡ Some w
     → last_item (seen_of y) p m
-    ≡ from_writer (splits program (plan_of program policy) budget (story program (plan_of program policy) budget h)) w
+    ≡ option_map_or
+    (ref (splits program (plan_of program policy) budget (story program (plan_of program policy) budget h))) w
+    origin.Initial

@@ -1,14 +1,16 @@
 -- What the search finds for what a loop left.
-use Rattle.std.specs.Prelude.{◌≡◌, ℕ, ◌+◌, ℤ, true, List, slice_get, zip, Some}
+use Rattle.std.specs.Prelude.{◌≡◌, ℕ, ◌+◌, ℤ, true, List, slice_get, zip, Some, is_some}
+use Rattle.ppd_model.specs.declared.flow.Origin.TheVariants as origin
+use Rattle.std.specs.Option.{option_map_or}
 use Rattle.ppd_ast.specs.Valid.{IsValid}
 use Rattle.ppd_ast.specs.declared.plan.BlockKind.TheVariants as block
 use Rattle.ppd_ast.specs.declared.plan.Policy.{Policy}
 use Rattle.ppd_ast.specs.declared.program.Program.{Program}
 use Rattle.ppd_blocks.specs.Blocks.{plan_of}
 use Rattle.ppd_sem.specs.Blocks.{block_kind, postlog_cells}
-use Rattle.ppd_model.specs.FlowbackEdges.{from_writer, part_at}
+use Rattle.ppd_model.specs.FlowbackEdges.{part_at}
 use Rattle.ppd_model.specs.FullTrace.{Tag}
-use Rattle.ppd_model.specs.Intervals.{nested, Span, Split, is_closed, splits}
+use Rattle.ppd_model.specs.Intervals.{nested, Span, Split, splits, ref}
 use Rattle.ppd_model.specs.Story.{story}
 use Rattle.ppd_flow_model.specs.Locals.{local_origin}
 use Rattle.ppd_flow_model.specs.Own.{frame_at}
@@ -24,10 +26,12 @@ LoopsLeftAreFound =
     → IsValid program
     → slice_get (splits program (plan_of program policy) budget (story program (plan_of program policy) budget h)) p
     ≡ Some y
-    → part_at y k j ≡ Some (nested m) → slice_get y.spans m ≡ Some i → is_closed i ≡ true
+    → part_at y k j ≡ Some (nested m) → slice_get y.spans m ≡ Some i → is_some i.closed ≡ true
     → block_kind (plan_of program policy) i.block ≡ block.Loop q
     → slice_get (zip (postlog_cells (plan_of program policy) i.block) i.left) n ≡ Some (c, w)
     → slice_get i.values n ≡ Some value
     → local_origin program (plan_of program policy) (seen_of y) p k (j + 1)
     (frame_at program (plan_of program policy) (seen_of y) k j) c
-    ≡ from_writer (splits program (plan_of program policy) budget (story program (plan_of program policy) budget h)) w
+    ≡ option_map_or
+    (ref (splits program (plan_of program policy) budget (story program (plan_of program policy) budget h))) w
+    origin.Initial

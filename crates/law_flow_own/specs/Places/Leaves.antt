@@ -1,5 +1,5 @@
 -- Which activation goes on at a place of an interval, as the items before the place tell it.
-use Rattle.std.specs.Prelude.{◌≡◌, ℕ, List, [], ◌∷◌, ◌++◌, map, slice_get, Option, Some, None}
+use Rattle.std.specs.Prelude.{◌≡◌, ℕ, List, [], ◌∷◌, ◌++◌, map, slice_get, Option, Some, None, get_or}
 use Rattle.std.specs.List.{flat_map}
 use Rattle.ppd_ast.specs.Valid.{IsValid}
 use Rattle.ppd_ast.specs.declared.plan.BlockKind.{BlockKind}
@@ -17,7 +17,7 @@ use Rattle.ppd_model.specs.declared.trace.TracedEvent.{TracedEvent}
 use Rattle.ppd_model.specs.declared.tracing.Taken.{Taken}
 use Rattle.ppd_model.specs.declared.tracing.Activation.{Activation}
 use Rattle.ppd_model.specs.Intervals.{Part, own, Split, item_of, split_of, splits}
-use Rattle.ppd_model.specs.Story.{own_steps, story}
+use Rattle.ppd_model.specs.Story.{story}
 use Rattle.ppd_flow_model.specs.declared.leaf_call.LeafCall.{LeafCall}
 use Rattle.ppd_flow_model.specs.Locals.{frame_in, leaf_at}
 use Rattle.law_steps.specs.OpenBlocks.Stack.{process_block}
@@ -135,7 +135,7 @@ LeafTells =
     → IsValid program
     → slice_get (splits program (plan_of program policy) budget (story program (plan_of program policy) budget h)) p
     ≡ Some y
-    → own_steps (story program (plan_of program policy) budget h) p ≡ before ++ after
+    → get_or (story program (plan_of program policy) budget h).steps p [] ≡ before ++ after
     → (split_of program (plan_of program policy) budget
     (story program (plan_of program policy) budget h) p before).trace.proc.status ≡ None
     → IsTold program (plan_of program policy) p

@@ -1,7 +1,7 @@
 -- Where a process stands in its intervals: those that run, with the innermost first, each with its parts so far.
-use Rattle.std.specs.Prelude.{◌≡◌, ℕ, ◌<◌, true, false, List, [], ◌∷◌, ◌++◌, map, length, slice_get, Some, ⊤}
+use Rattle.std.specs.Prelude.{◌≡◌, ℕ, ◌<◌, true, false, List, [], ◌∷◌, ◌++◌, map, length, slice_get, Some, ⊤, is_some}
 use Rattle.ppd_model.specs.declared.trace.TracedEvent.{TracedEvent}
-use Rattle.ppd_model.specs.Intervals.{Part, own, nested, Span, Split, is_closed}
+use Rattle.ppd_model.specs.Intervals.{Part, own, nested, Span, Split}
 
 -- an interval that runs: its block, and its parts before the one that runs inside it, if one does
 pub record Level : Type 0 where
@@ -26,7 +26,7 @@ AreBelow n (nested m ∷ ps) = (m < n) × AreBelow n ps
 pub record IsLevel (spans : List Span) (n : ℕ) (inner : List Part) (outside : List ℕ) (l : Level) : Type 0 where
   pub span : Span
   pub there : slice_get spans l.interval ≡ Some span
-  pub runs : is_closed span ≡ false
+  pub runs : is_some span.closed ≡ false
   pub block_is : span.block ≡ l.block
   pub round_is : span.round ≡ outside
   pub parts_are : span.parts ≡ l.parts ++ inner
@@ -54,7 +54,7 @@ pub record IsLaterSpan (i j : Span) : Type 0 where
   pub control : j.control ≡ i.control
   pub more : List Part
   pub parts : j.parts ≡ i.parts ++ more
-  pub stays : is_closed i ≡ true → j ≡ i
+  pub stays : is_some i.closed ≡ true → j ≡ i
 
 -- a later state of a process: its events and its intervals so far are there
 pub record IsLater (x y : Split) : Type 0 where

@@ -1,6 +1,6 @@
 -- The replays for each edge of an item have at most twice the own steps of the near intervals, and so for all.
 use Rattle.std.proofs.Common.{◌≡◌, ℕ, ◌+◌, ◌*◌, ◌≤◌, List, [], ◌∷◌, ◌++◌, Option, Some, None, Result, Ok, Err, refl, ap, sym, ◌∙◌, subst, arith, length, length-append}
-use Rattle.std.specs.Prelude.{option_map, slice_get}
+use Rattle.std.specs.Prelude.{option_map, slice_get, is_some, get_or}
 use Rattle.std.proofs.lemmas.Option.{none-some}
 use Rattle.ppd_ast.specs.Valid.{IsValid}
 use Rattle.ppd_ast.specs.declared.plan.Plan.{Plan}
@@ -12,7 +12,7 @@ use Rattle.ppd_model.specs.declared.flow.Item.TheVariants as item
 use Rattle.ppd_model.specs.declared.trace.TracedEvent.{TracedEvent}
 use Rattle.ppd_model.specs.FlowbackEdges.{bare_edge, edges, part_at}
 use Rattle.ppd_model.proofs.EdgeWords.{edges_if as model_edges_if, edges_in, part_in}
-use Rattle.ppd_model.specs.Intervals.{Part, own, nested, Span, Split, is_closed, items_of, splits}
+use Rattle.ppd_model.specs.Intervals.{Part, own, nested, Span, Split, items_of, splits}
 use Rattle.ppd_model.proofs.IntervalWords.{item_of_event, item_of_span}
 use Rattle.ppd_model.specs.Logs.{closed_logs}
 use Rattle.ppd_model.specs.NearIntervals.{near_steps}
@@ -26,7 +26,7 @@ use Rattle.ppd_model.proofs.Tested.{In, here as first_in}
 use Rattle.ppd_flow_model.specs.Control.{control_origin, control_replays}
 use Rattle.ppd_flow_model.specs.Found.{and_more, edges_if, edges_replays, event_edges, event_replays, found_edges, if_found, item_replays, read_edges, reads_replays, sync_edges, sync_replays}
 use Rattle.ppd_flow_model.specs.Own.{edges_of_nested}
-use Rattle.ppd_flow_model.specs.Seen.{Seen, items_at, seen_of}
+use Rattle.ppd_flow_model.specs.Seen.{Seen, seen_of}
 use Rattle.ppd_flow_model.specs.Shared.{Missing, of_process, seen_at}
 use Rattle.law_flow_shared.specs.Edges.Assembled.{HasOwnParts}
 use Rattle.law_flow_shared.specs.Edges.SharedEdges.{all_seen}
@@ -91,9 +91,9 @@ module _ (program : Program) (plan : Plan) (budget : ℕ) (h : List ℕ) (w : Wo
       event_little : steps (event_replays program plan logs seens p k j ev.event) ≤ length es * (N + N)
       event_little = by_reads (read_edges program plan logs seens p k j ev.event.reads) refl
 
-    item_is : (q : Part) → slice_get i.parts j ≡ Some q → slice_get (items_at (seen_at seens p) k) j ≡ item_if x (Some q)
+    item_is : (q : Part) → slice_get i.parts j ≡ Some q → slice_get (get_or (seen_at seens p).items k []) j ≡ item_if x (Some q)
     item_is q g =
-        ap (λ (s : Seen). slice_get (items_at s k) j) seen_is ∙ ap (λ l. slice_get l j) (map_at (items_of x) x.spans k i [] at)
+        ap (λ (s : Seen). slice_get (get_or s.items k []) j) seen_is ∙ ap (λ l. slice_get l j) (map_at (items_of x) x.spans k i [] at)
         ∙ item_at x i.parts j ((items_whole program plan budget h p x v there).whole k i at) ∙ ap (item_if x) g
 
   module _ (parts : HasOwnParts program plan (splits program plan budget (story program plan budget h)) x p k j) where
@@ -101,28 +101,28 @@ module _ (program : Program) (plan : Plan) (budget : ℕ) (h : List ℕ) (w : Wo
     found = assembled program plan budget h w v r free p k j x there parts ∙ ap (option_map (λ y. Ok y)) edges_are
 
     -- what is replayed for this item, after its interval
-    rest_little : (i : Span) → slice_get x.spans k ≡ Some i → (q : Part) → slice_get i.parts j ≡ Some q → steps (item_replays program plan logs seens p k j (slice_get (items_at (seen_at seens p) k) j)) ≤ length es * (N + N)
+    rest_little : (i : Span) → slice_get x.spans k ≡ Some i → (q : Part) → slice_get i.parts j ≡ Some q → steps (item_replays program plan logs seens p k j (slice_get (get_or (seen_at seens p).items k []) j)) ≤ length es * (N + N)
     rest_little i at (own n) g = by (slice_get x.trace.events n) refl
       where
         place : part_at x k j ≡ Some (own n)
         place = ap (λ o. part_in o j) at ∙ g
 
-        by : (o : Option TracedEvent) → slice_get x.trace.events n ≡ o → steps (item_replays program plan logs seens p k j (slice_get (items_at (seen_at seens p) k) j)) ≤ length es * (N + N)
+        by : (o : Option TracedEvent) → slice_get x.trace.events n ≡ o → steps (item_replays program plan logs seens p k j (slice_get (get_or (seen_at seens p).items k []) j)) ≤ length es * (N + N)
         by None z =
-            let is : slice_get (items_at (seen_at seens p) k) j ≡ None = item_is i at (own n) g ∙ ap (λ o. first_of (item_of_event o)) z in
+            let is : slice_get (get_or (seen_at seens p).items k []) j ≡ None = item_is i at (own n) g ∙ ap (λ o. first_of (item_of_event o)) z in
             absurd (none-some (Ok es) (sym (ap (edges_if program plan logs seens p k j) is) ∙ found))
         by (Some ev) z =
-            let is : slice_get (items_at (seen_at seens p) k) j ≡ Some (item.Own ev.event) = item_is i at (own n) g ∙ ap (λ o. first_of (item_of_event o)) z in
+            let is : slice_get (get_or (seen_at seens p).items k []) j ≡ Some (item.Own ev.event) = item_is i at (own n) g ∙ ap (λ o. first_of (item_of_event o)) z in
             let here : event_edges program plan logs seens p k j ev.event ≡ Ok es = some (sym (ap (edges_if program plan logs seens p k j) is) ∙ found) in
             subst (λ o. steps (item_replays program plan logs seens p k j o) ≤ length es * (N + N)) (sym is) (event_little i at n ev place z here)
     rest_little i at (nested m) g = by (slice_get x.spans m) refl
       where
-        by : (o : Option Span) → slice_get x.spans m ≡ o → steps (item_replays program plan logs seens p k j (slice_get (items_at (seen_at seens p) k) j)) ≤ length es * (N + N)
+        by : (o : Option Span) → slice_get x.spans m ≡ o → steps (item_replays program plan logs seens p k j (slice_get (get_or (seen_at seens p).items k []) j)) ≤ length es * (N + N)
         by None z =
-            let is : slice_get (items_at (seen_at seens p) k) j ≡ None = item_is i at (nested m) g ∙ ap (λ o. first_of (item_of_span m o)) z in
+            let is : slice_get (get_or (seen_at seens p).items k []) j ≡ None = item_is i at (nested m) g ∙ ap (λ o. first_of (item_of_span m o)) z in
             absurd (none-some (Ok es) (sym (ap (edges_if program plan logs seens p k j) is) ∙ found))
         by (Some s) z =
-            let is : slice_get (items_at (seen_at seens p) k) j ≡ Some (item.Nested m s.block s.values (is_closed s)) = item_is i at (nested m) g ∙ ap (λ o. first_of (item_of_span m o)) z in
+            let is : slice_get (get_or (seen_at seens p).items k []) j ≡ Some (item.Nested m s.block s.values (is_some s.closed)) = item_is i at (nested m) g ∙ ap (λ o. first_of (item_of_span m o)) z in
             let here : edges_of_nested program plan (seen_at seens p) p k j m s.block s.values (block_kind plan s.block) ≡ es = ok_is (some (sym (ap (edges_if program plan logs seens p k j) is) ∙ found)) in
             subst (λ o. steps (item_replays program plan logs seens p k j o) ≤ length es * (N + N)) (sym is) (nested_little program plan budget h v p k j x there es edges_are i at m s.block s.values (block_kind plan s.block) here)
 
@@ -135,7 +135,7 @@ module _ (program : Program) (plan : Plan) (budget : ℕ) (h : List ℕ) (w : Wo
         by_part i at (Some q) g e =
             let a = own_little i at in
             let b = rest_little i at q g in
-            let rest : List (ℕ × ℕ) = item_replays program plan logs seens p k j (slice_get (items_at (seen_at seens p) k) j) in
+            let rest : List (ℕ × ℕ) = item_replays program plan logs seens p k j (slice_get (get_or (seen_at seens p).items k []) j) in
             let sum : steps ((p, k) ∷ rest) ≡ steps (of_process p (k ∷ [])) + steps rest = both_steps xs ((p, k) ∷ []) rest in
             let up : N + length es * (N + N) ≤ 2 * (length es + 1) * N = twice (length es) N in
             total (steps ((p, k) ∷ rest)) (steps (of_process p (k ∷ []))) (steps rest) (length es * (N + N)) (2 * (length es + 1) * N) sum a b up

@@ -1,5 +1,8 @@
 -- All edges of an item, put together.
 use Rattle.std.proofs.Common.{◌≡◌, ℕ, zero, suc, ◌+◌, List, [], ◌∷◌, ◌++◌, Option, Some, None, Ok, refl, ap, ap₂, sym, subst, ◌∙◌, arith, length, map, get_or}
+use Rattle.ppd_flow_model.specs.Seen.{Seen}
+use Rattle.ppd_model.specs.declared.flow.Origin.TheVariants as origin
+use Rattle.std.specs.Option.{option_map_or}
 use Rattle.std.specs.Prelude.{option_map, slice_get, zip}
 use Rattle.std.proofs.lemmas.List.{append_assoc}
 use Rattle.std.proofs.lemmas.Option.{none-some}
@@ -15,10 +18,10 @@ use Rattle.law_flow_shared.proofs.Edges.PartItems.{first_of, item_at, item_if}
 use Rattle.ppd_model.specs.declared.flow.EdgeKind.TheVariants.{Control}
 use Rattle.ppd_model.specs.declared.trace.TracedEvent.{TracedEvent}
 use Rattle.ppd_model.specs.Earlier.{AreEarlier, EachNamesEarlier}
-use Rattle.ppd_model.specs.FlowbackEdges.{bare_edge, edges, edges_of_event, edges_of_nested as model_edges_of_nested, edges_of_part, from_parent, from_writer, part_at, sync_edges as model_sync_edges}
+use Rattle.ppd_model.specs.FlowbackEdges.{bare_edge, edges, edges_of_event, edges_of_nested as model_edges_of_nested, edges_of_part, part_at, sync_edges as model_sync_edges}
 use Rattle.ppd_model.proofs.EdgeWords.{edges_if as model_edges_if, edges_in, part_in, read_edge as model_read_edge}
 use Rattle.ppd_model.specs.FullTrace.{Tag, tracing_of}
-use Rattle.ppd_model.specs.Intervals.{Part, own, nested, Span, Split, items_of, splits, item_of}
+use Rattle.ppd_model.specs.Intervals.{Part, own, nested, Span, Split, items_of, splits, item_of, ref}
 use Rattle.ppd_model.proofs.IntervalWords.{item_of_event, item_of_span}
 use Rattle.ppd_model.specs.Logs.{closed_logs}
 use Rattle.ppd_model.specs.Story.{story, told}
@@ -29,7 +32,6 @@ use Rattle.ppd_flow_model.specs.Control.{control_origin}
 use Rattle.ppd_flow_model.specs.Found.{and_more, before_others, edges_if, event_edges, found_edges, read_edge, read_edges, read_if}
 use Rattle.ppd_flow_model.specs.Locals.{local_origin}
 use Rattle.ppd_flow_model.specs.Own.{edges_of_nested, read_from}
-use Rattle.ppd_flow_model.specs.Seen.{items_at}
 use Rattle.ppd_flow_model.specs.Shared.{seen_at, shared_origin}
 use Rattle.law_flow_shared.specs.Edges.Assembled.{EdgesAreFound, HasOwnParts}
 use Rattle.law_flow_shared.specs.Edges.SharedEdges.{IsSharedRead, all_seen}
@@ -62,7 +64,7 @@ zip_at (x ∷ xs) (y ∷ ys) zero a w e = (ap (λ (o : Option (Access × Tag)). 
 zip_at (x ∷ xs) (y ∷ ys) (suc i) a w e = zip_at xs ys i a w e
 
 module _ (program : Program) (plan : Plan) (budget : ℕ) (h : List ℕ) (v : IsValid program) (p k j : ℕ) (x : Split) (there : slice_get (splits program plan budget (story program plan budget h)) p ≡ Some x) (parts : HasOwnParts program plan (splits program plan budget (story program plan budget h)) x p k j)
-    (shared : (c : ℕ) (tag : Tag) → IsSharedRead program plan budget h p k j c tag → shared_origin program (closed_logs program plan budget h) (all_seen program plan budget h) p k j c ≡ Ok (from_writer (splits program plan budget (story program plan budget h)) tag)) where
+    (shared : (c : ℕ) (tag : Tag) → IsSharedRead program plan budget h p k j c tag → shared_origin program (closed_logs program plan budget h) (all_seen program plan budget h) p k j c ≡ Ok (option_map_or (ref (splits program plan budget (story program plan budget h))) tag origin.Initial)) where
   abbrev xs : List Split
   xs = splits program plan budget (story program plan budget h)
 
@@ -107,7 +109,7 @@ module _ (program : Program) (plan : Plan) (budget : ℕ) (h : List ℕ) (v : Is
       ap₂ and_more (all_reads n e place at e.event.reads e.writers same (λ i a t g. (i, g)))
       (ap₂ (λ a b. a ++ bare_edge Control b ∷ []) (pairs_found program plan budget h v p k j x n e there place at)
       (ap (λ q. control_origin program plan q p k j e.event.stmt) f.seen_is ∙ parts.control n e place at))
-      ∙ ap (λ es. Ok es) (sym (append_assoc (map (model_read_edge xs) (zip e.event.reads e.writers)) (model_sync_edges xs (kind_of program e.event.stmt) e.paired) (bare_edge Control (from_parent xs e.parent) ∷ [])))
+      ∙ ap (λ es. Ok es) (sym (append_assoc (map (model_read_edge xs) (zip e.event.reads e.writers)) (model_sync_edges xs (kind_of program e.event.stmt) e.paired) (bare_edge Control (option_map_or (ref xs) e.parent origin.Entry) ∷ [])))
 
   -- a part that is there
   part_is : (q : Part) → part_at x k j ≡ Some q
@@ -123,13 +125,13 @@ module _ (program : Program) (plan : Plan) (budget : ℕ) (h : List ℕ) (v : Is
       by None g = refl
       by (Some i) g = ap (λ q. Some (Ok (edges_of_nested program plan q p k j m i.block i.values (block_kind plan i.block)))) f.seen_is ∙ ap (λ es. Some (Ok es)) (parts.inside m i place g)
 
-  items_is : (i : Span) → slice_get x.spans k ≡ Some i → slice_get (items_at (seen_at (all_seen program plan budget h) p) k) j ≡ item_if x (slice_get i.parts j)
+  items_is : (i : Span) → slice_get x.spans k ≡ Some i → slice_get (get_or (seen_at (all_seen program plan budget h) p).items k []) j ≡ item_if x (slice_get i.parts j)
   items_is i g =
-      ap (λ q. slice_get (items_at q k) j) f.seen_is ∙ ap (λ l. slice_get l j) (map_at (items_of x) x.spans k i [] g)
+      ap (λ (q : Seen). slice_get (get_or q.items k []) j) f.seen_is ∙ ap (λ l. slice_get l j) (map_at (items_of x) x.spans k i [] g)
       ∙ item_at x i.parts j ((items_whole program plan budget h p x v there).whole k i g)
 
-  none_there : slice_get x.spans k ≡ None → slice_get (items_at (seen_at (all_seen program plan budget h) p) k) j ≡ None
-  none_there g = ap (λ q. slice_get (items_at q k) j) f.seen_is ∙ ap (λ l. slice_get l j) (past x.spans k g)
+  none_there : slice_get x.spans k ≡ None → slice_get (get_or (seen_at (all_seen program plan budget h) p).items k []) j ≡ None
+  none_there g = ap (λ (q : Seen). slice_get (get_or q.items k []) j) f.seen_is ∙ ap (λ l. slice_get l j) (past x.spans k g)
     where
       past : (ss : List Span) (m : ℕ) → slice_get ss m ≡ None → get_or (map (items_of x) ss) m [] ≡ []
       past [] m e = refl

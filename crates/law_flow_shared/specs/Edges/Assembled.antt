@@ -1,5 +1,7 @@
 -- All edges of an item are found, where those within the process are.
 use Rattle.std.specs.Prelude.{◌≡◌, ℕ, List, [], slice_get, zip, option_map, Some, Ok}
+use Rattle.ppd_model.specs.declared.flow.Origin.TheVariants as origin
+use Rattle.std.specs.Option.{option_map_or}
 use Rattle.ppd_ast.specs.Valid.{IsValid}
 use Rattle.ppd_ast.specs.declared.plan.Plan.{Plan}
 use Rattle.ppd_ast.specs.declared.program.Program.{Program}
@@ -7,9 +9,9 @@ use Rattle.ppd_sem.specs.declared.event.Access.{Access}
 use Rattle.ppd_sem.specs.declared.event.Spot.TheVariants.{Local}
 use Rattle.ppd_sem.specs.Blocks.{block_kind}
 use Rattle.ppd_model.specs.declared.trace.TracedEvent.{TracedEvent}
-use Rattle.ppd_model.specs.FlowbackEdges.{edges, edges_of_nested as model_edges_of_nested, from_parent, from_writer, part_at}
+use Rattle.ppd_model.specs.FlowbackEdges.{edges, edges_of_nested as model_edges_of_nested, part_at}
 use Rattle.ppd_model.specs.FullTrace.{Tag}
-use Rattle.ppd_model.specs.Intervals.{own, nested, Span, Split, splits}
+use Rattle.ppd_model.specs.Intervals.{own, nested, Span, Split, splits, ref}
 use Rattle.ppd_model.specs.Logs.{closed_logs}
 use Rattle.ppd_model.specs.Races.{races}
 use Rattle.ppd_model.specs.Schedule.{run}
@@ -27,9 +29,10 @@ use Rattle.law_flow_shared.specs.Edges.SharedEdges.{all_seen}
 pub record HasOwnParts (program : Program) (plan : Plan) (xs : List Split) (x : Split) (p k j : ℕ) : Type 0 where
   pub locals : (n i frame c : ℕ) (e : TracedEvent) (a : Access) (w : Tag) → part_at x k j ≡ Some (own n)
       → slice_get x.trace.events n ≡ Some e → slice_get (zip e.event.reads e.writers) i ≡ Some (a, w)
-      → a.spot ≡ Local frame c → local_origin program plan (seen_of x) p k j frame c ≡ from_writer xs w
+      → a.spot ≡ Local frame c
+      → local_origin program plan (seen_of x) p k j frame c ≡ option_map_or (ref xs) w origin.Initial
   pub control : (n : ℕ) (e : TracedEvent) → part_at x k j ≡ Some (own n) → slice_get x.trace.events n ≡ Some e
-      → control_origin program plan (seen_of x) p k j e.event.stmt ≡ from_parent xs e.parent
+      → control_origin program plan (seen_of x) p k j e.event.stmt ≡ option_map_or (ref xs) e.parent origin.Entry
   pub inside : (m : ℕ) (i : Span) → part_at x k j ≡ Some (nested m) → slice_get x.spans m ≡ Some i
       → edges_of_nested program plan (seen_of x) p k j m i.block i.values (block_kind plan i.block)
       ≡ model_edges_of_nested plan xs i

@@ -1,5 +1,7 @@
 -- What the search for shared cells finds is what the run did.
 use Rattle.std.specs.Prelude.{◌≡◌, ℕ, ◌<◌, List, [], map, length, slice_get, Some, Ok}
+use Rattle.ppd_model.specs.declared.flow.Origin.TheVariants as origin
+use Rattle.std.specs.Option.{option_map_or}
 use Rattle.ppd_ast.specs.Valid.{IsValid}
 use Rattle.ppd_ast.specs.declared.plan.Plan.{Plan}
 use Rattle.ppd_ast.specs.declared.program.Program.{Program}
@@ -7,9 +9,9 @@ use Rattle.ppd_ast.specs.Lookups.{kind_of}
 use Rattle.ppd_sem.specs.declared.event.Access.{Access}
 use Rattle.ppd_sem.specs.declared.event.Spot.TheVariants.{Shared}
 use Rattle.ppd_model.specs.declared.trace.TracedEvent.{TracedEvent}
-use Rattle.ppd_model.specs.FlowbackEdges.{from_writer, last, part_at, sync_edges as model_sync_edges}
+use Rattle.ppd_model.specs.FlowbackEdges.{last, part_at, sync_edges as model_sync_edges}
 use Rattle.ppd_model.specs.FullTrace.{Tag}
-use Rattle.ppd_model.specs.Intervals.{own, Split, splits}
+use Rattle.ppd_model.specs.Intervals.{own, Split, splits, ref}
 use Rattle.ppd_model.specs.Logs.{closed_logs}
 use Rattle.ppd_model.specs.Races.{races}
 use Rattle.ppd_model.specs.Schedule.{run}
@@ -46,7 +48,7 @@ SharedOriginsAreFound =
     → run program plan budget h ≡ Some w → races program plan budget h ≡ []
     → (p k j c : ℕ) (tag : Tag) → IsSharedRead program plan budget h p k j c tag
     → shared_origin program (closed_logs program plan budget h) (all_seen program plan budget h) p k j c
-    ≡ Ok (from_writer (splits program plan budget (story program plan budget h)) tag)
+    ≡ Ok (option_map_or (ref (splits program plan budget (story program plan budget h))) tag origin.Initial)
 
 -- and the last value of each shared cell with the place of its last write
 abbrev pub LastWritesAreFound : Type 0

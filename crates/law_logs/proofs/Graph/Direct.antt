@@ -1,7 +1,7 @@
 -- A direct step leads to another synchronization, which is there; and how many there are after one more.
 use Rattle.std.proofs.Common.{◌≡◌, ℕ, zero, suc, ◌+◌, ◌<◌, ◌≤◌, List, [], ◌∷◌, ◌++◌, length, map, get_or, Option, Some, None, refl, ap, sym, arith, inl, inr, true≢false, eqb-true, ◌&&◌}
 use Rattle.std.proofs.lemmas.Bool.{and_parts, or_cases}
-use Rattle.std.specs.Prelude.{IsTrue, is_some, nat_eq, option_to_list}
+use Rattle.std.specs.Prelude.{IsTrue, is_some, nat_eq, option_to_list, filter_map}
 use Rattle.ppd_ast.specs.declared.program.Program.{Program}
 use Rattle.ppd_ast.specs.declared.status.SyncKind.{SyncKind}
 use Rattle.ppd_ast.specs.declared.status.SyncKind.TheVariants.{P, V, Send, Recv, Done}
@@ -9,10 +9,10 @@ use Rattle.ppd_ast.proofs.ValidLaws.{slice_get_below}
 use Rattle.ppd_sem.specs.Tables.{capacity_of}
 use Rattle.ppd_sem.specs.declared.proc.Proc.{Proc}
 use Rattle.ppd_model.specs.declared.graph.NodeId.{NodeId}
-use Rattle.ppd_model.specs.HappenedBefore.{is_direct, own_syncs, sync_at}
+use Rattle.ppd_model.specs.HappenedBefore.{is_direct, sync_at}
 use Rattle.ppd_model.proofs.OrderWords.{is_next}
 use Rattle.ppd_model.specs.Story.{steps_of}
-use Rattle.ppd_model.specs.Synchronizations.{Sync, is_number, leads_at, led_to, syncs_of}
+use Rattle.ppd_model.specs.Synchronizations.{Sync, is_number, leads_at, led_to, sync_of}
 use Rattle.ppd_model.specs.World.{change}
 
 -- ---- one more at the end of one list
@@ -37,7 +37,7 @@ others o zero (suc q) (row ∷ rows) d = refl
 others o (suc p) zero (row ∷ rows) d = refl
 others o (suc p) (suc q) (row ∷ rows) d = others o p q rows (λ e. d (ap suc e))
 
-pub none_begun : (procs : List Proc) (q : ℕ) → length (get_or (map syncs_of (map steps_of (map (λ _. []) procs))) q []) ≡ 0
+pub none_begun : (procs : List Proc) (q : ℕ) → length (get_or (map (filter_map sync_of) (map steps_of (map (λ _. []) procs))) q []) ≡ 0
 none_begun [] q = refl
 none_begun (s ∷ ss) zero = refl
 none_begun (s ∷ ss) (suc q) = none_begun ss q
@@ -72,8 +72,8 @@ module _ (program : Program) (syncs : List (List Sync)) where
     | inr lead ↦ no_self_lead (sync_at syncs a) lead
   ]
 
-  some_there : (a : NodeId) (o : Option Sync) → sync_at syncs a ≡ o → IsTrue (is_some o) → a.sync < length (own_syncs syncs a.process)
-  some_there a (Some s) e h = slice_get_below (own_syncs syncs a.process) a.sync s e
+  some_there : (a : NodeId) (o : Option Sync) → sync_at syncs a ≡ o → IsTrue (is_some o) → a.sync < length (get_or syncs a.process [])
+  some_there a (Some s) e h = slice_get_below (get_or syncs a.process []) a.sync s e
   some_there a None e h = absurd (true≢false (sym h))
 
   led_some : (x y : Option Sync) → IsTrue (leads_at program x y) → IsTrue (is_some y)
@@ -82,7 +82,7 @@ module _ (program : Program) (syncs : List (List Sync)) where
   led_some None y h = absurd (true≢false (sym h))
 
   -- to one that is there
-  pub direct_there : (a b : NodeId) → IsTrue (is_direct program syncs a b) → b.sync < length (own_syncs syncs b.process)
+  pub direct_there : (a b : NodeId) → IsTrue (is_direct program syncs a b) → b.sync < length (get_or syncs b.process [])
   direct_there a b d = elim (or_cases (is_next syncs a b) (leads_at program (sync_at syncs a) (sync_at syncs b)) d) [
     | inl next ↦ some_there b (sync_at syncs b) refl (and_parts (nat_eq a.process b.process && nat_eq (a.sync + 1) b.sync) (is_some (sync_at syncs b)) next).1
     | inr lead ↦ some_there b (sync_at syncs b) refl (led_some (sync_at syncs a) (sync_at syncs b) lead)

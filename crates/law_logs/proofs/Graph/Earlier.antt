@@ -2,16 +2,16 @@
 -- step at which that one was not.
 use Rattle.std.proofs.Common.{◌≡◌, ℕ, zero, suc, ◌+◌, ◌<◌, ◌≤◌, List, [], ◌∷◌, ◌++◌, length, map, get_or, take, drop, Option, Some, refl, ap, sym, ◌∙◌, subst, arith, inl, inr, take-append-drop}
 use Rattle.std.proofs.lemmas.Bool.{cases_eq, cases_lt}
-use Rattle.std.specs.Prelude.{IsTrue, option_to_list}
+use Rattle.std.specs.Prelude.{IsTrue, option_to_list, filter_map}
 use Rattle.ppd_ast.specs.declared.plan.Plan.{Plan}
 use Rattle.ppd_ast.specs.declared.program.Program.{Program}
 use Rattle.ppd_model.specs.declared.graph.NodeId.{NodeId}
-use Rattle.ppd_model.specs.HappenedBefore.{Before, direct, through, is_direct, node, own_syncs}
+use Rattle.ppd_model.specs.HappenedBefore.{Before, direct, through, is_direct, node}
 use Rattle.ppd_model.specs.Prefixes.{told_to}
 use Rattle.ppd_model.specs.Record.{sync_record}
 use Rattle.ppd_model.specs.Schedule.{run, started_world}
 use Rattle.ppd_model.specs.Story.{Moment, moment_of, steps_of}
-use Rattle.ppd_model.specs.Synchronizations.{Sync, sync_of, syncs_of}
+use Rattle.ppd_model.specs.Synchronizations.{Sync, sync_of}
 use Rattle.ppd_model.specs.World.{World, change}
 use Rattle.ppd_model.proofs.Forward.{records_closed}
 use Rattle.ppd_model.proofs.Numbers.{record-change}
@@ -25,7 +25,7 @@ module _ (program : Program) (plan : Plan) (budget : ℕ) (h : List ℕ) (w : Wo
 
   -- how many synchronizations process q did in the first i steps
   abbrev done : ℕ → ℕ → ℕ
-  done i q = length (own_syncs (sync_record program plan budget (take i h)) q)
+  done i q = length (get_or (sync_record program plan budget (take i h)) q [])
 
   abbrev next_sync : ℕ → Option Sync
   next_sync i = sync_of (moment_of program plan (told_to program plan budget h i) (get_or h i 0)).taken
@@ -33,8 +33,8 @@ module _ (program : Program) (plan : Plan) (budget : ℕ) (h : List ℕ) (w : Wo
   record_next : (i : ℕ) → i < length h → sync_record program plan budget (take (suc i) h) ≡ change (λ ss. ss ++ option_to_list (next_sync i)) (get_or h i 0) (sync_record program plan budget (take i h))
   record_next i lt =
       let m : Moment = moment_of program plan (told_to program plan budget h i) (get_or h i 0) in
-      ap (λ t. map syncs_of (map steps_of t.moments)) (go_by_prefixes program plan budget h w runs i lt).tells
-      ∙ ap (λ xs. map syncs_of xs) (steps-change m (get_or h i 0) (told_to program plan budget h i).moments)
+      ap (λ t. map (filter_map sync_of) (map steps_of t.moments)) (go_by_prefixes program plan budget h w runs i lt).tells
+      ∙ ap (λ xs. map (filter_map sync_of) xs) (steps-change m (get_or h i 0) (told_to program plan budget h i).moments)
       ∙ record-change m.taken (get_or h i 0) (map steps_of (told_to program plan budget h i).moments)
 
   grows : (i q : ℕ) → i < length h → (done i q ≤ done (suc i) q) × (done (suc i) q ≤ done i q + 1)
@@ -101,7 +101,7 @@ module _ (program : Program) (plan : Plan) (budget : ℕ) (h : List ℕ) (w : Wo
 
   apart_direct : (a b : NodeId) → IsTrue (is_direct program all a b) → Apart a b
   apart_direct a b d =
-      let there : b.sync < done (length h) b.process = subst (λ rows. b.sync < length (own_syncs rows b.process)) (sym whole_is) (direct_there program all a b d) in
+      let there : b.sync < done (length h) b.process = subst (λ rows. b.sync < length (get_or rows b.process [])) (sym whole_is) (direct_there program all a b d) in
       let s : Step b = step_of (length h) b (omega arith) there in
       let i : ℕ = s.index in
       let lt : i < length h = s.within in

@@ -1,7 +1,7 @@
 -- An offer is to a channel of capacity 0, and so is each completion of a schedule.
 use Rattle.std.proofs.Common.{◌≡◌, ℕ, zero, suc, ◌+◌, ℤ, Bool, true, false, nat_lt, List, [], ◌∷◌, ◌++◌, length, Option, Some, None, Ok, Err, refl, ap, sym, ◌∙◌, subst, if◌then◌else◌}
 use Rattle.std.specs.List.{cons_option}
-use Rattle.std.specs.Prelude.{slice_get, ⊤}
+use Rattle.std.specs.Prelude.{slice_get, ⊤, get_or, filter_map}
 use Rattle.std.proofs.lemmas.List.{append_assoc}
 use Rattle.std.proofs.lemmas.Option.{none-some}
 use Rattle.ppd_ast.specs.declared.plan.BlockKind.TheVariants as block
@@ -28,8 +28,8 @@ use Rattle.ppd_model.specs.LocalTags.{AreOwn}
 use Rattle.ppd_model.specs.Numbers.{sync}
 use Rattle.ppd_model.specs.Record.{sync_record}
 use Rattle.ppd_model.specs.declared.tracing.Taken.{Taken}
-use Rattle.ppd_model.specs.Story.{own_steps, story}
-use Rattle.ppd_model.specs.Synchronizations.{Sync, kind_of_sync, numbered, sync_of, syncs_of}
+use Rattle.ppd_model.specs.Story.{story}
+use Rattle.ppd_model.specs.Synchronizations.{Sync, kind_of_sync, numbered, sync_of}
 use Rattle.ppd_model.proofs.LocalTags.{own_steps_told}
 use Rattle.ppd_model.proofs.Rendezvous.{completions_offered}
 use Rattle.ppd_model.proofs.Accesses.{record_at}
@@ -110,15 +110,15 @@ pub record IsStepOf (steps : List Taken) (s : Sync) : Type 0 where
   pub steps_are : steps ≡ before ++ step ∷ after
   pub is : sync_of step ≡ Some s
 
-step_of : (steps : List Taken) (i : ℕ) (s : Sync) → slice_get (syncs_of steps) i ≡ Some s → IsStepOf steps s
+step_of : (steps : List Taken) (i : ℕ) (s : Sync) → slice_get (filter_map sync_of steps) i ≡ Some s → IsStepOf steps s
 step_of [] i s e = absurd (none-some s e)
 step_of (x ∷ xs) i s e = by (sync_of x) refl i e (λ j f. step_of xs j s f)
   where
     later : IsStepOf xs s → IsStepOf (x ∷ xs) s
     later r = record { before = x ∷ r.before; step = r.step; after = r.after; steps_are = ap (λ ys. x ∷ ys) r.steps_are; is = r.is }
 
-    by : (o : Option Sync) → sync_of x ≡ o → (i : ℕ) → slice_get (cons_option o (syncs_of xs)) i ≡ Some s
-        → ((j : ℕ) → slice_get (syncs_of xs) j ≡ Some s → IsStepOf xs s) → IsStepOf (x ∷ xs) s
+    by : (o : Option Sync) → sync_of x ≡ o → (i : ℕ) → slice_get (cons_option o (filter_map sync_of xs)) i ≡ Some s
+        → ((j : ℕ) → slice_get (filter_map sync_of xs) j ≡ Some s → IsStepOf xs s) → IsStepOf (x ∷ xs) s
     by None is i e rest = later (rest i e)
     by (Some t) is zero e rest = record { before = []; step = x; after = xs; steps_are = refl; is = is ∙ e }
     by (Some t) is (suc i) e rest = later (rest i e)
@@ -156,16 +156,16 @@ offer_before program plan s steps before earlier x y after c v own are is offer 
     own_offer program plan s earlier x (y ∷ after) c v (subst (λ ys. AreOwn program plan s ys) all own) offer
 
 module _ (program : Program) (plan : Plan) (budget : ℕ) (h : List ℕ) where
-  completes_at_none : (p o k : ℕ) → IsStepOf (own_steps (story program plan budget h) p) (sync Done o k) → capacity_of program o ≡ 0
+  completes_at_none : (p o k : ℕ) → IsStepOf (get_or (story program plan budget h).steps p []) (sync Done o k) → capacity_of program o ≡ 0
   completes_at_none p o k r =
       let d = completes r.step.need r.step.number o k r.is in
       let offered = completions_offered program plan budget h p r.before r.step r.after d.0 d.1 r.steps_are d.2 in
       subst (λ c. capacity_of program c ≡ 0) d.3
-      (offer_before program plan (started program plan p budget) (own_steps (story program plan budget h) p) r.before offered.0 offered.1 r.step r.after d.0 offered.3.value
+      (offer_before program plan (started program plan p budget) (get_or (story program plan budget h).steps p []) r.before offered.0 offered.1 r.step r.after d.0 offered.3.value
       (own_steps_told program plan budget h p) r.steps_are offered.2 offered.3.offer)
 
   -- a completion in the record of a schedule is on a channel of capacity 0
   pub completed_at_none : (a : NodeId) (o k : ℕ) → sync_at (sync_record program plan budget h) a ≡ Some (sync Done o k) → capacity_of program o ≡ 0
   completed_at_none a o k e =
       completes_at_none a.process o k
-      (step_of (own_steps (story program plan budget h) a.process) a.sync (sync Done o k) (ap (λ ss. slice_get ss a.sync) (sym (record_at (story program plan budget h).steps a.process)) ∙ e))
+      (step_of (get_or (story program plan budget h).steps a.process []) a.sync (sync Done o k) (ap (λ ss. slice_get ss a.sync) (sym (record_at (story program plan budget h).steps a.process)) ∙ e))

@@ -1,4 +1,5 @@
 -- The logs of a schedule pass each test of their graph, so it is not refused.
+use Rattle.ppd_model.proofs.Tested.{none_before_itself, none_is_before_itself}
 use Rattle.std.proofs.Common.{◌≡◌, List, [], ◌∷◌, refl, ap, sym, subst, ◌∙◌}
 use Rattle.std.proofs.lemmas.Option.{none-some}
 use Rattle.ppd_ast.specs.declared.program.Program.{Program}
@@ -24,7 +25,7 @@ ordered program plan budget h w runs = record {
     once = no_twice program plan budget h;
     complete = ap (missing program) (all_are program plan budget h) ∙ none_lacks program plan budget h w runs;
   };
-  acyclic = λ a before. never_before_itself program plan budget h w runs a (subst (λ r. Before program r a a) (records program plan budget h) before);
+  acyclic = none_is_before_itself program (record_in (closed_logs program plan budget h)) (λ a before. never_before_itself program plan budget h w runs a (subst (λ r. Before program r a a) (records program plan budget h) before));
 }
 
 -- ---- no refusal
@@ -37,7 +38,7 @@ not_refused : (program : Program) (of : Logs) → AreOrdered program of → (e :
 not_refused program of o (NoObject at) other r = none-some at (sym o.numbered.objects ∙ r)
 not_refused program of o (NumberTwice at) other r = none-some at (sym o.numbered.once ∙ r.1)
 not_refused program of o (NumberMissing kind object number) other r = none-some (kind, object, number) (sym o.numbered.complete ∙ r.2)
-not_refused program of o (Cycle nodes) other r = o.acyclic r.1.first (way_before program (record_in of) r.1.first r.1.rest r.1.first r.1.way)
+not_refused program of o (Cycle nodes) other r = none_before_itself program (record_in of) o.acyclic r.1.first (way_before program (record_in of) r.1.first r.1.rest r.1.first r.1.way)
 not_refused program of o Memory other r = other refl
 
 pub refused : GraphsOfRunsAreNotRefused

@@ -14,11 +14,11 @@ use Rattle.law_logs.proofs.Index.Tested.{IsInsideEnd}
 
 -- an end that leaves no block is inside one
 pub inside_end : (program : Program) (plan : Plan) (s : Proc) (n : Need) (how : Status) → closed program plan s n ≡ None → status_of n ≡ Some how → IsInsideEnd how
-inside_end program plan s (Trap t) how none e = subst IsInsideEnd (some_is e) (λ o h. h)
+inside_end program plan s (Trap t) how none e = subst IsInsideEnd (some_is e) (λ plan body at rest reads writes h. h)
   where
     some_is : {x y : Status} → Some x ≡ Some y → x ≡ y
     some_is {x = x} e = ap (λ o. elim o [ None ↦ x | Some z ↦ z ]) e
-inside_end program plan s Budget how none e = subst IsInsideEnd (some_is e) (λ o h. h)
+inside_end program plan s Budget how none e = subst IsInsideEnd (some_is e) (λ plan body at rest reads writes h. h)
   where
     some_is : {x y : Status} → Some x ≡ Some y → x ≡ y
     some_is {x = x} e = ap (λ o. elim o [ None ↦ x | Some z ↦ z ]) e

@@ -1,35 +1,35 @@
 -- The index of the logs of a whole schedule is never refused.
-use Rattle.std.proofs.Common.{◌≡◌, ℕ, suc, ◌+◌, ◌-◌, ◌<◌, List, [], ◌∷◌, length, map, get_or, None, refl, ap, sym, ◌∙◌, subst, arith, pos, eq-eqb}
-use Rattle.std.proofs.lemmas.List.{length-map}
-use Rattle.std.specs.Prelude.{slice_get}
+use Rattle.law_logs.proofs.Index.OfKind.{own_fits}
+use Rattle.law_logs.proofs.Index.Passing.{logged, more, pass}
+use Rattle.law_logs.proofs.Index.Standing.{Stands, after_prelog, after_unit}
+use Rattle.law_logs.proofs.Index.Started.{begun_under, under_there, unit_fits}
+use Rattle.law_logs.proofs.Index.Tested.{IsFit, fit_unit, fits_by, one_more}
+use Rattle.law_logs.proofs.Index.Valued.{AreValued, all_valued}
+use Rattle.law_logs.specs.Index.Accepted.{LogsOfRunsAreIndexed}
+use Rattle.law_steps.proofs.OpenBlocks.Runs.{schedules_run}
+use Rattle.law_steps.proofs.OpenBlocks.Stacks.{steps_move}
+use Rattle.law_steps.proofs.OpenBlocks.Told.{moments_length}
+use Rattle.law_steps.specs.OpenBlocks.Run.{IsRun}
+use Rattle.law_steps.specs.OpenBlocks.Stack.{IsInOrder, process_block}
 use Rattle.ppd_ast.specs.Valid.{IsValid}
 use Rattle.ppd_ast.specs.declared.plan.Plan.{Plan}
 use Rattle.ppd_ast.specs.declared.plan.Policy.{Policy}
 use Rattle.ppd_ast.specs.declared.plan.Start.TheVariants as start
 use Rattle.ppd_ast.specs.declared.program.Program.{Program}
 use Rattle.ppd_blocks.specs.Blocks.{plan_of}
+use Rattle.ppd_entry.specs.IntervalLogs.{Indexed, Indexing, begun_indexing, index_step}
 use Rattle.ppd_entry.specs.declared.entry.Entry.TheVariants as entry
-use Rattle.ppd_entry.specs.IntervalLogs.{Indexing, begun_indexing, index_step}
+use Rattle.ppd_index.specs.Refusals.{first_bad, first_in_lists, may_begin, standing}
+use Rattle.ppd_model.proofs.LogWords.{logs_from}
+use Rattle.ppd_model.proofs.Prefixes.{objects_stay}
+use Rattle.ppd_model.specs.Logs.{begun_log, closed_log, log_of}
+use Rattle.ppd_model.specs.Story.{Moment, told, values_of_unit}
 use Rattle.ppd_sem.specs.Process.{started}
 use Rattle.ppd_sem.specs.Tables.{unit_of}
-use Rattle.std.specs.Option.{option_or}
-use Rattle.ppd_model.specs.Logs.{begun_log, closed_log, log_of}
-use Rattle.ppd_model.proofs.LogWords.{logs_from}
-use Rattle.ppd_model.specs.Story.{Moment, cells_of_unit, own_moments, told, values_of_unit}
-use Rattle.ppd_model.proofs.Prefixes.{objects_stay}
-use Rattle.law_steps.specs.OpenBlocks.Run.{IsRun}
-use Rattle.law_steps.specs.OpenBlocks.Stack.{IsInOrder, process_block}
-use Rattle.law_steps.proofs.OpenBlocks.Runs.{schedules_run}
-use Rattle.law_steps.proofs.OpenBlocks.Stacks.{steps_move}
-use Rattle.law_steps.proofs.OpenBlocks.Told.{moments_length}
-use Rattle.ppd_index.specs.Refusals.{first_bad, first_in_lists, is_body}
-use Rattle.law_logs.specs.Index.Accepted.{LogsOfRunsAreIndexed}
-use Rattle.law_logs.proofs.Index.Standing.{Stands, after_prelog, after_unit}
-use Rattle.law_logs.proofs.Index.Tested.{IsFit, fit_unit, fits_by, one_more}
-use Rattle.law_logs.proofs.Index.Valued.{AreValued, all_valued}
-use Rattle.law_logs.proofs.Index.OfKind.{own_fits}
-use Rattle.law_logs.proofs.Index.Started.{begun_under, under_there, unit_fits}
-use Rattle.law_logs.proofs.Index.Passing.{logged, more, pass}
+use Rattle.std.proofs.Common.{List, None, [], ap, arith, eq-eqb, false, get_or, length, map, pos, refl, subst, suc, sym, ℕ, ◌+◌, ◌-◌, ◌<◌, ◌∙◌, ◌∷◌, ◌≡◌}
+use Rattle.std.proofs.lemmas.List.{length-map}
+use Rattle.std.specs.Option.{option_map_or, option_or}
+use Rattle.std.specs.Prelude.{slice_get}
 
 module _ (program : Program) (policy : Policy) (budget : ℕ) (v : IsValid program) where
   abbrev plan : Plan
@@ -48,10 +48,10 @@ module _ (program : Program) (policy : Policy) (budget : ℕ) (v : IsValid progr
     order : IsInOrder program plan p (started program plan p budget)
     order = steps_move.starts program plan p budget v there
 
-    first_fit : IsFit plan body begun_indexing (entry.Prelog own [])
+    first_fit : IsFit plan body p begun_indexing (entry.Prelog own [])
     first_fit =
-        fits_by plan body begun_indexing (entry.Prelog own [])
-        (ap (is_body body) (own_fits program policy v p there).1.1 ∙ eq-eqb body body refl) (own_fits program policy v p there).0
+        fits_by plan body p begun_indexing (entry.Prelog own [])
+        (ap (may_begin body (standing begun_indexing false)) (own_fits program policy v p there).1.1 ∙ eq-eqb body body refl) (own_fits program policy v p there).0
 
     inside : Stands plan (index_step plan begun_indexing (entry.Prelog own [])) (own ∷ [])
     inside = after_prelog plan begun_indexing [] own [] refl tt tt
@@ -60,13 +60,13 @@ module _ (program : Program) (policy : Policy) (budget : ℕ) (v : IsValid progr
     process_passes =
         let values = values_of_unit plan program.starts first_unit in
         let found = under_there program policy v first_unit (started program plan p budget) (begun_under program policy v p budget) (order.until_end refl) in
-        let x : Indexing = index_step plan begun_indexing (entry.Prelog own []) in
-        let y : Indexing = index_step plan x (entry.Unit first_unit values) in
+        let x : Indexing Indexed = index_step plan begun_indexing (entry.Prelog own []) in
+        let y : Indexing Indexed = index_step plan x (entry.Unit first_unit values) in
         ap (λ es. first_bad program plan p es) (logged program policy v p there ms (begun_log program plan budget p))
         ∙ one_more plan body p begun_indexing (entry.Prelog own []) (entry.Unit first_unit values ∷ more program policy v p there (begun_log program plan budget p) ms) first_fit refl
         (one_more plan body p x (entry.Unit first_unit values) (more program policy v p there (begun_log program plan budget p) ms)
-        (fit_unit plan body x own [] inside first_unit values
-        (unit_fits program policy v first_unit found.0 values found.1 (length-map (cells_of_unit (slice_get plan.units first_unit)) (λ c. get_or program.starts c (pos 0))))) refl
+        (fit_unit plan body p x own [] inside first_unit values
+        (unit_fits program policy v first_unit found.0 values found.1 (length-map (option_map_or (λ u. u.cells) (slice_get plan.units first_unit) []) (λ c. get_or program.starts c (pos 0))))) refl
         (pass program policy v p there ms (begun_log program plan budget p) y first_unit order refl run valued (begun_under program policy v p budget)
         (subst (Stands plan y) (sym (steps_move.alone program plan p budget v)) (after_unit plan x first_unit values (own ∷ []) inside))))
 
@@ -91,5 +91,5 @@ logs_indexed program policy budget h v whole =
     (let many : length (told program plan budget h).world.procs ≡ length program.bodies - program.functions = (objects_stay program plan budget h).processes in
     let there : program.functions + i < length program.bodies = omega (arith, lt, moments_length program plan budget h, many) in
     let zero_is : 0 + i ≡ i = omega arith in
-    subst (λ k. first_bad program plan k (closed_log (log_of program plan budget k (own_moments (told program plan budget h) i))) ≡ None) (sym zero_is)
-    (process_passes program policy budget v i there (own_moments (told program plan budget h) i) (schedules_run program plan budget h i v whole there) (all_valued program plan budget h i))))
+    subst (λ k. first_bad program plan k (closed_log (log_of program plan budget k (get_or (told program plan budget h).moments i []))) ≡ None) (sym zero_is)
+    (process_passes program policy budget v i there (get_or (told program plan budget h).moments i []) (schedules_run program plan budget h i v whole there) (all_valued program plan budget h i))))

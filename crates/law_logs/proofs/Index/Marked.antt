@@ -1,12 +1,16 @@
 -- What a step opens or closes has the values that the plan says.
-use Rattle.std.proofs.Common.{◌≡◌, ℕ, zero, suc, ◌+◌, ◌≤◌, ℤ, Bool, true, false, nat_lt, List, [], ◌∷◌, ◌++◌, length, Option, Some, None, Ok, Err, refl, ap, sym, subst, ◌∙◌, arith, if◌then◌else◌}
-use Rattle.std.proofs.lemmas.Bool.Decides.{nat_tests}
-use Rattle.std.proofs.lemmas.List.{length-append, length-map}
-use Rattle.std.proofs.lemmas.List.FromFn.{length-range_with_len}
-use Rattle.std.proofs.lemmas.Option.{none-some}
-use Rattle.std.specs.Prelude.{nat_le, ◌&&◌, is_some, option_to_list, slice_get}
-use Rattle.ppd_ast.proofs.Vocabulary.{gives}
+use Rattle.law_logs.proofs.Index.OfKind.{kind_found, postlog_fits, prelog_fits}
+use Rattle.law_logs.proofs.Index.Tested.{MayBegin}
+use Rattle.law_steps.proofs.OpenBlocks.DeedKinds.{found_while, loop_is}
+use Rattle.law_steps.proofs.OpenBlocks.Framed.{body_is, head_returns}
+use Rattle.law_steps.proofs.OpenBlocks.Moving.{top_is}
+use Rattle.law_steps.proofs.OpenBlocks.Planned.{postlog_cells_are, prelog_cells_are}
+use Rattle.law_steps.specs.OpenBlocks.Stack.{block_frames, returning}
+use Rattle.ppd_ast.proofs.Vocabulary.{gives, params_of_body}
+use Rattle.ppd_ast.specs.Counting.{one_if}
+use Rattle.ppd_ast.specs.Lookups.{body_of, kind_of}
 use Rattle.ppd_ast.specs.Valid.{IsValid}
+use Rattle.ppd_ast.specs.declared.limits.TheConstants.{MOST_CALLS}
 use Rattle.ppd_ast.specs.declared.plan.BlockKind.TheVariants as block
 use Rattle.ppd_ast.specs.declared.plan.Plan.{Plan}
 use Rattle.ppd_ast.specs.declared.plan.Policy.{Policy}
@@ -14,40 +18,35 @@ use Rattle.ppd_ast.specs.declared.plan.Start.TheVariants as start
 use Rattle.ppd_ast.specs.declared.program.Body.{Body}
 use Rattle.ppd_ast.specs.declared.program.Program.{Program}
 use Rattle.ppd_ast.specs.declared.status.Trap.TheVariants as trap
-use Rattle.ppd_ast.specs.Lookups.{kind_of, body_of}
-use Rattle.ppd_ast.proofs.Vocabulary.{params_of_body}
-use Rattle.ppd_ast.specs.Counting.{one_if}
-use Rattle.ppd_ast.specs.declared.limits.TheConstants.{MOST_CALLS}
-use Rattle.ppd_blocks.specs.Blocks.{plan_of}
 use Rattle.ppd_blocks.proofs.Vocabulary.{params_of}
-use Rattle.ppd_sem.specs.declared.asking.Pause.TheVariants.{Wants, Traps}
+use Rattle.ppd_blocks.specs.Blocks.{plan_of}
+use Rattle.ppd_index.proofs.Vocabulary.{fits_postlog, fits_prelog}
+use Rattle.ppd_index.specs.Refusals.{may_begin}
+use Rattle.ppd_model.proofs.Homes.{AskedOf, DeedOf, head_of}
+use Rattle.ppd_model.specs.Logs.{status_of}
+use Rattle.ppd_model.specs.Marks.{Mark, closed, opened, values_at}
+use Rattle.ppd_sem.proofs.EventWords.{arguments_of_head, result_of_head}
+use Rattle.ppd_sem.proofs.NeedWords.{need_by_entry, need_by_offer, need_of_running}
+use Rattle.ppd_sem.proofs.Progress.{need_at_todo}
+use Rattle.ppd_sem.specs.Asked.{Asked}
+use Rattle.ppd_sem.specs.Blocks.{postlog_cells, prelog_cells}
+use Rattle.ppd_sem.specs.Deed.{Deed, back, branch, clear, finish, give, invoke, leave, pass, print, receive, send, set_local, set_shared, take, turn}
+use Rattle.ppd_sem.specs.Passed.{arguments_at, arguments_by, result_at, result_by}
+use Rattle.ppd_sem.specs.Process.{call_unit, cost, entry_of, head_deed, loop_of, need_of, need_of_asked, need_of_deed, need_of_head, need_of_leaving, need_of_send, offer_of, top_frame}
+use Rattle.ppd_sem.specs.Runs.{bodies_in}
+use Rattle.ppd_sem.specs.Tables.{block_of, capacity_of, unit_of}
+use Rattle.ppd_sem.specs.declared.asking.Pause.TheVariants.{Traps, Wants}
 use Rattle.ppd_sem.specs.declared.proc.Frame.{Frame}
 use Rattle.ppd_sem.specs.declared.proc.Need.{Need}
 use Rattle.ppd_sem.specs.declared.proc.Need.TheVariants as need
 use Rattle.ppd_sem.specs.declared.proc.Proc.{Proc}
 use Rattle.ppd_sem.specs.declared.proc.Todo.{Todo}
-use Rattle.ppd_sem.specs.Ask.{cell_of}
-use Rattle.ppd_sem.specs.Asked.{Asked, outcome}
-use Rattle.ppd_sem.specs.Blocks.{postlog_cells, prelog_cells}
-use Rattle.ppd_sem.specs.Deed.{Deed, set_local, set_shared, clear, branch, turn, leave, invoke, back, take, give, send, receive, print, pass, finish}
-use Rattle.ppd_sem.specs.Passed.{arguments_at, arguments_by, result_at, result_by}
-use Rattle.ppd_sem.proofs.EventWords.{arguments_of_head, result_of_head}
-use Rattle.ppd_sem.specs.Process.{call_unit, cost, entry_of, head_deed, loop_of, need_of, need_of_asked, need_of_deed, need_of_head, need_of_leaving, need_of_send, offer_of, top_body, top_call, top_cells}
-use Rattle.ppd_sem.proofs.NeedWords.{need_by_entry, need_by_offer, need_of_running}
-use Rattle.ppd_sem.specs.Tables.{block_of, capacity_of, unit_of}
-use Rattle.ppd_sem.proofs.Progress.{need_at_todo}
-use Rattle.ppd_sem.specs.Runs.{bodies_in}
-use Rattle.ppd_model.specs.Logs.{status_of}
-use Rattle.ppd_model.specs.Marks.{Mark, opened, closed, values_at}
-use Rattle.ppd_model.proofs.Homes.{AskedOf, DeedOf, head_of}
-use Rattle.law_steps.specs.OpenBlocks.Stack.{block_frames, returning}
-use Rattle.law_steps.proofs.OpenBlocks.DeedKinds.{found_while, loop_is}
-use Rattle.law_steps.proofs.OpenBlocks.Framed.{body_is, head_returns}
-use Rattle.law_steps.proofs.OpenBlocks.Planned.{postlog_cells_are, prelog_cells_are}
-use Rattle.law_steps.proofs.OpenBlocks.Moving.{top_is}
-use Rattle.law_logs.proofs.Index.OfKind.{kind_found, postlog_fits, prelog_fits}
-use Rattle.ppd_index.specs.Refusals.{is_of_function, is_process, kind_at}
-use Rattle.ppd_index.proofs.Vocabulary.{fits_postlog, fits_prelog}
+use Rattle.std.proofs.Common.{Bool, Err, List, None, Ok, Option, Some, [], ap, ap₂, arith, false, if◌then◌else◌, length, nat_lt, not, refl, subst, suc, sym, true, zero, ℕ, ℤ, ◌++◌, ◌+◌, ◌∙◌, ◌∷◌, ◌≡◌, ◌≤◌}
+use Rattle.std.proofs.lemmas.Bool.Decides.{nat_tests}
+use Rattle.std.proofs.lemmas.List.{length-append, length-map}
+use Rattle.std.proofs.lemmas.List.FromFn.{length-range_with_len}
+use Rattle.std.proofs.lemmas.Option.{none-some}
+use Rattle.std.specs.Prelude.{get_or, is_some, map, nat_le, option_to_list, pos, slice_get, ◌&&◌}
 
 -- fewer frames of blocks than frames
 few_blocks : (plan : Plan) (f : Frame) (fs : List Frame) → block_frames plan (f ∷ fs) ≤ length fs
@@ -62,11 +61,10 @@ module _ (program : Program) (policy : Policy) (v : IsValid program) where
   abbrev plan : Plan
   plan = plan_of program policy
 
-  -- a block that is entered: as many values as its prelog, no process's, and a function's not too deep
+  -- a block that is entered: as many values as its prelog, and its interval may begin
   pub record IsPrelog (deep : ℕ) (m : Mark) : Type 0 where
     pub fits : fits_prelog (slice_get plan.blocks m.block) m.values ≡ true
-    pub process : is_process (kind_at plan m.block) ≡ false
-    pub few : (is_of_function (kind_at plan m.block) && nat_le MOST_CALLS deep) ≡ false
+    pub begins : MayBegin plan deep m.block
 
   -- and one that is left
   abbrev pub IsPostlog : Mark → Type 0
@@ -105,9 +103,8 @@ module _ (program : Program) (policy : Policy) (v : IsValid program) where
         let found : block_of plan (block.Loop t.stmt) ≡ Some b = sym (loop_is plan t.stmt (kind_of program t.stmt) (found_while plan t.stmt (kind_of program t.stmt) b e)) ∙ e in
         opens_one (need.Enter b (unit_of plan (start.Enter t.stmt))) _ refl refl (record {
           fits = prelog_fits program policy v (block.Loop t.stmt) b found (values_at s (prelog_cells plan b))
-              (length-map (prelog_cells plan b) (cell_of (top_cells s.frames)) ∙ ap (λ cs. length cs) (prelog_cells_are program policy (block.Loop t.stmt) b found));
-          process = ap is_process (kind_found program policy v (block.Loop t.stmt) b found);
-          few = ap (λ k. is_of_function k && nat_le MOST_CALLS (block_frames plan s.frames)) (kind_found program policy v (block.Loop t.stmt) b found);
+              (length-map (prelog_cells plan b) (λ c. get_or (top_frame s.frames).cells c (pos 0)) ∙ ap (λ cs. length cs) (prelog_cells_are program policy (block.Loop t.stmt) b found));
+          begins = λ body at inside deep. ap (may_begin body at) (kind_found program policy v (block.Loop t.stmt) b found) ∙ inside;
         })
 
     leaving : (o : Option ℕ) → block_of plan (block.Loop t.stmt) ≡ o → Marks (need_of_leaving plan t.stmt o)
@@ -115,7 +112,7 @@ module _ (program : Program) (policy : Policy) (v : IsValid program) where
     leaving (Some b) e =
         closes_one (need.Leave b (unit_of plan (start.Exit t.stmt))) _ refl refl
         (postlog_fits program policy v (block.Loop t.stmt) b e (values_at s (postlog_cells plan b))
-        (length-map (postlog_cells plan b) (cell_of (top_cells s.frames)) ∙ ap (λ cs. length cs) (postlog_cells_are program policy (block.Loop t.stmt) b e) ∙ omega arith))
+        (length-map (postlog_cells plan b) (λ c. get_or (top_frame s.frames).cells c (pos 0)) ∙ ap (λ cs. length cs) (postlog_cells_are program policy (block.Loop t.stmt) b e) ∙ omega arith))
 
     -- ---- calls
 
@@ -133,11 +130,12 @@ module _ (program : Program) (policy : Policy) (v : IsValid program) where
         → (o : Option ℕ) → block_of plan (block.Function f) ≡ o → (u : ℕ) → Marks (need.Invoke o u)
     invoking f values into left head count few None e u = neither (need.Invoke None u) refl refl
     invoking f values into left head count few (Some b) e u =
-        let same : arguments_at program s ≡ values = ap (λ us. arguments_of_head program s (slice_get us 0)) is ∙ ap (λ x. arguments_by (outcome x)) head in
+        let same : arguments_at program s ≡ values = ap (λ us. arguments_of_head program s (slice_get us 0)) is ∙ ap (λ x. arguments_by x) head in
         opens_one (need.Invoke (Some b) u) _ refl refl (record {
           fits = prelog_fits program policy v (block.Function f) b e (arguments_at program s) (ap (λ vs. length vs) same ∙ count ∙ sym (params_length (slice_get program.bodies f)));
-          process = ap is_process (kind_found program policy v (block.Function f) b e);
-          few = ap (λ k. is_of_function k && nat_le MOST_CALLS (block_frames plan s.frames)) (kind_found program policy v (block.Function f) b e) ∙ few;
+          begins = λ body at inside deep.
+              ap (may_begin body at) (kind_found program policy v (block.Function f) b e)
+              ∙ ap₂ (λ i n. i && not (nat_le MOST_CALLS n)) inside deep ∙ ap not few;
         })
 
     calling : (x : Bool) (f : ℕ) (values : List ℤ) (into : Option ℕ) (left : List ℤ) → head_deed program t s ≡ Ok (invoke f values into, left) → length values ≡ params_of_body (slice_get program.bodies f) → nat_lt MOST_CALLS (s.below + length s.frames) ≡ x
@@ -148,16 +146,16 @@ module _ (program : Program) (policy : Policy) (v : IsValid program) where
     backing : (value : Option ℤ) (left : List ℤ) → head_deed program t s ≡ Ok (back value, left) → (f : ℕ) → is_some value ≡ gives (slice_get program.bodies f) → (o u : Option ℕ) → block_of plan (block.Function f) ≡ o → Marks (need.Back o u)
     backing value left head f value_is None u e = neither (need.Back None u) refl refl
     backing value left head f value_is (Some b) u e =
-        let same : result_at program s ≡ option_to_list value = ap (λ us. option_to_list (result_of_head program s (slice_get us 0))) is ∙ ap (λ x. option_to_list (result_by (outcome x))) head in
+        let same : result_at program s ≡ option_to_list value = ap (λ us. option_to_list (result_of_head program s (slice_get us 0))) is ∙ ap (λ x. option_to_list (result_by x)) head in
         closes_one (need.Back (Some b) u) _ refl refl
         (postlog_fits program policy v (block.Function f) b e (result_at program s)
         (ap (λ vs. length vs) same ∙ value_length value ∙ ap (λ x. one_if x) value_is ∙ (let z : one_if (gives (slice_get program.bodies f)) ≡ 0 + one_if (gives (slice_get program.bodies f)) = omega arith in z)))
 
     returning_back : (value : Option ℤ) (left : List ℤ) → head_deed program t s ≡ Ok (back value, left) → DeedOf program (body_of program t.stmt) (kind_of program t.stmt) (back value)
-        → Marks (need.Back (block_of plan (block.Function (top_body s.frames))) (call_unit plan (top_call s.frames)))
+        → Marks (need.Back (block_of plan (block.Function (top_frame s.frames).body)) (call_unit plan (top_frame s.frames).call))
     returning_back value left head h =
-        let own : top_body s.frames ≡ body_of program t.stmt = top_is s (body_of program t.stmt) (returning program ts ++ base ∷ []) (framed ∙ ap (λ bs. bs ++ base ∷ []) (head_returns program t ts h.0)) in
-        backing value left head (top_body s.frames) (h.1 ∙ ap (λ n. gives (slice_get program.bodies n)) (body_is program t.stmt ∙ sym own)) (block_of plan (block.Function (top_body s.frames))) (call_unit plan (top_call s.frames)) refl
+        let own : (top_frame s.frames).body ≡ body_of program t.stmt = top_is s (body_of program t.stmt) (returning program ts ++ base ∷ []) (framed ∙ ap (λ bs. bs ++ base ∷ []) (head_returns program t ts h.0)) in
+        backing value left head (top_frame s.frames).body (h.1 ∙ ap (λ n. gives (slice_get program.bodies n)) (body_is program t.stmt ∙ sym own)) (block_of plan (block.Function (top_frame s.frames).body)) (call_unit plan (top_frame s.frames).call) refl
 
     -- ---- each deed
 

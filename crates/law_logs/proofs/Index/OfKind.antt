@@ -15,7 +15,6 @@ use Rattle.ppd_blocks.proofs.Vocabulary.{block_of as block_from}
 use Rattle.ppd_sem.specs.Tables.{block_of}
 use Rattle.law_steps.specs.OpenBlocks.Stack.{process_block}
 use Rattle.law_steps.proofs.OpenBlocks.Planned.{block_there, process_found}
-use Rattle.ppd_index.specs.Refusals.{kind_at}
 use Rattle.ppd_index.proofs.Vocabulary.{fits_postlog, fits_prelog, kind_there}
 use Rattle.ppd_sem.proofs.TableWords.{or_zero}
 
@@ -29,7 +28,7 @@ module _ (program : Program) (policy : Policy) (v : IsValid program) where
     at : slice_get plan.blocks b ≡ Some (block_from program k)
     at = block_there program policy k b found
 
-    pub kind_found : kind_at plan b ≡ Some k
+    pub kind_found : kind_there (slice_get plan.blocks b) ≡ Some k
     kind_found = ap kind_there at
 
     pub prelog_fits : (values : List ℤ) → length values ≡ length (prelog_of program k) → fits_prelog (slice_get plan.blocks b) values ≡ true
@@ -55,7 +54,7 @@ module _ (program : Program) (policy : Policy) (v : IsValid program) where
         by (Some b) e some = (b, e)
 
     abbrev IsOwn : ℕ → Type 0
-    IsOwn b = (fits_prelog (slice_get plan.blocks b) [] ≡ true) × ((fits_postlog (slice_get plan.blocks b) [] ≡ true) × (kind_at plan b ≡ Some (block.Process own)))
+    IsOwn b = (fits_prelog (slice_get plan.blocks b) [] ≡ true) × ((fits_postlog (slice_get plan.blocks b) [] ≡ true) × (kind_there (slice_get plan.blocks b) ≡ Some (block.Process own)))
 
     -- it has no values at either end
     pub own_fits : IsOwn (process_block program plan p)

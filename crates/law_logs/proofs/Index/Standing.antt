@@ -1,4 +1,6 @@
 -- Where an entry stands in the index: inside the blocks of a stack.
+use Rattle.ppd_entry.specs.Changed.{change}
+use Rattle.ppd_entry.proofs.Vocabulary.{with_piece}
 use Rattle.std.proofs.Common.{◌≡◌, ℕ, zero, suc, ◌+◌, ◌<◌, ℤ, false, List, [], ◌∷◌, ◌++◌, length, Some, None, refl, ap, sym, ◌∙◌, subst, arith, if◌then◌else◌}
 use Rattle.std.proofs.lemmas.Bool.{ne_eqb}
 use Rattle.std.proofs.lemmas.List.{length-append}
@@ -6,7 +8,7 @@ use Rattle.std.specs.Prelude.{⊤, drop, nat_eq}
 use Rattle.ppd_ast.specs.declared.plan.Plan.{Plan}
 use Rattle.ppd_ast.specs.declared.status.SyncKind.{SyncKind}
 use Rattle.ppd_entry.specs.declared.entry.Entry.TheVariants as entry
-use Rattle.ppd_entry.specs.IntervalLogs.{Indexed, Indexing, add_piece, add_piece_at, depth_of, index_step, interval_at, left_interval, new_interval}
+use Rattle.ppd_entry.specs.IntervalLogs.{Indexed, Indexing, add_piece, depth_of, index_step, interval_at, left_interval, new_interval}
 use Rattle.ppd_entry.specs.Pieces.{Piece, nested, postlog, sync, unit}
 use Rattle.ppd_sem.specs.Blocks.{block_kind, is_function}
 use Rattle.law_steps.specs.OpenBlocks.Stack.{functions_in}
@@ -26,12 +28,12 @@ record IsSame (xs ys : List Indexed) (k : ℕ) : Type 0 where
   block : block_at ys k ≡ block_at xs k
   depth : depth_at ys k ≡ depth_at xs k
 
-added_same : (n : ℕ) (p : Piece) (j k : ℕ) (xs : List Indexed) → IsSame xs (add_piece_at n p j xs) k
+added_same : (n : ℕ) (p : Piece) (j k : ℕ) (xs : List Indexed) → IsSame xs (change (with_piece n p) j xs) k
 added_same n p j k [] = record { block = refl; depth = refl }
 added_same n p zero zero (x ∷ xs) = record { block = refl; depth = refl }
 added_same n p zero (suc k) (x ∷ xs) = record { block = refl; depth = refl }
 added_same n p (suc j) zero (x ∷ xs) = record { block = refl; depth = refl }
-added_same n p (suc j) (suc k) (x ∷ xs) = let s : IsSame xs (add_piece_at n p j xs) k = added_same n p j k xs in record { block = s.block; depth = s.depth }
+added_same n p (suc j) (suc k) (x ∷ xs) = let s : IsSame xs (change (with_piece n p) j xs) k = added_same n p j k xs in record { block = s.block; depth = s.depth }
 
 piece_same : (n : ℕ) (p : Piece) (ks : List ℕ) (k : ℕ) (xs : List Indexed) → IsSame xs (add_piece n p ks xs) k
 piece_same n p [] k xs = record { block = refl; depth = refl }
@@ -62,7 +64,7 @@ module _ (plan : Plan) where
   alike xs ys n (k ∷ ks) (b ∷ bs) f s h = let here : IsSame xs ys k = s k f.0 in (here.block ∙ h.0, here.depth ∙ h.1, alike xs ys k ks bs f.1 (λ j lt. s j (omega (arith, lt, f.0))) h.2)
 
   -- a later entry, inside these blocks
-  pub record Stands (x : Indexing) (bs : List ℕ) : Type 0 where
+  pub record Stands (x : Indexing Indexed) (bs : List ℕ) : Type 0 where
     pub later : nat_eq x.entry 0 ≡ false
     pub falls : Fall (length x.intervals) x.running
     pub are : AreOf plan x.intervals x.running bs
@@ -86,7 +88,7 @@ module _ (plan : Plan) where
 
   -- ---- each kind of entry
 
-  pub after_prelog : (x : Indexing) (bs : List ℕ) (b : ℕ) (values : List ℤ) → nat_eq (x.entry + 1) 0 ≡ false → Fall (length x.intervals) x.running → AreOf plan x.intervals x.running bs → Stands (index_step plan x (entry.Prelog b values)) (b ∷ bs)
+  pub after_prelog : (x : Indexing Indexed) (bs : List ℕ) (b : ℕ) (values : List ℤ) → nat_eq (x.entry + 1) 0 ≡ false → Fall (length x.intervals) x.running → AreOf plan x.intervals x.running bs → Stands (index_step plan x (entry.Prelog b values)) (b ∷ bs)
   after_prelog x bs b values later falls are =
       let y : Indexed = new_interval plan x b values in
       let last : interval_at (x.intervals ++ y ∷ []) (length x.intervals) ≡ y = put_last x.intervals y in
@@ -102,20 +104,20 @@ module _ (plan : Plan) where
         );
       }
 
-  with_piece_stands : (x : Indexing) (p : Piece) (bs : List ℕ) → Stands x bs → Stands (record x { intervals = add_piece x.entry p x.running x.intervals; entry = x.entry + 1 }) bs
+  with_piece_stands : (x : Indexing Indexed) (p : Piece) (bs : List ℕ) → Stands x bs → Stands (record x { intervals = add_piece x.entry p x.running x.intervals; entry = x.entry + 1 }) bs
   with_piece_stands x p bs s = record {
     later = next_later x.entry;
     falls = subst (λ n. Fall n x.running) (sym (piece_length x.entry p x.running x.intervals)) s.falls;
     are = alike x.intervals (add_piece x.entry p x.running x.intervals) (length x.intervals) x.running bs s.falls (λ k lt. piece_same x.entry p x.running k x.intervals) s.are;
   }
 
-  pub after_unit : (x : Indexing) (u : ℕ) (values : List ℤ) (bs : List ℕ) → Stands x bs → Stands (index_step plan x (entry.Unit u values)) bs
+  pub after_unit : (x : Indexing Indexed) (u : ℕ) (values : List ℤ) (bs : List ℕ) → Stands x bs → Stands (index_step plan x (entry.Unit u values)) bs
   after_unit x u values bs s = with_piece_stands x (unit u values) bs s
 
-  pub after_sync : (x : Indexing) (k : SyncKind) (o n : ℕ) (v : ℤ) (reads writes : List ℕ) (bs : List ℕ) → Stands x bs → Stands (index_step plan x (entry.Sync k o n v reads writes)) bs
+  pub after_sync : (x : Indexing Indexed) (k : SyncKind) (o n : ℕ) (v : ℤ) (reads writes : List ℕ) (bs : List ℕ) → Stands x bs → Stands (index_step plan x (entry.Sync k o n v reads writes)) bs
   after_sync x k o n v reads writes bs s = with_piece_stands x (sync k o n v) bs s
 
-  pub after_postlog : (x : Indexing) (c : ℕ) (values : List ℤ) (b : ℕ) (bs : List ℕ) → Stands x (b ∷ bs) → Stands (index_step plan x (entry.Postlog c values)) bs
+  pub after_postlog : (x : Indexing Indexed) (c : ℕ) (values : List ℤ) (b : ℕ) (bs : List ℕ) → Stands x (b ∷ bs) → Stands (index_step plan x (entry.Postlog c values)) bs
   after_postlog x c values b bs s = by x.running s.falls s.are
     where
       by : (ks : List ℕ) → Fall (length x.intervals) ks → AreOf plan x.intervals ks (b ∷ bs) → Stands (record x { intervals = left_interval x ks values; running = drop 1 ks; entry = x.entry + 1 }) bs

@@ -1,4 +1,5 @@
 -- Each unit that a step starts is a unit of the plan.
+use Rattle.std.specs.Option.{option_map_or}
 use Rattle.std.proofs.Common.{◌≡◌, ℕ, ◌+◌, true, List, [], ◌∷◌, length, Some, None, refl, ap, sym, subst, ◌∙◌, inl, inr, eq-eqb, true≢false}
 use Rattle.std.specs.Prelude.{IsSome, slice_get, unwrap_or}
 use Rattle.ppd_ast.specs.Valid.{IsValid}
@@ -17,7 +18,7 @@ use Rattle.ppd_sem.specs.declared.proc.Todo.{Todo}
 use Rattle.ppd_sem.specs.Process.{act, need_of, started}
 use Rattle.ppd_sem.specs.Tables.{unit_of}
 use Rattle.ppd_sem.specs.Passed.{next_stmt_of}
-use Rattle.ppd_model.specs.Story.{cells_of_unit, unit_started}
+use Rattle.ppd_model.specs.Story.{unit_started}
 use Rattle.law_steps.specs.OpenBlocks.Stack.{IsInOrder}
 use Rattle.law_steps.proofs.Units.InForce.{HasHeadOf, starts_body, steps_on}
 use Rattle.law_steps.proofs.Units.Needs.{AreCalled, starts_called, stays_called}
@@ -42,9 +43,9 @@ module _ (program : Program) (policy : Policy) (v : IsValid program) where
       by (t ∷ ts) head ends = (_, ap (slice_get plan.units) head.unit_is ∙ unit_there program policy head.origin head.listed)
 
   -- as many values as it has cells
-  pub unit_fits : (u : ℕ) (x : UnitOf) (values : List _) → slice_get plan.units u ≡ Some x → length values ≡ length (cells_of_unit (slice_get plan.units u)) → fits_unit (slice_get plan.units u) values ≡ true
+  pub unit_fits : (u : ℕ) (x : UnitOf) (values : List _) → slice_get plan.units u ≡ Some x → length values ≡ length (option_map_or (λ u. u.cells) (slice_get plan.units u) []) → fits_unit (slice_get plan.units u) values ≡ true
   unit_fits u x values at count =
-      ap (λ o. fits_unit o values) at ∙ eq-eqb (length values) (length x.cells) (count ∙ ap (λ o. length (cells_of_unit o)) at)
+      ap (λ o. fits_unit o values) at ∙ eq-eqb (length values) (length x.cells) (count ∙ ap (λ o. length (option_map_or (λ u. u.cells) o [])) at)
 
   pub begun_under : (p budget : ℕ) → IsUnder (unit_of plan (Entry (program.functions + p))) (started program plan p budget)
   begun_under p budget = record {

@@ -1,4 +1,5 @@
 -- Each unit that starts in a schedule has as many values as the plan has cells for it.
+use Rattle.std.specs.Option.{option_map_or}
 use Rattle.std.proofs.Common.{◌≡◌, ℕ, zero, suc, List, [], ◌∷◌, ◌++◌, length, map, get_or, Some, ap, ◌∙◌, pos}
 use Rattle.std.proofs.lemmas.List.{length-map}
 use Rattle.std.specs.Prelude.{fold, slice_get, ⊤}
@@ -7,13 +8,13 @@ use Rattle.ppd_ast.specs.declared.program.Program.{Program}
 use Rattle.ppd_sem.specs.declared.proc.Proc.{Proc}
 use Rattle.ppd_model.specs.Laws.{begins}
 use Rattle.ppd_model.specs.Schedule.{started_world}
-use Rattle.ppd_model.specs.Story.{Moment, Telling, cells_of_unit, moment_of, own_moments, tell, told, unit_started}
+use Rattle.ppd_model.specs.Story.{Moment, Telling, moment_of, tell, told, unit_started}
 use Rattle.ppd_model.proofs.WorldWords.{values_at_start}
 use Rattle.ppd_model.specs.World.{change, step}
 
 -- a unit that the step starts has a value for each of its cells
 abbrev pub IsValued : Plan → Moment → Type 0
-IsValued plan m = (u : ℕ) → unit_started m.taken.need ≡ Some u → length m.unit_values ≡ length (cells_of_unit (slice_get plan.units u))
+IsValued plan m = (u : ℕ) → unit_started m.taken.need ≡ Some u → length m.unit_values ≡ length (option_map_or (λ u. u.cells) (slice_get plan.units u) [])
 
 abbrev pub AreValued : Plan → List Moment → Type 0
 AreValued plan [] = ⊤
@@ -27,7 +28,7 @@ module _ (program : Program) (plan : Plan) where
   next_valued : (t : Telling) (p : ℕ) → IsValued plan (moment_of program plan t p)
   next_valued t p u e =
       ap (λ o. length (values_at_start plan (step program plan t.world p).shared o)) e
-      ∙ length-map (cells_of_unit (slice_get plan.units u)) (λ c. get_or (step program plan t.world p).shared c (pos 0))
+      ∙ length-map (option_map_or (λ u. u.cells) (slice_get plan.units u) []) (λ c. get_or (step program plan t.world p).shared c (pos 0))
 
   valued-append : (ms : List Moment) (m : Moment) → AreValued plan ms → IsValued plan m → AreValued plan (ms ++ m ∷ [])
   valued-append [] m all one = (one, tt)
@@ -51,5 +52,5 @@ module _ (program : Program) (plan : Plan) where
   valued_at (ms ∷ rest) zero all = all.0
   valued_at (ms ∷ rest) (suc p) all = valued_at rest p all.1
 
-  pub all_valued : (budget : ℕ) (h : List ℕ) (p : ℕ) → AreValued plan (own_moments (told program plan budget h) p)
+  pub all_valued : (budget : ℕ) (h : List ℕ) (p : ℕ) → AreValued plan (get_or (told program plan budget h).moments p [])
   all_valued budget h p = valued_at (told program plan budget h).moments p (valued_fold (begins program plan budget) h (none_valued (started_world program plan budget).procs))

@@ -1,6 +1,7 @@
 -- The logs of a whole run are lawful.
 use Rattle.std.proofs.Common.{◌≡◌, ℕ, suc, ◌+◌, ◌-◌, ◌*◌, ◌<◌, ◌≤◌, ◌^◌, true, false, Bool, List, [], ◌∷◌, ◌++◌, refl, ap, sym, ◌∙◌, subst, length, map, arith, length-append, inl, inr, true≢false, if◌then◌else◌}
 use Rattle.std.specs.Prelude.{is_none, nat_eq, nat_le}
+use Rattle.std.specs.Int.{is_in_range}
 use Rattle.std.specs.List.{flat_map, list_any}
 use Rattle.std.proofs.lemmas.Bool.Decides.{nat_tests}
 use Rattle.std.proofs.lemmas.List.{append-nil, length-map}
@@ -8,7 +9,6 @@ use Rattle.ppd_ast.specs.Valid.{IsValid}
 use Rattle.ppd_ast.specs.ValidPlan.{IsValidPlan}
 use Rattle.ppd_ast.specs.declared.limits.TheConstants.{MOST_BUDGET, MOST_POLICY, MOST_RECORDING_BYTES, MOST_SOURCE_BYTES, MOST_PROCESSES}
 use Rattle.ppd_ast.specs.declared.plan.Plan.{Plan}
-use Rattle.ppd_ast.specs.declared.program.Chan.{Chan}
 use Rattle.ppd_ast.specs.declared.program.Program.{Program}
 use Rattle.ppd_ast.specs.declared.status.Status.TheVariants as status
 use Rattle.ppd_entry.specs.declared.entry.Entry.{Entry}
@@ -21,8 +21,8 @@ use Rattle.ppd_model.specs.declared.state.Logging.{Logging}
 use Rattle.ppd_model.specs.Logs.{closed_log, loggings}
 use Rattle.ppd_model.proofs.Prefixes.{objects_stay}
 use Rattle.ppd_model.proofs.States.{one_state}
-use Rattle.ppd_codec.specs.Format.{an_entry, back, front, log, within}
-use Rattle.ppd_codec.specs.Recordings.{facts_of, front_of, version_of}
+use Rattle.ppd_codec.specs.Format.{an_entry, front, log, logs}
+use Rattle.ppd_codec.specs.Recordings.{facts_of, front_of}
 use Rattle.law_logs.specs.Recording.Lawful.{RunLogsAreLawful}
 use Rattle.law_logs.specs.Recording.Values.{HasConstantsOf64Bits}
 use Rattle.law_logs.proofs.Recording.Constants.Coded.{constants_fit}
@@ -36,7 +36,7 @@ use Rattle.law_logs.proofs.Recording.Logs.Sizes.{entries_size, noted, sizes, siz
 abbrev MOST : ℕ
 MOST = 13008216
 
-within_of : (low high k : ℕ) → low ≤ k → k ≤ high → within low high k ≡ true
+within_of : (low high k : ℕ) → low ≤ k → k ≤ high → is_in_range low high k ≡ true
 within_of low high k h g =
     let a : nat_le low k ≡ true = grind (arith, nat_tests) in
     let b : nat_le k high ≡ true = grind (arith, nat_tests) in
@@ -45,10 +45,10 @@ within_of low high k h g =
 equal : (a b : ℕ) → a ≡ b → nat_eq a b ≡ true
 equal a b e = grind (arith, nat_tests)
 
-version_within : (chans : List Chan) → (version_of chans < 2 ^ 8) × (within 1 2 (version_of chans) ≡ true)
-version_within chans = by (list_any is_rendezvous chans)
+version_within : (p : Program) → ((facts_of p).version < 2 ^ 8) × (is_in_range 1 2 (facts_of p).version ≡ true)
+version_within p = by (list_any is_rendezvous p.chans)
   where
-    by : (b : Bool) → ((if b then 2 else 1) < 2 ^ 8) × (within 1 2 (if b then 2 else 1) ≡ true)
+    by : (b : Bool) → ((if b then 2 else 1) < 2 ^ 8) × (is_in_range 1 2 (if b then 2 else 1) ≡ true)
     by true = (omega arith, refl)
     by false = (omega arith, refl)
 
@@ -125,31 +125,34 @@ logs_lawful source program header h r range run =
     let few : length program.bodies ≤ program.functions + MOST_PROCESSES = v.limits.processes in
     let long : length source ≤ 2 ^ 18 = r.parsed.lexed.short in
     let many : length (flat_map (log (facts_of program)).bytes lists) ≤ MOST * length lists = all_short (log (facts_of program)).bytes MOST lists (all_few program plan v w k header.budget range.most lists all) in
-    let begins : length (front.bytes (front_of (version_of program.chans) header source)) ≡ suc (suc (suc (suc (suc (suc (suc (suc (suc (suc (suc (suc (suc (suc (suc (suc (suc (length source))))))))))))))))) = refl in
-    let goes : length ((back (version_of program.chans) (facts_of program)).bytes lists) ≡ suc (length (flat_map (log (facts_of program)).bytes lists)) = refl in
-    let total = length-append (front.bytes (front_of (version_of program.chans) header source)) ((back (version_of program.chans) (facts_of program)).bytes lists) in
-    let fits : length (front.bytes (front_of (version_of program.chans) header source) ++ (back (version_of program.chans) (facts_of program)).bytes lists) ≤ MOST_RECORDING_BYTES = omega (arith, total, begins, goes, many, count, few, long) in (
+    let begins : length (front.bytes (front_of (facts_of program).version header source)) ≡ suc (suc (suc (suc (suc (suc (suc (suc (suc (suc (suc (suc (suc (suc (suc (suc (suc (length source))))))))))))))))) = refl in
+    let goes : length ((logs (facts_of program)).bytes lists) ≡ suc (length (flat_map (log (facts_of program)).bytes lists)) = refl in
+    let total = length-append (front.bytes (front_of (facts_of program).version header source)) ((logs (facts_of program)).bytes lists) in
+    let fits : length (front.bytes (front_of (facts_of program).version header source) ++ (logs (facts_of program)).bytes lists) ≤ MOST_RECORDING_BYTES = omega (arith, total, begins, goes, many, count, few, long) in (
       program,
       record {
         accepted = r;
         fields = (
           (
-            (omega arith, refl),
             (
-              version_within program.chans,
+              (omega arith, refl),
               (
-                (omega (arith, range.most), within_of 1 MOST_BUDGET header.budget range.least range.most),
+                version_within program,
                 (
-                  (omega (arith, range.policy.leaf), within_of 0 MOST_POLICY header.policy.leaf (omega arith) range.policy.leaf),
+                  (omega (arith, range.most), within_of 1 MOST_BUDGET header.budget range.least range.most),
                   (
-                    (omega (arith, range.policy.loops), within_of 0 MOST_POLICY header.policy.loops (omega arith) range.policy.loops),
-                    (omega (arith, long), within_of 0 MOST_SOURCE_BYTES (length source) (omega arith) (omega (arith, long))),
+                    (omega (arith, range.policy.leaf), within_of 0 MOST_POLICY header.policy.leaf (omega arith) range.policy.leaf),
+                    (
+                      (omega (arith, range.policy.loops), within_of 0 MOST_POLICY header.policy.loops (omega arith) range.policy.loops),
+                      (omega (arith, long), within_of 0 MOST_SOURCE_BYTES (length source) (omega arith) (omega (arith, long))),
+                    ),
                   ),
                 ),
               ),
             ),
+            equal (facts_of program).version (facts_of program).version refl,
           ),
-          (equal (version_of program.chans) (version_of program.chans) refl, ((omega (arith, count, few), equal (length lists) (length program.bodies - program.functions) count), all_lawful program plan v w k header.budget range.most lists all)),
+          ((omega (arith, count, few), equal (length lists) (length program.bodies - program.functions) count), all_lawful program plan v w k header.budget range.most lists all),
         );
         short = fits;
       },

@@ -17,7 +17,7 @@ use Rattle.ppd_sem.specs.declared.proc.Proc.{Proc}
 use Rattle.ppd_sem.specs.declared.proc.Todo.{Todo}
 use Rattle.ppd_sem.specs.Described.{described, frame_of, trap_of, evaluates, value_at, valued, writes_by}
 use Rattle.ppd_sem.proofs.EventWords.{value_if}
-use Rattle.ppd_sem.specs.Process.{head_deed, need_of, top_cells}
+use Rattle.ppd_sem.specs.Process.{head_deed, need_of, top_frame}
 use Rattle.ppd_sem.specs.Reads.{reads_of_kind}
 use Rattle.law_replay.proofs.Vocabulary.Over.{IsKindOver, SameIn}
 use Rattle.law_replay.proofs.Vocabulary.Relation.{HasEnds, IsBeside, IsBlock, Stacked, at_base, called}
@@ -61,7 +61,7 @@ module _ (program : Program) (plan : Plan) (used inside : ℕ → Type 0) (calls
   reads_are : (fs gs : List Frame) (t : Todo) (ts : List Todo) (frame : ℕ) (answers : List ℤ)
       → Stacked program used inside calls closer home fs gs (t ∷ ts)
       → reads_of_kind frame program.exprs (kind_of program t.stmt)
-      (top_cells fs) answers ≡ reads_of_kind frame program.exprs (kind_of program t.stmt) (top_cells gs) answers
+      (top_frame fs).cells answers ≡ reads_of_kind frame program.exprs (kind_of program t.stmt) (top_frame gs).cells answers
   reads_are fs gs t ts frame answers (at_base f g fs' gs' todo same body first within) =
       kind_reads_same used f.cells g.cells same.cells frame program.exprs (kind_of program t.stmt)
       (block.reads t.stmt within.0.0) answers
@@ -69,8 +69,8 @@ module _ (program : Program) (plan : Plan) (used inside : ℕ → Type 0) (calls
 
   value_is : (fs gs : List Frame) (t : Todo) (ts : List Todo) (answers : List ℤ)
       → Stacked program used inside calls closer home fs gs (t ∷ ts)
-      → value_at program.exprs (top_cells fs) answers (valued (kind_of program t.stmt)) ≡ value_at program.exprs
-      (top_cells gs) answers (valued (kind_of program t.stmt))
+      → value_at program.exprs (top_frame fs).cells answers (valued (kind_of program t.stmt)) ≡ value_at program.exprs
+      (top_frame gs).cells answers (valued (kind_of program t.stmt))
   value_is fs gs t ts answers (at_base f g fs' gs' todo same body first within) =
       value_same used f.cells g.cells same.cells program.exprs (kind_of program t.stmt)
       (block.reads t.stmt within.0.0) answers
@@ -85,16 +85,16 @@ module _ (program : Program) (plan : Plan) (used inside : ℕ → Type 0) (calls
   described_same s r t ts a b todo frame trap asks =
       let h = framed program used inside calls closer home depth ends block outside s r t ts todo b in
       let reads : reads_of_kind (frame_of program plan s) program.exprs (kind_of program t.stmt)
-      (top_cells s.frames) s.answers ≡ reads_of_kind (frame_of program plan r) program.exprs
-      (kind_of program t.stmt) (top_cells r.frames) r.answers =
+      (top_frame s.frames).cells s.answers ≡ reads_of_kind (frame_of program plan r) program.exprs
+      (kind_of program t.stmt) (top_frame r.frames).cells r.answers =
       reads_are s.frames r.frames t ts (frame_of program plan s) s.answers h.stacked
       ∙ ap₂ (λ f as'. reads_of_kind f program.exprs (kind_of program t.stmt)
-      (top_cells r.frames) as') frame b.answers in
-      let value : value_at program.exprs (top_cells s.frames) s.answers
-      (valued (kind_of program t.stmt)) ≡ value_at program.exprs (top_cells r.frames) r.answers
+      (top_frame r.frames).cells as') frame b.answers in
+      let value : value_at program.exprs (top_frame s.frames).cells s.answers
+      (valued (kind_of program t.stmt)) ≡ value_at program.exprs (top_frame r.frames).cells r.answers
       (valued (kind_of program t.stmt)) =
       value_is s.frames r.frames t ts s.answers h.stacked
-      ∙ ap (λ as'. value_at program.exprs (top_cells r.frames) as' (valued (kind_of program t.stmt))) b.answers in
+      ∙ ap (λ as'. value_at program.exprs (top_frame r.frames).cells as' (valued (kind_of program t.stmt))) b.answers in
       let deed : head_deed program t s ≡ head_deed program t r =
       deed_is program used inside calls closer home depth ends block outside s r t ts b h in
       let writes : writes_by (trap_of (need_of program plan s)) (frame_of program plan s) a

@@ -1,32 +1,33 @@
 -- An interval inside.
-use Rattle.std.proofs.Common.{◌≡◌, ℕ, zero, suc, ◌+◌, ◌<◌, ◌≤◌, ℤ, List, [], ◌∷◌, ◌++◌, map, Option, Some, None, true, false, Ok, refl, ap, ap₂, sym, subst, ◌∙◌, arith, append_assoc, eq-eqb, true≢false}
-use Rattle.std.specs.Prelude.{drop, is_some, slice_get, zip}
+use Rattle.law_replay.proofs.Alone.Goals.{AcrossGoal, IsAlong, IsOpening, OwnGoal}
+use Rattle.law_replay.proofs.Alone.Turns.{fuel_on, given, map_drop, next_at, on_more}
+use Rattle.law_replay.proofs.Beside.Turned.{piece_turn, unit_turn}
+use Rattle.law_replay.proofs.Vocabulary.Alone.{HasLeft, IsCrossing, IsKept}
+use Rattle.law_replay.proofs.Vocabulary.Relation.{HasEnds, IsBlock}
+use Rattle.law_replay.specs.Coming.Pieces.{After, Coming, Inner, at_rest, before, coming, inner_opens, leaves, unit_pieces}
+use Rattle.law_replay.specs.InForce.Values.{AreRead, in_force_after, in_force_by, with_unit}
+use Rattle.law_steps.specs.OpenBlocks.Run.{IsRun}
 use Rattle.ppd_ast.specs.declared.plan.Plan.{Plan}
 use Rattle.ppd_ast.specs.declared.program.Program.{Program}
 use Rattle.ppd_ast.specs.declared.status.Status.{Status}
-use Rattle.ppd_entry.specs.Pieces.{Piece, unit, nested, unfinished}
-use Rattle.ppd_sem.specs.declared.proc.Need.{Need}
-use Rattle.ppd_sem.specs.declared.proc.Need.TheVariants.{Leave, Back, End}
-use Rattle.ppd_sem.specs.declared.proc.Proc.{Proc}
-use Rattle.ppd_sem.specs.declared.proc.Todo.{Todo}
-use Rattle.ppd_sem.specs.Process.{act, need_of}
+use Rattle.ppd_emul_model.specs.Fits.{fits, found_of}
+use Rattle.ppd_emul_model.specs.Replay.{Replaying, counted, end_here, finished, go_on, more, next_piece, past_piece, replay_from, step_with, take_unit, turn, with_item}
+use Rattle.ppd_emul_model.specs.declared.wanted.Wanted.TheVariants as wanted
+use Rattle.ppd_entry.specs.Pieces.{Piece, nested, unfinished, unit}
+use Rattle.ppd_model.specs.Logs.{status_of}
+use Rattle.ppd_model.specs.Marks.{Mark, closed, opened}
+use Rattle.ppd_model.specs.Story.{Moment, unit_started}
 use Rattle.ppd_model.specs.declared.flow.Item.{Item}
 use Rattle.ppd_model.specs.declared.flow.Item.TheVariants as item
-use Rattle.ppd_model.specs.Logs.{status_of}
-use Rattle.ppd_model.specs.Marks.{Mark, opened, closed}
-use Rattle.ppd_model.specs.Story.{Moment, cells_of_unit, unit_started}
 use Rattle.ppd_sem.specs.Blocks.{skipped, unit_past}
-use Rattle.ppd_emul_model.specs.Fits.{fits, found_of}
-use Rattle.ppd_emul_model.specs.declared.wanted.Wanted.TheVariants as wanted
-use Rattle.ppd_emul_model.specs.Replay.{Replaying, more, counted, end_here, finished, go_on, next_piece, past_piece, replay_from, step_with, take_unit, turn, with_item}
-use Rattle.law_replay.proofs.Vocabulary.Relation.{HasEnds, IsBlock}
-use Rattle.law_replay.specs.Coming.Pieces.{After, Coming, Inner, at_rest, before, coming, inner_opens, leaves, unit_pieces}
-use Rattle.law_steps.specs.OpenBlocks.Run.{IsRun}
-use Rattle.law_replay.specs.InForce.Values.{AreRead, in_force_after, in_force_by, with_unit}
-use Rattle.law_replay.proofs.Vocabulary.Alone.{HasLeft, IsCrossing, IsKept}
-use Rattle.law_replay.proofs.Beside.Turned.{piece_turn, unit_turn}
-use Rattle.law_replay.proofs.Alone.Goals.{AcrossGoal, IsAlong, IsOpening, OwnGoal}
-use Rattle.law_replay.proofs.Alone.Turns.{fuel_on, given, map_drop, next_at, on_more}
+use Rattle.ppd_sem.specs.Process.{act, need_of}
+use Rattle.ppd_sem.specs.declared.proc.Need.{Need}
+use Rattle.ppd_sem.specs.declared.proc.Need.TheVariants.{Back, End, Leave}
+use Rattle.ppd_sem.specs.declared.proc.Proc.{Proc}
+use Rattle.ppd_sem.specs.declared.proc.Todo.{Todo}
+use Rattle.std.proofs.Common.{List, None, Ok, Option, Some, [], ap, append_assoc, ap₂, arith, eq-eqb, false, map, refl, subst, suc, sym, true, true≢false, zero, ℕ, ℤ, ◌++◌, ◌+◌, ◌<◌, ◌∙◌, ◌∷◌, ◌≡◌, ◌≤◌}
+use Rattle.std.specs.Option.{option_map_or}
+use Rattle.std.specs.Prelude.{drop, is_some, slice_get, zip}
 
 module _ (program : Program) (plan : Plan) (used inside : ℕ → Type 0) (calls : Type 0) (closer : Todo) (home : ℕ)
     (depth : ℕ) (ends : HasEnds program) (block : IsBlock program used inside calls) (outside : List Todo)
@@ -73,7 +74,7 @@ module _ (program : Program) (plan : Plan) (used inside : ℕ → Type 0) (calls
   -- an interval is left: only a loop's end, a return and a process's end do so
   in_force_left : (n : Need) (s : Proc) (mark : Mark) (u : ℕ) (zs : List (ℕ × ℤ)) (vs : List ℤ)
       → closed program plan s n ≡ Some mark → unit_started n ≡ Some u
-      → in_force_by plan zs vs n ≡ zip (cells_of_unit (slice_get plan.units u)) vs
+      → in_force_by plan zs vs n ≡ zip (option_map_or (λ u. u.cells) (slice_get plan.units u) []) vs
   in_force_left (Leave b v) s mark u zs vs c e = ap (λ o. with_unit plan zs vs o) e
   in_force_left (Back (Some b) v) s mark u zs vs c e = ap (λ o. with_unit plan zs vs o) e
   in_force_left (End b) s mark u zs vs c e = absurd (true≢false (ap is_some (sym e)))
@@ -84,7 +85,7 @@ module _ (program : Program) (plan : Plan) (used inside : ℕ → Type 0) (calls
       → IsOpening program plan r i.block n items
       → HasLeft program plan used inside calls closer home depth outside Kept mark r.proc x m.taken.answer
       → u ≡ unit_past plan r.proc.todo n
-      → AreRead plan (zip (cells_of_unit (slice_get plan.units u)) m.unit_values) ms
+      → AreRead plan (zip (option_map_or (λ u. u.cells) (slice_get plan.units u) []) m.unit_values) ms
       → IsRun program plan (act program plan x m.taken.answer) ms
       → map (λ q. q.1) r.pieces
       ≡ nested i.interval i.block mark.values ∷ unit u m.unit_values ∷ (coming program plan
@@ -108,14 +109,14 @@ module _ (program : Program) (plan : Plan) (used inside : ℕ → Type 0) (calls
         items = (r.items ++ items) ++ it ∷ [];
       } in
       let r' : Replaying = record (past_piece r1)
-      { in_force = zip (cells_of_unit (slice_get plan.units u)) m.unit_values } in
+      { in_force = zip (option_map_or (λ u. u.cells) (slice_get plan.units u) []) m.unit_values } in
       let rest : map (λ q. q.1) (drop 1 r.pieces) ≡ unit u m.unit_values ∷ c.pieces =
       map_drop program plan r.pieces _ _ pieces in
       let go : turn program plan r ≡ more r' =
       inner_turn r n i.block items (nested i.interval i.block mark.values) _ o pieces refl (eq-eqb i.block i.block refl)
-      ∙ ap (λ q. take_unit plan (unit_past plan r.proc.todo n)
+      ∙ ap (λ q. take_unit plan (Some (unit_past plan r.proc.todo n))
       (past_piece (counted (record (with_item it q) { proc = skipped program plan mark.values r.proc })))) o.call
-      ∙ ap (λ v. take_unit plan v r1) (sym unit_is)
+      ∙ ap (λ v. take_unit plan (Some v) r1) (sym unit_is)
       ∙ unit_turn program plan u r1 m.unit_values (next_at program plan (drop 1 r.pieces) _ _ rest) in
       let fuel' : r.proc.budget < r.proc.spent + suc f.0 =
       subst (λ y. r.proc.budget < r.proc.spent + y) f.1 enough_fuel in
@@ -162,7 +163,7 @@ module _ (program : Program) (plan : Plan) (used inside : ℕ → Type 0) (calls
           (here (opened program plan x) ∙ eo) (here (closed program plan x) ∙ ec) in
           let u : ℕ = unit_past plan r.proc.todo (need_of program plan r.proc) in
           let started : unit_started m.taken.need ≡ Some u = ap unit_started run.0 ∙ h.unit_is in
-          let reads' : AreRead plan (zip (cells_of_unit (slice_get plan.units u)) m.unit_values) ms =
+          let reads' : AreRead plan (zip (option_map_or (λ u. u.cells) (slice_get plan.units u) []) m.unit_values) ms =
           subst (λ ys. AreRead plan ys ms)
           (in_force_left m.taken.need x mark u zs m.unit_values ec started) reads.1 in
           subst (λ v. map (λ q. q.1) r.pieces

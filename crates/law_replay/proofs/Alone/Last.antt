@@ -1,8 +1,8 @@
 -- The last turn of a replay.
 use Rattle.std.proofs.Common.{◌≡◌, ℕ, ◌+◌, ◌<◌, ℤ, List, [], ◌∷◌, map, Option, Some, None, Bool, true, false, Ok, refl, ap, ap₂, sym, ◌∙◌, arith, append-nil, true≢false}
-use Rattle.std.proofs.lemmas.Bool.{cond-true, cond-false}
+use Rattle.std.proofs.lemmas.Bool.{cond-true}
 use Rattle.std.proofs.lemmas.Cmp.{int_eq_equiv, lists_equiv}
-use Rattle.std.specs.Prelude.{is_some}
+use Rattle.std.specs.Prelude.{is_some, if◌then◌else◌}
 use Rattle.ppd_ast.specs.declared.plan.Plan.{Plan}
 use Rattle.ppd_ast.specs.declared.program.Program.{Program}
 use Rattle.ppd_ast.specs.declared.status.Status.TheVariants as status
@@ -11,7 +11,7 @@ use Rattle.ppd_ast.specs.declared.status.Trap.TheVariants as trap_kind
 use Rattle.ppd_entry.specs.Pieces.{postlog, finish}
 use Rattle.ppd_sem.specs.declared.proc.Answer.TheVariants.{Go}
 use Rattle.ppd_sem.specs.declared.proc.Need.{Need}
-use Rattle.ppd_sem.specs.declared.proc.Need.TheVariants.{P, V, Send, Offer, Done, Recv, Trap}
+use Rattle.ppd_sem.specs.declared.proc.Need.TheVariants.{P, V, Send, Offer, Done, Recv, Trap, Budget}
 use Rattle.ppd_sem.specs.declared.proc.Proc.{Proc}
 use Rattle.ppd_sem.specs.declared.proc.Todo.{Todo}
 use Rattle.ppd_sem.specs.Described.{described, evaluates, trap_of}
@@ -25,8 +25,7 @@ use Rattle.ppd_model.specs.Synchronizations.{kind_of_sync}
 use Rattle.ppd_emul_model.specs.Fits.{fits, found_of, same_trap, wanted_of}
 use Rattle.ppd_emul_model.specs.declared.wanted.Wanted.{Wanted}
 use Rattle.ppd_emul_model.specs.declared.wanted.Wanted.TheVariants as wanted
-use Rattle.ppd_emul_model.specs.Replay.{Replaying, done, counted, fail, finished, is_budget, turn_by_end, next_piece, replay_from, step_with, with_event}
-use Rattle.ppd_emul_model.proofs.Vocabulary.{turn_within}
+use Rattle.ppd_emul_model.specs.Replay.{Replaying, done, counted, fail, finished, goes_on, is_budget, turn_by_end, next_piece, replay_from, step_with, with_event}
 use Rattle.law_replay.proofs.Vocabulary.Relation.{HasEnds, IsBlock}
 use Rattle.law_replay.specs.Coming.Pieces.{at_rest}
 use Rattle.law_steps.specs.OpenBlocks.Run.{IsRun}
@@ -44,6 +43,12 @@ record IsSyncNeed (program : Program) (plan : Plan) (s : Proc) (n : Need) : Type
   payable : is_budget n ≡ false
   enters_not : is_enter n ≡ false
   goes : is_stopped n ≡ false
+
+-- a turn of a process that was blocked here, and that can pay for its step
+blocked_turn : (program : Program) (plan : Plan) (r : Replaying) (n : Need) → is_budget n ≡ false
+    → turn_by_end program plan (Some status.Blocked) n r ≡ (if is_some (kind_of_sync n) then finished r else goes_on program plan n r)
+blocked_turn program plan r Budget payable = absurd (true≢false payable)
+blocked_turn program plan r n payable = refl
 
 sync_need : (program : Program) (plan : Plan) (s : Proc) (n : Need) → is_some (kind_of_sync n) ≡ true
     → IsSyncNeed program plan s n
@@ -73,8 +78,7 @@ module _ (program : Program) (plan : Plan) (used inside : ℕ → Type 0) (calls
       let h = needs program plan used inside calls closer home depth ends block outside Kept kept s r.proc n al.beside al.kept_so al.running refl c.unclosed c.payable c.goes c.enters_not in
       ends_so program plan r fuel f.0 0 (finish status.Blocked r.since) [] f.1
       (ap₂ (λ o x. turn_by_end program plan o x r) (end_at program plan r status.Blocked [] pieces) h.need
-      ∙ cond-false (is_budget n) (fail r wanted.Fewer) (turn_within program plan (Some status.Blocked) n r)
-      c.payable
+      ∙ blocked_turn program plan r n c.payable
       ∙ cond-true (is_some (kind_of_sync n)) (finished r) _ blocked
       ∙ ap₂ (λ k (xs : List Item). done (record { steps = k; answer = Ok (record { items = xs }) }))
       (let z : r.steps ≡ r.steps + 0 = omega arith in z) (sym (append-nil r.items)))

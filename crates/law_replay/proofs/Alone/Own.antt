@@ -1,34 +1,35 @@
 -- A step of the interval's own.
-use Rattle.std.proofs.Common.{◌≡◌, ℕ, suc, ◌+◌, ◌<◌, ℤ, List, [], ◌∷◌, ◌++◌, map, Option, None, false, refl, ap, sym, subst, ◌∙◌, arith, append-nil}
-use Rattle.std.specs.Prelude.{slice_get, zip}
+use Rattle.law_replay.proofs.Alone.Goals.{IsAlong, OwnGoal}
+use Rattle.law_replay.proofs.Alone.Moved.{enough, item_is, moves}
+use Rattle.law_replay.proofs.Alone.Turns.{event_at_head, fuel_on, given, is_stopped, late_at, map_drop, next_at, on_more, with_event_is}
+use Rattle.law_replay.proofs.Beside.Turned.{plain_turn, unit_turn}
+use Rattle.law_replay.proofs.Coming.Late.{late_own}
+use Rattle.law_replay.proofs.Vocabulary.Alone.{IsInside, IsKept}
+use Rattle.law_replay.proofs.Vocabulary.Relation.{HasEnds, IsBlock}
+use Rattle.law_replay.specs.Coming.Pieces.{before, coming}
+use Rattle.law_replay.specs.InForce.Values.{AreRead}
+use Rattle.law_steps.specs.OpenBlocks.Run.{IsRun}
 use Rattle.ppd_ast.specs.declared.plan.Plan.{Plan}
 use Rattle.ppd_ast.specs.declared.program.Program.{Program}
+use Rattle.ppd_emul_model.specs.Fits.{wanted_of}
+use Rattle.ppd_emul_model.specs.Replay.{Replaying, is_budget, more, past_piece, replay_from, step_without, stepped, take_unit, turn, value_in_force, with_event, with_write}
 use Rattle.ppd_entry.specs.Pieces.{unit}
+use Rattle.ppd_model.specs.FullTrace.{event_of}
+use Rattle.ppd_model.specs.Story.{Moment}
+use Rattle.ppd_model.specs.declared.flow.Item.{Item}
+use Rattle.ppd_model.specs.declared.flow.Item.TheVariants as item
+use Rattle.ppd_model.specs.declared.trace.EventId.{EventId}
+use Rattle.ppd_sem.specs.Described.{trap_of}
+use Rattle.ppd_sem.specs.Process.{act, need_of}
 use Rattle.ppd_sem.specs.declared.proc.Answer.{Answer}
-use Rattle.ppd_sem.specs.declared.proc.Answer.TheVariants.{Value, Go}
+use Rattle.ppd_sem.specs.declared.proc.Answer.TheVariants.{Go, Value}
 use Rattle.ppd_sem.specs.declared.proc.Need.{Need}
 use Rattle.ppd_sem.specs.declared.proc.Need.TheVariants.{Read}
 use Rattle.ppd_sem.specs.declared.proc.Proc.{Proc}
 use Rattle.ppd_sem.specs.declared.proc.Todo.{Todo}
-use Rattle.ppd_sem.specs.Described.{trap_of}
-use Rattle.ppd_sem.specs.Process.{act, need_of}
-use Rattle.ppd_model.specs.declared.flow.Item.{Item}
-use Rattle.ppd_model.specs.declared.flow.Item.TheVariants as item
-use Rattle.ppd_model.specs.declared.trace.EventId.{EventId}
-use Rattle.ppd_model.specs.FullTrace.{event_of}
-use Rattle.ppd_model.specs.Story.{Moment, cells_of_unit}
-use Rattle.ppd_emul_model.specs.Fits.{wanted_of}
-use Rattle.ppd_emul_model.specs.Replay.{Replaying, more, is_budget, past_piece, replay_from, step_without, stepped, take_unit, turn, value_in_force, with_event, with_write}
-use Rattle.law_replay.proofs.Vocabulary.Relation.{HasEnds, IsBlock}
-use Rattle.law_replay.specs.Coming.Pieces.{before, coming}
-use Rattle.law_steps.specs.OpenBlocks.Run.{IsRun}
-use Rattle.law_replay.specs.InForce.Values.{AreRead}
-use Rattle.law_replay.proofs.Vocabulary.Alone.{IsInside, IsKept}
-use Rattle.law_replay.proofs.Coming.Late.{late_own}
-use Rattle.law_replay.proofs.Beside.Turned.{plain_turn, unit_turn}
-use Rattle.law_replay.proofs.Alone.Goals.{IsAlong, OwnGoal}
-use Rattle.law_replay.proofs.Alone.Moved.{enough, item_is, moves}
-use Rattle.law_replay.proofs.Alone.Turns.{event_at_head, fuel_on, given, is_stopped, late_at, map_drop, next_at, on_more, with_event_is}
+use Rattle.std.proofs.Common.{List, None, Option, Some, [], ap, append-nil, arith, false, map, refl, subst, suc, sym, ℕ, ℤ, ◌++◌, ◌+◌, ◌<◌, ◌∙◌, ◌∷◌, ◌≡◌}
+use Rattle.std.specs.Option.{option_map_or}
+use Rattle.std.specs.Prelude.{slice_get, zip}
 
 module _ (program : Program) (plan : Plan) (used inside : ℕ → Type 0) (calls : Type 0) (closer : Todo) (home : ℕ)
     (depth : ℕ) (ends : HasEnds program) (block : IsBlock program used inside calls) (outside : List Todo)
@@ -117,9 +118,9 @@ module _ (program : Program) (plan : Plan) (used inside : ℕ → Type 0) (calls
       (r : Replaying) (next fuel : ℕ) → OwnSteps ms → Along s r → need_of program plan s ≡ n
       → IsInside program plan s n → is_budget n ≡ false → is_stopped n ≡ false → trap_of n ≡ None
       → wanted_of program plan r.proc n ≡ None
-      → ((q : Replaying) → step_without program plan n q ≡ take_unit plan u
+      → ((q : Replaying) → step_without program plan n q ≡ take_unit plan (Some u)
       (stepped program plan Go (with_event program plan Go None q)))
-      → AreRead plan (zip (cells_of_unit (slice_get plan.units u)) vs) ms
+      → AreRead plan (zip (option_map_or (λ u. u.cells) (slice_get plan.units u) []) vs) ms
       → IsRun program plan (act program plan s Go) ms
       → map (λ q. q.1) r.pieces ≡ unit u vs ∷ (coming program plan (act program plan s Go) ms None next 0).pieces
       → r.proc.budget < r.proc.spent + fuel
@@ -132,11 +133,11 @@ module _ (program : Program) (plan : Plan) (used inside : ℕ → Type 0) (calls
       let f = enough program plan used inside calls closer home depth ends block outside Kept kept s r.proc fuel al.beside al.paid enough_fuel in
       let i : Item = event_at_head program plan r.proc h.t Go None in
       let r1 : Replaying = stepped program plan Go (record r { items = r.items ++ i ∷ [] }) in
-      let r' : Replaying = record (past_piece r1) { in_force = zip (cells_of_unit (slice_get plan.units u)) vs } in
+      let r' : Replaying = record (past_piece r1) { in_force = zip (option_map_or (λ u. u.cells) (slice_get plan.units u) []) vs } in
       let late = late_at program plan r _ pieces tt in
       let go : turn program plan r ≡ more r' =
       plain_turn program plan r n h.need late payable free ∙ without r
-      ∙ ap (λ q. take_unit plan u (stepped program plan Go q)) (with_event_is program plan r h.t h.ts Go None h.todo)
+      ∙ ap (λ q. take_unit plan (Some u) (stepped program plan Go q)) (with_event_is program plan r h.t h.ts Go None h.todo)
       ∙ unit_turn program plan u r1 vs (next_at program plan r.pieces _ _ pieces) in
       let fuel' : r.proc.budget < r.proc.spent + suc f.0 =
       subst (λ x. r.proc.budget < r.proc.spent + x) f.1 enough_fuel in

@@ -1,32 +1,33 @@
 -- A synchronization of the interval's own, and an offer.
-use Rattle.std.proofs.Common.{◌≡◌, ℕ, suc, ◌+◌, ◌<◌, ℤ, List, [], ◌∷◌, ◌++◌, map, Option, Some, None, true, false, refl, ap, sym, subst, ◌∙◌}
-use Rattle.ppd_ast.specs.declared.status.SyncKind.{SyncKind}
-use Rattle.std.specs.Prelude.{drop, slice_get, zip}
+use Rattle.law_replay.proofs.Alone.Goals.{IsAlong, OwnGoal}
+use Rattle.law_replay.proofs.Alone.Moved.{enough, item_is, moves}
+use Rattle.law_replay.proofs.Alone.Turns.{event_at_head, fuel_on, given, is_stopped, late_at, map_drop, next_at, on_more, with_event_is}
+use Rattle.law_replay.proofs.Beside.Turned.{piece_turn, unit_turn}
+use Rattle.law_replay.proofs.Vocabulary.Alone.{IsInside, IsKept}
+use Rattle.law_replay.proofs.Vocabulary.Relation.{HasEnds, IsBlock}
+use Rattle.law_replay.specs.Coming.Pieces.{before, coming}
+use Rattle.law_replay.specs.InForce.Values.{AreRead}
+use Rattle.law_steps.specs.OpenBlocks.Run.{IsRun}
 use Rattle.ppd_ast.specs.declared.plan.Plan.{Plan}
 use Rattle.ppd_ast.specs.declared.program.Program.{Program}
-use Rattle.ppd_entry.specs.Pieces.{unit, sync}
+use Rattle.ppd_ast.specs.declared.status.SyncKind.{SyncKind}
+use Rattle.ppd_emul_model.specs.Fits.{fits, found_of, wanted_of}
+use Rattle.ppd_emul_model.specs.Replay.{Replaying, is_budget, more, next_piece, past_piece, replay_from, step_with, stepped, take_unit, turn, with_event}
+use Rattle.ppd_entry.specs.Pieces.{sync, unit}
+use Rattle.ppd_model.specs.FullTrace.{event_of}
+use Rattle.ppd_model.specs.Story.{Moment}
+use Rattle.ppd_model.specs.declared.flow.Item.{Item}
+use Rattle.ppd_model.specs.declared.flow.Item.TheVariants as item
+use Rattle.ppd_model.specs.declared.trace.EventId.{EventId}
+use Rattle.ppd_sem.specs.Described.{trap_of}
+use Rattle.ppd_sem.specs.Process.{act, need_of}
 use Rattle.ppd_sem.specs.declared.proc.Answer.{Answer}
 use Rattle.ppd_sem.specs.declared.proc.Need.{Need}
 use Rattle.ppd_sem.specs.declared.proc.Proc.{Proc}
 use Rattle.ppd_sem.specs.declared.proc.Todo.{Todo}
-use Rattle.ppd_sem.specs.Described.{trap_of}
-use Rattle.ppd_sem.specs.Process.{act, need_of}
-use Rattle.ppd_model.specs.declared.flow.Item.{Item}
-use Rattle.ppd_model.specs.declared.flow.Item.TheVariants as item
-use Rattle.ppd_model.specs.declared.trace.EventId.{EventId}
-use Rattle.ppd_model.specs.FullTrace.{event_of}
-use Rattle.ppd_model.specs.Story.{Moment, cells_of_unit}
-use Rattle.ppd_emul_model.specs.Fits.{fits, found_of, wanted_of}
-use Rattle.ppd_emul_model.specs.Replay.{Replaying, more, is_budget, next_piece, past_piece, replay_from, step_with, stepped, take_unit, turn, with_event}
-use Rattle.law_replay.proofs.Vocabulary.Relation.{HasEnds, IsBlock}
-use Rattle.law_replay.specs.Coming.Pieces.{before, coming}
-use Rattle.law_steps.specs.OpenBlocks.Run.{IsRun}
-use Rattle.law_replay.specs.InForce.Values.{AreRead}
-use Rattle.law_replay.proofs.Vocabulary.Alone.{IsInside, IsKept}
-use Rattle.law_replay.proofs.Beside.Turned.{piece_turn, unit_turn}
-use Rattle.law_replay.proofs.Alone.Goals.{IsAlong, OwnGoal}
-use Rattle.law_replay.proofs.Alone.Moved.{enough, item_is, moves}
-use Rattle.law_replay.proofs.Alone.Turns.{event_at_head, fuel_on, given, is_stopped, late_at, map_drop, next_at, on_more, with_event_is}
+use Rattle.std.proofs.Common.{List, None, Option, Some, [], ap, false, map, refl, subst, suc, sym, true, ℕ, ℤ, ◌++◌, ◌+◌, ◌<◌, ◌∙◌, ◌∷◌, ◌≡◌}
+use Rattle.std.specs.Option.{option_map_or}
+use Rattle.std.specs.Prelude.{drop, slice_get, zip}
 
 module _ (program : Program) (plan : Plan) (used inside : ℕ → Type 0) (calls : Type 0) (closer : Todo) (home : ℕ)
     (depth : ℕ) (ends : HasEnds program) (block : IsBlock program used inside calls) (outside : List Todo)
@@ -43,9 +44,9 @@ module _ (program : Program) (plan : Plan) (used inside : ℕ → Type 0) (calls
       → need_of program plan s ≡ n → IsInside program plan s n → is_budget n ≡ false → is_stopped n ≡ false
       → trap_of n ≡ None
       → (want : _) → wanted_of program plan r.proc n ≡ Some want → fits want (found_of (sync kind o k v)) ≡ true
-      → ((q : Replaying) → step_with program plan n (sync kind o k v) q ≡ take_unit plan u
+      → ((q : Replaying) → step_with program plan n (sync kind o k v) q ≡ take_unit plan (Some u)
       (past_piece (stepped program plan a (with_event program plan a (Some k) q))))
-      → AreRead plan (zip (cells_of_unit (slice_get plan.units u)) vs) ms → IsRun program plan (act program plan s a) ms
+      → AreRead plan (zip (option_map_or (λ u. u.cells) (slice_get plan.units u) []) vs) ms → IsRun program plan (act program plan s a) ms
       → map (λ q. q.1) r.pieces
       ≡ sync kind o k v ∷ unit u vs ∷ (coming program plan (act program plan s a) ms None next 0).pieces
       → r.proc.budget < r.proc.spent + fuel
@@ -59,7 +60,7 @@ module _ (program : Program) (plan : Plan) (used inside : ℕ → Type 0) (calls
       let f = enough program plan used inside calls closer home depth ends block outside Kept kept s r.proc fuel al.beside al.paid enough_fuel in
       let i : Item = event_at_head program plan r.proc h.t a (Some k) in
       let r1 : Replaying = past_piece (stepped program plan a (record r { items = r.items ++ i ∷ [] })) in
-      let r' : Replaying = record (past_piece r1) { in_force = zip (cells_of_unit (slice_get plan.units u)) vs } in
+      let r' : Replaying = record (past_piece r1) { in_force = zip (option_map_or (λ u. u.cells) (slice_get plan.units u) []) vs } in
       let first : (next_piece r).1 ≡ sync kind o k v = next_at program plan r.pieces _ _ pieces in
       let rest : map (λ q. q.1)
       (drop 1 r.pieces) ≡ unit u vs ∷ (coming program plan (act program plan s a) ms None next 0).pieces =
@@ -68,7 +69,7 @@ module _ (program : Program) (plan : Plan) (used inside : ℕ → Type 0) (calls
       piece_turn program plan r n want h.need (late_at program plan r _ pieces tt) payable wants
       (ap (λ p. fits want (found_of p)) first ∙ fit)
       ∙ ap (λ p. step_with program plan n p r) first ∙ with r
-      ∙ ap (λ q. take_unit plan u (past_piece (stepped program plan a q)))
+      ∙ ap (λ q. take_unit plan (Some u) (past_piece (stepped program plan a q)))
       (with_event_is program plan r h.t h.ts a (Some k) h.todo)
       ∙ unit_turn program plan u r1 vs (next_at program plan (drop 1 r.pieces) _ _ rest) in
       let fuel' : r.proc.budget < r.proc.spent + suc f.0 =

@@ -1,7 +1,8 @@
 -- Evaluation depends on the local cells that the statement names, and on no others.
 use Rattle.std.proofs.Common.{◌≡◌, ℕ, ◌+◌, ◌<◌, ℤ, pos, negsuc, List, [], ◌∷◌, Bool, true, false, Ok, Err, Some, None, refl, ap, ◌∙◌, cond}
 use Rattle.std.proofs.lemmas.Bool.{ltb-true}
-use Rattle.std.specs.Prelude.{nat_lt, if◌then◌else◌}
+use Rattle.std.specs.Prelude.{nat_lt, if◌then◌else◌, get_or}
+use Rattle.std.specs.Ordering.{int_eq}
 use Rattle.ppd_ast.specs.declared.program.Expr.{Expr}
 use Rattle.ppd_ast.specs.declared.program.Kind.{Kind}
 use Rattle.ppd_ast.specs.declared.program.Kind.TheVariants.{Set, Zero, If, While, Call, Return, P, V, Send, Recv, Print, Assert, End}
@@ -9,7 +10,7 @@ use Rattle.ppd_ast.specs.declared.program.Target.TheVariants as target
 use Rattle.ppd_ast.specs.Term.{Term, const, local, local_at, shared, shared_at, neg, not, two, and, or, term}
 use Rattle.ppd_ast.specs.declared.status.Trap.TheVariants.{Index}
 use Rattle.ppd_sem.specs.Asked.{Asked, gives, and_then, lift, read_shared}
-use Rattle.ppd_sem.specs.Ask.{ask, element, cell_of, is_zero}
+use Rattle.ppd_sem.specs.Ask.{ask, element}
 use Rattle.ppd_sem.specs.Deed.{Deed, ask_deed, ask_all, ask_stored, set_local, set_shared}
 use Rattle.law_replay.proofs.Vocabulary.Over.{IsOverCells, AreOverCells, IsKindOver, SameIn}
 
@@ -24,15 +25,15 @@ same_after : {A B : Type 0} (r r' : Asked A) (next next' : A → List ℤ → As
 same_after r r' next next' e h = ap (λ q. and_then q next) e ∙ after_same r' next next' h
 
 module _ (used : ℕ → Type 0) (cells others : List ℤ) (same : SameIn used cells others) where
-  picked : (b : Bool) (c : ℕ) (left : List ℤ) → (b ≡ true → cell_of cells c ≡ cell_of others c)
-      → and_then (lift left (if b then Ok c else Err Index)) (λ c left. gives left (cell_of cells c)) ≡ and_then
-      (lift left (if b then Ok c else Err Index)) (λ c left. gives left (cell_of others c))
+  picked : (b : Bool) (c : ℕ) (left : List ℤ) → (b ≡ true → get_or cells c (pos 0) ≡ get_or others c (pos 0))
+      → and_then (lift left (if b then Ok c else Err Index)) (λ c left. gives left (get_or cells c (pos 0))) ≡ and_then
+      (lift left (if b then Ok c else Err Index)) (λ c left. gives left (get_or others c (pos 0)))
   picked true c left h = ap (λ v. gives left v) (h refl)
   picked false c left h = refl
 
   element_same : (base len : ℕ) → ((k : ℕ) → k < len → used (base + k)) → (at : ℤ) (left : List ℤ)
-      → and_then (lift left (element base len at)) (λ c left. gives left (cell_of cells c)) ≡ and_then
-      (lift left (element base len at)) (λ c left. gives left (cell_of others c))
+      → and_then (lift left (element base len at)) (λ c left. gives left (get_or cells c (pos 0))) ≡ and_then
+      (lift left (element base len at)) (λ c left. gives left (get_or others c (pos 0)))
   element_same base len h (pos i) left =
       picked (nat_lt i len) (base + i) left (λ e. same.values (base + i) (h i (ltb-true i len e)))
   element_same base len h (negsuc i) left = refl
@@ -53,11 +54,11 @@ module _ (used : ℕ → Type 0) (cells others : List ℤ) (same : SameIn used c
       (λ x left. same_after _ _ _ _ (ask_same b o.1 left) (λ y left. refl))
   ask_same (and a b) o answers =
       same_after _ _ _ _ (ask_same a o.0 answers)
-      (λ x left. ap (λ q. cond (is_zero x) (gives left (pos 0)) q)
+      (λ x left. ap (λ q. cond (int_eq x (pos 0)) (gives left (pos 0)) q)
       (same_after _ _ _ _ (ask_same b o.1 left) (λ y left. refl)))
   ask_same (or a b) o answers =
       same_after _ _ _ _ (ask_same a o.0 answers)
-      (λ x left. ap (λ q. cond (is_zero x) q (gives left (pos 1)))
+      (λ x left. ap (λ q. cond (int_eq x (pos 0)) q (gives left (pos 1)))
       (same_after _ _ _ _ (ask_same b o.1 left) (λ y left. refl)))
 
   all_same : (es : List Expr) (as' : List ℕ) → AreOverCells used es as' → (answers : List ℤ)

@@ -1,7 +1,7 @@
 -- Where the process closes its interval, so does the replay, with the same values.
 use Rattle.std.proofs.Common.{◌≡◌, ℕ, ◌+◌, ◌≤◌, ℤ, List, [], ◌∷◌, ◌++◌, Bool, true, false, Option, Some, None, Ok, Err, refl, ap, ap₂, sym, subst, ◌∙◌, arith, true≢false, map, length, zero, suc}
 use Rattle.std.proofs.lemmas.Bool.{cond-false, le-ltb}
-use Rattle.std.specs.Prelude.{⊤, is_some, nat_lt, option_to_list, slice_get, if◌then◌else◌}
+use Rattle.std.specs.Prelude.{⊤, is_some, nat_lt, option_to_list, slice_get, if◌then◌else◌, get_or, pos}
 use Rattle.ppd_ast.specs.declared.plan.BlockKind.TheVariants as block
 use Rattle.ppd_ast.specs.declared.plan.Plan.{Plan}
 use Rattle.ppd_ast.specs.declared.plan.Start.TheVariants as start
@@ -15,12 +15,11 @@ use Rattle.ppd_sem.specs.declared.proc.Need.{Need}
 use Rattle.ppd_sem.specs.declared.proc.Need.TheVariants.{Leave, Invoke, Back, End, Trap, Budget, Stopped}
 use Rattle.ppd_sem.specs.declared.proc.Proc.{Proc}
 use Rattle.ppd_sem.specs.declared.proc.Todo.{Todo}
-use Rattle.ppd_sem.specs.Ask.{cell_of}
-use Rattle.ppd_sem.specs.Asked.{Asked, outcome}
+use Rattle.ppd_sem.specs.Asked.{Asked}
 use Rattle.ppd_sem.specs.Deed.{Deed, set_local, set_shared, clear, branch, turn, leave, invoke, back, take, give, send, receive, print, pass, finish}
 use Rattle.ppd_sem.specs.Passed.{result_at, result_by}
 use Rattle.ppd_sem.proofs.EventWords.{result_of_head}
-use Rattle.ppd_sem.specs.Process.{call_unit, cost, entry_of, head_deed, need_of, need_of_asked, need_of_deed, need_of_head, need_of_leaving, need_of_send, offer_of, top_body, top_call, top_cells, within_budget}
+use Rattle.ppd_sem.specs.Process.{call_unit, cost, entry_of, head_deed, need_of, need_of_asked, need_of_deed, need_of_head, need_of_leaving, need_of_send, offer_of, within_budget, top_frame}
 use Rattle.ppd_sem.proofs.NeedWords.{need_by_entry, need_by_offer}
 use Rattle.ppd_sem.specs.Tables.{block_of, capacity_of, unit_of}
 use Rattle.ppd_sem.proofs.TableWords.{or_zero}
@@ -45,27 +44,27 @@ module _ (program : Program) (plan : Plan) (used inside : ℕ → Type 0) (calls
     -- the postlog of a loop among the interval's statements has cells that the interval uses
     (postlogs : (s b : ℕ) → inside s → block_of plan (block.Loop s) ≡ Some b
     → AreUsed used (postlog_cells plan b)) where
-  same_values : (cs : List ℕ) (xs ys : List ℤ) → ((c : ℕ) → used c → cell_of xs c ≡ cell_of ys c) → AreUsed used cs
-      → map (cell_of xs) cs ≡ map (cell_of ys) cs
+  same_values : (cs : List ℕ) (xs ys : List ℤ) → ((c : ℕ) → used c → get_or xs c (pos 0) ≡ get_or ys c (pos 0)) → AreUsed used cs
+      → map (λ c. get_or xs c (pos 0)) cs ≡ map (λ c. get_or ys c (pos 0)) cs
   same_values [] xs ys h u = refl
   same_values (c ∷ cs) xs ys h u = ap₂ (λ v (vs : List ℤ). v ∷ vs) (h c u.0) (same_values cs xs ys h u.1)
 
   values_are : (fs gs : List Frame) (t : Todo) (ts : List Todo) (b : ℕ)
       → block_of plan (block.Loop t.stmt) ≡ Some b → Stacked program used inside calls closer home fs gs (t ∷ ts)
-      → map (cell_of (top_cells fs)) (postlog_cells plan b) ≡ map (cell_of (top_cells gs)) (postlog_cells plan b)
+      → map (λ c. get_or (top_frame fs).cells c (pos 0)) (postlog_cells plan b) ≡ map (λ c. get_or (top_frame gs).cells c (pos 0)) (postlog_cells plan b)
   values_are fs gs t ts b e (at_base f g fs' gs' todo same body first within) =
       same_values (postlog_cells plan b) f.cells g.cells same.cells.values (postlogs t.stmt b within.0.0 e)
   values_are fs gs t ts b e (called f fs' gs' todo k has below) = refl
 
   bodies_are : (fs gs : List Frame) (todo : List Todo) → Stacked program used inside calls closer home fs gs todo
-      → top_body fs ≡ top_body gs
+      → (top_frame fs).body ≡ (top_frame gs).body
   bodies_are fs gs todo (at_base f g fs' gs' todo' same body first within) = same.body
   bodies_are fs gs todo (called f fs' gs' todo' k has below) = refl
 
   -- the return that closes costs the replay no more
   cheaper : (fs gs : List Frame) (todo : List Todo) (o : Option ℕ)
       → Stacked program used inside calls closer home fs gs todo
-      → cost plan (Back o (call_unit plan (top_call gs))) ≤ cost plan (Back o (call_unit plan (top_call fs)))
+      → cost plan (Back o (call_unit plan (top_frame gs).call)) ≤ cost plan (Back o (call_unit plan (top_frame fs).call))
   cheaper fs gs todo o (called f fs' gs' todo' k has below) = omega arith
   cheaper fs gs todo o (at_base f g fs' gs' todo' same body first within) =
       subst (λ c. cost plan (Back o (call_unit plan c)) ≤ cost plan (Back o (call_unit plan f.call))) (sym first)
@@ -124,7 +123,7 @@ module _ (program : Program) (plan : Plan) (used inside : ℕ → Type 0) (calls
         → result_at program s ≡ result_at program r
     results v left e =
         ap (λ ys. option_to_list (result_of_head program s (slice_get ys 0))) own
-        ∙ ap (λ q. option_to_list (result_by (outcome q))) deed_same
+        ∙ ap (λ q. option_to_list (result_by q)) deed_same
         ∙ sym (ap (λ ys. option_to_list (result_of_head program r (slice_get ys 0))) todo)
 
     closing : (m : Need) → need_of_head program plan t r ≡ m → cost plan m ≤ cost plan n → is_closing_need m ≡ true
@@ -173,17 +172,17 @@ module _ (program : Program) (plan : Plan) (used inside : ℕ → Type 0) (calls
         ∙ is)
 
     by_back : (v : Option ℤ) (left : List ℤ) (o : Option ℕ)
-        → o ≡ block_of plan (block.Function (top_body s.frames)) → head_deed program t s ≡ Ok (back v, left)
-        → need_of_head program plan t s ≡ Back o (call_unit plan (top_call s.frames))
-        → need_of_head program plan t r ≡ Back o (call_unit plan (top_call r.frames))
+        → o ≡ block_of plan (block.Function (top_frame s.frames).body) → head_deed program t s ≡ Ok (back v, left)
+        → need_of_head program plan t s ≡ Back o (call_unit plan (top_frame s.frames).call)
+        → need_of_head program plan t r ≡ Back o (call_unit plan (top_frame r.frames).call)
         → IsClosing program plan mark r
     unfolding is_closing_need
     by_back v left None eo e es er = none_closes es refl
     by_back v left (Some x) eo e es er =
-        let m : Need = Back (Some x) (call_unit plan (top_call r.frames)) in
-        let is : closed program plan s (Back (Some x) (call_unit plan (top_call s.frames))) ≡ Some mark =
+        let m : Need = Back (Some x) (call_unit plan (top_frame r.frames).call) in
+        let is : closed program plan s (Back (Some x) (call_unit plan (top_frame s.frames).call)) ≡ Some mark =
         ap (closed program plan s) (sym es ∙ same_head) ∙ closes in
-        let z : cost plan (Back (Some x) (call_unit plan (top_call s.frames))) ≡ cost plan n =
+        let z : cost plan (Back (Some x) (call_unit plan (top_frame s.frames).call)) ≡ cost plan n =
         ap (cost plan) (sym es ∙ same_head) in
         closing m er (omega (arith, z, cheaper s.frames r.frames (t ∷ ts) (Some x) stacked)) refl
         (ap (λ vs. Some (record { block = x; values = vs })) (sym (results v left e)) ∙ is)
@@ -211,12 +210,12 @@ module _ (program : Program) (plan : Plan) (used inside : ℕ → Type 0) (calls
         → need_of_head program plan t r ≡ need_of_deed program plan t.stmt r d → IsClosing program plan mark r
     by_deed leave left e es er = by_leaving (block_of plan (block.Loop t.stmt)) refl es er
     by_deed (back v) left e es er =
-        by_back v left (block_of plan (block.Function (top_body s.frames))) refl e es
-        (er ∙ ap (λ x. Back (block_of plan (block.Function x)) (call_unit plan (top_call r.frames)))
+        by_back v left (block_of plan (block.Function (top_frame s.frames).body)) refl e es
+        (er ∙ ap (λ x. Back (block_of plan (block.Function x)) (call_unit plan (top_frame r.frames).call))
         (sym (bodies_are s.frames r.frames (t ∷ ts) stacked)))
     by_deed finish left e es er =
-        by_finish (or_zero (block_of plan (block.Process (top_body s.frames))))
-        (or_zero (block_of plan (block.Process (top_body r.frames))))
+        by_finish (or_zero (block_of plan (block.Process (top_frame s.frames).body)))
+        (or_zero (block_of plan (block.Process (top_frame r.frames).body)))
         (ap (λ x. or_zero (block_of plan (block.Process x))) (bodies_are s.frames r.frames (t ∷ ts) stacked)) es er
     by_deed (invoke f vs into) left e es er =
         none_closes es (calls_none (nat_lt MOST_CALLS (s.below + length s.frames)) (block_of plan (block.Function f))

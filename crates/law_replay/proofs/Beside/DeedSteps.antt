@@ -1,8 +1,7 @@
 -- What a deed leaves keeps the process and its replay beside each other.
 use Rattle.std.proofs.Common.{◌≡◌, ℕ, List, ◌∷◌, ◌++◌, Some, refl, sym, append_assoc}
-use Rattle.std.specs.Prelude.{slice_get}
 use Rattle.ppd_ast.specs.declared.program.Program.{Program}
-use Rattle.ppd_ast.specs.Lookups.{kind_of, top_of_body}
+use Rattle.ppd_ast.specs.Lookups.{kind_of, body_numbered}
 use Rattle.ppd_sem.specs.declared.proc.Answer.{Answer}
 use Rattle.ppd_sem.specs.declared.proc.Frame.{Frame}
 use Rattle.ppd_sem.specs.declared.proc.Todo.{Todo}
@@ -56,9 +55,9 @@ module _ (program : Program) (used inside : ℕ → Type 0) (calls : Type 0) (cl
       (sym (append_assoc (todos stmts) (t ∷ ts) outside))
       (turns program used inside calls closer home depth ends block outside t s.frames r.frames ts stmts e h)
   deed_beside a t ts (invoke f values into) s r b h e k =
-      beside _ _ (todos (top_of_body (slice_get program.bodies f)) ++ (ts ++ outside))
-      (todos (top_of_body (slice_get program.bodies f)) ++ ts) s r b
-      (sym (append_assoc (todos (top_of_body (slice_get program.bodies f))) ts outside))
+      beside _ _ (todos (body_numbered program f).top ++ (ts ++ outside))
+      (todos (body_numbered program f).top ++ ts) s r b
+      (sym (append_assoc (todos (body_numbered program f).top) ts outside))
       (invokes program used inside calls closer home depth ends block outside t s.frames r.frames ts f
       (new_frame program f values (Some t.stmt)) e h k)
   deed_beside a t ts (back value) s r b h e k =

@@ -1,8 +1,9 @@
 -- The reads of a statement are the same where the local cells that it names are the same.
 use Rattle.std.proofs.Common.{inl, inr, suc, arith, ◌≡◌, ℕ, ◌+◌, ◌<◌, ℤ, pos, negsuc, List, [], ◌∷◌, ◌++◌, Bool, true, false, cond, Ok, Err, Some, None, refl, ap, sym, ◌∙◌}
 use Rattle.std.specs.List.{list_any}
-use Rattle.std.specs.Prelude.{take_while, take, not as negated, ◌||◌, nat_lt, if◌then◌else◌}
+use Rattle.std.specs.Prelude.{take_while, take, not as negated, ◌||◌, nat_lt, if◌then◌else◌, get_or}
 use Rattle.std.proofs.lemmas.Bool.{ltb-true}
+use Rattle.std.specs.Ordering.{int_eq}
 use Rattle.ppd_ast.specs.declared.program.Expr.{Expr}
 use Rattle.ppd_ast.specs.declared.program.Kind.{Kind}
 use Rattle.ppd_ast.specs.declared.program.Kind.TheVariants.{Set, Zero, If, While, Call, Return, P, V, Send, Recv, Print, Assert, End}
@@ -12,19 +13,19 @@ use Rattle.ppd_ast.specs.declared.program.Program.{Program}
 use Rattle.ppd_ast.specs.declared.plan.Plan.{Plan}
 use Rattle.ppd_sem.specs.declared.proc.Todo.{Todo}
 use Rattle.ppd_sem.specs.declared.proc.Proc.{Proc}
-use Rattle.ppd_sem.specs.Process.{top_body}
 use Rattle.ppd_sem.specs.Described.{ends_body, frame_of, is_block}
 use Rattle.ppd_ast.specs.declared.status.Trap.TheVariants.{Index}
 use Rattle.ppd_ast.specs.Lookups.{kind_of}
 use Rattle.ppd_sem.specs.Asked.{Asked, lift}
-use Rattle.ppd_sem.specs.Ask.{ask, element, cell_of, is_zero}
+use Rattle.ppd_sem.specs.Ask.{ask, element}
 use Rattle.ppd_sem.specs.declared.event.Access.{Access}
 use Rattle.ppd_sem.specs.declared.event.Spot.TheVariants as spot
 use Rattle.ppd_sem.specs.Asked.{once, and_then}
-use Rattle.ppd_sem.specs.Reads.{ask_place, local_read, reads_of, reads_of_all, reads_of_stored, reads_of_kind}
+use Rattle.ppd_sem.specs.Reads.{ask_place, reads_of, reads_of_all, reads_of_stored, reads_of_kind, local_accesses}
 use Rattle.law_replay.proofs.Vocabulary.Relation.{HasEnd}
 use Rattle.law_replay.proofs.Vocabulary.Over.{IsOverCells, AreOverCells, IsKindOver, SameIn}
 use Rattle.law_replay.proofs.Beside.Asked.{ask_same}
+use Rattle.ppd_sem.specs.Process.{top_frame}
 
 once_same : {A : Type 0} (q : Asked A) (next next' : A → List ℤ → List Access)
     → ((x : A) (left : List ℤ) → next x left ≡ next' x left) → once q next ≡ once q next'
@@ -42,18 +43,18 @@ once_then (Ok p) f g = refl
 once_then (Err pause) f g = refl
 
 module _ (used : ℕ → Type 0) (cells others : List ℤ) (same : SameIn used cells others) (frame : ℕ) where
-  read_same : (c : ℕ) → cell_of cells c ≡ cell_of others c → local_read frame cells c ≡ local_read frame others c
+  read_same : (c : ℕ) → get_or cells c (pos 0) ≡ get_or others c (pos 0) → local_accesses frame c (get_or cells c (pos 0) ∷ []) ≡ local_accesses frame c (get_or others c (pos 0) ∷ [])
   read_same c e = ap (λ v. record { spot = spot.Local frame c; value = v } ∷ []) e
 
-  picked_read : (b : Bool) (c : ℕ) (left : List ℤ) → (b ≡ true → cell_of cells c ≡ cell_of others c)
-      → once (lift left (if b then Ok c else Err Index)) (λ c left. local_read frame cells c) ≡ once
-      (lift left (if b then Ok c else Err Index)) (λ c left. local_read frame others c)
+  picked_read : (b : Bool) (c : ℕ) (left : List ℤ) → (b ≡ true → get_or cells c (pos 0) ≡ get_or others c (pos 0))
+      → once (lift left (if b then Ok c else Err Index)) (λ c left. local_accesses frame c (get_or cells c (pos 0) ∷ [])) ≡ once
+      (lift left (if b then Ok c else Err Index)) (λ c left. local_accesses frame c (get_or others c (pos 0) ∷ []))
   picked_read true c left h = read_same c (h refl)
   picked_read false c left h = refl
 
   element_read : (base len : ℕ) → ((k : ℕ) → k < len → used (base + k)) → (at : ℤ) (left : List ℤ)
-      → once (lift left (element base len at)) (λ c left. local_read frame cells c) ≡ once
-      (lift left (element base len at)) (λ c left. local_read frame others c)
+      → once (lift left (element base len at)) (λ c left. local_accesses frame c (get_or cells c (pos 0) ∷ [])) ≡ once
+      (lift left (element base len at)) (λ c left. local_accesses frame c (get_or others c (pos 0) ∷ []))
   element_read base len h (pos i) left =
       picked_read (nat_lt i len) (base + i) left (λ e. same.values (base + i) (h i (ltb-true i len e)))
   element_read base len h (negsuc i) left = refl
@@ -90,10 +91,10 @@ module _ (used : ℕ → Type 0) (cells others : List ℤ) (same : SameIn used c
       (λ x left. reads_same b o.1 left)
   reads_same (and a b) o answers =
       both_same _ _ _ _ _ _ (reads_same a o.0 answers) (ask_same used cells others same a o.0 answers)
-      (λ x left. ap (λ zs. cond (is_zero x) [] zs) (reads_same b o.1 left))
+      (λ x left. ap (λ zs. cond (int_eq x (pos 0)) [] zs) (reads_same b o.1 left))
   reads_same (or a b) o answers =
       both_same _ _ _ _ _ _ (reads_same a o.0 answers) (ask_same used cells others same a o.0 answers)
-      (λ x left. ap (λ zs. cond (is_zero x) zs []) (reads_same b o.1 left))
+      (λ x left. ap (λ zs. cond (int_eq x (pos 0)) zs []) (reads_same b o.1 left))
 
   all_reads_same : (es : List Expr) (as' : List ℕ) → AreOverCells used es as' → (answers : List ℤ)
       → reads_of_all frame es as' cells answers ≡ reads_of_all frame es as' others answers
@@ -157,10 +158,10 @@ numbered b = if b then 0 else 1
 
 -- in a frame that the interval called
 pub called_frame : (program : Program) (plan : Plan) (s r : Proc) (outside : List Todo)
-    → s.todo ≡ r.todo ++ outside → top_body s.frames ≡ top_body r.frames → HasEnd program r.todo
+    → s.todo ≡ r.todo ++ outside → (top_frame s.frames).body ≡ (top_frame r.frames).body → HasEnd program r.todo
     → frame_of program plan s ≡ frame_of program plan r
 called_frame program plan s r outside e body h =
     let tops : top_of_list program s.todo ≡ top_of_list program r.todo =
     ap (λ ys. top_of_list program ys) e ∙ top_same program r.todo outside h in
-    ap (λ ys. numbered (list_any (λ t. t.entered) ys || is_block plan (top_body s.frames))) tops
+    ap (λ ys. numbered (list_any (λ t. t.entered) ys || is_block plan (top_frame s.frames).body)) tops
     ∙ ap (λ b. numbered (list_any (λ t. t.entered) (top_of_list program r.todo) || is_block plan b)) body

@@ -1,13 +1,14 @@
 -- Two stacks of frames beside each other, with the count of calls not returned, as deeds change them.
 use Rattle.std.proofs.Common.{◌≡◌, ℕ, ◌+◌, ℤ, List, ◌∷◌, ◌++◌, false, Some, None, Option, sym, subst, ◌∙◌, arith, length}
-use Rattle.std.specs.Prelude.{slice_get}
+use Rattle.std.specs.Prelude.{slice_set, replicate, pos}
 use Rattle.std.proofs.lemmas.Bool.{cond-true}
+use Rattle.std.specs.List.{range_with_len}
 use Rattle.ppd_ast.specs.declared.program.Program.{Program}
-use Rattle.ppd_ast.specs.Lookups.{kind_of, top_of_body}
+use Rattle.ppd_ast.specs.Lookups.{kind_of, body_numbered}
 use Rattle.ppd_sem.specs.declared.proc.Frame.{Frame}
 use Rattle.ppd_sem.specs.declared.proc.Todo.{Todo}
 use Rattle.ppd_sem.specs.declared.proc.Proc.{Proc}
-use Rattle.ppd_sem.specs.Process.{returned_from, todos, into_of, returned, receive_at, write_top, clear_top}
+use Rattle.ppd_sem.specs.Process.{todos, into_of, returned, receive_at, on_top, into_at, with_values}
 use Rattle.ppd_sem.specs.Described.{ends_body}
 use Rattle.law_replay.specs.Beside.Relation.{IsCallOf, IsListOf}
 use Rattle.law_replay.proofs.Vocabulary.Relation.{Rests, Stacked, at_base, called, past_body, HasEnds, IsBlock, IsBeside, IsReturn, IsCalled}
@@ -23,14 +24,14 @@ module _ (program : Program) (used inside : ℕ → Type 0) (calls : Type 0) (cl
     pub count : calls → length fs ≡ depth + length gs
 
   pub writes : (c : ℕ) (v : ℤ) (fs gs : List Frame) (todo : List Todo) → Framed fs gs todo
-      → Framed (write_top c v fs) (write_top c v gs) todo
+      → Framed (on_top (λ cells. slice_set cells c v) fs) (on_top (λ cells. slice_set cells c v) gs) todo
   writes c v fs gs todo h = record {
     stacked = write_stacked program used inside calls closer home c v fs gs todo h.stacked;
     count = λ k. omega (arith, write_length c v fs, h.count k, write_length c v gs);
   }
 
   pub clears : (base len : ℕ) (fs gs : List Frame) (todo : List Todo) → Framed fs gs todo
-      → Framed (clear_top base len fs) (clear_top base len gs) todo
+      → Framed (on_top (with_values (range_with_len base len) (replicate len (pos 0))) fs) (on_top (with_values (range_with_len base len) (replicate len (pos 0))) gs) todo
   clears base len fs gs todo h = record {
     stacked = clear_stacked program used inside calls closer home base len fs gs todo h.stacked;
     count = λ k. omega (arith, clear_length base len fs, h.count k, clear_length base len gs);
@@ -91,9 +92,9 @@ module _ (program : Program) (used inside : ℕ → Type 0) (calls : Type 0) (cl
 
   pub invokes : (t : Todo) (fs gs : List Frame) (ts : List Todo) (f : ℕ) (x : Frame)
       → IsCallOf (kind_of program t.stmt) f → (h : Framed fs gs (t ∷ ts)) → Rests h.stacked
-      → Framed (x ∷ fs) (x ∷ gs) (todos (top_of_body (slice_get program.bodies f)) ++ ts)
+      → Framed (x ∷ fs) (x ∷ gs) (todos (body_numbered program f).top ++ ts)
   invokes t fs gs ts f x e h long = record {
-    stacked = called x fs gs (todos (top_of_body (slice_get program.bodies f)) ++ ts) (calling t fs gs ts f e h.stacked)
+    stacked = called x fs gs (todos (body_numbered program f).top ++ ts) (calling t fs gs ts f e h.stacked)
         (ends.ended t.stmt f e ts)
         (subst (λ ys. Stacked program used inside calls closer home fs gs ys) (sym (ends.whole t.stmt f e ts))
         (past t fs gs ts (call_goes_on (kind_of program t.stmt) f e) h long).stacked);
@@ -107,7 +108,7 @@ module _ (program : Program) (used inside : ℕ → Type 0) (calls : Type 0) (cl
   receives None value fs gs todo h = h
 
   returns_to : (call : Option ℕ) (value : Option ℤ) (fs gs : List Frame) (todo : List Todo) → Framed fs gs todo
-      → Framed (returned_from program call value fs) (returned_from program call value gs) todo
+      → Framed (receive_at (into_at program call) value fs) (receive_at (into_at program call) value gs) todo
   returns_to None value fs gs todo h = h
   returns_to (Some c) value fs gs todo h = receives (into_of (kind_of program c)) value fs gs todo h
 

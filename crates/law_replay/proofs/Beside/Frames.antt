@@ -1,22 +1,22 @@
 -- Writes to the top frame keep two stacks of frames beside each other.
 use Rattle.std.proofs.Common.{◌⊎◌, ◌≡◌, ℕ, zero, suc, ◌+◌, ◌<◌, ◌≤◌, ℤ, pos, List, [], ◌∷◌, true, false, refl, sym, subst, ◌∙◌, inl, inr, arith, length, length-set, get_or-set_same, get_or-set_other}
-use Rattle.std.specs.Prelude.{slice_set}
+use Rattle.std.specs.Prelude.{slice_set, get_or, replicate}
 use Rattle.std.proofs.lemmas.Bool.{cases_eq, cases_lt}
 use Rattle.std.proofs.lemmas.List.{get_or_past}
+use Rattle.std.specs.List.{range_with_len}
 use Rattle.ppd_ast.specs.declared.program.Program.{Program}
 use Rattle.ppd_ast.specs.Lookups.{kind_of}
 use Rattle.ppd_sem.specs.declared.proc.Frame.{Frame}
 use Rattle.ppd_sem.specs.declared.proc.Todo.{Todo}
-use Rattle.ppd_sem.specs.Ask.{cell_of}
-use Rattle.ppd_sem.specs.Process.{write_top, clear_top, clear_cells}
+use Rattle.ppd_sem.specs.Process.{on_top, with_values}
 use Rattle.law_replay.proofs.Vocabulary.Over.{SameIn}
 use Rattle.law_replay.proofs.Vocabulary.Relation.{HasEnd, IsOwnTodo, Rests, Stacked, at_base, called, past_body}
 use Rattle.ppd_sem.specs.Described.{ends_body}
 use Rattle.law_replay.proofs.Beside.Todos.{end_past, last_headed, last_past}
 
 written_same : (cells others : List ℤ) (c d : ℕ) (v : ℤ) → length cells ≡ length others
-    → cell_of cells d ≡ cell_of others d → (d ≡ c) ⊎ (d ≡ c → ⊥) → (c < length cells) ⊎ (length cells ≤ c)
-    → cell_of (slice_set cells c v) d ≡ cell_of (slice_set others c v) d
+    → get_or cells d (pos 0) ≡ get_or others d (pos 0) → (d ≡ c) ⊎ (d ≡ c → ⊥) → (c < length cells) ⊎ (length cells ≤ c)
+    → get_or (slice_set cells c v) d (pos 0) ≡ get_or (slice_set others c v) d (pos 0)
 written_same cells others c d v n e (inl here) (inl within) =
     rw here (get_or-set_same cells c v (pos 0) within
     ∙ sym (get_or-set_same others c v (pos 0) (omega (arith, within, n))))
@@ -36,23 +36,24 @@ set_same used cells others c v s = record {
 }
 
 pub clear_same : (used : ℕ → Type 0) (cells others : List ℤ) (base n : ℕ) → SameIn used cells others
-    → SameIn used (clear_cells base n cells) (clear_cells base n others)
+    → SameIn used (with_values (range_with_len base n) (replicate n (pos 0)) cells) (with_values (range_with_len base n) (replicate n (pos 0)) others)
 clear_same used cells others base zero s = s
 clear_same used cells others base (suc n) s =
-    set_same used _ _ (base + n) (pos 0) (clear_same used cells others base n s)
+    clear_same used (slice_set cells base (pos 0)) (slice_set others base (pos 0)) (base + 1) n
+    (set_same used cells others base (pos 0) s)
 
-pub write_length : (c : ℕ) (v : ℤ) (fs : List Frame) → length (write_top c v fs) ≡ length fs
+pub write_length : (c : ℕ) (v : ℤ) (fs : List Frame) → length (on_top (λ cells. slice_set cells c v) fs) ≡ length fs
 write_length c v [] = refl
 write_length c v (f ∷ fs) = refl
 
-pub clear_length : (base len : ℕ) (fs : List Frame) → length (clear_top base len fs) ≡ length fs
+pub clear_length : (base len : ℕ) (fs : List Frame) → length (on_top (with_values (range_with_len base len) (replicate len (pos 0))) fs) ≡ length fs
 clear_length base len [] = refl
 clear_length base len (f ∷ fs) = refl
 
 module _ (program : Program) (used inside : ℕ → Type 0) (calls : Type 0) (closer : Todo) (home : ℕ) where
   pub write_stacked : (c : ℕ) (v : ℤ) (fs gs : List Frame) (todo : List Todo)
       → Stacked program used inside calls closer home fs gs todo
-      → Stacked program used inside calls closer home (write_top c v fs) (write_top c v gs) todo
+      → Stacked program used inside calls closer home (on_top (λ cells. slice_set cells c v) fs) (on_top (λ cells. slice_set cells c v) gs) todo
   write_stacked c v fs gs todo (at_base f g fs' gs' todo' same body first within) =
       at_base (record f { cells = slice_set f.cells c v })
       (record g { cells = slice_set g.cells c v }) fs' gs' todo'
@@ -62,13 +63,13 @@ module _ (program : Program) (used inside : ℕ → Type 0) (calls : Type 0) (cl
 
   pub clear_stacked : (base len : ℕ) (fs gs : List Frame) (todo : List Todo)
       → Stacked program used inside calls closer home fs gs todo
-      → Stacked program used inside calls closer home (clear_top base len fs) (clear_top base len gs) todo
+      → Stacked program used inside calls closer home (on_top (with_values (range_with_len base len) (replicate len (pos 0))) fs) (on_top (with_values (range_with_len base len) (replicate len (pos 0))) gs) todo
   clear_stacked base len fs gs todo (at_base f g fs' gs' todo' same body first within) =
-      at_base (record f { cells = clear_cells base len f.cells })
-      (record g { cells = clear_cells base len g.cells }) fs' gs' todo'
+      at_base (record f { cells = with_values (range_with_len base len) (replicate len (pos 0)) f.cells })
+      (record g { cells = with_values (range_with_len base len) (replicate len (pos 0)) g.cells }) fs' gs' todo'
       (record { body = same.body; cells = clear_same used f.cells g.cells base len same.cells }) body first within
   clear_stacked base len fs gs todo (called f fs' gs' todo' k end below) =
-      called (record f { cells = clear_cells base len f.cells }) fs' gs' todo' k end below
+      called (record f { cells = with_values (range_with_len base len) (replicate len (pos 0)) f.cells }) fs' gs' todo' k end below
 
   -- what is to do changes within the body of the top frame
   pub moved_stacked : (fs gs : List Frame) (before after : List Todo)

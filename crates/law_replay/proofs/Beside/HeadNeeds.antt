@@ -16,7 +16,7 @@ use Rattle.ppd_ast.specs.Lookups.{kind_of}
 use Rattle.ppd_ast.specs.declared.limits.TheConstants.{MOST_CALLS}
 use Rattle.ppd_sem.specs.declared.proc.Need.{Need}
 use Rattle.ppd_sem.specs.declared.proc.Need.TheVariants.{Invoke, Back, Trap}
-use Rattle.ppd_sem.specs.Process.{need_of_deed, need_of_asked, need_of_head, need_of_call, offer_of, call_unit, top_body, top_call, head_deed, top_cells, entry_of}
+use Rattle.ppd_sem.specs.Process.{need_of_deed, need_of_asked, need_of_head, offer_of, call_unit, head_deed, entry_of, top_frame}
 use Rattle.ppd_sem.proofs.NeedWords.{need_by_entry, need_by_offer}
 use Rattle.law_replay.proofs.Vocabulary.Relation.{Stacked, at_base, called, HasEnds, IsBlock, IsBeside, Suits, Stays, StaysAt, Yields, IsCalled}
 use Rattle.law_replay.proofs.Beside.Asked.{deed_same}
@@ -28,15 +28,15 @@ module _ (program : Program) (used inside : ℕ → Type 0) (calls : Type 0) (cl
   -- what the head asks for, or does
   head_same : (t : Todo) (fs gs : List Frame) (ts : List Todo) (answers : List ℤ)
       → Stacked program used inside calls closer home fs gs (t ∷ ts)
-      → ask_deed program.exprs (kind_of program t.stmt) (top_cells fs) answers ≡ ask_deed program.exprs
-      (kind_of program t.stmt) (top_cells gs) answers
+      → ask_deed program.exprs (kind_of program t.stmt) (top_frame fs).cells answers ≡ ask_deed program.exprs
+      (kind_of program t.stmt) (top_frame gs).cells answers
   head_same t fs gs ts answers (at_base f g fs' gs' todo same body first within) =
       deed_same used f.cells g.cells same.cells program.exprs (kind_of program t.stmt)
       (block.reads t.stmt within.0.0) answers
   head_same t fs gs ts answers (called f fs' gs' todo k has below) = refl
 
   abbrev back_need : Plan → List Frame → Need
-  back_need plan fs = Back (block_of plan (block_kind.Function (top_body fs))) (call_unit plan (top_call fs))
+  back_need plan fs = Back (block_of plan (block_kind.Function (top_frame fs).body)) (call_unit plan (top_frame fs).call)
 
   back_same : (plan : Plan) (fs gs : List Frame) (todo : List Todo)
       (x : Stacked program used inside calls closer home fs gs todo) → IsCalled x
@@ -53,9 +53,9 @@ module _ (program : Program) (used inside : ℕ → Type 0) (calls : Type 0) (cl
       → s.below + length s.frames ≡ r.below + length r.frames
   open_alike s r o e = omega (arith, o.whole, o.below, e)
 
-  call_same : (plan : Plan) (f : ℕ) (s r : Proc) → s.below + length s.frames ≡ r.below + length r.frames
-      → need_of_call plan f s ≡ need_of_call plan f r
-  call_same plan f s r e = ap (λ n. if nat_lt MOST_CALLS n then Trap trap.Depth else Invoke
+  call_same : (plan : Plan) (t f : ℕ) (values : List ℤ) (into : Option ℕ) (s r : Proc) → s.below + length s.frames ≡ r.below + length r.frames
+      → need_of_deed program plan t s (invoke f values into) ≡ need_of_deed program plan t r (invoke f values into)
+  call_same plan t f values into s r e = ap (λ n. if nat_lt MOST_CALLS n then Trap trap.Depth else Invoke
       (block_of plan (block_kind.Function f)) (unit_of plan (start.Entry f))) e
 
   deed_need : (plan : Plan) (t : Todo) (s r : Proc) (ts : List Todo) (d : Deed) → IsOpenAlike s r
@@ -63,7 +63,7 @@ module _ (program : Program) (used inside : ℕ → Type 0) (calls : Type 0) (cl
       → Suits (kind_of program t.stmt) d → Stays d h.stacked
       → need_of_deed program plan t.stmt s d ≡ need_of_deed program plan t.stmt r d
   deed_need plan t s r ts (invoke f values into) o h e k =
-      call_same plan f s r (open_alike s r o
+      call_same plan t.stmt f values into s r (open_alike s r o
       (h.count
       (calling program used inside calls closer home depth ends block outside t s.frames r.frames ts f e h.stacked)))
   deed_need plan t s r ts (back value) o h e k = back_same plan s.frames r.frames (t ∷ ts) h.stacked k
@@ -88,7 +88,7 @@ module _ (program : Program) (used inside : ℕ → Type 0) (calls : Type 0) (cl
       → Framed program used inside calls closer home depth ends block outside s.frames r.frames (t ∷ ts)
       → head_deed program t s ≡ head_deed program t r
   deed_is s r t ts b h = head_same t s.frames r.frames ts s.answers h.stacked
-      ∙ ap (λ as'. ask_deed program.exprs (kind_of program t.stmt) (top_cells r.frames) as') b.answers
+      ∙ ap (λ as'. ask_deed program.exprs (kind_of program t.stmt) (top_frame r.frames).cells as') b.answers
 
   offer_need : (plan : Plan) (t : ℕ) (o : Option ℕ) (n m : Need) → (o ≡ None → n ≡ m)
       → need_by_offer plan t o n ≡ need_by_offer plan t o m
@@ -107,6 +107,6 @@ module _ (program : Program) (used inside : ℕ → Type 0) (calls : Type 0) (cl
       (need_by_entry program plan t.stmt r (entry_of program plan t) (head_deed program t r))
       (λ e. entry_need plan t.stmt s r (entry_of program plan t) (head_deed program t s)
       (asked_need plan t s r ts (head_deed program t s) (record { whole = b.whole; below = b.below }) h
-      (suits program.exprs (kind_of program t.stmt) (top_cells s.frames) s.answers)
+      (suits program.exprs (kind_of program t.stmt) (top_frame s.frames).cells s.answers)
       (subst (λ o. StaysAt o (head_deed program t s) h.stacked) e k))
       ∙ ap (λ q. need_by_entry program plan t.stmt r (entry_of program plan t) q) (deed_is s r t ts b h))

@@ -1,17 +1,18 @@
 -- A step inside a nested block leaves the frame in which it began alone, but for the cells that it may write.
 use Rattle.std.proofs.Common.{◌≡◌, ℕ, ◌+◌, ◌<◌, ℤ, List, ◌∷◌, ◌++◌, Bool, true, false, Some, None, Option, refl, ap, sym, subst, ◌∙◌, append_assoc, true≢false}
-use Rattle.std.specs.Prelude.{slice_get, slice_set}
+use Rattle.std.specs.Prelude.{slice_set, replicate, pos}
 use Rattle.std.proofs.lemmas.Bool.{cond-true}
+use Rattle.std.specs.List.{range_with_len}
 use Rattle.ppd_ast.specs.declared.program.Kind.{Kind}
 use Rattle.ppd_ast.specs.declared.program.Kind.TheVariants.{Call}
 use Rattle.ppd_ast.specs.declared.program.Program.{Program}
-use Rattle.ppd_ast.specs.Lookups.{kind_of, top_of_body}
+use Rattle.ppd_ast.specs.Lookups.{kind_of, body_numbered}
 use Rattle.ppd_sem.specs.declared.proc.Answer.{Answer}
 use Rattle.ppd_sem.specs.declared.proc.Frame.{Frame}
 use Rattle.ppd_sem.specs.declared.proc.Todo.{Todo}
 use Rattle.ppd_sem.specs.declared.proc.Proc.{Proc}
 use Rattle.ppd_sem.specs.Deed.{Deed, set_local, set_shared, clear, invoke, branch, leave, turn, back, take, give, send, receive, print, pass, finish}
-use Rattle.ppd_sem.specs.Process.{todos, into_of, new_frame, returned, returned_from, receive_at, write_top, clear_top, clear_cells, value_of, act_by_deed}
+use Rattle.ppd_sem.specs.Process.{todos, into_of, new_frame, returned, receive_at, value_of, act_by_deed, on_top, into_at, with_values}
 use Rattle.ppd_sem.specs.Described.{ends_body}
 use Rattle.law_replay.specs.Beside.Relation.{IsListOf, IsCallOf}
 use Rattle.law_replay.proofs.Vocabulary.Relation.{HasEnd, IsLong, IsOwnTodo, past_body, HasEnds, IsReturn, Suits}
@@ -25,7 +26,7 @@ module _ (program : Program) (written inside : ℕ → Type 0) (ends : HasEnds p
   -- of a write in the block's own frame the cell must be one of these
   write_held : (b : Bool) (c : ℕ) (v : ℤ) (fs : List Frame) (todo : List Todo) → (b ≡ false → written c)
       → Held program written inside closer base below b fs todo
-      → Held program written inside closer base below b (write_top c v fs) todo
+      → Held program written inside closer base below b (on_top (λ cells. slice_set cells c v) fs) todo
   write_held b c v fs todo w (own f todo' kept within) =
       own (record f { cells = slice_set f.cells c v }) todo' (kept_set written base f c v (w refl) kept) within
   write_held b c v fs todo w (called b' f fs' todo' to has h) =
@@ -34,12 +35,12 @@ module _ (program : Program) (written inside : ℕ → Type 0) (ends : HasEnds p
   clear_held : (b : Bool) (first len : ℕ) (fs : List Frame) (todo : List Todo)
       → (b ≡ false → (k : ℕ) → k < len → written (first + k))
       → Held program written inside closer base below b fs todo
-      → Held program written inside closer base below b (clear_top first len fs) todo
+      → Held program written inside closer base below b (on_top (with_values (range_with_len first len) (replicate len (pos 0))) fs) todo
   clear_held b first len fs todo w (own f todo' kept within) =
-      own (record f { cells = clear_cells first len f.cells }) todo'
+      own (record f { cells = with_values (range_with_len first len) (replicate len (pos 0)) f.cells }) todo'
       (kept_clear written base f first len (w refl) kept) within
   clear_held b first len fs todo w (called b' f fs' todo' to has h) =
-      called b' (record f { cells = clear_cells first len f.cells }) fs' todo' to has h
+      called b' (record f { cells = with_values (range_with_len first len) (replicate len (pos 0)) f.cells }) fs' todo' to has h
 
   moved_held : (b : Bool) (fs : List Frame) (before after : List Todo)
       → (IsOwnTodo inside closer before → IsOwnTodo inside closer after)
@@ -108,7 +109,7 @@ module _ (program : Program) (written inside : ℕ → Type 0) (ends : HasEnds p
   back_held : (b : Bool) (call : Option ℕ) (value : Option ℤ) (fs : List Frame) (todo : List Todo)
       → (b ≡ false → (s c : ℕ) → call ≡ Some s → into_of (kind_of program s) ≡ Some c → written c)
       → Held program written inside closer base below b fs todo
-      → Held program written inside closer base below b (returned_from program call value fs) todo
+      → Held program written inside closer base below b (receive_at (into_at program call) value fs) todo
   back_held b None value fs todo w h = h
   back_held b (Some s) value fs todo w h =
       received_held b (into_of (kind_of program s)) value fs todo (λ e c i. w e s c refl i) h
@@ -157,9 +158,9 @@ module _ (program : Program) (written inside : ℕ → Type 0) (ends : HasEnds p
       (ends.nested t.stmt stmts e (t ∷ ts)) h)
   deed_held outside a b t ts (invoke f values into) s h e w k =
       in_after true (new_frame program f values (Some t.stmt) ∷ s.frames)
-      (todos (top_of_body (slice_get program.bodies f)) ++ (ts ++ outside))
-      (todos (top_of_body (slice_get program.bodies f)) ++ ts) outside s
-      (sym (append_assoc (todos (top_of_body (slice_get program.bodies f))) ts outside))
+      (todos (body_numbered program f).top ++ (ts ++ outside))
+      (todos (body_numbered program f).top ++ ts) outside s
+      (sym (append_assoc (todos (body_numbered program f).top) ts outside))
       (called b (new_frame program f values (Some t.stmt)) s.frames _
       (λ unmoved. new_receives t f f values e (head_written b t s.frames ts h unmoved)) (ends.ended t.stmt f e ts)
       (subst (λ ys. Held program written inside closer base below b s.frames ys) (sym (ends.whole t.stmt f e ts))

@@ -11,7 +11,7 @@ use Rattle.ppd_sem.specs.declared.proc.Proc.{Proc}
 use Rattle.ppd_sem.specs.declared.proc.Todo.{Todo}
 use Rattle.ppd_sem.specs.Described.{ends_body, frame_of, is_block}
 use Rattle.ppd_sem.proofs.EventWords.{has_interval}
-use Rattle.ppd_sem.specs.Process.{top_body}
+use Rattle.ppd_sem.specs.Process.{top_frame}
 use Rattle.law_replay.proofs.Vocabulary.Relation.{HasEnd, IsBeside, IsLast, IsOwnTodo, Stacked, at_base, called}
 use Rattle.law_replay.proofs.Beside.Events.{called_frame, top_of_list, taken}
 
@@ -65,15 +65,15 @@ module _ (program : Program) (plan : Plan) (used inside : ℕ → Type 0) (calls
     frame_by s r fs gs todo es er ef eg (at_base f g fs' gs' todo' same body first within) =
         let first : has_interval program plan s ≡ true =
         ap₂ (λ ys (xs : List Frame). list_any (λ t. t.entered) (top_of_list program ys) || is_block plan
-        (top_body xs)) es ef ∙ own_by todo' outside f.body closer.entered refl body within in
+        (top_frame xs).body) es ef ∙ own_by todo' outside f.body closer.entered refl body within in
         let second : has_interval program plan r ≡ true =
         ap₂ (λ ys (xs : List Frame). list_any (λ t. t.entered) (top_of_list program ys) || is_block plan
-        (top_body xs)) (er ∙ sym (append-nil todo')) eg ∙ own_by todo' [] g.body closer.entered refl
+        (top_frame xs).body) (er ∙ sym (append-nil todo')) eg ∙ own_by todo' [] g.body closer.entered refl
         (sym same.body ∙ body) within in
         ap numbered_by (first ∙ sym second)
     frame_by s r fs gs todo es er ef eg (called f fs' gs' todo' k has below) =
         called_frame program plan s r outside (es ∙ ap (λ ys. ys ++ outside) (sym er))
-        (ap top_body ef ∙ sym (ap top_body eg)) (subst (HasEnd program) (sym er) has)
+        (ap (λ fs. (top_frame fs).body) ef ∙ sym (ap (λ fs. (top_frame fs).body) eg)) (subst (HasEnd program) (sym er) has)
 
     pub frame : (s r : Proc) → IsBeside program used inside calls closer home depth outside s r
         → frame_of program plan s ≡ frame_of program plan r

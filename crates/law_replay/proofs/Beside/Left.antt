@@ -1,37 +1,35 @@
 -- The step that leaves a loop brings the process beside its replay past the loop.
-use Rattle.std.proofs.Common.{◌≡◌, ℕ, ◌+◌, ◌≤◌, List, [], ◌∷◌, ◌++◌, Bool, true, false, Option, Some, None, Ok, Err, refl, ap, sym, subst, ◌∙◌, arith, inl, inr, ◌⊎◌, true≢false, length, map, zero, suc}
-use Rattle.std.specs.Prelude.{nat_lt, if◌then◌else◌}
-use Rattle.ppd_ast.specs.declared.plan.Plan.{Plan}
-use Rattle.ppd_ast.specs.declared.program.Program.{Program}
-use Rattle.ppd_sem.specs.Blocks.{postlog_cells}
-use Rattle.ppd_sem.specs.declared.asking.Pause.TheVariants.{Wants, Traps}
-use Rattle.ppd_sem.specs.declared.proc.Answer.{Answer}
-use Rattle.ppd_sem.specs.declared.proc.Frame.{Frame}
-use Rattle.ppd_sem.specs.declared.proc.Need.{Need}
-use Rattle.ppd_sem.specs.declared.proc.Need.TheVariants.{Enter, Leave, Invoke, Trap}
-use Rattle.ppd_sem.specs.declared.proc.Proc.{Proc}
-use Rattle.ppd_sem.specs.declared.proc.Todo.{Todo}
-use Rattle.ppd_sem.specs.Ask.{cell_of}
-use Rattle.ppd_sem.specs.Asked.{Asked}
-use Rattle.ppd_sem.specs.Deed.{Deed, leave, invoke, send}
-use Rattle.ppd_sem.specs.Described.{ends_body}
-use Rattle.ppd_sem.specs.Process.{act, act_by_asked, act_by_need, charged, cost, entry_of, head_deed, need_of, need_of_asked, need_of_deed, need_of_send, top_cells}
-use Rattle.ppd_sem.proofs.NeedWords.{act_at, need_by_entry}
-use Rattle.ppd_sem.specs.Tables.{block_of, capacity_of, unit_of}
-use Rattle.ppd_ast.specs.declared.plan.BlockKind.TheVariants as block
-use Rattle.ppd_ast.specs.declared.plan.Start.TheVariants as start
-use Rattle.ppd_ast.specs.declared.status.Trap.TheVariants as trap
-use Rattle.ppd_ast.specs.Lookups.{kind_of}
-use Rattle.ppd_ast.specs.declared.limits.TheConstants.{MOST_CALLS}
 use Rattle.ppd_model.specs.Marks.{values_at}
-use Rattle.ppd_sem.specs.Blocks.{skipped}
-use Rattle.law_replay.proofs.Vocabulary.Relation.{HasEnds, IsBeside, IsBlock, Rests, Stacked, at_base, called}
-use Rattle.law_replay.proofs.Vocabulary.Held.{Among, Held}
-use Rattle.law_replay.specs.Beside.Opens.{open_at, opens}
-use Rattle.law_replay.proofs.Vocabulary.Across.{IsInLoop}
 use Rattle.law_replay.proofs.Beside.Closing.{IsAlone, alone}
 use Rattle.law_replay.proofs.Beside.Skipped.{loop_past, skipped_by, skipped_is}
 use Rattle.law_replay.proofs.Beside.Turned.{asks_is, head_is}
+use Rattle.law_replay.proofs.Vocabulary.Across.{IsInLoop}
+use Rattle.law_replay.proofs.Vocabulary.Held.{Among, Held}
+use Rattle.law_replay.proofs.Vocabulary.Relation.{HasEnds, IsBeside, IsBlock, Rests, Stacked, at_base, called}
+use Rattle.law_replay.specs.Beside.Opens.{open_at, opens}
+use Rattle.ppd_ast.specs.Lookups.{kind_of}
+use Rattle.ppd_ast.specs.declared.limits.TheConstants.{MOST_CALLS}
+use Rattle.ppd_ast.specs.declared.plan.BlockKind.TheVariants as block
+use Rattle.ppd_ast.specs.declared.plan.Plan.{Plan}
+use Rattle.ppd_ast.specs.declared.plan.Start.TheVariants as start
+use Rattle.ppd_ast.specs.declared.program.Program.{Program}
+use Rattle.ppd_ast.specs.declared.status.Trap.TheVariants as trap
+use Rattle.ppd_sem.proofs.NeedWords.{act_at, need_by_entry}
+use Rattle.ppd_sem.specs.Asked.{Asked}
+use Rattle.ppd_sem.specs.Blocks.{postlog_cells, skipped}
+use Rattle.ppd_sem.specs.Deed.{Deed, invoke, leave, send}
+use Rattle.ppd_sem.specs.Described.{ends_body}
+use Rattle.ppd_sem.specs.Process.{act, act_by_asked, act_by_need, charged, cost, entry_of, head_deed, need_of, need_of_asked, need_of_deed, need_of_send, top_frame}
+use Rattle.ppd_sem.specs.Tables.{block_of, capacity_of, unit_of}
+use Rattle.ppd_sem.specs.declared.asking.Pause.TheVariants.{Traps, Wants}
+use Rattle.ppd_sem.specs.declared.proc.Answer.{Answer}
+use Rattle.ppd_sem.specs.declared.proc.Frame.{Frame}
+use Rattle.ppd_sem.specs.declared.proc.Need.{Need}
+use Rattle.ppd_sem.specs.declared.proc.Need.TheVariants.{Enter, Invoke, Leave, Trap}
+use Rattle.ppd_sem.specs.declared.proc.Proc.{Proc}
+use Rattle.ppd_sem.specs.declared.proc.Todo.{Todo}
+use Rattle.std.proofs.Common.{Bool, Err, List, None, Ok, Option, Some, [], ap, arith, false, inl, inr, length, map, refl, subst, suc, sym, true, true≢false, zero, ℕ, ◌++◌, ◌+◌, ◌∙◌, ◌∷◌, ◌≡◌, ◌≤◌, ◌⊎◌}
+use Rattle.std.specs.Prelude.{get_or, if◌then◌else◌, nat_lt, pos}
 
 module _ (program : Program) (plan : Plan) where
   -- a step that leaves a loop takes the head off, and nothing else
@@ -140,10 +138,10 @@ module _ (program : Program) (plan : Plan) where
         h.within.todo_is ∙ ap (λ ys. ys ++ (h.came.later ++ outside)) (todo ∙ ap (λ ys. t ∷ ys) one.rest) in
         let l : HasLeftLoop x (act program plan x a) b v (h.came.later ++ outside) =
         left_loop x a t (h.came.later ++ outside) b v running is n in
-        let values : values_at x (postlog_cells plan b) ≡ map (cell_of one.frame.cells) (postlog_cells plan b) =
-        ap (λ fs. map (cell_of (top_cells fs)) (postlog_cells plan b)) one.frames in
+        let values : values_at x (postlog_cells plan b) ≡ map (λ c. get_or one.frame.cells c (pos 0)) (postlog_cells plan b) =
+        ap (λ fs. map (λ c. get_or (top_frame fs).cells c (pos 0)) (postlog_cells plan b)) one.frames in
         let past : IsBeside program used inside calls closer home depth outside (act program plan x a)
-        (skipped_by program plan (map (cell_of one.frame.cells) (postlog_cells plan b)) (Enter b u) r) =
+        (skipped_by program plan (map (λ c. get_or one.frame.cells c (pos 0)) (postlog_cells plan b)) (Enter b u) r) =
         loop_past program used inside calls closer home depth ends block_is outside plan b u h.came.head h.came.later h.base one.frame h.below h.came.before r (act program plan x a)
         h.came.beside h.top h.came.head_is h.came.goes_on
         (λ y. rests (h.base ∷ h.below) r.frames h.came.head h.came.later h.came.unentered h.came.goes_on y)
@@ -151,4 +149,4 @@ module _ (program : Program) (plan : Plan) where
         (l.budget ∙ h.budget) (l.below ∙ h.whole) (omega (arith, l.spent, h.spent)) in
         subst (λ y. IsBeside program used inside calls closer home depth outside (act program plan x a) y)
         (sym (ap (λ vs. skipped program plan vs r) values ∙ skipped_is program plan
-        (map (cell_of one.frame.cells) (postlog_cells plan b)) (Enter b u) r h.came.need_is)) past
+        (map (λ c. get_or one.frame.cells c (pos 0)) (postlog_cells plan b)) (Enter b u) r h.came.need_is)) past

@@ -1,6 +1,6 @@
 -- Each step opens and closes as many blocks as its need says.
 use Rattle.std.proofs.Common.{◌≡◌, ℕ, ◌+◌, ℤ, List, [], ◌∷◌, ◌++◌, Bool, true, false, cond, Option, Some, None, Ok, Err, length, refl, ap, sym, subst, ◌∙◌, arith, true≢false, zero, suc}
-use Rattle.std.specs.Prelude.{is_some, nat_lt, slice_get, if◌then◌else◌}
+use Rattle.std.specs.Prelude.{is_some, nat_lt, if◌then◌else◌}
 use Rattle.ppd_ast.specs.declared.plan.BlockKind.TheVariants as block
 use Rattle.ppd_ast.specs.declared.plan.Plan.{Plan}
 use Rattle.ppd_ast.specs.declared.program.Kind.{Kind}
@@ -15,13 +15,13 @@ use Rattle.ppd_sem.specs.declared.proc.Todo.{Todo}
 use Rattle.ppd_sem.specs.Asked.{Asked}
 use Rattle.ppd_sem.specs.Deed.{Deed, set_local, set_shared, clear, branch, turn, leave, invoke, back, take, give, send, receive, print, pass, finish}
 use Rattle.ppd_sem.specs.Described.{ends_body}
-use Rattle.ppd_sem.specs.Process.{act, act_by_asked, act_by_need, head_deed, need_of, need_of_asked, need_of_deed, need_of_head, need_of_leaving, call_unit, cost, entry_of, loop_of, need_of_send, offer_of, todos, top_body, top_call, top_cells}
+use Rattle.ppd_sem.specs.Process.{act, act_by_asked, act_by_need, head_deed, need_of, need_of_asked, need_of_deed, need_of_head, need_of_leaving, call_unit, cost, entry_of, loop_of, need_of_send, offer_of, todos, top_frame}
 use Rattle.ppd_sem.proofs.NeedWords.{act_at, need_by_entry, need_by_offer}
 use Rattle.ppd_sem.specs.Tables.{block_of, capacity_of, unit_of}
 use Rattle.ppd_sem.proofs.Progress.{need_at_todo}
 use Rattle.ppd_ast.specs.declared.plan.Start.TheVariants as start
 use Rattle.ppd_ast.specs.declared.status.Trap.TheVariants as trap
-use Rattle.ppd_ast.specs.Lookups.{kind_of, top_of_body, body_of_stmt}
+use Rattle.ppd_ast.specs.Lookups.{kind_of, body_of, body_numbered}
 use Rattle.ppd_ast.specs.Counting.{one_if}
 use Rattle.ppd_ast.specs.declared.limits.TheConstants.{MOST_CALLS}
 use Rattle.ppd_model.specs.Marks.{opened, closed}
@@ -81,7 +81,7 @@ module _ (program : Program) (plan : Plan) (c : IsCountable program plan) where
       arith,
       unentered t.entered refl loop,
       goes_on
-          (body_of_stmt (slice_get program.stmts t.stmt)) (kind_of program t.stmt) e,
+          (body_of program t.stmt) (kind_of program t.stmt) e,
     )
 
     popped : (n : Need) (after : Proc) → after.todo ≡ ts → closed program plan s n ≡ None
@@ -103,7 +103,7 @@ module _ (program : Program) (plan : Plan) (c : IsCountable program plan) where
         (omega (
           arith,
           ap one_if eb,
-          while_ends_none plan (body_of_stmt (slice_get program.stmts t.stmt))
+          while_ends_none plan (body_of program t.stmt)
               (kind_of program t.stmt) loop,
         ))
     leaving (Some b) true eo eb none loop x at =
@@ -113,7 +113,7 @@ module _ (program : Program) (plan : Plan) (c : IsCountable program plan) where
           before_is,
           ap one_if eb,
           while_ends_none plan
-              (body_of_stmt (slice_get program.stmts t.stmt)) (kind_of program t.stmt) loop,
+              (body_of program t.stmt) (kind_of program t.stmt) loop,
         )
     leaving (Some b) false eo eb none loop x at = absurd (true≢false (ap is_some (none refl)))
 
@@ -160,7 +160,7 @@ module _ (program : Program) (plan : Plan) (c : IsCountable program plan) where
         omega (
           arith,
           todo_is,
-          opens_append (todos (top_of_body (slice_get program.bodies f))) ts,
+          opens_append (todos (body_numbered program f).top) ts,
           c.bodies t.stmt f call,
           before_is,
           invoking o u,
@@ -170,7 +170,7 @@ module _ (program : Program) (plan : Plan) (c : IsCountable program plan) where
         )
       where
         todo_is : opens program plan (act_by_need program plan a t ts (Invoke o u) s).todo ≡ opens program plan
-            (todos (top_of_body (slice_get program.bodies f)) ++ ts)
+            (todos (body_numbered program f).top ++ ts)
         todo_is = ap (λ x. opens program plan (act_by_asked program a t ts x s).todo) (hq ∙ eq)
 
     leaves_todo : (o : Option ℕ) (left : List ℤ) → head_deed program t s ≡ Ok (leave, left)
@@ -253,11 +253,11 @@ module _ (program : Program) (plan : Plan) (c : IsCountable program plan) where
           ap (λ q. opens program plan (act_by_asked program a t ts q s).todo) e,
           before_is,
           unentered t.entered refl (return_no_loop (kind_of program t.stmt) h.suits_so),
-          return_opens (body_of_stmt (slice_get program.stmts t.stmt)) (kind_of program t.stmt) h.suits_so,
+          return_opens (body_of program t.stmt) (kind_of program t.stmt) h.suits_so,
           ap (λ b. one_if (is_some (block_of plan (block.Function b)))) home.body,
-          backing (block_of plan (block.Function (top_body s.frames))) (call_unit plan (top_call s.frames)),
+          backing (block_of plan (block.Function (top_frame s.frames).body)) (call_unit plan (top_frame s.frames).call),
           ap (λ x. one_if (is_some x))
-              (opens_none (block_of plan (block.Function (top_body s.frames))) (call_unit plan (top_call s.frames))),
+              (opens_none (block_of plan (block.Function (top_frame s.frames).body)) (call_unit plan (top_frame s.frames).call)),
         )
     deed_step finish left e h =
         omega (
@@ -265,7 +265,7 @@ module _ (program : Program) (plan : Plan) (c : IsCountable program plan) where
           ap (λ q. opens program plan (act_by_asked program a t ts q s).todo) e,
           before_is,
           unentered t.entered refl (end_no_loop (kind_of program t.stmt) h.suits_so),
-          end_opens (body_of_stmt (slice_get program.stmts t.stmt)) (kind_of program t.stmt) h.suits_so,
+          end_opens (body_of program t.stmt) (kind_of program t.stmt) h.suits_so,
         )
 
     asked_step : (q : Asked Deed) → head_deed program t s ≡ q
@@ -275,9 +275,9 @@ module _ (program : Program) (plan : Plan) (c : IsCountable program plan) where
     asked_step (Ok p) e none =
         deed_step p.0 p.1 e (record {
           suits_so = subst (Yields (Suits (kind_of program t.stmt))) e
-              (suits program.exprs (kind_of program t.stmt) (top_cells s.frames) s.answers);
+              (suits program.exprs (kind_of program t.stmt) (top_frame s.frames).cells s.answers);
           of_loop_so = subst (Yields (IsOfLoop (kind_of program t.stmt))) e
-              (of_loop program.exprs (kind_of program t.stmt) (top_cells s.frames) s.answers);
+              (of_loop program.exprs (kind_of program t.stmt) (top_frame s.frames).cells s.answers);
           no_entry = none;
         })
     asked_step (Err (Wants x)) e none =

@@ -1,6 +1,6 @@
 -- Past a nested block the process and its replay are beside each other again.
 use Rattle.std.proofs.Common.{◌≡◌, ℕ, ◌+◌, ◌≤◌, ℤ, false, List, [], ◌∷◌, ◌++◌, Option, Some, refl, ap, sym, subst, ◌∙◌, arith, map, length, drop}
-use Rattle.std.specs.Prelude.{slice_get}
+use Rattle.std.specs.Prelude.{slice_get, get_or, pos}
 use Rattle.ppd_ast.specs.declared.program.Program.{Program}
 use Rattle.ppd_ast.specs.declared.plan.Plan.{Plan}
 use Rattle.ppd_ast.specs.Lookups.{kind_of}
@@ -9,11 +9,10 @@ use Rattle.ppd_sem.specs.declared.proc.Need.TheVariants.{Enter, Invoke}
 use Rattle.ppd_sem.specs.declared.proc.Frame.{Frame}
 use Rattle.ppd_sem.specs.declared.proc.Todo.{Todo}
 use Rattle.ppd_sem.specs.declared.proc.Proc.{Proc}
-use Rattle.ppd_sem.specs.Ask.{cell_of}
-use Rattle.ppd_sem.specs.Process.{charged, cost, into_of, returned, returned_from, receive_at, need_of}
+use Rattle.ppd_sem.specs.Process.{charged, cost, into_of, returned, receive_at, need_of, on_top, into_at, with_values}
 use Rattle.ppd_sem.specs.Described.{ends_body}
 use Rattle.ppd_sem.specs.Blocks.{postlog_cells}
-use Rattle.ppd_sem.specs.Blocks.{with_values, write_all, skipped, frames_past, head_stmt}
+use Rattle.ppd_sem.specs.Blocks.{skipped, frames_past, head_stmt}
 use Rattle.law_replay.proofs.Vocabulary.Relation.{Rests, Stacked, at_base, called, HasEnds, IsBlock, IsBeside}
 use Rattle.law_replay.proofs.Vocabulary.Held.{Among, IsKeptBut}
 use Rattle.law_replay.proofs.Beside.Filled.{filled_whole, filled_same}
@@ -34,15 +33,15 @@ module _ (program : Program) (used inside : ℕ → Type 0) (calls : Type 0) (cl
   -- g is the block's own frame at its end, f as it was at its start
   filled_stacked : (cs : List ℕ) (f g : Frame) (fs gs : List Frame) (todo : List Todo) → IsKeptBut (Among cs) f g
       → Stacked program used inside calls closer home (f ∷ fs) gs todo
-      → Stacked program used inside calls closer home (g ∷ fs) (write_all cs (map (cell_of g.cells) cs) gs) todo
+      → Stacked program used inside calls closer home (g ∷ fs) (on_top (with_values cs (map (λ c. get_or g.cells c (pos 0)) cs)) gs) todo
   filled_stacked cs f g fs gs todo k (at_base f' r fs' gs' todo' same body first within) =
-      at_base g (record r { cells = with_values cs (map (cell_of g.cells) cs) r.cells }) fs' gs' todo'
+      at_base g (record r { cells = with_values cs (map (λ c. get_or g.cells c (pos 0)) cs) r.cells }) fs' gs' todo'
       (filled_same used cs f g r k same) (k.body ∙ body) first within
   filled_stacked cs f g fs gs todo k (called f' fs' gs' todo' c has below) =
       subst (λ x. Stacked program used inside calls closer home (g ∷ fs') (x ∷ gs') todo')
       (sym (filled_whole cs f g k)) (called g fs' gs' todo' c has below)
 
-  filled_length : (cs : List ℕ) (vs : List ℤ) (gs : List Frame) → length (write_all cs vs gs) ≡ length gs
+  filled_length : (cs : List ℕ) (vs : List ℤ) (gs : List Frame) → length (on_top (with_values cs vs) gs) ≡ length gs
   filled_length cs vs [] = refl
   filled_length cs vs (g ∷ gs) = refl
 
@@ -55,7 +54,7 @@ module _ (program : Program) (used inside : ℕ → Type 0) (calls : Type 0) (cl
       → IsKeptBut (Among (postlog_cells plan b)) f g → x.frames ≡ g ∷ fs → x.todo ≡ ts ++ outside → x.answers ≡ []
       → x.status ≡ s.status → x.budget ≡ s.budget → x.below ≡ 0 → s.spent + cost plan (Enter b u) ≤ x.spent
       → IsBeside program used inside calls closer home depth outside x
-      (skipped_by program plan (map (cell_of g.cells) (postlog_cells plan b)) (Enter b u) r)
+      (skipped_by program plan (map (λ c. get_or g.cells c (pos 0)) (postlog_cells plan b)) (Enter b u) r)
   loop_past plan b u t ts f g fs s r x beside top head on long kept now todo answers status budget whole spent =
       let before : Framed program used inside calls closer home depth ends block outside (f ∷ fs) r.frames
       (t ∷ ts) = record {
@@ -66,14 +65,14 @@ module _ (program : Program) (used inside : ℕ → Type 0) (calls : Type 0) (cl
       let further : Framed program used inside calls closer home depth ends block outside (f ∷ fs) r.frames ts =
       past program used inside calls closer home depth ends block outside t (f ∷ fs) r.frames ts on before
       (long before.stacked) in
-      let values : List ℤ = map (cell_of g.cells) (postlog_cells plan b) in
+      let values : List ℤ = map (λ c. get_or g.cells c (pos 0)) (postlog_cells plan b) in
       let rest : drop 1 r.todo ≡ ts = ap (λ ys. drop 1 ys) head in
       record {
         todo = todo ∙ ap (λ ys. ys ++ outside) (sym rest);
         frames = subst (λ ys. Stacked program used inside calls closer home x.frames
-            (write_all (postlog_cells plan b) values r.frames) ys) (sym rest)
+            (on_top (with_values (postlog_cells plan b) values) r.frames) ys) (sym rest)
             (subst (λ ys. Stacked program used inside calls closer home ys
-            (write_all (postlog_cells plan b) values r.frames) ts) (sym now)
+            (on_top (with_values (postlog_cells plan b) values) r.frames) ts) (sym now)
             (filled_stacked (postlog_cells plan b) f g fs r.frames ts kept further.stacked));
         whole = whole;
         below = beside.below;
@@ -117,7 +116,7 @@ module _ (program : Program) (used inside : ℕ → Type 0) (calls : Type 0) (cl
       (slice_get values 0) s.frames r.frames ts further in
       let rest : drop 1 r.todo ≡ ts = ap (λ ys. drop 1 ys) head in
       let frames : x.frames ≡ receive_at into (slice_get values 0) s.frames =
-      now ∙ ap (λ o. returned_from program o value s.frames) call ∙ ap (λ v. receive_at into v s.frames) is in
+      now ∙ ap (λ o. receive_at (into_at program o) value s.frames) call ∙ ap (λ v. receive_at into v s.frames) is in
       let past_is : frames_past program plan values (Invoke (Some b) u) r ≡ receive_at into
       (slice_get values 0) r.frames =
       ap (λ ys. receive_at (into_of (kind_of program (head_stmt ys))) (slice_get values 0) r.frames) head in

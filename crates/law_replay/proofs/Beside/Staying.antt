@@ -14,7 +14,7 @@ use Rattle.ppd_sem.specs.declared.proc.Todo.{Todo}
 use Rattle.ppd_sem.specs.Asked.{Asked}
 use Rattle.ppd_sem.specs.Deed.{Deed, set_local, set_shared, clear, branch, turn, leave, invoke, back, take, give, send, receive, print, pass, finish}
 use Rattle.ppd_sem.specs.Described.{ends_body}
-use Rattle.ppd_sem.specs.Process.{call_unit, entry_of, head_deed, need_of, offer_of, need_of_leaving, top_body, top_call, top_cells}
+use Rattle.ppd_sem.specs.Process.{call_unit, entry_of, head_deed, need_of, offer_of, need_of_leaving, top_frame}
 use Rattle.ppd_sem.proofs.NeedWords.{need_by_entry, need_by_offer}
 use Rattle.ppd_sem.specs.Tables.{block_of}
 use Rattle.ppd_model.specs.Marks.{closed}
@@ -59,12 +59,12 @@ module _ (program : Program) (plan : Plan) (used inside : ℕ → Type 0) (calls
 
     backs : (fs gs : List Frame) (ts : List Todo) (v : Option ℤ) → s.frames ≡ fs
         → IsReturn (kind_of program t.stmt)
-        → closed program plan s (Back (block_of plan (block.Function (top_body s.frames)))
-        (call_unit plan (top_call s.frames))) ≡ None
+        → closed program plan s (Back (block_of plan (block.Function (top_frame s.frames).body))
+        (call_unit plan (top_frame s.frames).call)) ≡ None
         → (x : Stacked program used inside calls closer home fs gs (t ∷ ts)) → Stays (back v) x
     backs fs gs ts v ef r none (at_base f g fs' gs' todo same body first within) =
-        closes_some (block_of plan (block.Function (top_body s.frames))) (call_unit plan (top_call s.frames))
-        (ap (λ x. is_some (block_of plan (block.Function x))) (ap top_body ef ∙ body)
+        closes_some (block_of plan (block.Function (top_frame s.frames).body)) (call_unit plan (top_frame s.frames).call)
+        (ap (λ x. is_some (block_of plan (block.Function x))) (ap (λ fs. (top_frame fs).body) ef ∙ body)
         ∙ c.returns t.stmt within.0.0 r) none
     backs fs gs ts v ef r none (called f fs' gs' todo k has below) = tt
 
@@ -123,9 +123,9 @@ module _ (program : Program) (plan : Plan) (used inside : ℕ → Type 0) (calls
     askeds (Ok p) gs ts e none x =
         deeds p.0 p.1 (entry_of program plan t) gs ts refl
         (subst (Yields (Suits (kind_of program t.stmt))) e
-        (suits program.exprs (kind_of program t.stmt) (top_cells s.frames) s.answers))
+        (suits program.exprs (kind_of program t.stmt) (top_frame s.frames).cells s.answers))
         (subst (Yields (IsOfLoop (kind_of program t.stmt))) e
-        (of_loop program.exprs (kind_of program t.stmt) (top_cells s.frames) s.answers)) none x
+        (of_loop program.exprs (kind_of program t.stmt) (top_frame s.frames).cells s.answers)) none x
     askeds (Err (Wants a)) gs ts e none x = tt
     askeds (Err (Traps a)) gs ts e none x = tt
 

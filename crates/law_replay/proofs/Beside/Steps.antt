@@ -15,7 +15,7 @@ use Rattle.ppd_ast.specs.Lookups.{kind_of}
 use Rattle.ppd_ast.specs.declared.status.Status.{Status}
 use Rattle.ppd_sem.specs.declared.proc.Need.{Need}
 use Rattle.ppd_sem.specs.declared.proc.Need.TheVariants.{Enter, Offer, Done, Trap, Budget, Stopped}
-use Rattle.ppd_sem.specs.Process.{act, act_by_need, act_by_asked, charged, cost, within_budget, need_of, need_of_head, offer_of, head_deed, top_cells, value_of}
+use Rattle.ppd_sem.specs.Process.{act, act_by_need, act_by_asked, charged, cost, within_budget, need_of, need_of_head, offer_of, head_deed, value_of, top_frame}
 use Rattle.ppd_sem.proofs.NeedWords.{act_at, need_by_status, need_of_running}
 use Rattle.law_replay.proofs.Vocabulary.Relation.{HasEnds, IsBlock, IsBeside, Suits, Stays, StaysAt, Yields}
 use Rattle.law_replay.proofs.Beside.Deeds.{suits}
@@ -149,7 +149,7 @@ module _ (program : Program) (used inside : ℕ → Type 0) (calls : Type 0) (cl
       (act_by_asked program a t (ts ++ outside) (head_deed program t s) s) (act_by_asked program a t ts q r))
       (deed_is program used inside calls closer home depth ends block outside s r t ts b h)
       (asked_beside a t ts (head_deed program t s) s r es er b h
-      (suits program.exprs (kind_of program t.stmt) (top_cells s.frames) s.answers) k))
+      (suits program.exprs (kind_of program t.stmt) (top_frame s.frames).cells s.answers) k))
 
   -- ---- the whole step
 

@@ -1,31 +1,36 @@
 -- One turn of the replay, by its need, and the event that it has.
-use Rattle.std.proofs.Common.{◌≡◌, ℕ, ◌+◌, ℤ, List, [], ◌∷◌, Option, Some, None, Bool, true, false, cond, Ok, Err, refl, ap, sym, ◌∙◌, eq-eqb, true≢false}
-use Rattle.std.proofs.lemmas.Bool.{cond-true, cond-false}
-use Rattle.std.specs.Prelude.{is_some, nat_lt, slice_get, zip}
+use Rattle.law_replay.proofs.Beside.Needs.{is_done, is_enter}
 use Rattle.ppd_ast.specs.declared.plan.Plan.{Plan}
 use Rattle.ppd_ast.specs.declared.program.Program.{Program}
-use Rattle.ppd_entry.specs.Pieces.{unit}
-use Rattle.ppd_sem.specs.declared.asking.Pause.TheVariants.{Wants, Traps}
-use Rattle.ppd_sem.specs.declared.proc.Answer.{Answer}
-use Rattle.ppd_sem.specs.declared.proc.Need.{Need}
-use Rattle.ppd_sem.specs.declared.proc.Need.TheVariants.{Enter, Offer, Done, End, Trap, Budget, Stopped}
-use Rattle.ppd_sem.specs.declared.proc.Proc.{Proc}
-use Rattle.ppd_sem.specs.declared.proc.Todo.{Todo}
-use Rattle.ppd_sem.specs.Asked.{Asked}
-use Rattle.ppd_sem.specs.Deed.{Deed, finish as finishes}
-use Rattle.ppd_sem.specs.Process.{act, act_by_asked, act_by_deed, act_by_need, cost, head_deed, need_of, need_of_asked, need_of_deed, need_of_head, entry_of, offer_of}
-use Rattle.ppd_sem.proofs.NeedWords.{act_at, need_by_entry, need_by_offer}
-use Rattle.ppd_sem.proofs.Progress.{need_at_todo}
-use Rattle.ppd_model.specs.Logs.{status_of}
-use Rattle.ppd_model.specs.Story.{cells_of_unit}
 use Rattle.ppd_emul_model.specs.Fits.{fits, found_of, wanted_of}
+use Rattle.ppd_emul_model.specs.Replay.{Replaying, end_here, is_budget, more, next_piece, past_piece, step_with, step_without, take_unit, turn, turn_by_end, turn_by_wanted, unit_taken}
 use Rattle.ppd_emul_model.specs.declared.wanted.Wanted.{Wanted}
 use Rattle.ppd_emul_model.specs.declared.wanted.Wanted.TheVariants as wanted
-use Rattle.ppd_emul_model.specs.Replay.{Replaying, more, end_here, fail, is_budget, next_piece, past_piece, step_with, step_without, take_unit, turn, turn_by_end, turn_by_wanted, unit_taken}
-use Rattle.ppd_emul_model.proofs.Vocabulary.{turn_within}
-use Rattle.law_replay.proofs.Beside.Needs.{is_done, is_enter}
+use Rattle.ppd_entry.specs.Pieces.{unit}
+use Rattle.ppd_model.specs.Logs.{status_of}
+use Rattle.ppd_sem.proofs.NeedWords.{act_at, need_by_entry, need_by_offer}
+use Rattle.ppd_sem.proofs.Progress.{need_at_todo}
+use Rattle.ppd_sem.specs.Asked.{Asked}
+use Rattle.ppd_sem.specs.Deed.{Deed, finish as finishes}
+use Rattle.ppd_sem.specs.Process.{act, act_by_asked, act_by_deed, act_by_need, cost, entry_of, head_deed, need_of, need_of_asked, need_of_deed, need_of_head, offer_of}
+use Rattle.ppd_sem.specs.declared.asking.Pause.TheVariants.{Traps, Wants}
+use Rattle.ppd_sem.specs.declared.proc.Answer.{Answer}
+use Rattle.ppd_sem.specs.declared.proc.Need.{Need}
+use Rattle.ppd_sem.specs.declared.proc.Need.TheVariants.{Budget, Done, End, Enter, Offer, Stopped, Trap}
+use Rattle.ppd_sem.specs.declared.proc.Proc.{Proc}
+use Rattle.ppd_sem.specs.declared.proc.Todo.{Todo}
+use Rattle.std.proofs.Common.{Bool, Err, List, None, Ok, Option, Some, [], ap, cond, eq-eqb, false, refl, sym, true, true≢false, ℕ, ℤ, ◌+◌, ◌∙◌, ◌∷◌, ◌≡◌}
+use Rattle.std.proofs.lemmas.Bool.{cond-true}
+use Rattle.std.specs.Option.{option_map_or}
+use Rattle.std.specs.Prelude.{is_some, nat_lt, slice_get, zip}
 
 module _ (program : Program) (plan : Plan) where
+  -- a turn of a process that did not end here, and that can pay for its step
+  going_turn : (r : Replaying) (n : Need) → is_budget n ≡ false
+      → turn_by_end program plan None n r ≡ turn_by_wanted program plan n (wanted_of program plan r.proc n) r
+  going_turn r Budget payable = absurd (true≢false payable)
+  going_turn r n payable = refl
+
   -- a turn whose step needs no piece
   pub plain_turn : (r : Replaying) (n : Need) → need_of program plan r.proc ≡ n
       → end_here r.since (next_piece r).1 ≡ None → is_budget n ≡ false → wanted_of program plan r.proc n ≡ None
@@ -33,7 +38,7 @@ module _ (program : Program) (plan : Plan) where
   plain_turn r n e late payable free =
       ap (λ o. turn_by_end program plan o (need_of program plan r.proc) r) late
       ∙ ap (λ x. turn_by_end program plan None x r) e
-      ∙ cond-false (is_budget n) (fail r wanted.Fewer) (turn_within program plan None n r) payable
+      ∙ going_turn r n payable
       ∙ ap (λ o. turn_by_wanted program plan n o r) free
 
   -- a turn whose step needs a piece, which is there
@@ -44,14 +49,14 @@ module _ (program : Program) (plan : Plan) where
   piece_turn r n w e late payable wants fit =
       ap (λ o. turn_by_end program plan o (need_of program plan r.proc) r) late
       ∙ ap (λ x. turn_by_end program plan None x r) e
-      ∙ cond-false (is_budget n) (fail r wanted.Fewer) (turn_within program plan None n r) payable
+      ∙ going_turn r n payable
       ∙ ap (λ o. turn_by_wanted program plan n o r) wants
       ∙ cond-true (fits w (found_of (next_piece r).1)) _ _ fit
 
   -- the unit that starts is there
   pub unit_turn : (u : ℕ) (r : Replaying) (values : List ℤ) → (next_piece r).1 ≡ unit u values
-      → take_unit plan u r ≡ more
-      (record (past_piece r) { in_force = zip (cells_of_unit (slice_get plan.units u)) values })
+      → take_unit plan (Some u) r ≡ more
+      (record (past_piece r) { in_force = zip (option_map_or (λ u. u.cells) (slice_get plan.units u) []) values })
   unit_turn u r values e =
       cond-true (fits (wanted.Unit u) (found_of (next_piece r).1)) (more (unit_taken plan u (next_piece r).1 r)) _
       (ap (λ q. fits (wanted.Unit u) (found_of q)) e ∙ eq-eqb u u refl)

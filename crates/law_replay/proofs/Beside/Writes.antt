@@ -1,14 +1,15 @@
 -- What a statement writes to the top frame, and that other cells stay.
 use Rattle.std.proofs.Common.{◌≡◌, ℕ, zero, suc, ◌+◌, ◌<◌, ℤ, pos, List, Some, None, Option, ap, sym, subst, ◌∙◌, arith, length-set, get_or-set_other, ◌≤◌}
-use Rattle.std.specs.Prelude.{slice_set, ◌-◌}
+use Rattle.std.specs.Prelude.{slice_set, ◌-◌, replicate}
+use Rattle.std.specs.List.{range_with_len}
 use Rattle.ppd_ast.specs.declared.program.Expr.{Expr}
 use Rattle.ppd_ast.specs.declared.program.Kind.{Kind}
 use Rattle.ppd_sem.specs.declared.proc.Frame.{Frame}
 use Rattle.ppd_sem.specs.Deed.{Deed, ask_deed}
-use Rattle.ppd_sem.specs.Process.{clear_cells}
 use Rattle.ppd_sem.proofs.OfKind.{IsDeedOf, asked_holds, clears, receives, sets, sets_element}
 use Rattle.law_replay.proofs.Vocabulary.Relation.{Yields}
 use Rattle.law_replay.proofs.Vocabulary.Held.{IsWriting, MayWrite, IsKeptBut}
+use Rattle.ppd_sem.specs.Process.{with_values}
 
 -- ---- what a statement writes
 
@@ -42,11 +43,13 @@ kept_set written f g c v w k = record {
 }
 
 pub kept_clear : (written : ℕ → Type 0) (f g : Frame) (base len : ℕ) → ((k : ℕ) → k < len → written (base + k))
-    → IsKeptBut written f g → IsKeptBut written f (record g { cells = clear_cells base len g.cells })
+    → IsKeptBut written f g → IsKeptBut written f (record g { cells = with_values (range_with_len base len) (replicate len (pos 0)) g.cells })
 kept_clear written f g base zero w k = k
 kept_clear written f g base (suc n) w k =
-    kept_set written f (record g { cells = clear_cells base n g.cells }) (base + n) (pos 0) (w n (omega arith))
-    (kept_clear written f g base n (λ i h. w i (omega (arith, h))) k)
+    let here : base + 0 ≡ base = omega arith in
+    kept_clear written f (record g { cells = slice_set g.cells base (pos 0) }) (base + 1) n
+    (λ i h. (let next : base + (i + 1) ≡ base + 1 + i = omega arith in subst written next (w (i + 1) (omega (arith, h)))))
+    (kept_set written f g base (pos 0) (subst written here (w 0 (omega arith))) k)
 
 abbrev or_first : {A : Type 0} (d : A) → Option A → A
 or_first d None = d

@@ -18,7 +18,7 @@ use Rattle.law_replay.proofs.Coming.Later.{Comes, Steps, next_proc, rest_by, ste
 use Rattle.law_replay.proofs.Coming.UnitSteps.{left_index, left_unit, unit_at, unit_first}
 
 module _ (program : Program) (plan : Plan) where
-  pub step_closes : (l : Logging) (m : Moment) (ms : List Moment) (F : Indexing → Indexing) (n : ℕ) (a : Mark)
+  pub step_closes : (l : Logging) (m : Moment) (ms : List Moment) (F : Indexing Indexed → Indexing Indexed) (n : ℕ) (a : Mark)
       (sy : Option Sync) → sy ≡ None
       → Comes program plan (next_proc program plan l m) ms F (rest_by program plan l m None sy (Some a) None) n
       → Steps program plan l m ms None (Some a) None
@@ -43,16 +43,16 @@ module _ (program : Program) (plan : Plan) where
       one_less [] h = let z : ⊥ = omega (arith, h) in absurd z
       one_less (k ∷ ks) h = omega (arith, h)
 
-      ran : (x : Indexing) → length x.running ≡ suc n → length (left_unit program plan m a x).running ≡ n
+      ran : (x : Indexing Indexed) → length x.running ≡ suc n → length (left_unit program plan m a x).running ≡ n
       ran x h = ap length (unit_running plan m.unit_values (unit_at program plan m) (left_index program plan a x))
           ∙ one_less x.running h
 
-      long : (x : Indexing) (next : ℕ) → length x.intervals ≡ next
+      long : (x : Indexing Indexed) (next : ℕ) → length x.intervals ≡ next
           → length (left_unit program plan m a x).intervals ≡ next
       long x next h = unit_length plan m.unit_values (unit_at program plan m) (left_index program plan a x)
           ∙ left_length x.entry a.values x.intervals x.running ∙ h
 
-      inner_by : (x : Indexing) (level j b k : ℕ) (i : Indexed) (next since : ℕ) → length x.running ≡ suc n
+      inner_by : (x : Indexing Indexed) (level j b k : ℕ) (i : Indexed) (next since : ℕ) → length x.running ≡ suc n
           → length x.intervals ≡ next
           → At x.intervals x.running (Some (record { level = level; interval = j; block = b })) k i
           → Grows i (leaves (record { level = level; interval = j; block = b }) level a.values

@@ -49,24 +49,24 @@ frames_in None = []
 frames_in (Some o) = o.proc.frames
 
 module _ (program : Program) (plan : Plan) (l : Logging) (m : Moment) (ms : List Moment) (before after : List ℕ)
-    (x : Indexing) (falls : Fall (length x.intervals) x.running) (deep : AreDeep plan x.intervals x.running before)
+    (x : Indexing Indexed) (falls : Fall (length x.intervals) x.running) (deep : AreDeep plan x.intervals x.running before)
     (law : functions_in plan after ≡ block_frames plan (act program plan l.proc m.taken.answer).frames) where
   abbrev next : Proc
   next = act program plan l.proc m.taken.answer
 
-  abbrev IsDeepAt : Indexing → ℕ → Opening → Type 0
+  abbrev IsDeepAt : Indexing Indexed → ℕ → Opening → Type 0
   IsDeepAt y k o = depth_at
       (finals program plan (log_step program plan l m) ms y).intervals k ≡ block_frames plan o.proc.frames
 
   -- what comes after the step
-  abbrev Later : Indexing → Type 0
+  abbrev Later : Indexing Indexed → Type 0
   Later y = Fall (length y.intervals) y.running → AreDeep plan y.intervals y.running after → (q : ℕ) (o : Opening)
       → opening program plan next ms q ≡ Some o → IsDeepAt y (length y.intervals + q) o
 
   abbrev entries : Option Mark → Option Sync → Option Mark → Option ℕ → Option Status → List Entry
   entries o sy c u st = news l m.taken m.unit_values o sy c u st
 
-  abbrev index : Option Mark → Option Sync → Option Mark → Option ℕ → Option Status → Indexing
+  abbrev index : Option Mark → Option Sync → Option Mark → Option ℕ → Option Status → Indexing Indexed
   index o sy c u st = fold (index_step plan) x (entries o sy c u st)
 
   -- an interval is opened
@@ -79,10 +79,10 @@ module _ (program : Program) (plan : Plan) (l : Logging) (m : Moment) (ms : List
       new : Indexed
       new = new_interval plan x a.block a.values
 
-      put : Indexing
+      put : Indexing Indexed
       put = index_step plan x (entry.Prelog a.block a.values)
 
-      y : Indexing
+      y : Indexing Indexed
       y = index (Some a) None None u None
 
       long : length y.intervals ≡ length x.intervals + 1
@@ -128,10 +128,10 @@ module _ (program : Program) (plan : Plan) (l : Logging) (m : Moment) (ms : List
       → IsDeepAt (index None None (Some a) u None) (length x.intervals + q) o
   closes_deep a u move later q o e = subst (λ n. IsDeepAt y (n + q) o) long (later y_falls y_deep q o e)
     where
-      out : Indexing
+      out : Indexing Indexed
       out = index_step plan x (entry.Postlog a.block a.values)
 
-      y : Indexing
+      y : Indexing Indexed
       y = index None None (Some a) u None
 
       long : length y.intervals ≡ length x.intervals
@@ -154,7 +154,7 @@ module _ (program : Program) (plan : Plan) (l : Logging) (m : Moment) (ms : List
       → IsDeepAt (index None sy None u None) (length x.intervals + q) o
   passes_deep sy u move later q o e = subst (λ n. IsDeepAt y (n + q) o) long (later y_falls y_deep q o e)
     where
-      y : Indexing
+      y : Indexing Indexed
       y = pass_index program plan l m.taken m.unit_values sy u x
 
       long : length y.intervals ≡ length x.intervals
@@ -199,7 +199,7 @@ module _ (program : Program) (policy : Policy) (v : IsValid program) (p : ℕ)
   plan = plan_of program policy
 
   -- each interval that is opened has the depth of its frames
-  pub deep_openings : (ms : List Moment) (l : Logging) (x : Indexing) → IsInOrder program plan p l.proc
+  pub deep_openings : (ms : List Moment) (l : Logging) (x : Indexing Indexed) → IsInOrder program plan p l.proc
       → l.proc.status ≡ None → IsRun program plan l.proc ms → Fall (length x.intervals) x.running
       → AreDeep plan x.intervals x.running (stack program plan p l.proc) → (q : ℕ) (o : Opening)
       → opening program plan l.proc ms q ≡ Some o

@@ -1,4 +1,6 @@
 -- The depth of each interval's log is the count of those among the frames that are of functions that are blocks.
+use Rattle.ppd_entry.specs.Changed.{change}
+use Rattle.ppd_entry.proofs.Vocabulary.{with_piece}
 use Rattle.std.proofs.Common.{◌≡◌, ℕ, zero, suc, ◌+◌, ◌<◌, ◌≤◌, List, [], ◌∷◌, ◌++◌, length, refl, ◌∙◌, arith}
 use Rattle.std.proofs.lemmas.List.{length-append}
 use Rattle.std.specs.Prelude.{⊤, ℤ, drop, fold, if◌then◌else◌}
@@ -6,7 +8,7 @@ use Rattle.ppd_ast.specs.declared.plan.Plan.{Plan}
 use Rattle.ppd_ast.specs.declared.program.Program.{Program}
 use Rattle.ppd_entry.specs.declared.entry.Entry.{Entry}
 use Rattle.ppd_entry.specs.declared.entry.Entry.TheVariants as entry
-use Rattle.ppd_entry.specs.IntervalLogs.{Indexed, Indexing, add_piece, add_piece_at, depth_of, index_step, interval_at, left_open, new_interval}
+use Rattle.ppd_entry.specs.IntervalLogs.{Indexed, Indexing, add_piece, depth_of, index_step, interval_at, left_open, new_interval}
 use Rattle.ppd_entry.specs.Pieces.{Piece, nested, postlog, sync, finish, unfinished, unit}
 use Rattle.ppd_sem.specs.Blocks.{block_kind, is_function}
 use Rattle.ppd_model.specs.declared.state.Logging.{Logging}
@@ -23,7 +25,7 @@ depth_at xs k = (interval_at xs k).log.depth
 
 -- ---- entries leave the depths of the intervals that are there
 
-added_depth : (n : ℕ) (p : Piece) (j k : ℕ) (xs : List Indexed) → depth_at (add_piece_at n p j xs) k ≡ depth_at xs k
+added_depth : (n : ℕ) (p : Piece) (j k : ℕ) (xs : List Indexed) → depth_at (change (with_piece n p) j xs) k ≡ depth_at xs k
 added_depth n p j k [] = refl
 added_depth n p zero zero (x ∷ xs) = refl
 added_depth n p zero (suc k) (x ∷ xs) = refl
@@ -56,10 +58,10 @@ left_depth : (e : ℕ) (values : List ℤ) (xs : List Indexed) (ks : List ℕ) (
 left_depth e values xs [] k = refl
 left_depth e values xs (j ∷ ks) k =
     piece_depth (interval_at xs j).first (nested j (interval_at xs j).log.block values) ks k
-    (add_piece_at e (postlog values) j xs) ∙ added_depth e (postlog values) j k xs
+    (change (with_piece e (postlog values)) j xs) ∙ added_depth e (postlog values) j k xs
 
 module _ (plan : Plan) where
-  step_depth : (x : Indexing) (e : Entry) (k : ℕ) → k < length x.intervals
+  step_depth : (x : Indexing Indexed) (e : Entry) (k : ℕ) → k < length x.intervals
       → depth_at (index_step plan x e).intervals k ≡ depth_at x.intervals k
   step_depth x (entry.Prelog b values) k h = put_depth x.intervals (new_interval plan x b values) k h
   step_depth x (entry.Unit u values) k h = piece_depth x.entry (unit u values) x.running k x.intervals
@@ -70,7 +72,7 @@ module _ (plan : Plan) where
       open_depth x.running k (add_piece x.entry (finish status rest) x.running x.intervals) ∙ piece_depth x.entry
       (finish status rest) x.running k x.intervals
 
-  step_longer : (x : Indexing) (e : Entry) → length x.intervals ≤ length (index_step plan x e).intervals
+  step_longer : (x : Indexing Indexed) (e : Entry) → length x.intervals ≤ length (index_step plan x e).intervals
   step_longer x (entry.Prelog b values) =
       let z : length (x.intervals ++ new_interval plan x b values ∷ []) ≡ length x.intervals + 1 =
       length-append x.intervals (new_interval plan x b values ∷ []) in omega (arith, z)
@@ -83,18 +85,18 @@ module _ (plan : Plan) where
       let z = open_length x.running (add_piece x.entry (finish status rest) x.running x.intervals) in
       let y = piece_length x.entry (finish status rest) x.running x.intervals in omega (arith, z, y)
 
-  pub entries_depth : (es : List Entry) (x : Indexing) (k : ℕ) → k < length x.intervals
+  pub entries_depth : (es : List Entry) (x : Indexing Indexed) (k : ℕ) → k < length x.intervals
       → depth_at (fold (index_step plan) x es).intervals k ≡ depth_at x.intervals k
   entries_depth [] x k h = refl
   entries_depth (e ∷ es) x k h =
       entries_depth es (index_step plan x e) k (omega (arith, h, step_longer x e)) ∙ step_depth x e k h
 
-  entries_longer : (es : List Entry) (x : Indexing)
+  entries_longer : (es : List Entry) (x : Indexing Indexed)
       → length x.intervals ≤ length (fold (index_step plan) x es).intervals
   entries_longer [] x = omega arith
   entries_longer (e ∷ es) x = omega (arith, step_longer x e, entries_longer es (index_step plan x e))
 
-  pub final_depth : (program : Program) (ms : List Moment) (l : Logging) (x : Indexing) (k : ℕ)
+  pub final_depth : (program : Program) (ms : List Moment) (l : Logging) (x : Indexing Indexed) (k : ℕ)
       → k < length x.intervals → depth_at (finals program plan l ms x).intervals k ≡ depth_at x.intervals k
   final_depth program [] l x k h = entries_depth (closing l) x k h
   final_depth program (m ∷ ms) l x k h =

@@ -1,9 +1,10 @@
 -- What each entry makes of the index, as it matters to one interval.
+use Rattle.ppd_entry.specs.Changed.{change}
 use Rattle.std.proofs.Common.{◌≡◌, ℕ, zero, suc, ◌+◌, ◌<◌, ◌≤◌, List, [], ◌∷◌, ◌++◌, length, Some, None, refl, ◌∙◌, subst, arith}
 use Rattle.std.proofs.lemmas.List.{length-append}
 use Rattle.std.proofs.lemmas.Option.{none-some}
 use Rattle.std.specs.Prelude.{slice_get, ℤ}
-use Rattle.ppd_entry.specs.IntervalLogs.{Indexed, add_piece, add_piece_at, interval_at, left_open}
+use Rattle.ppd_entry.specs.IntervalLogs.{Indexed, add_piece, interval_at, left_open}
 use Rattle.ppd_entry.proofs.Vocabulary.{with_piece}
 use Rattle.ppd_entry.specs.Pieces.{Piece, nested, unfinished, postlog}
 use Rattle.law_replay.specs.Coming.Pieces.{Inner}
@@ -71,7 +72,7 @@ put_past xs ks y k i a = record {
 abbrev pub popped : ℕ → List ℤ → ℕ → List ℕ → List Indexed → List Indexed
 popped n values j ks xs =
     add_piece (interval_at xs j).first (nested j (interval_at xs j).log.block values) ks
-    (add_piece_at n (postlog values) j xs)
+    (change (with_piece n (postlog values)) j xs)
 
 down : (xs : List Indexed) (j : ℕ) (ks : List ℕ) → Fall (length xs) (j ∷ ks) → Fall (length xs) ks
 down xs j ks f = falls_on j (length xs) ks f.1 f.0
@@ -82,12 +83,12 @@ rest_below j k ks f e = subst (λ l. Rests ks l) e (falls_rest j ks f)
 pub pop_own : (n : ℕ) (values : List ℤ) (xs : List Indexed) (j : ℕ) (ks : List ℕ) (k : ℕ) (i : Indexed)
     → At xs (j ∷ ks) None k i → Past (popped n values j ks xs) ks k (with_piece n (postlog values) i)
 pop_own n values xs j ks k i a =
-    let b : At (add_piece_at n (postlog values) j xs) (j ∷ ks) None k (with_piece n (postlog values) i) =
+    let b : At (change (with_piece n (postlog values)) j xs) (j ∷ ks) None k (with_piece n (postlog values) i) =
     piece_own n (postlog values) xs (j ∷ ks) k i a in
     piece_past (interval_at xs j).first (nested j (interval_at xs j).log.block values)
-    (add_piece_at n (postlog values) j xs) ks k (with_piece n (postlog values) i)
+    (change (with_piece n (postlog values)) j xs) ks k (with_piece n (postlog values) i)
     (record {
-      falls = down (add_piece_at n (postlog values) j xs) j ks b.falls;
+      falls = down (change (with_piece n (postlog values)) j xs) j ks b.falls;
       rests = rest_below j k ks a.falls.1 a.runs;
       there = b.there;
     })
@@ -96,19 +97,19 @@ pub pop_leaves : (n : ℕ) (values : List ℤ) (xs : List Indexed) (j : ℕ) (ks
     → At xs (j ∷ ks) (Some (record { level = zero; interval = m; block = b })) k i
     → At (popped n values j ks xs) ks None k (with_piece (interval_at xs j).first (nested m b values) i)
 pop_leaves n values xs j ks m b k i a =
-    let o : At (add_piece_at n (postlog values) j xs) (j ∷ ks)
+    let o : At (change (with_piece n (postlog values)) j xs) (j ∷ ks)
     (Some (record { level = zero; interval = m; block = b })) k i =
     piece_inner n (postlog values) xs (j ∷ ks) (record { level = zero; interval = m; block = b }) k i a in
-    let p : At (add_piece_at n (postlog values) j xs) ks None k i =
+    let p : At (change (with_piece n (postlog values)) j xs) ks None k i =
     record {
-      falls = down (add_piece_at n (postlog values) j xs) j ks o.falls;
+      falls = down (change (with_piece n (postlog values)) j xs) j ks o.falls;
       runs = o.runs.2;
       there = o.there;
     } in
     let q : At (popped n values j ks xs) ks None k
     (with_piece (interval_at xs j).first (nested j (interval_at xs j).log.block values) i) =
     piece_own (interval_at xs j).first (nested j (interval_at xs j).log.block values)
-    (add_piece_at n (postlog values) j xs) ks k i p in
+    (change (with_piece n (postlog values)) j xs) ks k i p in
     subst (λ l. At (popped n values j ks xs) ks None k
     (with_piece (interval_at xs j).first (nested l b values) i)) a.runs.0
     (subst (λ l. At (popped n values j ks xs) ks None k
@@ -118,21 +119,21 @@ pub pop_inner : (n : ℕ) (values : List ℤ) (xs : List Indexed) (j : ℕ) (ks 
     → At xs (j ∷ ks) (Some (record { level = suc level; interval = m; block = b })) k i
     → At (popped n values j ks xs) ks (Some (record { level = level; interval = m; block = b })) k i
 pop_inner n values xs j ks level m b k i a =
-    let o : At (add_piece_at n (postlog values) j xs) (j ∷ ks)
+    let o : At (change (with_piece n (postlog values)) j xs) (j ∷ ks)
     (Some (record { level = suc level; interval = m; block = b })) k i =
     piece_inner n (postlog values) xs (j ∷ ks) (record { level = suc level; interval = m; block = b }) k i a in
     piece_inner (interval_at xs j).first (nested j (interval_at xs j).log.block values)
-    (add_piece_at n (postlog values) j xs) ks (record { level = level; interval = m; block = b }) k i
-    (record { falls = down (add_piece_at n (postlog values) j xs) j ks o.falls; runs = o.runs; there = o.there })
+    (change (with_piece n (postlog values)) j xs) ks (record { level = level; interval = m; block = b }) k i
+    (record { falls = down (change (with_piece n (postlog values)) j xs) j ks o.falls; runs = o.runs; there = o.there })
 
 pub pop_past : (n : ℕ) (values : List ℤ) (xs : List Indexed) (j : ℕ) (ks : List ℕ) (k : ℕ) (i : Indexed)
     → Past xs (j ∷ ks) k i → Past (popped n values j ks xs) ks k i
 pop_past n values xs j ks k i a =
-    let o : Past (add_piece_at n (postlog values) j xs) (j ∷ ks) k i =
+    let o : Past (change (with_piece n (postlog values)) j xs) (j ∷ ks) k i =
     piece_past n (postlog values) xs (j ∷ ks) k i a in
     piece_past (interval_at xs j).first (nested j (interval_at xs j).log.block values)
-    (add_piece_at n (postlog values) j xs) ks k i
-    (record { falls = down (add_piece_at n (postlog values) j xs) j ks o.falls; rests = o.rests.1; there = o.there })
+    (change (with_piece n (postlog values)) j xs) ks k i
+    (record { falls = down (change (with_piece n (postlog values)) j xs) j ks o.falls; rests = o.rests.1; there = o.there })
 
 -- ---- an end
 

@@ -1,9 +1,10 @@
 -- What each kind of entry gives to an interval that runs, by the interval just inside it.
+use Rattle.ppd_entry.specs.Changed.{change}
 use Rattle.std.proofs.Common.{◌≡◌, ℕ, zero, suc, ◌+◌, ◌<◌, List, [], ◌∷◌, ◌++◌, length, map, Option, Some, None, refl, ap, sym, ◌∙◌, subst, arith, append_assoc, append-nil}
 use Rattle.std.proofs.lemmas.Option.{none-some}
 use Rattle.std.specs.Prelude.{⊤, slice_get, option_map}
 use Rattle.std.proofs.lemmas.List.{map-append}
-use Rattle.ppd_entry.specs.IntervalLogs.{Indexed, add_piece, add_piece_at, interval_at}
+use Rattle.ppd_entry.specs.IntervalLogs.{Indexed, add_piece, interval_at}
 use Rattle.ppd_entry.proofs.Vocabulary.{with_piece}
 use Rattle.ppd_entry.specs.Pieces.{Piece}
 use Rattle.law_replay.specs.Coming.Pieces.{Inner}
@@ -12,26 +13,26 @@ use Rattle.ppd_model.proofs.Extents.{Fall}
 -- ---- one piece more
 
 pub added_same : (n : ℕ) (p : Piece) (k : ℕ) (xs : List Indexed) (i : Indexed) → slice_get xs k ≡ Some i
-    → slice_get (add_piece_at n p k xs) k ≡ Some (with_piece n p i)
+    → slice_get (change (with_piece n p) k xs) k ≡ Some (with_piece n p i)
 added_same n p k [] i e = absurd (none-some i e)
 added_same n p zero (x ∷ xs) i e = ap (option_map (with_piece n p)) e
 added_same n p (suc k) (x ∷ xs) i e = added_same n p k xs i e
 
 pub added_other : (n : ℕ) (p : Piece) (j k : ℕ) (xs : List Indexed) → (j ≡ k → ⊥)
-    → slice_get (add_piece_at n p j xs) k ≡ slice_get xs k
+    → slice_get (change (with_piece n p) j xs) k ≡ slice_get xs k
 added_other n p j k [] d = refl
 added_other n p zero zero (x ∷ xs) d = absurd (d refl)
 added_other n p zero (suc k) (x ∷ xs) d = refl
 added_other n p (suc j) zero (x ∷ xs) d = refl
 added_other n p (suc j) (suc k) (x ∷ xs) d = added_other n p j k xs (λ e. d (ap suc e))
 
-pub added_length : (n : ℕ) (p : Piece) (j : ℕ) (xs : List Indexed) → length (add_piece_at n p j xs) ≡ length xs
+pub added_length : (n : ℕ) (p : Piece) (j : ℕ) (xs : List Indexed) → length (change (with_piece n p) j xs) ≡ length xs
 added_length n p j [] = refl
 added_length n p zero (x ∷ xs) = refl
 added_length n p (suc j) (x ∷ xs) = ap suc (added_length n p j xs)
 
 pub added_block : (n : ℕ) (p : Piece) (j k : ℕ) (xs : List Indexed)
-    → (interval_at (add_piece_at n p j xs) k).log.block ≡ (interval_at xs k).log.block
+    → (interval_at (change (with_piece n p) j xs) k).log.block ≡ (interval_at xs k).log.block
 added_block n p j k [] = refl
 added_block n p zero zero (x ∷ xs) = refl
 added_block n p zero (suc k) (x ∷ xs) = refl
@@ -174,29 +175,29 @@ pub record Past (xs : List Indexed) (ks : List ℕ) (k : ℕ) (i : Indexed) : Ty
   pub there : slice_get xs k ≡ Some i
 
 falls_at : (n : ℕ) (p : Piece) (j : ℕ) (xs : List Indexed) (ks : List ℕ) → Fall (length xs) ks
-    → Fall (length (add_piece_at n p j xs)) ks
+    → Fall (length (change (with_piece n p) j xs)) ks
 falls_at n p j xs ks f = subst (λ m. Fall m ks) (sym (added_length n p j xs)) f
 
 -- another interval has a piece more
 pub at_other : (n : ℕ) (p : Piece) (j : ℕ) (xs : List Indexed) (ks : List ℕ) (inner : Option Inner) (k : ℕ)
-    (i : Indexed) → (j ≡ k → ⊥) → At xs ks inner k i → At (add_piece_at n p j xs) ks inner k i
+    (i : Indexed) → (j ≡ k → ⊥) → At xs ks inner k i → At (change (with_piece n p) j xs) ks inner k i
 at_other n p j xs ks inner k i d a = record {
   falls = falls_at n p j xs ks a.falls;
-  runs = runs_alike xs (add_piece_at n p j xs) (length xs) ks inner k a.falls (λ l q. added_block n p j l xs) a.runs;
+  runs = runs_alike xs (change (with_piece n p) j xs) (length xs) ks inner k a.falls (λ l q. added_block n p j l xs) a.runs;
   there = added_other n p j k xs d ∙ a.there;
 }
 
 -- the interval has a piece more
 pub at_same : (n : ℕ) (p : Piece) (xs : List Indexed) (ks : List ℕ) (inner : Option Inner) (k : ℕ) (i : Indexed)
-    → At xs ks inner k i → At (add_piece_at n p k xs) ks inner k (with_piece n p i)
+    → At xs ks inner k i → At (change (with_piece n p) k xs) ks inner k (with_piece n p i)
 at_same n p xs ks inner k i a = record {
   falls = falls_at n p k xs ks a.falls;
-  runs = runs_alike xs (add_piece_at n p k xs) (length xs) ks inner k a.falls (λ l q. added_block n p k l xs) a.runs;
+  runs = runs_alike xs (change (with_piece n p) k xs) (length xs) ks inner k a.falls (λ l q. added_block n p k l xs) a.runs;
   there = added_same n p k xs i a.there;
 }
 
 pub past_other : (n : ℕ) (p : Piece) (j : ℕ) (xs : List Indexed) (ks : List ℕ) (k : ℕ) (i : Indexed) → (j ≡ k → ⊥)
-    → Past xs ks k i → Past (add_piece_at n p j xs) ks k i
+    → Past xs ks k i → Past (change (with_piece n p) j xs) ks k i
 past_other n p j xs ks k i d a =
     record { falls = falls_at n p j xs ks a.falls; rests = a.rests; there = added_other n p j k xs d ∙ a.there }
 
@@ -205,7 +206,7 @@ pub piece_own : (n : ℕ) (p : Piece) (xs : List Indexed) (ks : List ℕ) (k : �
     → At (add_piece n p ks xs) ks None k (with_piece n p i)
 piece_own n p xs [] k i a = absurd a.runs
 piece_own n p xs (j ∷ ks) k i a =
-    subst (λ l. At (add_piece_at n p l xs) (j ∷ ks) None k (with_piece n p i)) (sym a.runs)
+    subst (λ l. At (change (with_piece n p) l xs) (j ∷ ks) None k (with_piece n p i)) (sym a.runs)
     (at_same n p xs (j ∷ ks) None k i a)
 
 pub piece_inner : (n : ℕ) (p : Piece) (xs : List Indexed) (ks : List ℕ) (m : Inner) (k : ℕ) (i : Indexed)

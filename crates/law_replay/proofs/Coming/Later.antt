@@ -14,7 +14,7 @@ use Rattle.ppd_sem.specs.declared.proc.Proc.{Proc}
 use Rattle.ppd_sem.specs.Process.{act}
 use Rattle.ppd_model.specs.declared.tracing.Taken.{Taken}
 use Rattle.ppd_model.specs.declared.state.Logging.{Logging}
-use Rattle.ppd_model.specs.Logs.{closed_log, entries_of, ends, log_step, postlogs, prelogs, rest_after, syncs, units}
+use Rattle.ppd_model.specs.Logs.{closed_log, entries_of, ends, log_step, rest_after, syncs, units, block_entries}
 use Rattle.ppd_model.specs.Marks.{Mark}
 use Rattle.ppd_model.specs.Story.{Moment, unit_started}
 use Rattle.ppd_model.specs.Synchronizations.{Sync}
@@ -29,18 +29,18 @@ use Rattle.law_replay.proofs.Coming.IndexSteps.{end_inner, end_own, end_past, no
 
 abbrev pub news : Logging → Taken → List ℤ → Option Mark → Option Sync → Option Mark → Option ℕ → Option Status
     → List Entry
-news l t vals o sy c u s = prelogs o ++ syncs l t sy ++ postlogs c ++ units u vals ++ ends l s
+news l t vals o sy c u s = block_entries entry.Prelog o ++ syncs l t sy ++ block_entries entry.Postlog c ++ units u vals ++ ends l s
 
 abbrev pub closing : Logging → List Entry
 closing l = if is_none l.proc.status then entry.End status.Blocked l.rest l.reads l.writes ∷ [] else []
 
 module _ (program : Program) (plan : Plan) where
   -- the index after the entries to come
-  abbrev pub finals : Logging → List Moment → Indexing → Indexing
+  abbrev pub finals : Logging → List Moment → Indexing Indexed → Indexing Indexed
   finals l [] x = fold (index_step plan) x (closing l)
   finals l (m ∷ ms) x = finals (log_step program plan l m) ms (fold (index_step plan) x (entries_of program plan l m))
 
-  pub finals_are : (ms : List Moment) (l : Logging) (x : Indexing)
+  pub finals_are : (ms : List Moment) (l : Logging) (x : Indexing Indexed)
       → fold (index_step plan) x (closed_log (fold (log_step program plan) l ms)) ≡ finals l ms
       (fold (index_step plan) x l.entries)
   finals_are [] l x = fold-append (index_step plan) x l.entries (closing l)
@@ -62,22 +62,22 @@ module _ (program : Program) (plan : Plan) where
   Begins k (Some op) o = NewLog k op o
 
   -- what the index gives after these moments; n intervals run, and so many steps came since the last entry
-  pub record Comes (s : Proc) (ms : List Moment) (F : Indexing → Indexing) (rest n : ℕ) : Type 0 where
-    pub own : (x : Indexing) (k : ℕ) (i : Indexed) (next : ℕ) → length x.running ≡ n → length x.intervals ≡ next
+  pub record Comes (s : Proc) (ms : List Moment) (F : Indexing Indexed → Indexing Indexed) (rest n : ℕ) : Type 0 where
+    pub own : (x : Indexing Indexed) (k : ℕ) (i : Indexed) (next : ℕ) → length x.running ≡ n → length x.intervals ≡ next
         → At x.intervals x.running None k i
         → Grows i (coming program plan s ms None next rest).pieces (slice_get (F x).intervals k)
-    pub inner : (x : Indexing) (m : Inner) (k : ℕ) (i : Indexed) (next since : ℕ) → length x.running ≡ n
+    pub inner : (x : Indexing Indexed) (m : Inner) (k : ℕ) (i : Indexed) (next since : ℕ) → length x.running ≡ n
         → length x.intervals ≡ next → At x.intervals x.running (Some m) k i
         → Grows i (coming program plan s ms (Some m) next since).pieces (slice_get (F x).intervals k)
-    pub past : (x : Indexing) (k : ℕ) (i : Indexed) → length x.running ≡ n → Past x.intervals x.running k i
+    pub past : (x : Indexing Indexed) (k : ℕ) (i : Indexed) → length x.running ≡ n → Past x.intervals x.running k i
         → Grows i [] (slice_get (F x).intervals k)
-    pub begins : (x : Indexing) (q next : ℕ) → length x.running ≡ n → length x.intervals ≡ next
+    pub begins : (x : Indexing Indexed) (q next : ℕ) → length x.running ≡ n → length x.intervals ≡ next
         → Fall (length x.intervals) x.running
         → Begins (next + q) (opening program plan s ms q) (slice_get (F x).intervals (next + q))
 
   -- nothing comes
-  pub record Stops (s : Proc) (ms : List Moment) (F : Indexing → Indexing) : Type 0 where
-    pub still : (x : Indexing) → F x ≡ x
+  pub record Stops (s : Proc) (ms : List Moment) (F : Indexing Indexed → Indexing Indexed) : Type 0 where
+    pub still : (x : Indexing Indexed) → F x ≡ x
     pub none : (q : ℕ) → opening program plan s ms q ≡ None
 
   -- ---- no moment is left
@@ -114,23 +114,23 @@ module _ (program : Program) (plan : Plan) where
   next_proc l m = act program plan l.proc m.taken.answer
 
   pub record Steps (l : Logging) (m : Moment) (ms : List Moment) (o c : Option Mark) (s : Option Status)
-      (F : Indexing → Indexing) (n : ℕ) : Type 0 where
-    pub own : (x : Indexing) (k : ℕ) (i : Indexed) (next : ℕ) → length x.running ≡ n → length x.intervals ≡ next
+      (F : Indexing Indexed → Indexing Indexed) (n : ℕ) : Type 0 where
+    pub own : (x : Indexing Indexed) (k : ℕ) (i : Indexed) (next : ℕ) → length x.running ≡ n → length x.intervals ≡ next
         → At x.intervals x.running None k i
         → Grows i (own_opens (event_items program plan l.proc m.taken) m next l.rest o c s
         (coming program plan (next_proc l m) ms)).pieces (slice_get (F x).intervals k)
-    pub inner : (x : Indexing) (j : Inner) (k : ℕ) (i : Indexed) (next since : ℕ) → length x.running ≡ n
+    pub inner : (x : Indexing Indexed) (j : Inner) (k : ℕ) (i : Indexed) (next since : ℕ) → length x.running ≡ n
         → length x.intervals ≡ next → At x.intervals x.running (Some j) k i
         → Grows i (inner_opens j m next since o c s (coming program plan (next_proc l m) ms)).pieces
         (slice_get (F x).intervals k)
-    pub past : (x : Indexing) (k : ℕ) (i : Indexed) → length x.running ≡ n → Past x.intervals x.running k i
+    pub past : (x : Indexing Indexed) (k : ℕ) (i : Indexed) → length x.running ≡ n → Past x.intervals x.running k i
         → Grows i [] (slice_get (F x).intervals k)
-    pub begins : (x : Indexing) (q next : ℕ) → length x.running ≡ n → length x.intervals ≡ next
+    pub begins : (x : Indexing Indexed) (q next : ℕ) → length x.running ≡ n → length x.intervals ≡ next
         → Fall (length x.intervals) x.running
         → Begins (next + q) (opening_by o q (unit_pieces (unit_started m.taken.need) m.unit_values)
         (next_proc l m) ms (opening program plan (next_proc l m) ms)) (slice_get (F x).intervals (next + q))
 
-  abbrev pub stepped : Logging → Moment → Option Mark → Option Sync → Option Mark → Option Status → Indexing → Indexing
+  abbrev pub stepped : Logging → Moment → Option Mark → Option Sync → Option Mark → Option Status → Indexing Indexed → Indexing Indexed
   stepped l m o sy c s x = fold (index_step plan) x (news l m.taken m.unit_values o sy c (unit_started m.taken.need) s)
 
   abbrev pub rest_by : Logging → Moment → Option Mark → Option Sync → Option Mark → Option Status → ℕ

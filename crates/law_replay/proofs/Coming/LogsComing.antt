@@ -1,6 +1,6 @@
 -- The log of each interval is that of its opening.
 use Rattle.std.proofs.Common.{◌≡◌, ℕ, zero, suc, ◌+◌, ◌-◌, ◌<◌, List, [], ◌∷◌, length, fold, Some, refl, ap, sym, ◌∙◌, subst, arith}
-use Rattle.std.specs.Prelude.{slice_get}
+use Rattle.std.specs.Prelude.{slice_get, get_or}
 use Rattle.std.proofs.lemmas.List.{length-map}
 use Rattle.std.proofs.lemmas.Option.{get_or_from_slice_get}
 use Rattle.ppd_ast.specs.declared.plan.Plan.{Plan}
@@ -13,7 +13,7 @@ use Rattle.ppd_entry.proofs.Vocabulary.{no_interval}
 use Rattle.ppd_sem.specs.Process.{started}
 use Rattle.ppd_model.specs.Logs.{begun_log}
 use Rattle.ppd_model.specs.Schedule.{started_world}
-use Rattle.ppd_model.specs.Story.{Moment, Telling, begun, own_moments, tell, told}
+use Rattle.ppd_model.specs.Story.{Moment, Telling, begun, tell, told}
 use Rattle.ppd_model.proofs.Bounded.{started_count}
 use Rattle.ppd_model.proofs.Changes.{length-change}
 use Rattle.law_steps.specs.OpenBlocks.Run.{IsRun}
@@ -82,7 +82,7 @@ module _ (program : Program) (policy : Policy) (budget p : ℕ) (v : IsValid pro
 pub logs_are_coming : LogsAreComing
 logs_are_coming program policy budget h p k v whole there =
     let plan : Plan = plan_of program policy in
-    let ms : List Moment = own_moments (told program plan budget h) p in
+    let ms : List Moment = get_or (told program plan budget h).moments p [] in
     let run : IsRun program plan (started program plan p budget) ms =
     schedules_run program plan budget h p v whole there in
     let count : length (told program plan budget h).moments ≡ length program.bodies - program.functions =

@@ -9,7 +9,7 @@ use Rattle.ppd_entry.proofs.Vocabulary.{log_in}
 use Rattle.ppd_sem.specs.Process.{started}
 use Rattle.ppd_model.specs.Logs.{begun_log, closed_log, closed_logs, log_of}
 use Rattle.ppd_model.proofs.LogWords.{logs_from}
-use Rattle.ppd_model.specs.Story.{Moment, own_moments, told}
+use Rattle.ppd_model.specs.Story.{Moment, told}
 use Rattle.law_steps.specs.OpenBlocks.Stack.{block_frames}
 use Rattle.law_replay.specs.Coming.Pieces.{coming}
 use Rattle.law_replay.proofs.Vocabulary.Nested.{IsNested}
@@ -30,10 +30,10 @@ module _ (program : Program) (plan : Plan) (budget : ℕ) where
       log_there (q + 1) rest p (omega (arith, h))
       ∙ ap (λ z. closed_log (log_of program plan budget z (get_or rest p []))) e
 
-  abbrev pub begun_index : ℕ → Indexing
+  abbrev pub begun_index : ℕ → Indexing Indexed
   begun_index p = fold (index_step plan) begun_indexing (begun_log program plan budget p).entries
 
-  abbrev pub ended_index : ℕ → List Moment → Indexing
+  abbrev pub ended_index : ℕ → List Moment → Indexing Indexed
   ended_index p ms = finals program plan (begun_log program plan budget p) ms (begun_index p)
 
   -- the depth of the interval that an opening began
@@ -80,13 +80,13 @@ module _ (program : Program) (plan : Plan) (budget : ℕ) where
 
   -- the log of each interval is that of its opening, for a process whose steps are nested
   pub logs_nested : (h : List ℕ) (p k : ℕ) → p < length (told program plan budget h).moments
-      → (let ms : List Moment = own_moments (told program plan budget h) p in IsNested program plan
+      → (let ms : List Moment = get_or (told program plan budget h).moments p [] in IsNested program plan
       (started program plan p budget) ms 1
       → AreDeepAt (opening_of program plan budget p ms k) (slice_get (ended_index p ms).intervals k)
       → AreAlike (IsLogOf program plan k) (opening_of program plan budget p ms k)
       (interval_log plan (get_or (closed_logs program plan budget h).lists p []) k))
   logs_nested h p k there nested deep =
-      let ms = own_moments (told program plan budget h) p in
+      let ms = get_or (told program plan budget h).moments p [] in
       let e : get_or (closed_logs program plan budget h).lists p [] ≡ closed_log
       (log_of program plan budget (0 + p) ms) = log_there 0 (told program plan budget h).moments p there in
       let e0 : 0 + p ≡ p = omega arith in

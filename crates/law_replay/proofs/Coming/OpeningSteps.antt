@@ -5,7 +5,7 @@ use Rattle.std.proofs.lemmas.Option.{none-some}
 use Rattle.std.specs.Prelude.{slice_get}
 use Rattle.ppd_ast.specs.declared.plan.Plan.{Plan}
 use Rattle.ppd_ast.specs.declared.program.Program.{Program}
-use Rattle.ppd_entry.specs.IntervalLogs.{Indexing, new_interval}
+use Rattle.ppd_entry.specs.IntervalLogs.{Indexing, new_interval, Indexed}
 use Rattle.ppd_model.specs.declared.state.Logging.{Logging}
 use Rattle.ppd_model.specs.Marks.{Mark}
 use Rattle.ppd_model.specs.Story.{Moment, unit_started}
@@ -20,7 +20,7 @@ use Rattle.law_replay.proofs.Coming.Later.{Begins, Comes, NewLog, Steps, next_pr
 use Rattle.law_replay.proofs.Coming.UnitSteps.{put_index, put_unit, unit_at, unit_block, unit_log, unit_values_are}
 
 module _ (program : Program) (plan : Plan) where
-  pub step_opens : (l : Logging) (m : Moment) (ms : List Moment) (F : Indexing → Indexing) (n : ℕ) (a : Mark)
+  pub step_opens : (l : Logging) (m : Moment) (ms : List Moment) (F : Indexing Indexed → Indexing Indexed) (n : ℕ) (a : Mark)
       (sy : Option Sync) → sy ≡ None
       → Comes program plan (next_proc program plan l m) ms F (rest_by program plan l m (Some a) sy None None)
       (suc n) → Steps program plan l m ms (Some a) None None
@@ -45,16 +45,16 @@ module _ (program : Program) (plan : Plan) where
     begins = λ x q next hn hl f. begin x q next hn hl f;
   }
     where
-      ran : (x : Indexing) → length x.running ≡ n → length (put_unit program plan m a x).running ≡ suc n
+      ran : (x : Indexing Indexed) → length x.running ≡ n → length (put_unit program plan m a x).running ≡ suc n
       ran x h = ap length (unit_running plan m.unit_values (unit_at program plan m) (put_index program plan a x))
           ∙ ap suc h
 
-      long : (x : Indexing) (next : ℕ) → length x.intervals ≡ next
+      long : (x : Indexing Indexed) (next : ℕ) → length x.intervals ≡ next
           → length (put_unit program plan m a x).intervals ≡ next + 1
       long x next h = unit_length plan m.unit_values (unit_at program plan m) (put_index program plan a x)
           ∙ length-append x.intervals (new_interval plan x a.block a.values ∷ []) ∙ ap (λ z. z + 1) h
 
-      begin : (x : Indexing) (q next : ℕ) → length x.running ≡ n → length x.intervals ≡ next
+      begin : (x : Indexing Indexed) (q next : ℕ) → length x.running ≡ n → length x.intervals ≡ next
           → Fall (length x.intervals) x.running
           → Begins program plan (next + q)
           (opening_by (Some a) q (unit_pieces (unit_started m.taken.need) m.unit_values)

@@ -22,16 +22,16 @@ use Rattle.law_replay.proofs.Coming.Later.{Comes, Steps, next_proc, rest_by, ste
 use Rattle.law_replay.proofs.Coming.UnitSteps.{unit_at, unit_first}
 
 module _ (program : Program) (plan : Plan) where
-  abbrev pub pass_index : Logging → Taken → List ℤ → Option Sync → Option ℕ → Indexing → Indexing
+  abbrev pub pass_index : Logging → Taken → List ℤ → Option Sync → Option ℕ → Indexing Indexed → Indexing Indexed
   pass_index l t vals sy u x = fold (index_step plan) x (news l t vals None sy None u None)
 
-  abbrev pub sync_index : Logging → Taken → Sync → Indexing → Indexing
+  abbrev pub sync_index : Logging → Taken → Sync → Indexing Indexed → Indexing Indexed
   sync_index l t z x = index_step plan x (entry.Sync z.kind z.object z.number (passed_value t.need t.answer) l.reads l.writes)
 
-  module _ (l : Logging) (t : Taken) (vals : List ℤ) (s : Proc) (ms : List Moment) (F : Indexing → Indexing)
+  module _ (l : Logging) (t : Taken) (vals : List ℤ) (s : Proc) (ms : List Moment) (F : Indexing Indexed → Indexing Indexed)
       (n : ℕ) where
     abbrev PassOwn : Option Sync → Option ℕ → Type 0
-    PassOwn sy u = (x : Indexing) (k : ℕ) (i : Indexed) (next : ℕ) → length x.running ≡ n
+    PassOwn sy u = (x : Indexing Indexed) (k : ℕ) (i : Indexed) (next : ℕ) → length x.running ≡ n
         → length x.intervals ≡ next → At x.intervals x.running None k i
         → Grows i ((sync_pieces t sy ++ unit_pieces u vals) ++ (coming program plan s ms None next
         (since_after l.rest (sync_pieces t sy ++ unit_pieces u vals))).pieces)
@@ -57,19 +57,19 @@ module _ (program : Program) (plan : Plan) where
         (unit_length plan vals u y ∙ piece_length x.entry p x.running x.intervals ∙ hl)
         (unit_own plan vals u y k (with_piece x.entry p i) (piece_own x.entry p x.intervals x.running k i at))))
 
-  pub pass_running : (l : Logging) (t : Taken) (vals : List ℤ) (sy : Option Sync) (u : Option ℕ) (x : Indexing)
+  pub pass_running : (l : Logging) (t : Taken) (vals : List ℤ) (sy : Option Sync) (u : Option ℕ) (x : Indexing Indexed)
       → (pass_index l t vals sy u x).running ≡ x.running
   pass_running l t vals None u x = unit_running plan vals u x
   pass_running l t vals (Some z) u x = unit_running plan vals u (sync_index l t z x)
 
-  pub pass_length : (l : Logging) (t : Taken) (vals : List ℤ) (sy : Option Sync) (u : Option ℕ) (x : Indexing)
+  pub pass_length : (l : Logging) (t : Taken) (vals : List ℤ) (sy : Option Sync) (u : Option ℕ) (x : Indexing Indexed)
       → length (pass_index l t vals sy u x).intervals ≡ length x.intervals
   pass_length l t vals None u x = unit_length plan vals u x
   pass_length l t vals (Some z) u x =
       unit_length plan vals u (sync_index l t z x) ∙ piece_length x.entry
       (sync z.kind z.object z.number (passed_value t.need t.answer)) x.running x.intervals
 
-  pub pass_falls : (l : Logging) (t : Taken) (vals : List ℤ) (sy : Option Sync) (u : Option ℕ) (x : Indexing)
+  pub pass_falls : (l : Logging) (t : Taken) (vals : List ℤ) (sy : Option Sync) (u : Option ℕ) (x : Indexing Indexed)
       → Fall (length x.intervals) x.running
       → Fall (length (pass_index l t vals sy u x).intervals) (pass_index l t vals sy u x).running
   pass_falls l t vals None u x f = unit_falls plan vals u x f
@@ -77,7 +77,7 @@ module _ (program : Program) (plan : Plan) where
       unit_falls plan vals u (sync_index l t z x)
       (piece_falls x.entry (sync z.kind z.object z.number (passed_value t.need t.answer)) x.running x.intervals x.running f)
 
-  pub pass_inner : (l : Logging) (t : Taken) (vals : List ℤ) (sy : Option Sync) (u : Option ℕ) (x : Indexing)
+  pub pass_inner : (l : Logging) (t : Taken) (vals : List ℤ) (sy : Option Sync) (u : Option ℕ) (x : Indexing Indexed)
       (j : Inner) (k : ℕ) (i : Indexed) → At x.intervals x.running (Some j) k i
       → At (pass_index l t vals sy u x).intervals (pass_index l t vals sy u x).running (Some j) k i
   pass_inner l t vals None u x j k i a = unit_inner plan vals u x j k i a
@@ -85,7 +85,7 @@ module _ (program : Program) (plan : Plan) where
       unit_inner plan vals u (sync_index l t z x) j k i
       (piece_inner x.entry (sync z.kind z.object z.number (passed_value t.need t.answer)) x.intervals x.running j k i a)
 
-  pub pass_past : (l : Logging) (t : Taken) (vals : List ℤ) (sy : Option Sync) (u : Option ℕ) (x : Indexing)
+  pub pass_past : (l : Logging) (t : Taken) (vals : List ℤ) (sy : Option Sync) (u : Option ℕ) (x : Indexing Indexed)
       (k : ℕ) (i : Indexed) → Past x.intervals x.running k i
       → Past (pass_index l t vals sy u x).intervals (pass_index l t vals sy u x).running k i
   pass_past l t vals None u x k i a = unit_past plan vals u x k i a
@@ -93,7 +93,7 @@ module _ (program : Program) (plan : Plan) where
       unit_past plan vals u (sync_index l t z x) k i
       (piece_past x.entry (sync z.kind z.object z.number (passed_value t.need t.answer)) x.intervals x.running k i a)
 
-  pub step_passes : (l : Logging) (m : Moment) (ms : List Moment) (F : Indexing → Indexing) (n : ℕ)
+  pub step_passes : (l : Logging) (m : Moment) (ms : List Moment) (F : Indexing Indexed → Indexing Indexed) (n : ℕ)
       → Comes program plan (next_proc program plan l m) ms F
       (rest_by program plan l m None (sync_of m.taken) None None) n
       → Steps program plan l m ms None None None
@@ -109,11 +109,11 @@ module _ (program : Program) (plan : Plan) where
         (pass_falls l m.taken m.unit_values (sync_of m.taken) (unit_at program plan m) x f);
   }
     where
-      px : Indexing → Indexing
+      px : Indexing Indexed → Indexing Indexed
       px x = pass_index l m.taken m.unit_values (sync_of m.taken) (unit_at program plan m) x
 
-      ran : (x : Indexing) → length x.running ≡ n → length (px x).running ≡ n
+      ran : (x : Indexing Indexed) → length x.running ≡ n → length (px x).running ≡ n
       ran x h = ap length (pass_running l m.taken m.unit_values (sync_of m.taken) (unit_at program plan m) x) ∙ h
 
-      long : (x : Indexing) (next : ℕ) → length x.intervals ≡ next → length (px x).intervals ≡ next
+      long : (x : Indexing Indexed) (next : ℕ) → length x.intervals ≡ next → length (px x).intervals ≡ next
       long x next h = pass_length l m.taken m.unit_values (sync_of m.taken) (unit_at program plan m) x ∙ h

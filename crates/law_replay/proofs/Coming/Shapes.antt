@@ -1,10 +1,11 @@
 -- What a step can be: it opens, closes, ends, stops, or does none of these; and what it makes of the index.
+use Rattle.ppd_entry.specs.Changed.{change}
 use Rattle.std.proofs.Common.{◌≡◌, ℕ, zero, suc, List, [], ◌∷◌, ◌++◌, length, Option, Some, None, refl, sym, ◌∙◌, subst}
 use Rattle.std.specs.Prelude.{ℤ, drop, fold}
 use Rattle.ppd_ast.specs.declared.plan.Plan.{Plan}
 use Rattle.ppd_ast.specs.declared.program.Program.{Program}
 use Rattle.ppd_ast.specs.declared.status.Status.{Status}
-use Rattle.ppd_entry.specs.IntervalLogs.{Indexed, Indexing, add_piece, add_piece_at, index_step, interval_at, left_interval}
+use Rattle.ppd_entry.specs.IntervalLogs.{Indexed, Indexing, add_piece, index_step, interval_at, left_interval}
 use Rattle.ppd_entry.proofs.Vocabulary.{with_piece}
 use Rattle.ppd_entry.specs.Pieces.{Piece, unit, nested, postlog}
 use Rattle.ppd_sem.specs.declared.proc.Need.{Need}
@@ -65,7 +66,7 @@ module _ (e : ℕ) (values : List ℤ) (xs : List Indexed) where
   pub left_length : (ks : List ℕ) → length (left_by ks) ≡ length xs
   left_length [] = refl
   left_length (j ∷ ks) = piece_length (interval_at xs j).first (nested j (interval_at xs j).log.block values) ks
-      (add_piece_at e (postlog values) j xs) ∙ added_length e (postlog values) j xs
+      (change (with_piece e (postlog values)) j xs) ∙ added_length e (postlog values) j xs
 
   pub left_falls : (ks : List ℕ) → Fall (length xs) ks → Fall (length (left_by ks)) (drop 1 ks)
   left_falls [] f = tt
@@ -100,28 +101,28 @@ module _ (e : ℕ) (values : List ℤ) (xs : List Indexed) where
 -- ---- the unit that starts
 
 module _ (plan : Plan) (vals : List ℤ) where
-  abbrev pub with_unit : Option ℕ → Indexing → Indexing
+  abbrev pub with_unit : Option ℕ → Indexing Indexed → Indexing Indexed
   with_unit u x = fold (index_step plan) x (units u vals ++ [])
 
-  pub unit_length : (u : Option ℕ) (x : Indexing) → length (with_unit u x).intervals ≡ length x.intervals
+  pub unit_length : (u : Option ℕ) (x : Indexing Indexed) → length (with_unit u x).intervals ≡ length x.intervals
   unit_length None x = refl
   unit_length (Some u) x = piece_length x.entry (unit u vals) x.running x.intervals
 
-  pub unit_running : (u : Option ℕ) (x : Indexing) → (with_unit u x).running ≡ x.running
+  pub unit_running : (u : Option ℕ) (x : Indexing Indexed) → (with_unit u x).running ≡ x.running
   unit_running None x = refl
   unit_running (Some u) x = refl
 
-  pub unit_falls : (u : Option ℕ) (x : Indexing) → Fall (length x.intervals) x.running
+  pub unit_falls : (u : Option ℕ) (x : Indexing Indexed) → Fall (length x.intervals) x.running
       → Fall (length (with_unit u x).intervals) (with_unit u x).running
   unit_falls None x f = f
   unit_falls (Some u) x f = piece_falls x.entry (unit u vals) x.running x.intervals x.running f
 
-  pub unit_inner : (u : Option ℕ) (x : Indexing) (m : Inner) (k : ℕ) (i : Indexed)
+  pub unit_inner : (u : Option ℕ) (x : Indexing Indexed) (m : Inner) (k : ℕ) (i : Indexed)
       → At x.intervals x.running (Some m) k i → At (with_unit u x).intervals (with_unit u x).running (Some m) k i
   unit_inner None x m k i a = a
   unit_inner (Some u) x m k i a = piece_inner x.entry (unit u vals) x.intervals x.running m k i a
 
-  pub unit_past : (u : Option ℕ) (x : Indexing) (k : ℕ) (i : Indexed) → Past x.intervals x.running k i
+  pub unit_past : (u : Option ℕ) (x : Indexing Indexed) (k : ℕ) (i : Indexed) → Past x.intervals x.running k i
       → Past (with_unit u x).intervals (with_unit u x).running k i
   unit_past None x k i a = a
   unit_past (Some u) x k i a = piece_past x.entry (unit u vals) x.intervals x.running k i a
@@ -130,7 +131,7 @@ module _ (plan : Plan) (vals : List ℤ) where
   unit_in e None i = i
   unit_in e (Some u) i = with_piece e (unit u vals) i
 
-  pub unit_own : (u : Option ℕ) (x : Indexing) (k : ℕ) (i : Indexed) → At x.intervals x.running None k i
+  pub unit_own : (u : Option ℕ) (x : Indexing Indexed) (k : ℕ) (i : Indexed) → At x.intervals x.running None k i
       → At (with_unit u x).intervals (with_unit u x).running None k (unit_in x.entry u i)
   unit_own None x k i a = a
   unit_own (Some u) x k i a = piece_own x.entry (unit u vals) x.intervals x.running k i a

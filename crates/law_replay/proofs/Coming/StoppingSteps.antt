@@ -37,14 +37,14 @@ module _ (program : Program) (plan : Plan) where
   none_begins xs next q (Some z) e h = absurd (none-some z (sym e))
   none_begins xs next q None e h = none_past xs (next + q) (omega (arith, h))
 
-  abbrev pub end_index : Logging → Status → Indexing → Indexing
+  abbrev pub end_index : Logging → Status → Indexing Indexed → Indexing Indexed
   end_index l s x = index_step plan x (entry.End s l.rest l.reads l.writes)
 
-  pub end_length : (l : Logging) (s : Status) (x : Indexing) → length (end_index l s x).intervals ≡ length x.intervals
+  pub end_length : (l : Logging) (s : Status) (x : Indexing Indexed) → length (end_index l s x).intervals ≡ length x.intervals
   end_length l s x = open_length x.running (add_piece x.entry (finish s l.rest) x.running x.intervals)
       ∙ piece_length x.entry (finish s l.rest) x.running x.intervals
 
-  pub step_stops : (l : Logging) (m : Moment) (ms : List Moment) (F : Indexing → Indexing) (n : ℕ) (s : Status)
+  pub step_stops : (l : Logging) (m : Moment) (ms : List Moment) (F : Indexing Indexed → Indexing Indexed) (n : ℕ) (s : Status)
       (sy : Option Sync) (u : Option ℕ) → sy ≡ None → u ≡ None
       → Stops program plan (next_proc program plan l m) ms F
       → Steps program plan l m ms None None (Some s)
@@ -78,7 +78,7 @@ module _ (program : Program) (plan : Plan) where
   two_run xs (r ∷ []) (suc level) j b k h e = h
   two_run xs (r ∷ q ∷ ks) level j b k h e = omega (arith, e)
 
-  pub step_ends : (l : Logging) (m : Moment) (ms : List Moment) (F : Indexing → Indexing) (n : ℕ) (a : Mark)
+  pub step_ends : (l : Logging) (m : Moment) (ms : List Moment) (F : Indexing Indexed → Indexing Indexed) (n : ℕ) (a : Mark)
       (s : Status) (sy : Option Sync) (u : Option ℕ) → sy ≡ None → u ≡ None → n ≡ 1
       → Stops program plan (next_proc program plan l m) ms F
       → Steps program plan l m ms None (Some a) (Some s)

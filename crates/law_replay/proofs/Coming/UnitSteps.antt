@@ -37,14 +37,14 @@ module _ (program : Program) (plan : Plan) where
   abbrev pub unit_at : Moment → Option ℕ
   unit_at m = unit_started m.taken.need
 
-  abbrev pub put_index : Mark → Indexing → Indexing
+  abbrev pub put_index : Mark → Indexing Indexed → Indexing Indexed
   put_index a x = index_step plan x (entry.Prelog a.block a.values)
 
-  abbrev pub put_unit : Moment → Mark → Indexing → Indexing
+  abbrev pub put_unit : Moment → Mark → Indexing Indexed → Indexing Indexed
   put_unit m a x = with_unit plan m.unit_values (unit_started m.taken.need) (put_index a x)
 
-  abbrev pub left_index : Mark → Indexing → Indexing
+  abbrev pub left_index : Mark → Indexing Indexed → Indexing Indexed
   left_index a x = index_step plan x (entry.Postlog a.block a.values)
 
-  abbrev pub left_unit : Moment → Mark → Indexing → Indexing
+  abbrev pub left_unit : Moment → Mark → Indexing Indexed → Indexing Indexed
   left_unit m a x = with_unit plan m.unit_values (unit_started m.taken.need) (left_index a x)

@@ -1,12 +1,12 @@
 -- A step inside a nested block stays in it, with as many blocks open as it says.
 use Rattle.std.proofs.Common.{◌≡◌, ℕ, suc, ◌+◌, ◌≤◌, ℤ, List, [], ◌∷◌, ◌++◌, Bool, true, false, Option, None, Ok, refl, ap, sym, subst, ◌∙◌, arith, length}
-use Rattle.std.specs.Prelude.{is_some, slice_get}
+use Rattle.std.specs.Prelude.{is_some}
 use Rattle.ppd_ast.specs.declared.plan.BlockKind.TheVariants as block
 use Rattle.ppd_ast.specs.declared.plan.Plan.{Plan}
 use Rattle.ppd_ast.specs.declared.program.Kind.{Kind}
 use Rattle.ppd_ast.specs.declared.program.Kind.TheVariants as kind
 use Rattle.ppd_ast.specs.declared.program.Program.{Program}
-use Rattle.ppd_ast.specs.Lookups.{kind_of, body_of_stmt}
+use Rattle.ppd_ast.specs.Lookups.{kind_of, body_of}
 use Rattle.ppd_ast.specs.Counting.{one_if}
 use Rattle.ppd_sem.specs.declared.proc.Answer.{Answer}
 use Rattle.ppd_sem.specs.declared.proc.Frame.{Frame}
@@ -51,13 +51,13 @@ module _ (program : Program) (plan : Plan) where
       by true e = omega (
         arith,
         ap one_if e,
-        while_ends_none plan (body_of_stmt (slice_get program.stmts t.stmt))
+        while_ends_none plan (body_of program t.stmt)
             (kind_of program t.stmt) (home.loops e),
       )
       by false e = omega (
         arith,
         ap one_if e,
-        block_once (body_of_stmt (slice_get program.stmts t.stmt))
+        block_once (body_of program t.stmt)
             (kind_of program t.stmt),
       )
 

@@ -1,13 +1,13 @@
 -- The step that calls a block begins to run in it, beside the replay that stands at it.
 use Rattle.std.proofs.Common.{◌≡◌, ℕ, ◌+◌, ◌≤◌, ℤ, List, ◌∷◌, ◌++◌, Bool, true, false, Option, Some, None, Ok, Err, refl, ap, sym, subst, ◌∙◌, arith, true≢false, length, zero, suc}
 use Rattle.std.proofs.lemmas.Bool.{le-ltb}
-use Rattle.std.specs.Prelude.{is_some, nat_lt, slice_get, if◌then◌else◌}
+use Rattle.std.specs.Prelude.{is_some, nat_lt, if◌then◌else◌}
 use Rattle.ppd_ast.specs.declared.plan.BlockKind.TheVariants as block
 use Rattle.ppd_ast.specs.declared.plan.Plan.{Plan}
 use Rattle.ppd_ast.specs.declared.plan.Start.TheVariants as start
 use Rattle.ppd_ast.specs.declared.program.Program.{Program}
 use Rattle.ppd_ast.specs.declared.status.Trap.TheVariants as trap
-use Rattle.ppd_ast.specs.Lookups.{kind_of, top_of_body}
+use Rattle.ppd_ast.specs.Lookups.{kind_of, body_numbered}
 use Rattle.ppd_ast.specs.Counting.{one_if}
 use Rattle.ppd_ast.specs.declared.limits.TheConstants.{MOST_CALLS}
 use Rattle.ppd_sem.specs.declared.asking.Pause.TheVariants.{Wants, Traps}
@@ -18,7 +18,7 @@ use Rattle.ppd_sem.specs.declared.proc.Proc.{Proc}
 use Rattle.ppd_sem.specs.declared.proc.Todo.{Todo}
 use Rattle.ppd_sem.specs.Asked.{Asked}
 use Rattle.ppd_sem.specs.Deed.{Deed, invoke, leave, send}
-use Rattle.ppd_sem.specs.Process.{act, act_by_asked, act_by_need, charged, cost, entry_of, head_deed, need_of, need_of_asked, need_of_deed, need_of_head, need_of_leaving, need_of_send, new_frame, todos, top_cells}
+use Rattle.ppd_sem.specs.Process.{act, act_by_asked, act_by_need, charged, cost, entry_of, head_deed, need_of, need_of_asked, need_of_deed, need_of_head, need_of_leaving, need_of_send, new_frame, todos, top_frame}
 use Rattle.ppd_sem.proofs.NeedWords.{act_at, need_by_entry}
 use Rattle.ppd_sem.specs.Tables.{block_of, capacity_of, unit_of}
 use Rattle.ppd_model.specs.Marks.{closed}
@@ -80,7 +80,7 @@ module _ (program : Program) (plan : Plan) where
   asked_calls s t b (Ok p) e n =
       deed_calls s t b p.0 p.1 e
       (subst (Yields (Suits (kind_of program t.stmt))) e
-      (suits program.exprs (kind_of program t.stmt) (top_cells s.frames) s.answers)) n
+      (suits program.exprs (kind_of program t.stmt) (top_frame s.frames).cells s.answers)) n
   asked_calls s t b (Err (Wants c)) e n = absurd (true≢false (ap is_some (sym n)))
   asked_calls s t b (Err (Traps c)) e n = absurd (true≢false (ap is_some (sym n)))
 
@@ -132,7 +132,7 @@ module _ (program : Program) (plan : Plan) where
           stays = kept.stays s r t ts beside ok running h.2 (ap is_budget need) (ap (closed program plan s) need)
               (framed program used inside calls closer home depth ends block_so outside s r t ts h.2 beside).stacked;
         }) in
-        let todo : List Todo = todos (top_of_body (slice_get program.bodies c.f)) in
+        let todo : List Todo = todos (body_numbered program c.f).top in
         let after : act program plan s a ≡ charged plan (Invoke (Some b) u)
         (act_by_asked program a t (ts ++ outside) (Ok (invoke c.f c.values c.into, c.left)) s) =
         ap (λ todo. act_at program plan a todo s) is

@@ -13,12 +13,11 @@ use Rattle.ppd_sem.specs.declared.proc.Frame.{Frame}
 use Rattle.ppd_sem.specs.declared.proc.Need.TheVariants.{Back, Invoke}
 use Rattle.ppd_sem.specs.declared.proc.Proc.{Proc}
 use Rattle.ppd_sem.specs.declared.proc.Todo.{Todo}
-use Rattle.ppd_sem.specs.Asked.{outcome}
 use Rattle.ppd_sem.specs.Deed.{leave}
 use Rattle.ppd_sem.specs.Described.{ends_body}
 use Rattle.ppd_sem.specs.Passed.{result_at, result_by}
 use Rattle.ppd_sem.proofs.EventWords.{result_of_head}
-use Rattle.ppd_sem.specs.Process.{act, act_by_need, call_unit, cost, need_of, need_of_head, returned, top_call}
+use Rattle.ppd_sem.specs.Process.{act, act_by_need, call_unit, cost, need_of, need_of_head, returned, top_frame}
 use Rattle.ppd_sem.proofs.NeedWords.{act_at}
 use Rattle.ppd_sem.specs.Tables.{unit_of}
 use Rattle.ppd_model.specs.Logs.{status_of}
@@ -70,7 +69,7 @@ module _ (program : Program) (plan : Plan) where
         goes (kind.While e body) h = refl
         goes k h = absurd h
     past_return r x a m h t g ok running e is frames call done (returns left v c q eo n ret) =
-        let w : Option ℕ = call_unit plan (top_call x.frames) in
+        let w : Option ℕ = call_unit plan (top_frame x.frames).call in
         let after : act program plan x a ≡ act_by_need program plan a t (h.came.later ++ outside) (Back (Some c) w) x =
         ap (λ todo. act_at program plan a todo x) is
         ∙ ap (λ m. act_by_need program plan a t (h.came.later ++ outside) m x) n in
@@ -79,12 +78,12 @@ module _ (program : Program) (plan : Plan) where
         (returned_by program plan a x t (h.came.later ++ outside) left v (Some c) w q) in
         let result : result_at program x ≡ option_to_list v =
         ap (λ ts. option_to_list (result_of_head program x (slice_get ts 0))) is
-        ∙ ap (λ y. option_to_list (result_by (outcome y))) q in
+        ∙ ap (λ y. option_to_list (result_by y)) q in
         let values : m.values ≡ option_to_list v =
         ap (λ o. (or_mark m o).values) (sym e ∙ ap (closed program plan x) n) ∙ result in
         let cheap : x.spent + cost plan (Back (Some c) w) ≤ x.budget = paid program plan x (Back (Some c) w) n refl in
         let unit : w ≡ Some (unit_of plan (start.After h.came.head.stmt)) =
-        ap (λ fs. call_unit plan (top_call fs)) frames ∙ ap (call_unit plan) call in
+        ap (λ fs. call_unit plan (top_frame fs).call) frames ∙ ap (call_unit plan) call in
         let past : IsBeside program used inside calls closer home depth outside (act program plan x a)
         (skipped program plan m.values r) =
         subst (λ y. IsBeside program used inside calls closer home depth outside (act program plan x a) y)

@@ -17,7 +17,7 @@ use Rattle.ppd_sem.specs.declared.proc.Todo.{Todo}
 use Rattle.ppd_sem.specs.Asked.{Asked}
 use Rattle.ppd_sem.specs.Deed.{Deed, back, finish}
 use Rattle.ppd_sem.specs.Described.{ends_body}
-use Rattle.ppd_sem.specs.Process.{act, call_unit, entry_of, head_deed, need_of, need_of_asked, need_of_head, top_body, top_call, top_cells}
+use Rattle.ppd_sem.specs.Process.{act, call_unit, entry_of, head_deed, need_of, need_of_asked, need_of_head, top_frame}
 use Rattle.ppd_sem.proofs.NeedWords.{need_by_entry, need_by_offer}
 use Rattle.ppd_sem.specs.Tables.{block_of}
 use Rattle.ppd_sem.proofs.Progress.{act-stopped, need_at_status}
@@ -67,7 +67,7 @@ module _ (program : Program) (plan : Plan) (counting : IsCountable program plan)
 
   own_frame : (last : Todo) (base : Frame) (below : List Frame) (c : Bool) (fs : List Frame) (todo : List Todo)
       → Held program (λ c. ⊤) statements last base below c fs todo → c ≡ false → (length fs ≡ 1 + length below)
-      × (top_body fs ≡ base.body)
+      × ((top_frame fs).body ≡ base.body)
   own_frame last base below c fs todo (own f todo' kept within) e =
       (let z : suc (length below) ≡ 1 + length below = omega arith in z, kept.body)
   own_frame last base below c fs todo (called b' f fs' todo' to has h) e = absurd (true≢false e)
@@ -141,8 +141,8 @@ module _ (program : Program) (plan : Plan) (counting : IsCountable program plan)
       by_entry : (t : Todo) (ts : List Todo) (o : Option ℕ) → entry_of program plan t ≡ o → h.within.todo ≡ t ∷ ts
           → (v : Option ℤ) (left : List ℤ) → head_deed program t x ≡ Ok (back v, left)
           → IsReturn (kind_of program t.stmt)
-          → need_of program plan x ≡ Back (block_of plan (block.Function (top_body x.frames)))
-          (call_unit plan (top_call x.frames))
+          → need_of program plan x ≡ Back (block_of plan (block.Function (top_frame x.frames).body))
+          (call_unit plan (top_frame x.frames).call)
       by_entry t ts (Some c) eo todo v left q r =
           absurd (return_no_loop (kind_of program t.stmt) r (entry_loops program plan t c eo).1)
       by_entry t ts None eo todo v left q r =
@@ -162,7 +162,7 @@ module _ (program : Program) (plan : Plan) (counting : IsCountable program plan)
           (return_ends (kind_of program t.stmt) r) in
           let bottom : level ≡ 0 =
           omega (arith, h.counted, ap (opens program plan) todo, ap (opens program plan) empty, open_once program plan x t (fine.home x t (ts ++ (h.came.later ++ outside)) ok running is)) in
-          closes_some x (block_of plan (block.Function (top_body x.frames))) (call_unit plan (top_call x.frames))
+          closes_some x (block_of plan (block.Function (top_frame x.frames).body)) (call_unit plan (top_frame x.frames).call)
           (ap (λ z. is_some (block_of plan (block.Function z))) f.1 ∙ ap is_some h.block_is)
           (ap (closed program plan x) (sym (by_entry t ts (entry_of program plan t) refl todo v left q r))
           ∙ first bottom)
@@ -171,7 +171,7 @@ module _ (program : Program) (plan : Plan) (counting : IsCountable program plan)
           → Yields (IsAbove h.over.more) q
       above t ts todo (Ok p) q =
           by p.0 p.1 q (subst (Yields (Suits (kind_of program t.stmt))) q
-          (suits program.exprs (kind_of program t.stmt) (top_cells x.frames) x.answers))
+          (suits program.exprs (kind_of program t.stmt) (top_frame x.frames).cells x.answers))
         where
           over_own : (c : Bool) → h.within.has_called ≡ c → (v : Option ℤ) (left : List ℤ)
               → head_deed program t x ≡ Ok (back v, left) → IsReturn (kind_of program t.stmt) → 1 ≤ h.over.more

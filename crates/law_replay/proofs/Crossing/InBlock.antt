@@ -13,7 +13,7 @@ use Rattle.ppd_sem.specs.declared.proc.Todo.{Todo}
 use Rattle.ppd_sem.specs.Asked.{Asked}
 use Rattle.ppd_sem.specs.Deed.{Deed, set_local, set_shared, clear, branch, turn, leave, invoke, back, take, give, send, receive, print, pass, finish}
 use Rattle.ppd_sem.specs.Described.{ends_body}
-use Rattle.ppd_sem.specs.Process.{entry_of, head_deed, need_of_asked, need_of_leaving, offer_of, top_cells}
+use Rattle.ppd_sem.specs.Process.{entry_of, head_deed, need_of_asked, need_of_leaving, offer_of, top_frame}
 use Rattle.ppd_sem.specs.Tables.{block_of}
 use Rattle.ppd_model.specs.Logs.{status_of}
 use Rattle.ppd_model.specs.Marks.{closed}
@@ -117,9 +117,9 @@ module _ (program : Program) (plan : Plan) (written inside : ℕ → Type 0) (cl
       askeds : (q : Asked Deed) → head_deed program t x ≡ q → Yields (StaysIn b (t ∷ ts)) q
       askeds (Ok p) e = deeds p.0 p.1 e
           (subst (Yields (Suits (kind_of program t.stmt))) e
-          (suits program.exprs (kind_of program t.stmt) (top_cells x.frames) x.answers))
+          (suits program.exprs (kind_of program t.stmt) (top_frame x.frames).cells x.answers))
           (subst (Yields (IsOfLoop (kind_of program t.stmt))) e
-          (of_loop program.exprs (kind_of program t.stmt) (top_cells x.frames) x.answers))
+          (of_loop program.exprs (kind_of program t.stmt) (top_frame x.frames).cells x.answers))
       askeds (Err (Wants a)) e = tt
       askeds (Err (Traps a)) e = tt
 

@@ -16,7 +16,7 @@ use Rattle.ppd_sem.specs.declared.proc.Proc.{Proc}
 use Rattle.ppd_sem.specs.declared.proc.Todo.{Todo}
 use Rattle.ppd_sem.specs.Asked.{Asked}
 use Rattle.ppd_sem.specs.Deed.{Deed, leave, invoke, back, send, finish}
-use Rattle.ppd_sem.specs.Process.{act_by_asked, act_by_need, call_unit, charged, cost, entry_of, head_deed, need_of_asked, need_of_deed, need_of_head, need_of_leaving, need_of_send, returned, top_body, top_call, top_cells}
+use Rattle.ppd_sem.specs.Process.{act_by_asked, act_by_need, call_unit, charged, cost, entry_of, head_deed, need_of_asked, need_of_deed, need_of_head, need_of_leaving, need_of_send, returned, top_frame}
 use Rattle.ppd_sem.proofs.NeedWords.{need_by_entry}
 use Rattle.ppd_sem.specs.Tables.{block_of, capacity_of, unit_of}
 use Rattle.law_replay.proofs.Vocabulary.Relation.{IsReturn, Suits, Yields}
@@ -34,8 +34,8 @@ module _ (program : Program) (plan : Plan) where
         → block_of plan (block.Loop t.stmt) ≡ Some c → n ≡ Leave c (unit_of plan (start.Exit t.stmt))
         → IsOfLoop (kind_of program t.stmt) leave → IsEnding x t n
     returns : (left : List ℤ) (v : Option ℤ) (c : ℕ) → head_deed program t x ≡ Ok (back v, left)
-        → block_of plan (block.Function (top_body x.frames)) ≡ Some c
-        → n ≡ Back (Some c) (call_unit plan (top_call x.frames)) → IsReturn (kind_of program t.stmt) → IsEnding x t n
+        → block_of plan (block.Function (top_frame x.frames).body) ≡ Some c
+        → n ≡ Back (Some c) (call_unit plan (top_frame x.frames).call) → IsReturn (kind_of program t.stmt) → IsEnding x t n
 
   leaving_by : (x : Proc) (t : Todo) (left : List ℤ) (o : Option ℕ) → head_deed program t x ≡ Ok (leave, left)
       → block_of plan (block.Loop t.stmt) ≡ o
@@ -45,8 +45,8 @@ module _ (program : Program) (plan : Plan) where
   leaving_by x t left (Some c) e eo h of = leaves left c e eo refl of
 
   returning_by : (x : Proc) (t : Todo) (left : List ℤ) (v : Option ℤ) (o w : Option ℕ)
-      → call_unit plan (top_call x.frames) ≡ w → head_deed program t x ≡ Ok (back v, left)
-      → block_of plan (block.Function (top_body x.frames)) ≡ o → is_some (closed program plan x (Back o w)) ≡ true
+      → call_unit plan (top_frame x.frames).call ≡ w → head_deed program t x ≡ Ok (back v, left)
+      → block_of plan (block.Function (top_frame x.frames).body) ≡ o → is_some (closed program plan x (Back o w)) ≡ true
       → IsReturn (kind_of program t.stmt) → IsEnding x t (Back o w)
   returning_by x t left v None w ew e eo h r = absurd (true≢false (sym h))
   returning_by x t left v (Some c) w ew e eo h r = returns left v c e eo (ap (λ y. Back (Some c) y) (sym ew)) r
@@ -67,8 +67,8 @@ module _ (program : Program) (plan : Plan) where
       → status_of (need_of_deed program plan t.stmt x d) ≡ None → IsEnding x t (need_of_deed program plan t.stmt x d)
   deed_ending x t leave left e su of h goes = leaving_by x t left (block_of plan (block.Loop t.stmt)) e refl h of
   deed_ending x t (back v) left e su of h goes =
-      returning_by x t left v (block_of plan (block.Function (top_body x.frames)))
-      (call_unit plan (top_call x.frames)) refl e refl h su
+      returning_by x t left v (block_of plan (block.Function (top_frame x.frames).body))
+      (call_unit plan (top_frame x.frames).call) refl e refl h su
   deed_ending x t finish left e su of h goes = absurd (true≢false (ap is_some goes))
   deed_ending x t (invoke f vs into) left e su of h goes =
       absurd (true≢false (sym h ∙ calls_none x (nat_lt MOST_CALLS (x.below + length x.frames))
@@ -84,9 +84,9 @@ module _ (program : Program) (plan : Plan) where
   asked_ending x t (Ok p) e h goes =
       deed_ending x t p.0 p.1 e
       (subst (Yields (Suits (kind_of program t.stmt))) e
-      (suits program.exprs (kind_of program t.stmt) (top_cells x.frames) x.answers))
+      (suits program.exprs (kind_of program t.stmt) (top_frame x.frames).cells x.answers))
       (subst (Yields (IsOfLoop (kind_of program t.stmt))) e
-      (of_loop program.exprs (kind_of program t.stmt) (top_cells x.frames) x.answers)) h goes
+      (of_loop program.exprs (kind_of program t.stmt) (top_frame x.frames).cells x.answers)) h goes
   asked_ending x t (Err (Wants c)) e h goes = absurd (true≢false (sym h))
   asked_ending x t (Err (Traps y)) e h goes = absurd (true≢false (sym h))
 

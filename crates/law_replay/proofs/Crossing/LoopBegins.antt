@@ -1,10 +1,10 @@
 -- The step that enters a loop begins to run in it, beside the replay that stands at it.
 use Rattle.std.proofs.Common.{◌≡◌, ℕ, ◌+◌, ◌≤◌, List, [], ◌∷◌, ◌++◌, true, false, Some, None, refl, ap, sym, subst, ◌∙◌, arith, cond}
 use Rattle.std.proofs.lemmas.Bool.{cond-false, le-ltb}
-use Rattle.std.specs.Prelude.{nat_lt, slice_get}
+use Rattle.std.specs.Prelude.{nat_lt}
 use Rattle.ppd_ast.specs.declared.plan.Plan.{Plan}
 use Rattle.ppd_ast.specs.declared.program.Program.{Program}
-use Rattle.ppd_ast.specs.Lookups.{kind_of, body_of_stmt}
+use Rattle.ppd_ast.specs.Lookups.{kind_of, body_of}
 use Rattle.ppd_sem.specs.Blocks.{postlog_cells}
 use Rattle.ppd_sem.specs.declared.proc.Answer.{Answer}
 use Rattle.ppd_sem.specs.declared.proc.Frame.{Frame}
@@ -87,8 +87,8 @@ module _ (program : Program) (plan : Plan) (used inside : ℕ → Type 0) (calls
       ∙ ap (λ n. act_by_need program plan a t (ts ++ outside) n s) need in
       let top = top_is s.frames r.frames r.todo beside.frames in
       let in_it : statements t.stmt = static.loop t.stmt loop.1 (loop_block program plan t b entry) in
-      let none : ends_block plan (body_of_stmt (slice_get program.stmts t.stmt)) (kind_of program t.stmt) ≡ 0 =
-      while_ends_none plan (body_of_stmt (slice_get program.stmts t.stmt)) (kind_of program t.stmt) loop.1 in (
+      let none : ends_block plan (body_of program t.stmt) (kind_of program t.stmt) ≡ 0 =
+      while_ends_none plan (body_of program t.stmt) (kind_of program t.stmt) loop.1 in (
         replays,
         record {
           came = record {

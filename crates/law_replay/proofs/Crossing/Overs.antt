@@ -15,7 +15,7 @@ use Rattle.ppd_sem.specs.declared.proc.Todo.{Todo}
 use Rattle.ppd_sem.specs.Asked.{Asked}
 use Rattle.ppd_sem.specs.Deed.{Deed, set_local, set_shared, clear, branch, turn, leave, invoke, back, take, give, send, receive, print, pass, finish}
 use Rattle.ppd_sem.specs.Described.{ends_body}
-use Rattle.ppd_sem.specs.Process.{act, act_by_asked, act_by_deed, act_by_need, head_deed, into_of, need_of, receive_at, returned, returned_from, todos, top_cells, value_of}
+use Rattle.ppd_sem.specs.Process.{act, act_by_asked, act_by_deed, act_by_need, head_deed, into_of, need_of, receive_at, returned, todos, value_of, top_frame, into_at}
 use Rattle.ppd_sem.proofs.NeedWords.{act_at}
 use Rattle.ppd_sem.proofs.Offers.{CompletesSend, completes}
 use Rattle.law_replay.proofs.Vocabulary.Relation.{HasEnds, Suits, Yields, past_body}
@@ -37,7 +37,7 @@ module _ (program : Program) (plan : Plan) (ends : HasEnds program) (k : ℕ) (r
   receive_len (Some c) None fs = refl
   receive_len None v fs = refl
 
-  from_len : (o : Option ℕ) (v : Option ℤ) (fs : List Frame) → length (returned_from program o v fs) ≡ length fs
+  from_len : (o : Option ℕ) (v : Option ℤ) (fs : List Frame) → length (receive_at (into_at program o) v fs) ≡ length fs
   from_len None v fs = refl
   from_len (Some c) v fs = receive_len (into_of (kind_of program c)) v fs
 
@@ -147,7 +147,7 @@ module _ (program : Program) (plan : Plan) (ends : HasEnds program) (k : ℕ) (r
   need_over a t ts n s is o h of =
       let z : IsPastFrames program k rest (act_by_asked program a t ts (head_deed program t s) s) =
       asked_over a t ts (head_deed program t s) s is o
-      (suits program.exprs (kind_of program t.stmt) (top_cells s.frames) s.answers) h in
+      (suits program.exprs (kind_of program t.stmt) (top_frame s.frames).cells s.answers) h in
       record { more = z.more; frames = z.frames; past = z.past }
 
   pub act_over : (a : Answer) (t : Todo) (ts : List Todo) (s : Proc) → s.todo ≡ t ∷ ts

@@ -19,7 +19,7 @@ use Rattle.ppd_ast.specs.declared.status.Trap.TheVariants as trap
 use Rattle.ppd_ast.specs.Lookups.{kind_of}
 use Rattle.ppd_ast.specs.declared.limits.TheConstants.{MOST_CALLS}
 use Rattle.ppd_sem.specs.Described.{ends_body}
-use Rattle.ppd_sem.specs.Process.{act, act_by_asked, act_by_need, charged, entry_of, head_deed, need_of, need_of_asked, need_of_deed, need_of_head, need_of_leaving, need_of_send, offer_of, top_cells}
+use Rattle.ppd_sem.specs.Process.{act, act_by_asked, act_by_need, charged, entry_of, head_deed, need_of, need_of_asked, need_of_deed, need_of_head, need_of_leaving, need_of_send, offer_of, top_frame}
 use Rattle.ppd_sem.proofs.NeedWords.{act_at, need_by_entry, need_by_offer}
 use Rattle.ppd_sem.proofs.Offers.{DoneSuch, entry_done}
 use Rattle.ppd_sem.proofs.Progress.{SamePurse, asked_purse}
@@ -111,9 +111,9 @@ module _ (program : Program) (plan : Plan) where
           deed_held program written inside ends block_is closer base below outside a b t ts p.0
           (record x { answers = [] }) held
           (subst (Yields (Suits (kind_of program t.stmt))) e
-          (suits program.exprs (kind_of program t.stmt) (top_cells x.frames) x.answers))
+          (suits program.exprs (kind_of program t.stmt) (top_frame x.frames).cells x.answers))
           (λ none. subst (Yields (MayWrite written)) e
-          (writes_at_most written program.exprs (kind_of program t.stmt) (top_cells x.frames) x.answers
+          (writes_at_most written program.exprs (kind_of program t.stmt) (top_frame x.frames).cells x.answers
           (head_written program written inside ends block_is closer base below b t x.frames ts held none)))
           stays
       asked_in (Err (Wants c)) e ok stays = record { has_called = b; todo = t ∷ ts; todo_is = is; frames = held }

@@ -1,7 +1,7 @@
 -- What holds of each loop's kind and of each body's holds of the kind of each block.
 use Rattle.std.proofs.Common.{◌≡◌, ℕ, suc, ◌+◌, List, [], ◌∷◌, ◌++◌, Bool, true, false, Option, Some, None, refl, sym, ap, ◌∙◌, subst, arith}
 use Rattle.std.specs.Prelude.{option_map, slice_get, if◌then◌else◌}
-use Rattle.std.specs.List.{AllByRecursion as Each, flat_map}
+use Rattle.std.specs.List.{AllByRecursion as Each, flat_map, enumerate_from}
 use Rattle.std.proofs.lemmas.Option.{slice_get-map}
 use Rattle.ppd_ast.specs.declared.plan.Block.{Block}
 use Rattle.ppd_ast.specs.declared.plan.BlockKind.{BlockKind}
@@ -10,7 +10,7 @@ use Rattle.ppd_ast.specs.declared.plan.Policy.{Policy}
 use Rattle.ppd_ast.specs.declared.program.Body.{Body}
 use Rattle.ppd_ast.specs.declared.program.Program.{Program}
 use Rattle.ppd_ast.specs.declared.program.Stmt.{Stmt}
-use Rattle.ppd_ast.specs.Numbered.{blocks_by, blocks_of, each_from, is_block_body, is_block_loop, loops_at, numbers_of}
+use Rattle.ppd_ast.specs.Numbered.{blocks_by, blocks_of, is_block_body, is_block_loop, loops_at, numbers_of}
 use Rattle.ppd_ast.proofs.Vocabulary.{body_kind}
 use Rattle.ppd_ast.proofs.Vocabulary.{loops_of}
 use Rattle.ppd_blocks.specs.Blocks.{plan_of}
@@ -50,11 +50,11 @@ module _ (p : Program) (policy : Policy) (P : BlockKind → Type 0) (loops : (n 
 
   of_all : (j : ℕ) (bs : List Body)
       → ((k : ℕ) (b : Body) → slice_get bs k ≡ Some b → slice_get p.bodies (j + k) ≡ Some b)
-      → Each P (each_from (blocks_of p.stmts policy) j bs)
+      → Each P (flat_map (λ e. blocks_of p.stmts policy e.0 e.1) (enumerate_from j bs))
   of_all j [] h = tt
   of_all j (b ∷ bs) h =
       let first : j + 0 ≡ j = omega arith in
-      each_append P (blocks_of p.stmts policy j b) (each_from (blocks_of p.stmts policy) (j + 1) bs)
+      each_append P (blocks_of p.stmts policy j b) (flat_map (λ e. blocks_of p.stmts policy e.0 e.1) (enumerate_from (j + 1) bs))
       (of_body j b (subst (λ n. slice_get p.bodies n ≡ Some b) first (h 0 b refl)))
       (of_all (j + 1) bs (λ k c e.
       (let next : j + suc k ≡ (j + 1) + k = omega arith in subst (λ n. slice_get p.bodies n ≡ Some c) next

@@ -1,8 +1,9 @@
 -- In a valid program: which statements open a block, as what is to do.
 use Rattle.std.proofs.Common.{◌≡◌, ℕ, ◌<◌, ◌≤◌, Bool, true, false, List, [], ◌∷◌, Some, None, refl, ap, sym, subst, ◌∙◌, arith, true≢false}
-use Rattle.std.specs.Prelude.{is_some, nat_le, slice_get}
+use Rattle.std.specs.Prelude.{is_some, nat_le, slice_get, unwrap_or}
 use Rattle.std.proofs.lemmas.Bool.{leb-true}
 use Rattle.std.specs.List.{AllByRecursion as Each}
+use Rattle.std.specs.Option.{option_map_or}
 use Rattle.ppd_ast.specs.declared.plan.BlockKind.TheVariants as block
 use Rattle.ppd_ast.specs.declared.plan.Plan.{Plan}
 use Rattle.ppd_ast.specs.declared.program.Body.{Body}
@@ -12,7 +13,7 @@ use Rattle.ppd_ast.specs.declared.program.Program.{Program}
 use Rattle.ppd_ast.specs.declared.program.Stmt.{Stmt}
 use Rattle.ppd_ast.specs.Valid.{EndsBody, IsValid}
 use Rattle.ppd_ast.proofs.ValidLaws.{stmt_in_body, valid_body}
-use Rattle.ppd_ast.specs.Lookups.{kind_of, top_of_body, body_of_stmt}
+use Rattle.ppd_ast.specs.Lookups.{kind_of, body_of, body_numbered, no_body}
 use Rattle.ppd_ast.proofs.Vocabulary.{kind_of_stmt}
 use Rattle.ppd_ast.specs.Counting.{one_if}
 use Rattle.ppd_sem.specs.Described.{ends_body}
@@ -32,8 +33,8 @@ list_opens : (program : Program) (plan : Plan) (s number : ℕ) (stmts : List �
     → Each (IsAt program (Some s) number) stmts → opens program plan (todos stmts) ≡ 0
 list_opens program plan s number [] v h = refl
 list_opens program plan s number (i ∷ is) v h =
-    let one : ends_block plan (body_of_stmt (slice_get program.stmts i)) (kind_of program i) ≡ 0 =
-    goes_open plan (body_of_stmt (slice_get program.stmts i)) (kind_of program i)
+    let one : ends_block plan (body_of program i) (kind_of program i) ≡ 0 =
+    goes_open plan (body_of program i) (kind_of program i)
     (inside_goes_on program s number i v h.0) in
     omega (arith, one, list_opens program plan s number is v h.1)
 
@@ -69,35 +70,35 @@ top_opens : (program : Program) (plan : Plan) (f : ℕ) (stmts : List ℕ) → I
     → opens program plan (todos stmts) ≡ one_if (is_some (block_of plan (block.Function f)))
 top_opens program plan f [] v lt at h = absurd h
 top_opens program plan f (i ∷ []) v lt at h =
-    let own : body_of_stmt (slice_get program.stmts i) ≡ f = ap body_of_stmt at.0.there ∙ at.0.body in
+    let own : body_of program i ≡ f = ap (λ o. option_map_or (λ (x : Stmt). x.body) o 0) at.0.there ∙ at.0.body in
     let is : kind_of program i ≡ at.0.stmt.kind = ap kind_of_stmt at.0.there in
     let below : at.0.stmt.body < program.functions = subst (λ n. n < program.functions) (sym at.0.body) lt in
     let returns : IsReturn (kind_of program i) =
     subst IsReturn (sym is) (function_returns program i at.0.stmt v at.0.there below
     (sym (ap ends_body is) ∙ h)) in
-    let one : ends_block plan (body_of_stmt (slice_get program.stmts i))
+    let one : ends_block plan (body_of program i)
     (kind_of program i) ≡ one_if (is_some (block_of plan (block.Function f))) =
-    return_opens plan (body_of_stmt (slice_get program.stmts i)) (kind_of program i) returns
+    return_opens plan (body_of program i) (kind_of program i) returns
     ∙ ap (λ n. one_if (is_some (block_of plan (block.Function n)))) own in
     omega (arith, one)
 top_opens program plan f (i ∷ j ∷ is) v lt at h =
-    let none : ends_block plan (body_of_stmt (slice_get program.stmts i)) (kind_of program i) ≡ 0 =
-    goes_open plan (body_of_stmt (slice_get program.stmts i)) (kind_of program i) h.0 in
+    let none : ends_block plan (body_of program i) (kind_of program i) ≡ 0 =
+    goes_open plan (body_of program i) (kind_of program i) h.0 in
     omega (arith, none, top_opens program plan f (j ∷ is) v lt at.1 h.1)
 
 -- what validity gives of the blocks that are open
 pub is_countable : (program : Program) (plan : Plan) → IsValid program → IsCountable program plan
 is_countable program plan v = record {
-  lists = λ s stmts is. list_opens program plan s (body_of_stmt (slice_get program.stmts s)) stmts v
+  lists = λ s stmts is. list_opens program plan s (body_of program s) stmts v
       (listed program s stmts v is);
   bodies = λ s f is. by s f is (callee program s f v is);
 }
   where
     by : (s f : ℕ) → IsCallOf (kind_of program s) f → IsCallee program f
-        → opens program plan (todos (top_of_body (slice_get program.bodies f)))
+        → opens program plan (todos (body_numbered program f).top)
         ≡ one_if (is_some (block_of plan (block.Function f)))
     by s f is c =
-        ap (λ o. opens program plan (todos (top_of_body o))) c.there
+        ap (λ o. opens program plan (todos (unwrap_or o no_body).top)) c.there
         ∙ top_opens program plan f c.body.top v c.function
         (all_at program None f c.body.top (valid_body program f c.body v c.there).top)
         (body_ends_once program f c.body v c.there)

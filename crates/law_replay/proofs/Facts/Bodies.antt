@@ -3,6 +3,7 @@ use Rattle.std.proofs.Common.{◌≡◌, ℕ, ◌≤◌, true, false, List, [], 
 use Rattle.std.specs.Prelude.{⊤, is_some, slice_get}
 use Rattle.std.proofs.lemmas.Bool.{or_left, or_right, le-leb}
 use Rattle.std.specs.List.{AllByRecursion as Each}
+use Rattle.std.specs.Option.{option_map_or}
 use Rattle.ppd_ast.specs.declared.plan.BlockKind.TheVariants as block
 use Rattle.ppd_ast.specs.declared.plan.Plan.{Plan}
 use Rattle.ppd_ast.specs.declared.program.Body.{Body}
@@ -12,7 +13,7 @@ use Rattle.ppd_ast.specs.declared.program.Program.{Program}
 use Rattle.ppd_ast.specs.declared.program.Stmt.{Stmt}
 use Rattle.ppd_ast.specs.Valid.{EndsBody, IsValid}
 use Rattle.ppd_ast.proofs.ValidLaws.{stmt_in_body, valid_body}
-use Rattle.ppd_ast.specs.Lookups.{kind_of, body_of_stmt}
+use Rattle.ppd_ast.specs.Lookups.{kind_of, body_of}
 use Rattle.ppd_ast.proofs.Vocabulary.{kind_of_stmt}
 use Rattle.ppd_sem.specs.Blocks.{postlog_cells}
 use Rattle.ppd_sem.specs.declared.proc.Todo.{Todo}
@@ -57,8 +58,8 @@ module _ (program : Program) (v : IsValid program) (f : ℕ) where
   body_within : (s : ℕ) → IsOf program f s → (stmts : List ℕ) → IsListOf (kind_of program s) stmts
       → Each (IsOf program f) stmts
   body_within s h stmts is =
-      each_of (IsAt program (Some s) (body_of_stmt (slice_get program.stmts s))) (IsOf program f) stmts
-      (λ i at. record { stmt = at.stmt; there = at.there; body = at.body ∙ ap body_of_stmt h.there ∙ h.body })
+      each_of (IsAt program (Some s) (body_of program s)) (IsOf program f) stmts
+      (λ i at. record { stmt = at.stmt; there = at.there; body = at.body ∙ ap (λ o. option_map_or (λ (x : Stmt). x.body) o 0) h.there ∙ h.body })
       (listed program s stmts v is)
 
   pub body_block : IsBlock program EachCell (IsOf program f) (HasCall program (IsOf program f))

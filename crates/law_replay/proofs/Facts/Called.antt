@@ -1,15 +1,16 @@
 -- Of every state of a run: each frame but the lowest is of a function that a statement of the frame below calls.
 use Rattle.std.proofs.Common.{◌≡◌, ℕ, ◌≤◌, ℤ, List, [], ◌∷◌, Option, Some, None, refl, sym, subst, arith}
-use Rattle.std.specs.Prelude.{⊤, slice_get}
+use Rattle.std.specs.Prelude.{⊤, slice_set, replicate, pos}
+use Rattle.std.specs.List.{range_with_len}
 use Rattle.ppd_ast.specs.declared.plan.Plan.{Plan}
 use Rattle.ppd_ast.specs.declared.program.Program.{Program}
-use Rattle.ppd_ast.specs.Lookups.{kind_of, body_of_stmt}
+use Rattle.ppd_ast.specs.Lookups.{kind_of, body_of}
 use Rattle.ppd_sem.specs.declared.proc.Answer.{Answer}
 use Rattle.ppd_sem.specs.declared.proc.Frame.{Frame}
 use Rattle.ppd_sem.specs.declared.proc.Proc.{Proc}
 use Rattle.ppd_sem.specs.declared.proc.Todo.{Todo}
 use Rattle.ppd_sem.specs.Deed.{Deed, set_local, clear, invoke, back, receive}
-use Rattle.ppd_sem.specs.Process.{act, act_by_deed, clear_top, into_of, new_frame, receive_at, returned, returned_from, started, top_cells, write_top}
+use Rattle.ppd_sem.specs.Process.{act, act_by_deed, into_of, new_frame, receive_at, returned, started, on_top, top_frame, into_at, with_values}
 use Rattle.ppd_sem.specs.Runs.{bodies_in}
 use Rattle.ppd_model.proofs.Homes.{AreHome, IsHome as IsHomeAll}
 use Rattle.law_replay.specs.Beside.Relation.{IsCallOf}
@@ -21,7 +22,7 @@ pub record IsCalledFrom (program : Program) (f g : Frame) : Type 0 where
   pub stmt : ℕ
   pub stmt_is : f.call ≡ Some stmt
   pub calls : IsCallOf (kind_of program stmt) f.body
-  pub home : body_of_stmt (slice_get program.stmts stmt) ≡ g.body
+  pub home : body_of program stmt ≡ g.body
 
 -- the lowest is a process's
 abbrev pub AreCalled : Program → List Frame → Type 0
@@ -32,7 +33,7 @@ AreCalled program (f ∷ g ∷ fs) = IsCalledFrom program f g × AreCalled progr
 -- the head is of the body of the top frame
 pub head_home : (program : Program) (frames : List Frame) (t : Todo) (ts : List Todo)
     → AreHome program (bodies_in frames) (t ∷ ts) → (f : Frame) × (fs : List Frame) × (frames ≡ f ∷ fs)
-    × (body_of_stmt (slice_get program.stmts t.stmt) ≡ f.body)
+    × (body_of program t.stmt ≡ f.body)
 head_home program [] t ts h = absurd h
 head_home program (f ∷ fs) t ts h = (f, fs, refl, h.0)
 
@@ -44,12 +45,12 @@ module _ (program : Program) where
       (record { stmt = h.0.stmt; stmt_is = h.0.stmt_is; calls = h.0.calls; home = h.0.home }, h.1)
 
   write_called : (c : ℕ) (v : ℤ) (frames : List Frame) → AreCalled program frames
-      → AreCalled program (write_top c v frames)
+      → AreCalled program (on_top (λ cells. slice_set cells c v) frames)
   write_called c v [] h = h
   write_called c v (f ∷ fs) h = with_cells _ f fs h
 
   clear_called : (base len : ℕ) (frames : List Frame) → AreCalled program frames
-      → AreCalled program (clear_top base len frames)
+      → AreCalled program (on_top (with_values (range_with_len base len) (replicate len (pos 0))) frames)
   clear_called base len [] h = h
   clear_called base len (f ∷ fs) h = with_cells _ f fs h
 
@@ -60,7 +61,7 @@ module _ (program : Program) where
   receive_called None value frames h = h
 
   from_called : (call : Option ℕ) (value : Option ℤ) (frames : List Frame) → AreCalled program frames
-      → AreCalled program (returned_from program call value frames)
+      → AreCalled program (receive_at (into_at program call) value frames)
   from_called None value frames h = h
   from_called (Some s) value frames h = receive_called (into_of (kind_of program s)) value frames h
 
@@ -74,7 +75,7 @@ module _ (program : Program) where
   returned_called value (f ∷ fs) h = from_called f.call value fs (below_called f fs h)
 
   new_called : (t : Todo) (g : ℕ) (values : List ℤ) (frames : List Frame) (f : Frame) (fs : List Frame)
-      → frames ≡ f ∷ fs → body_of_stmt (slice_get program.stmts t.stmt) ≡ f.body → IsCallOf (kind_of program t.stmt) g
+      → frames ≡ f ∷ fs → body_of program t.stmt ≡ f.body → IsCallOf (kind_of program t.stmt) g
       → AreCalled program frames → AreCalled program (new_frame program g values (Some t.stmt) ∷ frames)
   new_called t g values frames f fs is home calls h =
       subst (λ xs. AreCalled program (new_frame program g values (Some t.stmt) ∷ xs)) (sym is)
@@ -100,7 +101,7 @@ module _ (program : Program) where
       (λ t ts d left is e f. after_deed a t ts d (record s { answers = [] })
       (subst (λ ys. AreHome program (bodies_in s.frames) ys) is home)
       (subst (Yields (Suits (kind_of program t.stmt))) f
-      (suits program.exprs (kind_of program t.stmt) (top_cells s.frames) s.answers)) h)
+      (suits program.exprs (kind_of program t.stmt) (top_frame s.frames).cells s.answers)) h)
       (λ t ts c is e. h)
       (λ t ts c is e. h)
 

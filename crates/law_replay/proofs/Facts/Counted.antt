@@ -4,6 +4,7 @@ use Rattle.std.specs.Prelude.{IsTrue, IsSomeAnd, is_some, slice_get, if◌then�
 use Rattle.std.specs.List.{flat_map, range_with_len}
 use Rattle.std.proofs.lemmas.Bool.{cond-true}
 use Rattle.std.proofs.lemmas.Option.{slice_get_within}
+use Rattle.std.specs.Option.{option_map_or}
 use Rattle.ppd_ast.specs.declared.plan.BlockKind.TheVariants as block
 use Rattle.ppd_ast.specs.declared.plan.Plan.{Plan}
 use Rattle.ppd_ast.specs.declared.plan.Policy.{Policy}
@@ -19,7 +20,7 @@ use Rattle.ppd_ast.proofs.Vocabulary.{inner_at, inner_of}
 use Rattle.ppd_ast.specs.Valid.{EndsBody, IsValid}
 use Rattle.ppd_ast.proofs.ValidLaws.{some_and, stmt_in_body, valid_body, valid_stmt}
 use Rattle.ppd_ast.specs.Members.{has}
-use Rattle.ppd_ast.specs.Lookups.{kind_of, body_of_stmt}
+use Rattle.ppd_ast.specs.Lookups.{kind_of, body_of}
 use Rattle.ppd_ast.proofs.Vocabulary.{kind_of_stmt}
 use Rattle.ppd_ast.proofs.Members.{has_cons, any_from, in_bounds_has, below_range, flat_gives, flat_from, all_has}
 use Rattle.ppd_ast.specs.declared.limits.TheConstants.{MOST_NESTING}
@@ -39,25 +40,25 @@ use Rattle.ppd_model.proofs.Changes.{some}
 -- ---- the body of a statement, by the order of its body's statements
 
 -- statements inside one are of its body
-pub inside_body : (d : ℕ) (p : Program) (t s number : ℕ) → IsValid p → body_of_stmt (slice_get p.stmts t) ≡ number
-    → IsTrue (has (preorder d p.stmts t) s) → body_of_stmt (slice_get p.stmts s) ≡ number
+pub inside_body : (d : ℕ) (p : Program) (t s number : ℕ) → IsValid p → body_of p t ≡ number
+    → IsTrue (has (preorder d p.stmts t) s) → body_of p s ≡ number
 unfolding preorder
 inside_body zero p t s number v is h = absurd (true≢false (sym h))
 inside_body (suc d) p t s number v is h = elim (has_cons t s (flat_map (preorder d p.stmts) (inner_at p.stmts t)) h) [
-  | inl e ↦ ap (λ i. body_of_stmt (slice_get p.stmts i)) (sym e) ∙ is
+  | inl e ↦ ap (λ i. body_of p i) (sym e) ∙ is
   | inr e ↦
       let c = flat_gives (preorder d p.stmts) (inner_at p.stmts t) s e in
       inside_body d p c.0 s number v (child_body p t c.0 (slice_get p.stmts t) v refl c.1 ∙ is) c.2
 ]
   where
     child_body : (p : Program) (t c : ℕ) (o : Option Stmt) → IsValid p → slice_get p.stmts t ≡ o
-        → IsTrue (has (inner_of o) c) → body_of_stmt (slice_get p.stmts c) ≡ body_of_stmt (slice_get p.stmts t)
+        → IsTrue (has (inner_of o) c) → body_of p c ≡ body_of p t
     child_body p t c None v at k = absurd (true≢false (sym k))
     child_body p t c (Some x) v at k =
         let stands = all_has (λ i. IsSomeAnd (slice_get p.stmts i) (λ s. (s.parent ≡ Some t) × (s.body ≡ x.body)))
         (inner x.kind) c (valid_stmt p t x v at).inside k in
         let y = some_and (λ (s : Stmt). (s.parent ≡ Some t) × (s.body ≡ x.body)) (slice_get p.stmts c) stands in
-        ap body_of_stmt y.1 ∙ y.2.1 ∙ sym (ap body_of_stmt at)
+        ap (λ o. option_map_or (λ (x : Stmt). x.body) o 0) y.1 ∙ y.2.1 ∙ sym (ap (λ o. option_map_or (λ (x : Stmt). x.body) o 0) at)
 
 -- a statement is among the numbers of its body
 numbered : (p : Program) (s : ℕ) (x : Stmt) (b : Body) → IsValid p → slice_get p.stmts s ≡ Some x
@@ -65,9 +66,9 @@ numbered : (p : Program) (s : ℕ) (x : Stmt) (b : Body) → IsValid p → slice
 numbered p s x b v at body =
     let place : Place p s = place_of p s x v at in
     let top = top_stands p place.number place.outer place.body v place.body_is place.is_top in
-    let outer : body_of_stmt (slice_get p.stmts place.outer) ≡ place.number = ap body_of_stmt top.1 ∙ top.3 in
+    let outer : body_of p place.outer ≡ place.number = ap (λ o. option_map_or (λ (x : Stmt). x.body) o 0) top.1 ∙ top.3 in
     let number : x.body ≡ place.number =
-    sym (ap body_of_stmt at) ∙ inside_body MOST_NESTING p place.outer s place.number v outer place.inside in
+    sym (ap (λ o. option_map_or (λ (x : Stmt). x.body) o 0) at) ∙ inside_body MOST_NESTING p place.outer s place.number v outer place.inside in
     let same : b ≡ place.body = some (sym body ∙ ap (λ j. slice_get p.bodies j) number ∙ place.body_is) in
     let listed : IsTrue (has (flat_map (preorder MOST_NESTING p.stmts) place.body.top) s) =
     flat_from (preorder MOST_NESTING p.stmts) place.body.top place.outer s place.is_top place.inside in
@@ -92,16 +93,16 @@ call_there p s g (Some x) at h = (x, at, h)
 
 -- a function with a call is a block
 pub calling_block : (p : Program) (policy : Policy) (s g : ℕ) → IsValid p → IsCallOf (kind_of p s) g
-    → body_of_stmt (slice_get p.stmts s) < p.functions
-    → is_some (block_of (plan_of p policy) (block.Function (body_of_stmt (slice_get p.stmts s)))) ≡ true
+    → body_of p s < p.functions
+    → is_some (block_of (plan_of p policy) (block.Function (body_of p s))) ≡ true
 calling_block p policy s g v h lt =
     let c = call_there p s g (slice_get p.stmts s) refl h in
     let own = stmt_in_body p s c.0 v c.1 in
-    let below : c.0.body < p.functions = subst (λ o. body_of_stmt o < p.functions) c.1 lt in
+    let below : c.0.body < p.functions = subst (λ o. option_map_or (λ (x : Stmt). x.body) o 0 < p.functions) c.1 lt in
     let has_one : has_call p.stmts own.0 ≡ true =
     any_from (λ k. is_call_of (slice_get p.stmts k)) (numbers_of p.stmts own.0) s
     (numbered p s c.0 own.0 v c.1 own.1) (ap is_call_of c.1 ∙ call_is c.0.kind g c.2) in
-    subst (λ o. is_some (block_of (plan_of p policy) (block.Function (body_of_stmt o))) ≡ true) (sym c.1)
+    subst (λ o. is_some (block_of (plan_of p policy) (block.Function (option_map_or (λ (x : Stmt). x.body) o 0))) ≡ true) (sym c.1)
     (calling_found p policy c.0.body own.0 own.1 (is_function_body p c.0.body own.0 v own.1 below) has_one)
 
 -- ---- frames
@@ -126,7 +127,7 @@ module _ (p : Program) (policy : Policy) (v : IsValid p) where
 
   -- a statement with a call in the top frame's body: so it is where the statements of an interval have a call
   pub call_counted : (f : Frame) (fs : List Frame) (s g : ℕ) → AreCalled p (f ∷ fs) → IsCallOf (kind_of p s) g
-      → body_of_stmt (slice_get p.stmts s) ≡ f.body → length (f ∷ fs) ≡ 1 + block_frames (plan_of p policy) (f ∷ fs)
+      → body_of p s ≡ f.body → length (f ∷ fs) ≡ 1 + block_frames (plan_of p policy) (f ∷ fs)
   call_counted f fs s g h calls home =
       frames_counted f fs h (λ lt. subst (λ n. is_some (block_of (plan_of p policy) (block.Function n))
       ≡ true) home (calling_block p policy s g v calls (subst (λ n. n < p.functions) (sym home) lt)))

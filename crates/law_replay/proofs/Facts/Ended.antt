@@ -14,7 +14,7 @@ use Rattle.ppd_sem.specs.declared.proc.Proc.{Proc}
 use Rattle.ppd_sem.specs.declared.proc.Todo.{Todo}
 use Rattle.ppd_sem.specs.Asked.{Asked}
 use Rattle.ppd_sem.specs.Deed.{Deed, leave, invoke, send, finish}
-use Rattle.ppd_sem.specs.Process.{cost, entry_of, head_deed, need_of, need_of_asked, need_of_deed, need_of_head, need_of_leaving, need_of_send, offer_of, top_cells}
+use Rattle.ppd_sem.specs.Process.{cost, entry_of, head_deed, need_of, need_of_asked, need_of_deed, need_of_head, need_of_leaving, need_of_send, offer_of, top_frame}
 use Rattle.ppd_sem.proofs.NeedWords.{need_by_entry, need_by_offer, need_of_running}
 use Rattle.ppd_sem.specs.Tables.{capacity_of}
 use Rattle.ppd_sem.proofs.Progress.{need_at_status, need_at_todo}
@@ -58,7 +58,7 @@ module _ (program : Program) (plan : Plan) (s : Proc) (t : Todo) where
       → EndSuch (IsEnd (kind_of program t.stmt)) (need_by_entry program plan t.stmt s o (head_deed program t s))
   entry_end (Some b) = tt
   entry_end None = asked_end (head_deed program t s)
-      (suits program.exprs (kind_of program t.stmt) (top_cells s.frames) s.answers)
+      (suits program.exprs (kind_of program t.stmt) (top_frame s.frames).cells s.answers)
 
   offer_end : (o : Option ℕ)
       → EndSuch (IsEnd (kind_of program t.stmt))

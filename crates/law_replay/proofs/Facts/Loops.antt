@@ -1,45 +1,46 @@
 -- The static facts of a block that is a loop.
-use Rattle.std.proofs.Common.{◌≡◌, ℕ, ◌<◌, List, [], ◌∷◌, ◌++◌, true, false, Some, refl, sym, ap, ◌∙◌, subst, inl, inr, arith, true≢false}
-use Rattle.std.specs.Prelude.{IsTrue, is_some, slice_get}
-use Rattle.std.specs.List.{AllByRecursion as Each, flat_map, range_with_len}
-use Rattle.std.proofs.lemmas.Bool.{cond-true}
+use Rattle.law_replay.proofs.Beside.Closes.{AreUsed}
+use Rattle.law_replay.proofs.Beside.Deeds.{return_ends}
+use Rattle.law_replay.proofs.Beside.Kept.{IsOwned}
+use Rattle.law_replay.proofs.Beside.LoopKinds.{while_goes}
+use Rattle.law_replay.proofs.Beside.Staying.{IsClosed}
+use Rattle.law_replay.proofs.Facts.Bodies.{HasCall, each_of}
+use Rattle.law_replay.proofs.Facts.Named.{kind_over, kind_writing}
+use Rattle.law_replay.proofs.Facts.Placed.{IsAt, inside_goes_on, listed}
+use Rattle.law_replay.proofs.Facts.Within.{child_within, listed_within, stands_through, within_cases, within_listed}
+use Rattle.law_replay.proofs.Vocabulary.Held.{Among, IsWritingBlock}
+use Rattle.law_replay.proofs.Vocabulary.Relation.{IsBlock}
+use Rattle.law_replay.specs.Beside.Opens.{IsWhile}
+use Rattle.law_replay.specs.Beside.Relation.{IsListOf}
+use Rattle.law_steps.proofs.OpenBlocks.Planned.{block_there}
+use Rattle.law_steps.proofs.Units.Numbers.{block_loop, loop_is_while}
+use Rattle.ppd_ast.proofs.Members.{below_range, has_cons, has_filter, has_first, has_later, has_left, has_right}
+use Rattle.ppd_ast.specs.Lookups.{body_of, kind_of}
+use Rattle.ppd_ast.specs.Members.{has}
+use Rattle.ppd_ast.specs.Numbered.{is_while}
+use Rattle.ppd_ast.specs.Order.{preorder}
+use Rattle.ppd_ast.specs.Valid.{IsValid}
+use Rattle.ppd_ast.specs.declared.limits.TheConstants.{MOST_NESTING, MOST_SHARED_CELLS}
 use Rattle.ppd_ast.specs.declared.plan.BlockKind.TheVariants as block
 use Rattle.ppd_ast.specs.declared.plan.Policy.{Policy}
 use Rattle.ppd_ast.specs.declared.program.Kind.{Kind}
 use Rattle.ppd_ast.specs.declared.program.Kind.TheVariants as kind
 use Rattle.ppd_ast.specs.declared.program.Program.{Program}
-use Rattle.ppd_ast.specs.Numbered.{is_while}
-use Rattle.ppd_ast.specs.Valid.{IsValid}
-use Rattle.ppd_ast.specs.Members.{has}
-use Rattle.ppd_ast.specs.Lookups.{kind_of, body_of_stmt}
-use Rattle.ppd_ast.proofs.Members.{has_first, has_later, has_cons, has_left, has_right, has_filter, below_range}
-use Rattle.ppd_ast.specs.declared.limits.TheConstants.{MOST_SHARED_CELLS}
+use Rattle.ppd_blocks.proofs.Paths.{sorted_from}
 use Rattle.ppd_blocks.specs.Blocks.{plan_of, prelog_of}
-use Rattle.ppd_sem.specs.Blocks.{postlog_cells}
+use Rattle.ppd_blocks.specs.Walk.{stands_in}
 use Rattle.ppd_sem.proofs.TableWords.{postlog_in}
-use Rattle.ppd_sem.specs.declared.proc.Todo.{Todo}
+use Rattle.ppd_sem.specs.Blocks.{postlog_cells}
 use Rattle.ppd_sem.specs.Described.{ends_body}
 use Rattle.ppd_sem.specs.Tables.{block_of}
-use Rattle.ppd_sets.specs.Named.{reads, writes}
-use Rattle.ppd_sets.specs.Used.{IsLoopDefined, loop_defined_of, loop_stmts, loop_used_of, reads_at, sorted, writes_at}
+use Rattle.ppd_sem.specs.declared.proc.Todo.{Todo}
 use Rattle.ppd_sets.proofs.Looping.{loop_defined_by_statements, loop_used_by_statements}
-use Rattle.ppd_blocks.specs.Walk.{stands_in}
-use Rattle.ppd_blocks.proofs.Paths.{sorted_from}
-use Rattle.law_steps.proofs.Units.Numbers.{block_loop, loop_is_while}
-use Rattle.law_replay.specs.Beside.Relation.{IsListOf}
-use Rattle.law_replay.proofs.Vocabulary.Relation.{IsBlock}
-use Rattle.law_replay.proofs.Vocabulary.Held.{Among, IsWritingBlock}
-use Rattle.law_replay.specs.Beside.Opens.{IsWhile}
-use Rattle.law_replay.proofs.Facts.Bodies.{HasCall, each_of}
-use Rattle.law_replay.proofs.Beside.Closes.{AreUsed}
-use Rattle.law_replay.proofs.Beside.Kept.{IsOwned}
-use Rattle.law_replay.proofs.Beside.Staying.{IsClosed}
-use Rattle.law_replay.proofs.Beside.LoopKinds.{while_goes}
-use Rattle.law_replay.proofs.Beside.Deeds.{return_ends}
-use Rattle.law_replay.proofs.Facts.Named.{kind_over, kind_writing}
-use Rattle.law_replay.proofs.Facts.Placed.{IsAt, inside_goes_on, listed}
-use Rattle.law_steps.proofs.OpenBlocks.Planned.{block_there}
-use Rattle.law_replay.proofs.Facts.Within.{child_within, listed_within, stands_through, within_cases, within_listed}
+use Rattle.ppd_sets.specs.Named.{reads, writes}
+use Rattle.ppd_sets.specs.Used.{IsLoopDefined, local_in, reads_at, sorted, writes_at}
+use Rattle.std.proofs.Common.{List, Some, [], ap, arith, false, inl, inr, refl, subst, sym, true, true≢false, ℕ, ◌++◌, ◌<◌, ◌∙◌, ◌∷◌, ◌≡◌}
+use Rattle.std.proofs.lemmas.Bool.{cond-true}
+use Rattle.std.specs.List.{AllByRecursion as Each, flat_map, range_with_len}
+use Rattle.std.specs.Prelude.{IsTrue, is_some}
 
 -- statement s is the loop q or stands in it
 abbrev pub IsWithin : Program → ℕ → ℕ → Type 0
@@ -63,26 +64,26 @@ sorted_small cells c h = let r =
     below_range 0 MOST_SHARED_CELLS c (has_filter (has cells) (range_with_len 0 MOST_SHARED_CELLS) c h).0 in omega (arith, r.1)
 
 module _ (program : Program) (q : ℕ) (is : is_while (kind_of program q) ≡ true) where
-  used_small : (c : ℕ) → IsTrue (has (loop_used_of program q) c) → c < MOST_SHARED_CELLS
+  used_small : (c : ℕ) → IsTrue (has (local_in program (reads_at false program) q) c) → c < MOST_SHARED_CELLS
   used_small c h = sorted_small _ c
       (subst (λ l. IsTrue (has l c))
       (cond-true (is_while (kind_of program q))
-      (sorted (flat_map (reads_at false program) (loop_stmts program q))) [] is) h)
+      (sorted (flat_map (reads_at false program) (preorder MOST_NESTING program.stmts q))) [] is) h)
 
-  defined_small : (c : ℕ) → IsTrue (has (loop_defined_of program q) c) → c < MOST_SHARED_CELLS
+  defined_small : (c : ℕ) → IsTrue (has (local_in program (writes_at false program) q) c) → c < MOST_SHARED_CELLS
   defined_small c h = sorted_small _ c
       (subst (λ l. IsTrue (has l c))
       (cond-true (is_while (kind_of program q))
-      (sorted (flat_map (writes_at false program) (loop_stmts program q))) [] is) h)
+      (sorted (flat_map (writes_at false program) (preorder MOST_NESTING program.stmts q))) [] is) h)
 
   -- what the loop may read or write is in its prelog
-  used_prelogged : (c : ℕ) → IsTrue (has (loop_used_of program q) c) → IsPrelogged program q c
-  used_prelogged c h = sorted_from (loop_used_of program q ++ loop_defined_of program q) c (used_small c h)
-      (has_left (loop_used_of program q) (loop_defined_of program q) c h)
+  used_prelogged : (c : ℕ) → IsTrue (has (local_in program (reads_at false program) q) c) → IsPrelogged program q c
+  used_prelogged c h = sorted_from (local_in program (reads_at false program) q ++ local_in program (writes_at false program) q) c (used_small c h)
+      (has_left (local_in program (reads_at false program) q) (local_in program (writes_at false program) q) c h)
 
-  defined_prelogged : (c : ℕ) → IsTrue (has (loop_defined_of program q) c) → IsPrelogged program q c
-  defined_prelogged c h = sorted_from (loop_used_of program q ++ loop_defined_of program q) c (defined_small c h)
-      (has_right (loop_used_of program q) (loop_defined_of program q) c h)
+  defined_prelogged : (c : ℕ) → IsTrue (has (local_in program (writes_at false program) q) c) → IsPrelogged program q c
+  defined_prelogged c h = sorted_from (local_in program (reads_at false program) q ++ local_in program (writes_at false program) q) c (defined_small c h)
+      (has_right (local_in program (reads_at false program) q) (local_in program (writes_at false program) q) c h)
 
 while_is : (k : Kind) → is_while k ≡ true → IsWhile k
 while_is (kind.While e body) h = tt
@@ -101,13 +102,13 @@ module _ (program : Program) (policy : Policy) (v : IsValid program) (q b : ℕ)
   loop_kind = while_is (kind_of program q) looping
 
   -- the loop's postlog and prelog
-  pub postlog_is : postlog_cells (plan_of program policy) b ≡ loop_defined_of program q
+  pub postlog_is : postlog_cells (plan_of program policy) b ≡ local_in program (writes_at false program) q
   postlog_is = ap postlog_in (block_there program policy (block.Loop q) b e)
 
   loop_within : (s : ℕ) → IsWithin program q s → (stmts : List ℕ) → IsListOf (kind_of program s) stmts
       → Each (IsWithin program q) stmts
   loop_within s h stmts is =
-      each_of (IsAt program (Some s) (body_of_stmt (slice_get program.stmts s))) (IsWithin program q) stmts
+      each_of (IsAt program (Some s) (body_of program s)) (IsWithin program q) stmts
       (λ i at. child_within program q s i at.stmt v at.there at.parent h)
       (listed program s stmts v is)
 
@@ -122,7 +123,7 @@ module _ (program : Program) (policy : Policy) (v : IsValid program) (q b : ℕ)
       }))
 
   written_defined : (s : ℕ) → IsWithin program q s → (c : ℕ) → IsTrue (has (writes false (kind_of program s)) c)
-      → IsTrue (has (loop_defined_of program q) c)
+      → IsTrue (has (local_in program (writes_at false program) q) c)
   written_defined s h c w =
       (loop_defined_by_statements program q c v looping).1
       (record {

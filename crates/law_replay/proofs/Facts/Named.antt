@@ -1,5 +1,5 @@
 -- The local cells that a statement reads and writes, as lists and by its parts.
-use Rattle.std.proofs.Common.{ℕ, ◌+◌, ◌<◌, false, List, [], ◌∷◌, Some, None, subst, arith}
+use Rattle.std.proofs.Common.{ℕ, ◌+◌, ◌<◌, false, List, [], ◌∷◌, Some, None, subst, arith, true}
 use Rattle.std.specs.Prelude.{IsTrue}
 use Rattle.ppd_ast.specs.declared.program.Expr.{Expr}
 use Rattle.ppd_ast.specs.declared.program.Kind.{Kind}
@@ -9,15 +9,15 @@ use Rattle.ppd_ast.specs.Term.{Term, const, local, local_at, shared, shared_at, 
 use Rattle.ppd_ast.specs.Uses.{kind_uses}
 use Rattle.ppd_ast.specs.Members.{has}
 use Rattle.ppd_ast.proofs.Members.{has_first, has_later, has_left, has_right, in_bounds_has, flat_from}
-use Rattle.ppd_sets.specs.Named.{cells_in, local_cells, reads, writes}
+use Rattle.ppd_sets.specs.Named.{cells_in, reads, writes, cells_if}
 use Rattle.law_replay.proofs.Vocabulary.Held.{IsWriting}
 use Rattle.law_replay.proofs.Vocabulary.Over.{AreOverCells, IsKindOver, IsOverCells}
 use Rattle.ppd_model.proofs.Changes.{some}
 
-in_cells : (base len k : ℕ) → k < len → IsTrue (has (local_cells false base len) (base + k))
+in_cells : (base len k : ℕ) → k < len → IsTrue (has (cells_if true base len) (base + k))
 in_cells base len k lt = in_bounds_has base len (base + k) (omega arith) (omega arith)
 
-one_cell : (c : ℕ) → IsTrue (has (local_cells false c 1) c)
+one_cell : (c : ℕ) → IsTrue (has (cells_if true c 1) c)
 one_cell c = in_bounds_has c 1 c (omega arith) (omega arith)
 
 module _ (used : ℕ → Type 0) where
@@ -25,8 +25,8 @@ module _ (used : ℕ → Type 0) where
   over (const v) h = tt
   over (local c) h = h c (one_cell c)
   over (local_at base len i) h = (
-    λ k lt. h (base + k) (has_left (local_cells false base len) (cells_in false i) (base + k) (in_cells base len k lt)),
-    over i (λ c e. h c (has_right (local_cells false base len) (cells_in false i) c e)),
+    λ k lt. h (base + k) (has_left (cells_if true base len) (cells_in false i) (base + k) (in_cells base len k lt)),
+    over i (λ c e. h c (has_right (cells_if true base len) (cells_in false i) c e)),
   )
   over (shared c) h = tt
   over (shared_at base len i) h = over i h

@@ -1,8 +1,9 @@
 -- In a valid program: where the statements of a list stand, and that a body ends in its last statement and nowhere before.
 use Rattle.std.proofs.Common.{◌≡◌, ℕ, suc, ◌-◌, ◌<◌, Bool, true, false, List, [], ◌∷◌, ◌++◌, length, Option, Some, None, refl, ap, sym, subst, ◌∙◌, arith, inl, inr, true≢false}
-use Rattle.std.specs.Prelude.{IsTrue, IsSomeAnd, is_some, slice_get}
+use Rattle.std.specs.Prelude.{IsTrue, IsSomeAnd, is_some, slice_get, unwrap_or}
 use Rattle.std.proofs.lemmas.Bool.{cond-true, cond-false}
 use Rattle.std.specs.List.{AllByRecursion as Each}
+use Rattle.std.specs.Option.{option_map_or}
 use Rattle.ppd_ast.specs.declared.program.Body.{Body}
 use Rattle.ppd_ast.specs.declared.program.Kind.{Kind}
 use Rattle.ppd_ast.specs.declared.program.Kind.TheVariants as kind
@@ -12,7 +13,7 @@ use Rattle.ppd_ast.specs.Order.{StandIn, inner}
 use Rattle.ppd_ast.specs.Valid.{CallsRightly, EndsBody, IsEnding, IsValid, last_of}
 use Rattle.ppd_ast.proofs.Standing.{All-append_parts}
 use Rattle.ppd_ast.proofs.ValidLaws.{some_and, stmt_in_body, valid_body, valid_stmt}
-use Rattle.ppd_ast.specs.Lookups.{kind_of, top_of_body, body_of_stmt}
+use Rattle.ppd_ast.specs.Lookups.{kind_of, body_of, body_numbered, no_body}
 use Rattle.ppd_ast.proofs.Vocabulary.{kind_of_stmt}
 use Rattle.ppd_cfg.specs.Flow.{follow}
 use Rattle.law_steps.proofs.Course.Chains.{IsChain, top_chain}
@@ -60,11 +61,11 @@ list_stands program outer number k stmts is h = absurd is
 
 -- the statements of a list in statement s stand in s, in its body
 pub listed : (program : Program) (s : ℕ) (stmts : List ℕ) → IsValid program → IsListOf (kind_of program s) stmts
-    → Each (IsAt program (Some s) (body_of_stmt (slice_get program.stmts s))) stmts
+    → Each (IsAt program (Some s) (body_of program s)) stmts
 listed program s stmts v is = by (slice_get program.stmts s) refl is
   where
     by : (o : Option Stmt) → slice_get program.stmts s ≡ o → IsListOf (kind_of_stmt o) stmts
-        → Each (IsAt program (Some s) (body_of_stmt o)) stmts
+        → Each (IsAt program (Some s) (option_map_or (λ (x : Stmt). x.body) o 0)) stmts
     by None at h = absurd h
     by (Some x) at h = all_at program (Some s) x.body stmts
         (list_stands program (Some s) x.body x.kind stmts h (valid_stmt program s x v at).inside)
@@ -199,16 +200,16 @@ callee program s f v is = by (slice_get program.stmts s) refl is
     by (Some x) at h = callee_of program x.kind f h (stmt_in_body program s x v at).2.call
 
 called_ends_once : (program : Program) (s f : ℕ) → IsValid program → IsCallOf (kind_of program s) f
-    → EndsOnce program (top_of_body (slice_get program.bodies f))
+    → EndsOnce program (body_numbered program f).top
 called_ends_once program s f v is =
     let c : IsCallee program f = callee program s f v is in
-    subst (λ o. EndsOnce program (top_of_body o)) (sym c.there) (body_ends_once program f c.body v c.there)
+    subst (λ o. EndsOnce program (unwrap_or o no_body).top) (sym c.there) (body_ends_once program f c.body v c.there)
 
 -- a body ends in its last statement, and nowhere before
 pub has_ends : (program : Program) → IsValid program → HasEnds program
 has_ends program v = record {
-  nested = λ s stmts is ts. goes_past program s (body_of_stmt (slice_get program.stmts s)) stmts ts v
+  nested = λ s stmts is ts. goes_past program s (body_of program s) stmts ts v
       (listed program s stmts v is);
-  ended = λ s f is ts. top_has_end program (top_of_body (slice_get program.bodies f)) ts (called_ends_once program s f v is);
-  whole = λ s f is ts. top_past program (top_of_body (slice_get program.bodies f)) ts (called_ends_once program s f v is);
+  ended = λ s f is ts. top_has_end program (body_numbered program f).top ts (called_ends_once program s f v is);
+  whole = λ s f is ts. top_past program (body_numbered program f).top ts (called_ends_once program s f v is);
 }

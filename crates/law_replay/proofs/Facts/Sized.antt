@@ -1,9 +1,9 @@
 -- Of every state of a run: each frame has the cells of its body.
 use Rattle.std.proofs.Common.{◌≡◌, ℕ, ◌+◌, ◌-◌, ◌<◌, ◌≤◌, ℤ, pos, List, [], ◌∷◌, Option, Some, None, Ok, refl, ap, sym, subst, ◌∙◌, arith, length}
-use Rattle.std.specs.Prelude.{⊤, IsSome, IsSomeAnd, IsTrue, replicate, slice_get}
+use Rattle.std.specs.Prelude.{⊤, IsSome, IsSomeAnd, IsTrue, replicate, slice_get, slice_set, unwrap_or}
 use Rattle.std.proofs.lemmas.List.{length-set, length-append, length-replicate}
 use Rattle.std.proofs.lemmas.Option.{slice_get_within}
-use Rattle.std.specs.List.{AllByRecursion as Each}
+use Rattle.std.specs.List.{AllByRecursion as Each, range_with_len}
 use Rattle.ppd_ast.specs.declared.plan.Plan.{Plan}
 use Rattle.ppd_ast.specs.declared.program.Body.{Body}
 use Rattle.ppd_ast.specs.declared.program.Kind.{Kind}
@@ -12,16 +12,16 @@ use Rattle.ppd_ast.specs.declared.program.Program.{Program}
 use Rattle.ppd_ast.specs.declared.program.Stmt.{Stmt}
 use Rattle.ppd_ast.specs.Valid.{CallsRightly, IsValid}
 use Rattle.ppd_ast.proofs.ValidLaws.{slice_get_there, stmt_in_body}
-use Rattle.ppd_ast.specs.Lookups.{kind_of, body_of}
+use Rattle.ppd_ast.specs.Lookups.{kind_of, body_of, no_body}
 use Rattle.ppd_ast.proofs.Vocabulary.{kind_of_stmt, params_of_body}
 use Rattle.ppd_sem.specs.declared.proc.Answer.{Answer}
 use Rattle.ppd_sem.specs.declared.proc.Frame.{Frame}
 use Rattle.ppd_sem.specs.declared.proc.Proc.{Proc}
 use Rattle.ppd_sem.specs.declared.proc.Todo.{Todo}
 use Rattle.ppd_sem.specs.Deed.{Deed, set_local, clear, invoke, back, receive}
-use Rattle.ppd_sem.specs.Process.{act, act_by_deed, clear_top, into_of, new_frame, receive_at, returned, returned_from, started, top_cells, write_top}
+use Rattle.ppd_sem.specs.Process.{act, act_by_deed, into_of, new_frame, receive_at, returned, started, on_top, top_frame, into_at, with_values}
 use Rattle.ppd_sem.proofs.NeedWords.{cells_for}
-use Rattle.ppd_sem.specs.Runs.{LeadsOn, size_if, size_of, stmt_size}
+use Rattle.ppd_sem.specs.Runs.{LeadsOn, size_of, stmt_size}
 use Rattle.ppd_sem.proofs.Kept.{leads_at, length-clear}
 use Rattle.ppd_sem.proofs.Validity.{valid-runnable}
 use Rattle.ppd_model.proofs.Homes.{AskedOf, head_of}
@@ -39,12 +39,12 @@ AreSized program frames = Each (IsSized program) frames
 
 module _ (program : Program) where
   write_sized : (c : ℕ) (v : ℤ) (frames : List Frame) → AreSized program frames
-      → AreSized program (write_top c v frames)
+      → AreSized program (on_top (λ cells. slice_set cells c v) frames)
   write_sized c v [] h = h
   write_sized c v (f ∷ fs) h = (length-set f.cells c v ∙ h.0, h.1)
 
   clear_sized : (base len : ℕ) (frames : List Frame) → AreSized program frames
-      → AreSized program (clear_top base len frames)
+      → AreSized program (on_top (with_values (range_with_len base len) (replicate len (pos 0))) frames)
   clear_sized base len [] h = h
   clear_sized base len (f ∷ fs) h = (length-clear base len f.cells ∙ h.0, h.1)
 
@@ -55,7 +55,7 @@ module _ (program : Program) where
   receive_sized None value frames h = h
 
   from_sized : (call : Option ℕ) (value : Option ℤ) (frames : List Frame) → AreSized program frames
-      → AreSized program (returned_from program call value frames)
+      → AreSized program (receive_at (into_at program call) value frames)
   from_sized None value frames h = h
   from_sized (Some s) value frames h = receive_sized (into_of (kind_of program s)) value frames h
 
@@ -65,7 +65,7 @@ module _ (program : Program) where
   returned_sized value (f ∷ fs) h = from_sized f.call value fs h.1
 
   cells_length : (o : Option Body) (values : List ℤ) (b : Body) → o ≡ Some b → length values ≤ b.cells
-      → length (cells_for o values) ≡ size_if o
+      → length (cells_for o values) ≡ (unwrap_or o no_body).cells
   cells_length o values b e le =
       ap (λ x. length (cells_for x values)) e
       ∙ omega (
@@ -74,7 +74,7 @@ module _ (program : Program) where
         length-append values (replicate (b.cells - length values) (pos 0)),
         length-replicate
             (b.cells - length values) (pos 0),
-      ) ∙ ap size_if (sym e)
+      ) ∙ ap (λ o. (unwrap_or o no_body).cells) (sym e)
 
   -- ---- a call passes no more values than the function has cells
 
@@ -110,7 +110,7 @@ module _ (program : Program) where
   new_sized v s f values e count =
       let c : IsCallee program f = callee program s f v e in
       let fit : params_of_body (slice_get program.bodies f) ≤ size_of program f = call_fits v s f e in
-      let cells : size_of program f ≡ c.body.cells = ap size_if c.there in
+      let cells : size_of program f ≡ c.body.cells = ap (λ o. (unwrap_or o no_body).cells) c.there in
       cells_length (slice_get program.bodies f) values c.body c.there (omega (arith, fit, cells, count))
 
   abbrev IsPassing : Deed → Type 0
@@ -139,7 +139,7 @@ module _ (program : Program) where
       (λ t ts y is e. h)
       (λ t ts d left is e f. after_deed v a t ts d (record s { answers = [] })
       (subst (Yields (Suits (kind_of program t.stmt))) f
-      (suits program.exprs (kind_of program t.stmt) (top_cells s.frames) s.answers))
+      (suits program.exprs (kind_of program t.stmt) (top_frame s.frames).cells s.answers))
       (passing (body_of program t.stmt) (kind_of program t.stmt) d left
       (subst (AskedOf program (body_of program t.stmt) (kind_of program t.stmt)) f (head_of program t s v))) h)
       (λ t ts c is e. h)

@@ -2,12 +2,13 @@
 use Rattle.std.proofs.Common.{◌≡◌, ℕ, ◌+◌, ◌<◌, List, [], ◌∷◌, Some, refl, ap, sym, subst, ◌∙◌, arith, length}
 use Rattle.std.specs.Prelude.{slice_get}
 use Rattle.std.specs.List.{AllByRecursion as Each}
+use Rattle.std.specs.Option.{option_map_or}
 use Rattle.ppd_ast.specs.declared.plan.Plan.{Plan}
 use Rattle.ppd_ast.specs.declared.plan.Policy.{Policy}
 use Rattle.ppd_ast.specs.declared.program.Program.{Program}
 use Rattle.ppd_ast.specs.Valid.{IsValid}
 use Rattle.ppd_ast.proofs.ValidLaws.{slice_get_there}
-use Rattle.ppd_ast.specs.Lookups.{kind_of, body_of_stmt}
+use Rattle.ppd_ast.specs.Lookups.{kind_of, body_of}
 use Rattle.ppd_ast.proofs.Vocabulary.{kind_of_stmt}
 use Rattle.ppd_blocks.specs.Blocks.{plan_of}
 use Rattle.law_steps.specs.Course.{GoesUntilEnd}
@@ -18,7 +19,7 @@ use Rattle.ppd_sem.specs.declared.proc.Need.{Need}
 use Rattle.ppd_sem.specs.declared.proc.Need.TheVariants.{Enter, Offer, Done, Trap, Budget, Stopped}
 use Rattle.ppd_sem.specs.declared.proc.Proc.{Proc}
 use Rattle.ppd_sem.specs.declared.proc.Todo.{Todo}
-use Rattle.ppd_sem.specs.Process.{act, act_by_need, entry_of, head_deed, need_of, started, top_body}
+use Rattle.ppd_sem.specs.Process.{act, act_by_need, entry_of, head_deed, need_of, started, top_frame}
 use Rattle.ppd_sem.proofs.NeedWords.{act_at}
 use Rattle.ppd_sem.specs.Offers.{OffersAtHead}
 use Rattle.ppd_sem.specs.Runs.{IsRunning, bodies_in}
@@ -38,6 +39,7 @@ use Rattle.law_replay.proofs.Facts.Counted.{call_counted, end_alone, end_process
 use Rattle.law_replay.proofs.Facts.Entered.{IsEntered, IsReady, IsReadyAll, act_ready, started_ready}
 use Rattle.law_replay.proofs.Facts.Bodies.{HasCall, IsOf}
 use Rattle.law_replay.proofs.Facts.Sized.{AreSized, act_sized, started_sized}
+use Rattle.ppd_ast.specs.declared.program.Stmt.{Stmt}
 
 pub record IsState (program : Program) (plan : Plan) (s : Proc) : Type 0 where
   pub home : IsHomeAll program s
@@ -99,7 +101,7 @@ module _ (program : Program) (plan : Plan) (v : IsValid program) where
     head_is_home =
         let top = head_home program s.frames t ts (subst (λ ys. AreHome program (bodies_in s.frames) ys) is h.home) in
         let entered : IsEntered program plan t = (subst (Each (IsEntered program plan)) is h.ready.0).0 in
-        record { body = top.3 ∙ sym (ap top_body top.2); loops = entered.loops; blocks = entered.blocks }
+        record { body = top.3 ∙ sym (ap (λ fs. (top_frame fs).body) top.2); loops = entered.loops; blocks = entered.blocks }
 
     -- no answers while a loop is yet to be entered
     pub unanswered : (b : ℕ) → entry_of program plan t ≡ Some b → s.answers ≡ []
@@ -113,8 +115,8 @@ module _ (program : Program) (plan : Plan) (v : IsValid program) where
     pub end_lowest : IsEnd (kind_of program t.stmt) → (f : Frame) (fs : List Frame) → s.frames ≡ f ∷ fs → fs ≡ []
     end_lowest e f fs top =
         let x = slice_get_there program.stmts t.stmt head_there in
-        let body : body_of_stmt (slice_get program.stmts t.stmt) ≡ f.body = head_is_home.body ∙ ap top_body top in
-        end_alone program t.stmt x.0 f fs v x.1 (subst IsEnd (ap kind_of_stmt x.1) e) (sym (ap body_of_stmt x.1) ∙ body)
+        let body : body_of program t.stmt ≡ f.body = head_is_home.body ∙ ap (λ fs. (top_frame fs).body) top in
+        end_alone program t.stmt x.0 f fs v x.1 (subst IsEnd (ap kind_of_stmt x.1) e) (sym (ap (λ o. option_map_or (λ (x : Stmt). x.body) o 0) x.1) ∙ body)
         (subst (AreCalled program) top h.called)
 
 -- none of the statements of a function is an end
@@ -130,7 +132,7 @@ no_end_in_function program v f lt i h is =
 pub opening_counted : (program : Program) (policy : Policy) (s : Proc) (home : ℕ) (inside : ℕ → Type 0)
     → IsValid program → IsState program (plan_of program policy) s → (f : Frame) (fs : List Frame)
     → s.frames ≡ f ∷ fs → f.body ≡ home
-    → ((i : ℕ) → inside i → body_of_stmt (slice_get program.stmts i) ≡ home) → HasCall program inside
+    → ((i : ℕ) → inside i → body_of program i ≡ home) → HasCall program inside
     → length s.frames ≡ 1 + block_frames (plan_of program policy) s.frames
 opening_counted program policy s home inside v h f fs top is of_home c =
     ap length top ∙ call_counted program policy v f fs c.stmt c.function

@@ -17,7 +17,7 @@ use Rattle.ppd_sem.proofs.Lawful.{named}
 use Rattle.ppd_model.specs.Forward.{edge_in}
 use Rattle.ppd_model.specs.Races.{races}
 use Rattle.ppd_model.specs.Schedule.{run, started_world}
-use Rattle.ppd_model.specs.Story.{Moment, Telling, moment_of, own_moments, own_steps, steps_of, story, told}
+use Rattle.ppd_model.specs.Story.{Moment, Telling, moment_of, steps_of, story, told}
 use Rattle.ppd_model.specs.World.{World, answer, need}
 use Rattle.ppd_model.proofs.WorldWords.{need_at}
 use Rattle.ppd_model.proofs.Stories.{steps_append}
@@ -48,14 +48,14 @@ module _ (program : Program) (policy : Policy) (budget : ℕ) (v : IsValid progr
     at = told program used budget h
 
     read_right : (c : ℕ) → need program used at.world p ≡ Read c → p < length at.world.procs → AreFresh program used budget h p
-        → get_or at.world.shared c (pos 0) ≡ value_in_force (in_force program used p (own_moments at p)) c
+        → get_or at.world.shared c (pos 0) ≡ value_in_force (in_force program used p (get_or at.moments p [])) c
     read_right c e lt f =
         let x : Moment = moment_of program used at p in
         let inside : c < length program.starts = subst (NamesThere program) e (names_there (slice_get at.world.procs p)) in
-        let steps : own_steps (story program used budget (h ++ p ∷ [])) p ≡ steps_of (own_moments at p) ++ x.taken ∷ [] =
-        own_steps_are program used budget (h ++ p ∷ []) p ∙ ap steps_of (own_more program used budget h p lt) ∙ steps_append (own_moments at p) (x ∷ []) in
-        let k : IsCellOf used (unit_in_force program used p (steps_of (own_moments at p))) c =
-        reads_lie program policy budget (h ++ p ∷ []) p (steps_of (own_moments at p)) x.taken [] c v steps e in
+        let steps : get_or (story program used budget (h ++ p ∷ [])).steps p [] ≡ steps_of (get_or at.moments p []) ++ x.taken ∷ [] =
+        own_steps_are program used budget (h ++ p ∷ []) p ∙ ap steps_of (own_more program used budget h p lt) ∙ steps_append (get_or at.moments p []) (x ∷ []) in
+        let k : IsCellOf used (unit_in_force program used p (steps_of (get_or at.moments p []))) c =
+        reads_lie program policy budget (h ++ p ∷ []) p (steps_of (get_or at.moments p [])) x.taken [] c v steps e in
         elim (f c inside k) [
           | inl is ↦ sym is
           | inr w ↦ absurd (raced program used budget w.before w.between rest w.writer p c last
@@ -66,20 +66,20 @@ module _ (program : Program) (policy : Policy) (budget : ℕ) (v : IsValid progr
               (subst (λ y. edge_in program used budget w.before p ≡ edge_in program used budget y p) w.schedule_is w.same_edge))
         ]
 
-    pub is_read : (x : Need) → need program used at.world p ≡ x → p < length at.world.procs → Stands program used budget h p → IsRead (in_force program used p (own_moments at p)) (moment_of program used at p) x
+    pub is_read : (x : Need) → need program used at.world p ≡ x → p < length at.world.procs → Stands program used budget h p → IsRead (in_force program used p (get_or at.moments p [])) (moment_of program used at p) x
     is_read (Read c) e lt stands =
         let s = slice_get_there at.world.procs p lt in
         ap (answer at.world) e ∙ ap Value (read_right c e lt (reads_fresh program used budget h p p c s.0 s.1 e (stands s.0 s.1)))
     is_read x e lt stands = tt
 
   abbrev Reads : List ℕ → ℕ → Type 0
-  Reads h p = AreRead used (begun_in_force program used p) (own_moments (told program used budget h) p)
+  Reads h p = AreRead used (begun_in_force program used p) (get_or (told program used budget h).moments p [])
 
   module _ (h rest : List ℕ) (r : ℕ) (last : World) (runs : run program used budget (h ++ r ∷ rest) ≡ Some last) (none : races program used budget (h ++ r ∷ rest) ≡ []) where
     own_reads : Stands program used budget h r → Reads h r → Reads (h ++ r ∷ []) r
     own_reads stands a = elim (cases_lt r (length (told program used budget h).world.procs)) [
       | inl lt ↦ subst (AreRead used (begun_in_force program used r)) (sym (own_more program used budget h r lt))
-          (read_more used (begun_in_force program used r) (own_moments (told program used budget h) r) (moment_of program used (told program used budget h) r) a
+          (read_more used (begun_in_force program used r) (get_or (told program used budget h).moments r []) (moment_of program used (told program used budget h) r) a
           (is_read h rest r last runs none (need program used (told program used budget h).world r) refl lt stands))
       | inr past ↦ subst (AreRead used (begun_in_force program used r)) (sym (own_past program used budget h r past)) a
     ]
@@ -101,5 +101,5 @@ module _ (program : Program) (policy : Policy) (budget : ℕ) (v : IsValid progr
 pub reads_are_in_force : ReadsAreInForce
 reads_are_in_force program policy budget h w p v runs none =
     let plan : Plan = plan_of program policy in
-    let nil : own_moments (told program plan budget []) p ≡ [] = none_own (started_world program plan budget).procs p in
+    let nil : get_or (told program plan budget []).moments p [] ≡ [] = none_own (started_world program plan budget).procs p in
     all_reads program policy budget v [] h p w runs none (begun_stands program plan budget p) (subst (AreRead plan (begun_in_force program plan p)) (sym nil) tt)

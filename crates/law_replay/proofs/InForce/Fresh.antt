@@ -3,7 +3,7 @@ use Rattle.std.proofs.Common.{◌≡◌, ℕ, ◌+◌, ◌<◌, ℤ, pos, List, 
 use Rattle.std.proofs.lemmas.Bool.{cases_eq}
 use Rattle.std.proofs.lemmas.List.{append-nil}
 use Rattle.std.proofs.lemmas.List.Sums.{fold-append}
-use Rattle.std.specs.Prelude.{option_to_list, slice_set, unwrap_or}
+use Rattle.std.specs.Prelude.{option_to_list, slice_set, unwrap_or, filter_map}
 use Rattle.ppd_ast.specs.declared.plan.Plan.{Plan}
 use Rattle.ppd_ast.specs.declared.plan.Start.TheVariants as start
 use Rattle.ppd_ast.specs.declared.program.Program.{Program}
@@ -13,9 +13,9 @@ use Rattle.ppd_sem.specs.Tables.{unit_of}
 use Rattle.ppd_model.specs.Forward.{edge_in}
 use Rattle.ppd_model.specs.Schedule.{started_world}
 use Rattle.ppd_model.specs.SharedReads.{need_after}
-use Rattle.ppd_model.specs.Story.{Moment, Telling, moment_of, own_moments, steps_of, told, unit_started}
+use Rattle.ppd_model.specs.Story.{Moment, Telling, moment_of, steps_of, told, unit_started}
 use Rattle.ppd_model.proofs.WorldWords.{values_at_start}
-use Rattle.ppd_model.specs.Synchronizations.{kind_of_sync, numbered, sync_of, syncs_of}
+use Rattle.ppd_model.specs.Synchronizations.{kind_of_sync, numbered, sync_of}
 use Rattle.ppd_model.specs.World.{effect, need}
 use Rattle.ppd_model.proofs.Numbers.{syncs-append}
 use Rattle.ppd_model.proofs.Prefixes.{objects_stay}
@@ -41,11 +41,11 @@ module _ (program : Program) (plan : Plan) (budget : ℕ) where
   -- the value in force is the cell's, or another process wrote it since
   abbrev pub IsFresh : List ℕ → ℕ → ℕ → Type 0
   IsFresh h p c =
-      (value_in_force (in_force program plan p (own_moments (told program plan budget h) p)) c ≡ get_or (told program plan budget h).world.shared c (pos 0))
+      (value_in_force (in_force program plan p (get_or (told program plan budget h).moments p [])) c ≡ get_or (told program plan budget h).world.shared c (pos 0))
       ⊎ IsWrittenSince h p c
 
   abbrev pub unit_at : List ℕ → ℕ → ℕ
-  unit_at h p = unit_in_force program plan p (steps_of (own_moments (told program plan budget h) p))
+  unit_at h p = unit_in_force program plan p (steps_of (get_or (told program plan budget h).moments p []))
 
   -- so it is with each cell of the unit in force
   abbrev pub AreFresh : List ℕ → ℕ → Type 0
@@ -55,7 +55,7 @@ module _ (program : Program) (plan : Plan) (budget : ℕ) where
 
   pub begun_fresh : (p : ℕ) → AreFresh [] p
   begun_fresh p c lt k =
-      let nil : own_moments (told program plan budget []) p ≡ [] = none_own (started_world program plan budget).procs p in
+      let nil : get_or (told program plan budget []).moments p [] ≡ [] = none_own (started_world program plan budget).procs p in
       let u : ℕ = unit_of plan (start.Entry (program.functions + p)) in
       let k' : IsCellOf plan u c = subst (λ ms. IsCellOf plan (unit_in_force program plan p (steps_of ms)) c) nil k in
       inl (ap (λ ms. value_in_force (in_force program plan p ms) c) nil ∙ unit_value plan program.starts u c k')
@@ -88,17 +88,17 @@ module _ (program : Program) (plan : Plan) (budget : ℕ) where
       same_edge = w.same_edge ∙ sym same;
     }
 
-    edge_same : (p : ℕ) → own_moments (told program plan budget next) p ≡ own_moments now p → edge_in program plan budget next p ≡ edge_in program plan budget h p
-    edge_same p same = ap length (own_syncs_are program plan budget next p ∙ ap (λ ms. syncs_of (steps_of ms)) same ∙ sym (own_syncs_are program plan budget h p))
+    edge_same : (p : ℕ) → get_or (told program plan budget next).moments p [] ≡ get_or now.moments p [] → edge_in program plan budget next p ≡ edge_in program plan budget h p
+    edge_same p same = ap length (own_syncs_are program plan budget next p ∙ ap (λ ms. filter_map sync_of (steps_of ms)) same ∙ sym (own_syncs_are program plan budget h p))
 
     -- the step of another process that leaves the cell alone
-    quiet : (p c : ℕ) → own_moments (told program plan budget next) p ≡ own_moments now p → get_or (effect now.world n).shared c (pos 0) ≡ get_or now.world.shared c (pos 0) → IsFresh h p c → IsFresh next p c
+    quiet : (p c : ℕ) → get_or (told program plan budget next).moments p [] ≡ get_or now.moments p [] → get_or (effect now.world n).shared c (pos 0) ≡ get_or now.world.shared c (pos 0) → IsFresh h p c → IsFresh next p c
     quiet p c same value f = elim f [
       | inl e ↦ inl (ap (λ ms. value_in_force (in_force program plan p ms) c) same ∙ e ∙ sym value ∙ ap (λ (x : List ℤ). get_or x c (pos 0)) (sym shared_next))
       | inr w ↦ inr (later p c (edge_same p same) w)
     ]
 
-    written_by : (p c : ℕ) (v : ℤ) → (r ≡ p → ⊥) → n ≡ Write c v → own_moments (told program plan budget next) p ≡ own_moments now p → IsWrittenSince next p c
+    written_by : (p c : ℕ) (v : ℤ) → (r ≡ p → ⊥) → n ≡ Write c v → get_or (told program plan budget next).moments p [] ≡ get_or now.moments p [] → IsWrittenSince next p c
     written_by p c v other writes same = record {
       before = h;
       writer = r;
@@ -110,7 +110,7 @@ module _ (program : Program) (plan : Plan) (budget : ℕ) where
       same_edge = sym (edge_same p same);
     }
 
-    by_other : (p c : ℕ) (m : Need) → n ≡ m → (r ≡ p → ⊥) → own_moments (told program plan budget next) p ≡ own_moments now p → IsFresh h p c → IsFresh next p c
+    by_other : (p c : ℕ) (m : Need) → n ≡ m → (r ≡ p → ⊥) → get_or (told program plan budget next).moments p [] ≡ get_or now.moments p [] → IsFresh h p c → IsFresh next p c
     by_other p c (Write d v) e other same f = elim (cases_eq c d) [
       | inl is ↦ inr (written_by p c v other (e ∙ ap (λ x. Write x v) (sym is)) same)
       | inr isnt ↦ quiet p c same (ap (λ x. get_or (effect now.world x).shared c (pos 0)) e ∙ get_or-set_other now.world.shared d c v (pos 0) isnt) f
@@ -126,7 +126,7 @@ module _ (program : Program) (plan : Plan) (budget : ℕ) where
     -- another process steps
     pub other_fresh : (p : ℕ) → (r ≡ p → ⊥) → AreFresh h p → AreFresh next p
     other_fresh p other f c lt k =
-        let same : own_moments (told program plan budget next) p ≡ own_moments now p = own_same program plan budget h r p other in
+        let same : get_or (told program plan budget next).moments p [] ≡ get_or now.moments p [] = own_same program plan budget h r p other in
         by_other p c n refl other same (f c lt (subst (λ ms. IsCellOf plan (unit_in_force program plan p (steps_of ms)) c) same k))
 
     -- ---- the process's own step
@@ -135,26 +135,26 @@ module _ (program : Program) (plan : Plan) (budget : ℕ) where
     m = moment_of program plan now r
 
     abbrev xs : List (ℕ × ℤ)
-    xs = in_force program plan r (own_moments now r)
+    xs = in_force program plan r (get_or now.moments r [])
 
     -- no write of a cell
     abbrev IsNoWrite : Need → Type 0
     IsNoWrite x = in_force_by plan xs m.unit_values x ≡ with_unit plan xs m.unit_values (unit_started x)
 
-    module _ (more : own_moments (told program plan budget next) r ≡ own_moments now r ++ m ∷ []) where
-      force_next : in_force program plan r (own_moments (told program plan budget next) r) ≡ in_force_by plan xs m.unit_values n
-      force_next = ap (λ ms. in_force program plan r ms) more ∙ fold-append (in_force_after plan) (begun_in_force program plan r) (own_moments now r) (m ∷ [])
+    module _ (more : get_or (told program plan budget next).moments r [] ≡ get_or now.moments r [] ++ m ∷ []) where
+      force_next : in_force program plan r (get_or (told program plan budget next).moments r []) ≡ in_force_by plan xs m.unit_values n
+      force_next = ap (λ ms. in_force program plan r ms) more ∙ fold-append (in_force_after plan) (begun_in_force program plan r) (get_or now.moments r []) (m ∷ [])
 
       unit_next : unit_at next r ≡ unwrap_or (unit_started n) (unit_at h r)
       unit_next =
-          ap (λ ms. unit_in_force program plan r (steps_of ms)) more ∙ ap (unit_in_force program plan r) (steps_append (own_moments now r) (m ∷ []))
-          ∙ fold-append unit_after (unit_of plan (start.Entry (program.functions + r))) (steps_of (own_moments now r)) (m.taken ∷ [])
+          ap (λ ms. unit_in_force program plan r (steps_of ms)) more ∙ ap (unit_in_force program plan r) (steps_append (get_or now.moments r []) (m ∷ []))
+          ∙ fold-append unit_after (unit_of plan (start.Entry (program.functions + r))) (steps_of (get_or now.moments r [])) (m.taken ∷ [])
 
       edge_next : sync_of m.taken ≡ None → edge_in program plan budget next r ≡ edge_in program plan budget h r
       edge_next e =
-          ap length (own_syncs_are program plan budget next r ∙ ap (λ ms. syncs_of (steps_of ms)) more ∙ ap syncs_of (steps_append (own_moments now r) (m ∷ []))
-          ∙ syncs-append (steps_of (own_moments now r)) m.taken ∙ ap (λ o. syncs_of (steps_of (own_moments now r)) ++ option_to_list o) e
-          ∙ append-nil (syncs_of (steps_of (own_moments now r))) ∙ sym (own_syncs_are program plan budget h r))
+          ap length (own_syncs_are program plan budget next r ∙ ap (λ ms. filter_map sync_of (steps_of ms)) more ∙ ap (filter_map sync_of) (steps_append (get_or now.moments r []) (m ∷ []))
+          ∙ syncs-append (steps_of (get_or now.moments r [])) m.taken ∙ ap (λ o. filter_map sync_of (steps_of (get_or now.moments r [])) ++ option_to_list o) e
+          ∙ append-nil (filter_map sync_of (steps_of (get_or now.moments r []))) ∙ sym (own_syncs_are program plan budget h r))
 
       starts_unit : (c u : ℕ) → unit_started n ≡ Some u → IsNoWrite n → IsCellOf plan (unit_at next r) c → IsFresh next r c
       starts_unit c u e by k =
@@ -181,7 +181,7 @@ module _ (program : Program) (plan : Plan) (budget : ℕ) where
       by_write : (c d : ℕ) (v : ℤ) → n ≡ Write d v → AreFresh h r → c < length program.starts → IsCellOf plan (unit_at next r) c → IsFresh next r c
       by_write c d v e f lt k =
           let k' : IsCellOf plan (unit_at h r) c = subst (λ w. IsCellOf plan w c) (unit_next ∙ ap (λ x. unwrap_or (unit_started x) (unit_at h r)) e) k in
-          let ys : in_force program plan r (own_moments (told program plan budget next) r) ≡ (d, v) ∷ xs = force_next ∙ ap (λ x. in_force_by plan xs m.unit_values x) e in
+          let ys : in_force program plan r (get_or (told program plan budget next).moments r []) ≡ (d, v) ∷ xs = force_next ∙ ap (λ x. in_force_by plan xs m.unit_values x) e in
           let cells : (told program plan budget next).world.shared ≡ slice_set now.world.shared d v = shared_next ∙ ap (λ x. (effect now.world x).shared) e in
           elim (cases_eq c d) [
             | inl is ↦ inl (ap (λ zs. value_in_force zs c) ys ∙ ap (λ x. value_in_force ((x, v) ∷ xs) c) (sym is) ∙ written_here c v xs

@@ -1,25 +1,25 @@
 -- How a process stands: it has ended, it waits to complete a send, or the cells of its unit are fresh.
-use Rattle.std.proofs.Common.{◌≡◌, ℕ, zero, suc, ◌+◌, List, [], ◌∷◌, ◌++◌, Option, Some, None, refl, ap, sym, subst, ◌∙◌, length, map, inl, inr, ◌⊎◌, true≢false}
+use Rattle.law_replay.proofs.InForce.Fresh.{AreFresh, begun_fresh, other_fresh, own_fresh, unit_fresh}
+use Rattle.law_steps.proofs.OpenBlocks.Told.{own_more}
+use Rattle.ppd_ast.specs.Lookups.{body_numbered}
+use Rattle.ppd_ast.specs.declared.plan.Plan.{Plan}
+use Rattle.ppd_ast.specs.declared.program.Program.{Program}
+use Rattle.ppd_model.proofs.Changes.{change-at, change-else, some}
+use Rattle.ppd_model.proofs.OfferMarks.{AreUnmarked, HasEnded, IsMarked, IsUnmarked, marked_step, offer_step, over_step, unmarked_step}
+use Rattle.ppd_model.proofs.Stories.{told-append}
+use Rattle.ppd_model.proofs.WorldWords.{need_at}
+use Rattle.ppd_model.specs.Story.{Telling, moment_of, told}
+use Rattle.ppd_model.specs.World.{answer, change, need}
+use Rattle.ppd_sem.specs.Process.{act, need_of, started, todos}
+use Rattle.ppd_sem.specs.declared.proc.Answer.{Answer}
+use Rattle.ppd_sem.specs.declared.proc.Need.{Need}
+use Rattle.ppd_sem.specs.declared.proc.Need.TheVariants.{Budget, Done, Read, Stopped}
+use Rattle.ppd_sem.specs.declared.proc.Proc.{Proc}
+use Rattle.std.proofs.Common.{List, None, Option, Some, [], ap, inl, inr, length, map, refl, subst, suc, sym, true≢false, zero, ℕ, ◌++◌, ◌+◌, ◌∙◌, ◌∷◌, ◌≡◌, ◌⊎◌}
 use Rattle.std.proofs.lemmas.Bool.{cases_eq}
 use Rattle.std.proofs.lemmas.Option.{none-some, slice_get_within}
 use Rattle.std.specs.List.{range_with_len}
-use Rattle.std.specs.Prelude.{◌-◌, option_map, slice_get}
-use Rattle.ppd_ast.specs.declared.plan.Plan.{Plan}
-use Rattle.ppd_ast.specs.declared.program.Program.{Program}
-use Rattle.ppd_ast.specs.Lookups.{top_of_body}
-use Rattle.ppd_sem.specs.declared.proc.Answer.{Answer}
-use Rattle.ppd_sem.specs.declared.proc.Need.{Need}
-use Rattle.ppd_sem.specs.declared.proc.Need.TheVariants.{Read, Done, Budget, Stopped}
-use Rattle.ppd_sem.specs.declared.proc.Proc.{Proc}
-use Rattle.ppd_sem.specs.Process.{act, need_of, started, todos}
-use Rattle.ppd_model.specs.Story.{Telling, moment_of, own_moments, told}
-use Rattle.ppd_model.specs.World.{answer, change, need}
-use Rattle.ppd_model.proofs.WorldWords.{need_at}
-use Rattle.ppd_model.proofs.Changes.{change-at, change-else, some}
-use Rattle.ppd_model.proofs.OfferMarks.{AreUnmarked, IsMarked, HasEnded, IsUnmarked, marked_step, offer_step, over_step, unmarked_step}
-use Rattle.ppd_model.proofs.Stories.{told-append}
-use Rattle.law_steps.proofs.OpenBlocks.Told.{own_more}
-use Rattle.law_replay.proofs.InForce.Fresh.{AreFresh, begun_fresh, other_fresh, own_fresh, unit_fresh}
+use Rattle.std.specs.Prelude.{get_or, option_map, slice_get, ◌-◌}
 
 -- ---- marks
 
@@ -44,7 +44,7 @@ module _ (program : Program) (plan : Plan) (budget : ℕ) where
 
   begun_at : (ns : List ℕ) (p : ℕ) (s : Proc) → slice_get (map (λ p. started program plan p budget) ns) p ≡ Some s → IsUnmarked s
   begun_at [] p s e = absurd (none-some s e)
-  begun_at (n ∷ ns) zero s e = subst IsUnmarked (some e) (record { runs = refl; unmarked = unmarked_todos (top_of_body (slice_get program.bodies (program.functions + n))) })
+  begun_at (n ∷ ns) zero s e = subst IsUnmarked (some e) (record { runs = refl; unmarked = unmarked_todos (body_numbered program (program.functions + n)).top })
   begun_at (n ∷ ns) (suc p) s e = begun_at ns p s e
 
   pub begun_stands : (p : ℕ) → Stands [] p
@@ -78,7 +78,7 @@ module _ (program : Program) (plan : Plan) (budget : ℕ) where
         needs : need program plan now.world r ≡ need_of program plan s
         needs = ap (need_at program plan) is
 
-        more : own_moments (told program plan budget next) r ≡ own_moments now r ++ moment_of program plan now r ∷ []
+        more : get_or (told program plan budget next).moments r [] ≡ get_or now.moments r [] ++ moment_of program plan now r ∷ []
         more = own_more program plan budget h r (slice_get_within now.world.procs r s is)
 
         by_unmarked : IsUnmarked s → AreFresh program plan budget h r → StandsAs next r (act program plan s a)

@@ -1,4 +1,5 @@
 -- The value in force of a cell: an own write, or the value in a unit.
+use Rattle.std.specs.Option.{option_map_or}
 use Rattle.std.proofs.Common.{◌≡◌, ℕ, ℤ, pos, List, [], ◌∷◌, true, refl, ap, sym, ◌∙◌, map, get_or, inl, inr, true≢false, eq-eqb}
 use Rattle.std.proofs.lemmas.Bool.{cases_eq, ne_eqb, cond-false, cond-true}
 use Rattle.std.specs.List.{list_any}
@@ -6,7 +7,7 @@ use Rattle.std.specs.Prelude.{nat_eq, ◌||◌, slice_get, zip}
 use Rattle.ppd_ast.specs.declared.plan.Plan.{Plan}
 use Rattle.ppd_ast.specs.Members.{has}
 use Rattle.ppd_emul_model.specs.Replay.{value_in_force}
-use Rattle.ppd_model.specs.Story.{cells_of_unit, values_of_unit}
+use Rattle.ppd_model.specs.Story.{values_of_unit}
 use Rattle.law_steps.specs.Units.{IsCellOf}
 
 -- of cells beside their values
@@ -24,7 +25,7 @@ pub written_there : (d c : ℕ) (v : ℤ) (xs : List (ℕ × ℤ)) → (c ≡ d 
 written_there d c v xs n = cond-false (nat_eq d c) v (value_in_force xs c) (ne_eqb d c (λ e. n (sym e)))
 
 -- of a cell of the unit that starts
-pub unit_value : (plan : Plan) (shared : List ℤ) (u c : ℕ) → IsCellOf plan u c → value_in_force (zip (cells_of_unit (slice_get plan.units u)) (values_of_unit plan shared u)) c ≡ get_or shared c (pos 0)
+pub unit_value : (plan : Plan) (shared : List ℤ) (u c : ℕ) → IsCellOf plan u c → value_in_force (zip (option_map_or (λ u. u.cells) (slice_get plan.units u) []) (values_of_unit plan shared u)) c ≡ get_or shared c (pos 0)
 unit_value plan shared u c k =
-    zipped (λ d. get_or shared d (pos 0)) (cells_of_unit (slice_get plan.units u)) c
-    (ap (λ o. has (cells_of_unit o) c) k.there ∙ k.among)
+    zipped (λ d. get_or shared d (pos 0)) (option_map_or (λ u. u.cells) (slice_get plan.units u) []) c
+    (ap (λ o. has (option_map_or (λ u. u.cells) o []) c) k.there ∙ k.among)

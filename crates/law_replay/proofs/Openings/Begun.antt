@@ -1,6 +1,6 @@
 -- At a block the process and its replay are beside each other, whose depth is the count of blocks.
 use Rattle.std.proofs.Common.{◌≡◌, ℕ, ◌-◌, ℤ, pos, List, [], ◌∷◌, Option, Some, None, refl, ap, sym, subst, ◌∙◌, arith, length, map}
-use Rattle.std.specs.Prelude.{slice_get}
+use Rattle.std.specs.Prelude.{slice_get, get_or, unwrap_or}
 use Rattle.std.proofs.lemmas.List.{length-replicate}
 use Rattle.ppd_ast.specs.declared.plan.BlockKind.{BlockKind}
 use Rattle.ppd_ast.specs.declared.plan.Policy.{Policy}
@@ -8,13 +8,12 @@ use Rattle.ppd_ast.specs.declared.program.Body.{Body}
 use Rattle.ppd_ast.specs.declared.program.Program.{Program}
 use Rattle.ppd_ast.specs.Valid.{IsValid}
 use Rattle.ppd_blocks.specs.Blocks.{plan_of}
-use Rattle.ppd_sem.specs.Blocks.{at_block, block_body, block_todo, prelog_cells, with_values}
+use Rattle.ppd_sem.specs.Blocks.{at_block, block_body, block_todo, prelog_cells}
 use Rattle.ppd_sem.specs.declared.proc.Frame.{Frame}
 use Rattle.ppd_sem.specs.declared.proc.Proc.{Proc}
-use Rattle.ppd_sem.specs.Ask.{cell_of}
-use Rattle.ppd_sem.specs.Process.{new_frame}
+use Rattle.ppd_sem.specs.Process.{new_frame, with_values}
 use Rattle.ppd_sem.proofs.NeedWords.{cells_for}
-use Rattle.ppd_sem.specs.Runs.{size_if, size_of}
+use Rattle.ppd_sem.specs.Runs.{size_of}
 use Rattle.law_replay.proofs.Vocabulary.Relation.{IsBeside, IsSameIn, Stacked, at_base}
 use Rattle.law_replay.specs.Coming.Openings.{Opening}
 use Rattle.law_replay.proofs.Openings.Blocks.{begins_own, calls_in, closer_in, inside_in, opening_frames, used_in}
@@ -24,8 +23,9 @@ use Rattle.law_replay.proofs.Openings.AtBlocks.{IsAtBlock}
 use Rattle.law_steps.proofs.OpenBlocks.Planned.{kind_is, prelog_cells_are}
 use Rattle.law_replay.proofs.Openings.Prelogged.{others_zero, prelogged_values}
 use Rattle.law_replay.proofs.Facts.Sized.{AreSized}
+use Rattle.ppd_ast.specs.Lookups.{no_body}
 
-zeros_length : (o : Option Body) → length (cells_for o []) ≡ size_if o
+zeros_length : (o : Option Body) → length (cells_for o []) ≡ (unwrap_or o no_body).cells
 zeros_length None = refl
 zeros_length (Some b) = omega (arith, length-replicate (b.cells - 0) (pos 0))
 
@@ -64,7 +64,7 @@ module _ (program : Program) (policy : Policy) (v : IsValid program) (o : Openin
 
     same_frames : IsSameIn (used_in program h.at.kind) h.at.frame
         (begun_frame program (block_body program h.at.kind) (prelog_cells (plan_of program policy) o.mark.block)
-        (map (cell_of h.at.frame.cells) (prelog_cells (plan_of program policy) o.mark.block)))
+        (map (λ c. get_or h.at.frame.cells c (pos 0)) (prelog_cells (plan_of program policy) o.mark.block)))
     same_frames = record {
       body = h.at.home;
       cells = record {

@@ -1,13 +1,14 @@
 -- A process and its replay in a block of the plan of a policy keep what an interval owes.
 use Rattle.std.proofs.Common.{◌≡◌, ℕ, ◌+◌, ◌≤◌, List, ◌∷◌, length, Some, refl, ap, sym, subst, ◌∙◌}
-use Rattle.std.specs.Prelude.{⊤, is_some, slice_get}
+use Rattle.std.specs.Prelude.{⊤, is_some, slice_get, unwrap_or}
+use Rattle.std.specs.Option.{option_map_or}
 use Rattle.ppd_ast.specs.declared.plan.BlockKind.{BlockKind}
 use Rattle.ppd_ast.specs.declared.plan.BlockKind.TheVariants as block
 use Rattle.ppd_ast.specs.declared.plan.Policy.{Policy}
 use Rattle.ppd_ast.specs.declared.program.Body.{Body}
 use Rattle.ppd_ast.specs.declared.program.Program.{Program}
 use Rattle.ppd_ast.specs.Valid.{IsValid}
-use Rattle.ppd_ast.specs.Lookups.{top_of_body, body_of_stmt}
+use Rattle.ppd_ast.specs.Lookups.{body_of, body_numbered, no_body}
 use Rattle.ppd_ast.specs.declared.limits.TheConstants.{MOST_NESTING}
 use Rattle.ppd_blocks.specs.Blocks.{plan_of, postlog_of}
 use Rattle.ppd_sem.specs.Blocks.{block_body, block_todo}
@@ -28,6 +29,7 @@ use Rattle.law_replay.proofs.Facts.State.{IsState, opening_counted}
 use Rattle.law_replay.proofs.Facts.Within.{within_listed}
 use Rattle.law_replay.proofs.Vocabulary.Held.{Among, IsWritingBlock}
 use Rattle.law_replay.proofs.Facts.Placed.{has_ends}
+use Rattle.ppd_ast.specs.declared.program.Stmt.{Stmt}
 
 -- the local cells that a block of this kind uses
 abbrev pub used_in : Program → BlockKind → ℕ → Type 0
@@ -46,8 +48,8 @@ calls_in program kind = HasCall program (inside_in program kind)
 
 -- the last of what is to do in it
 abbrev pub closer_in : Program → BlockKind → Todo
-closer_in program (block.Function f) = ender (top_of_body (slice_get program.bodies f))
-closer_in program (block.Process f) = ender (top_of_body (slice_get program.bodies f))
+closer_in program (block.Function f) = ender (body_numbered program f).top
+closer_in program (block.Process f) = ender (body_numbered program f).top
 closer_in program (block.Loop q) = closer_of q
 
 -- the body of a block that is one is there
@@ -67,10 +69,10 @@ module _ (program : Program) (policy : Policy) (v : IsValid program) where
   pub begins_own : (kind : BlockKind) → IsBodyThere program kind
       → IsOwnTodo (inside_in program kind) (closer_in program kind) (block_todo program kind)
   begins_own (block.Function f) at =
-      subst (λ o. IsOwnTodo (IsOf program f) (ender (top_of_body o)) (todos (top_of_body o))) (sym at.1)
+      subst (λ o. IsOwnTodo (IsOf program f) (ender (unwrap_or o no_body).top) (todos (unwrap_or o no_body).top)) (sym at.1)
       (body_begins program v f at.0 at.1)
   begins_own (block.Process f) at =
-      subst (λ o. IsOwnTodo (IsOf program f) (ender (top_of_body o)) (todos (top_of_body o))) (sym at.1)
+      subst (λ o. IsOwnTodo (IsOf program f) (ender (unwrap_or o no_body).top) (todos (unwrap_or o no_body).top)) (sym at.1)
       (body_begins program v f at.0 at.1)
   begins_own (block.Loop q) at = ((in_itself program q, tt), refl)
 
@@ -80,7 +82,7 @@ module _ (program : Program) (policy : Policy) (v : IsValid program) where
       (calls_in program kind) (closer_in program kind) (block_body program kind) depth outside (λ s r. ⊤)
   block_kept (block.Function f) b e at depth outside =
       subst (λ o. IsKept program (plan_of program policy) EachCell (IsOf program f)
-      (HasCall program (IsOf program f)) (ender (top_of_body o)) f depth outside (λ s r. ⊤)) (sym at.1)
+      (HasCall program (IsOf program f)) (ender (unwrap_or o no_body).top) f depth outside (λ s r. ⊤)) (sym at.1)
       (kept_by program (plan_of program policy) EachCell (IsOf program f) (HasCall program (IsOf program f))
       (ender at.0.top) f depth outside
       (has_ends program v) (body_block program v f)
@@ -91,7 +93,7 @@ module _ (program : Program) (policy : Policy) (v : IsValid program) where
       (body_postlogs program v f (plan_of program policy)))
   block_kept (block.Process f) b e at depth outside =
       subst (λ o. IsKept program (plan_of program policy) EachCell (IsOf program f)
-      (HasCall program (IsOf program f)) (ender (top_of_body o)) f depth outside (λ s r. ⊤)) (sym at.1)
+      (HasCall program (IsOf program f)) (ender (unwrap_or o no_body).top) f depth outside (λ s r. ⊤)) (sym at.1)
       (kept_by program (plan_of program policy) EachCell (IsOf program f) (HasCall program (IsOf program f))
       (ender at.0.top) f depth outside
       (has_ends program v) (body_block program v f)
@@ -109,11 +111,11 @@ module _ (program : Program) (policy : Policy) (v : IsValid program) where
 
 -- the statements of a block are of the body that its code stands in
 pub inside_home : (program : Program) → IsValid program → (kind : BlockKind) (i : ℕ) → inside_in program kind i
-    → body_of_stmt (slice_get program.stmts i) ≡ block_body program kind
-inside_home program v (block.Function f) i h = ap body_of_stmt h.there ∙ h.body
-inside_home program v (block.Process f) i h = ap body_of_stmt h.there ∙ h.body
+    → body_of program i ≡ block_body program kind
+inside_home program v (block.Function f) i h = ap (λ o. option_map_or (λ (x : Stmt). x.body) o 0) h.there ∙ h.body
+inside_home program v (block.Process f) i h = ap (λ o. option_map_or (λ (x : Stmt). x.body) o 0) h.there ∙ h.body
 inside_home program v (block.Loop q) i h =
-    inside_body MOST_NESTING program q i (body_of_stmt (slice_get program.stmts q)) v refl (within_listed program q i v h)
+    inside_body MOST_NESTING program q i (body_of program q) v refl (within_listed program q i v h)
 
 -- so is the count of frames where one of the statements is a call
 pub opening_frames : (program : Program) (policy : Policy) (s : Proc) (kind : BlockKind) (f : Frame)

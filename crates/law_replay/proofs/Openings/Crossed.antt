@@ -1,7 +1,8 @@
 -- The statements of each nested block, by its number: of a loop what stands in it, of a function its body.
 use Rattle.std.proofs.Common.{◌≡◌, ℕ, ◌<◌, ◌≤◌, List, [], ◌∷◌, true, Some, refl, ap, sym, subst, ◌∙◌, arith, inl, inr, ◌⊎◌}
-use Rattle.std.specs.Prelude.{is_some, slice_get}
+use Rattle.std.specs.Prelude.{is_some, slice_get, unwrap_or}
 use Rattle.std.specs.List.{AllByRecursion as Each}
+use Rattle.std.specs.Option.{option_map_or}
 use Rattle.ppd_ast.specs.declared.plan.BlockKind.{BlockKind}
 use Rattle.ppd_ast.specs.declared.plan.BlockKind.TheVariants as block
 use Rattle.ppd_ast.specs.declared.plan.Plan.{Plan}
@@ -9,7 +10,7 @@ use Rattle.ppd_ast.specs.declared.plan.Policy.{Policy}
 use Rattle.ppd_ast.specs.declared.program.Body.{Body}
 use Rattle.ppd_ast.specs.declared.program.Program.{Program}
 use Rattle.ppd_ast.specs.Valid.{IsValid}
-use Rattle.ppd_ast.specs.Lookups.{kind_of, top_of_body, body_of_stmt}
+use Rattle.ppd_ast.specs.Lookups.{kind_of, body_of, no_body}
 use Rattle.ppd_ast.proofs.Vocabulary.{kind_of_stmt}
 use Rattle.ppd_ast.specs.Counting.{one_if}
 use Rattle.ppd_blocks.specs.Blocks.{plan_of}
@@ -28,6 +29,7 @@ use Rattle.law_replay.proofs.Facts.BodyBlocks.{body_there, function_below}
 use Rattle.law_replay.proofs.Facts.Loops.{IsWithin, loop_goes_on, loop_writing}
 use Rattle.law_replay.proofs.Facts.BlockOpens.{function_returns, return_opens}
 use Rattle.law_replay.proofs.Facts.State.{no_end_in_function}
+use Rattle.ppd_ast.specs.declared.program.Stmt.{Stmt}
 
 -- a statement of the loop that is block b
 pub record IsOfLoop (program : Program) (plan : Plan) (b s : ℕ) : Type 0 where
@@ -94,10 +96,10 @@ module _ (program : Program) (policy : Policy) (v : IsValid program) where
       subst IsReturn (sym kind_is)
       (function_returns program (last_stmt 0 x.top) last.stmt v last.there below
       (sym (ap ends_body kind_is) ∙ ends)) in
-      let own : body_of_stmt (slice_get program.stmts (last_stmt 0 x.top)) ≡ f = ap body_of_stmt last.there ∙ last.body in
-      let one : ends_block plan (body_of_stmt (slice_get program.stmts (last_stmt 0 x.top)))
+      let own : body_of program (last_stmt 0 x.top) ≡ f = ap (λ o. option_map_or (λ (x : Stmt). x.body) o 0) last.there ∙ last.body in
+      let one : ends_block plan (body_of program (last_stmt 0 x.top))
       (kind_of program (last_stmt 0 x.top)) ≡ 1 =
-      return_opens plan (body_of_stmt (slice_get program.stmts (last_stmt 0 x.top)))
+      return_opens plan (body_of program (last_stmt 0 x.top))
       (kind_of program (last_stmt 0 x.top)) returns
       ∙ ap (λ n. one_if (is_some (block_of plan (block.Function n)))) own ∙ ap (λ o. one_if (is_some o)) e in
       omega (arith, one)
@@ -110,7 +112,7 @@ module _ (program : Program) (policy : Policy) (v : IsValid program) where
       let begins = body_begins program v f x there.1 in
       record {
         last = ender x.top;
-        own = subst (λ o. IsOwnTodo (IsOfFunction program plan b) (ender x.top) (todos (top_of_body o))) (sym there.1)
+        own = subst (λ o. IsOwnTodo (IsOfFunction program plan b) (ender x.top) (todos (unwrap_or o no_body).top)) (sym there.1)
             (body_todo b f e (todos x.top) begins.0, begins.1);
         ends = (body_closer program v f x there.1).ends;
         last_is = refl;
@@ -122,8 +124,8 @@ module _ (program : Program) (policy : Policy) (v : IsValid program) where
       ⊎ (ends_body (kind_of program (closer_in program kind).stmt) ≡ true)
   closer_closes (block.Loop q) there = inl refl
   closer_closes (block.Function f) there =
-      inr (subst (λ o. ends_body (kind_of program (ender (top_of_body o)).stmt) ≡ true) (sym there.1)
+      inr (subst (λ o. ends_body (kind_of program (ender (unwrap_or o no_body).top).stmt) ≡ true) (sym there.1)
       (body_closer program v f there.0 there.1).ends)
   closer_closes (block.Process f) there =
-      inr (subst (λ o. ends_body (kind_of program (ender (top_of_body o)).stmt) ≡ true) (sym there.1)
+      inr (subst (λ o. ends_body (kind_of program (ender (unwrap_or o no_body).top).stmt) ≡ true) (sym there.1)
       (body_closer program v f there.0 there.1).ends)

@@ -1,6 +1,6 @@
 -- Where a step opens an interval: which block it is of, and what the process has to do there.
 use Rattle.std.proofs.Common.{◌≡◌, ℕ, zero, suc, ◌+◌, ℤ, Bool, true, false, List, [], ◌∷◌, ◌++◌, Option, Some, None, Ok, Err, refl, ap, sym, subst, ◌∙◌, length, map, true≢false}
-use Rattle.std.specs.Prelude.{IsSome, IsTrue, is_some, nat_lt, slice_get, if◌then◌else◌}
+use Rattle.std.specs.Prelude.{IsSome, IsTrue, is_some, nat_lt, slice_get, if◌then◌else◌, get_or, pos}
 use Rattle.ppd_ast.specs.declared.plan.BlockKind.{BlockKind}
 use Rattle.ppd_ast.specs.declared.plan.BlockKind.TheVariants as block
 use Rattle.ppd_ast.specs.declared.plan.Plan.{Plan}
@@ -15,7 +15,6 @@ use Rattle.ppd_ast.proofs.Vocabulary.{params_of_body}
 use Rattle.ppd_ast.specs.declared.limits.TheConstants.{MOST_CALLS}
 use Rattle.ppd_sem.specs.Blocks.{block_body, block_todo, block_unit, prelog_cells}
 use Rattle.ppd_sem.specs.declared.asking.Pause.TheVariants.{Wants, Traps}
-use Rattle.ppd_sem.specs.Ask.{cell_of}
 use Rattle.ppd_sem.specs.Offers.{OffersAtHead}
 use Rattle.ppd_sem.specs.Passed.{arguments_at, arguments_by}
 use Rattle.ppd_sem.proofs.EventWords.{arguments_of_head}
@@ -25,9 +24,9 @@ use Rattle.ppd_sem.specs.declared.proc.Need.{Need}
 use Rattle.ppd_sem.specs.declared.proc.Need.TheVariants.{Enter, Invoke, Done, Trap, Budget}
 use Rattle.ppd_sem.specs.declared.proc.Proc.{Proc}
 use Rattle.ppd_sem.specs.declared.proc.Todo.{Todo}
-use Rattle.ppd_sem.specs.Asked.{Asked, outcome}
+use Rattle.ppd_sem.specs.Asked.{Asked}
 use Rattle.ppd_sem.specs.Deed.{Deed, leave, invoke, send}
-use Rattle.ppd_sem.specs.Process.{act, act_by_asked, act_by_need, chan_of, cost, entry_of, head_deed, loop_of, need_of, need_of_asked, need_of_deed, need_of_head, need_of_leaving, need_of_send, new_frame, offer_of, top_cells}
+use Rattle.ppd_sem.specs.Process.{act, act_by_asked, act_by_need, chan_of, cost, entry_of, head_deed, loop_of, need_of, need_of_asked, need_of_deed, need_of_head, need_of_leaving, need_of_send, new_frame, offer_of, top_frame}
 use Rattle.ppd_sem.proofs.NeedWords.{act_at, cells_for, need_by_entry, need_by_offer}
 use Rattle.ppd_sem.specs.Tables.{block_of, capacity_of, unit_of}
 use Rattle.ppd_sem.proofs.Progress.{need_at_todo}
@@ -47,7 +46,7 @@ use Rattle.law_replay.proofs.Facts.State.{IsState, unanswered}
 -- the values of a prelog: of a loop those of its cells in the frame, of a function the arguments, and of a process none
 abbrev pub IsMarkedBy : Program → Plan → BlockKind → Frame → ℕ → List ℤ → Type 0
 IsMarkedBy program plan (block.Loop q) frame number values =
-    values ≡ map (cell_of frame.cells) (prelog_cells plan number)
+    values ≡ map (λ c. get_or frame.cells c (pos 0)) (prelog_cells plan number)
 IsMarkedBy program plan (block.Function f) frame number values =
     (frame.cells ≡ cells_for (slice_get program.bodies f) values)
     × (length values ≡ params_of_body (slice_get program.bodies f))
@@ -122,8 +121,8 @@ module _ (program : Program) (plan : Plan) (v : IsValid program) (s : Proc) (a :
             (subst (OffersAtHead program) is h.offers).0);
         answers = unanswered program plan v s h t ts is b e;
         running = running;
-        marked = sym (ap values_of_mark is_m) ∙ ap (λ fs. map (cell_of (top_cells fs)) (prelog_cells plan b)) top.2
-            ∙ ap (λ n. map (cell_of top.0.cells) (prelog_cells plan n)) number;
+        marked = sym (ap values_of_mark is_m) ∙ ap (λ fs. map (λ c. get_or (top_frame fs).cells c (pos 0)) (prelog_cells plan b)) top.2
+            ∙ ap (λ n. map (λ c. get_or top.0.cells c (pos 0)) (prelog_cells plan n)) number;
       }
 
   calling : (g : ℕ) (values : List ℤ) (into : Option ℕ) (left : List ℤ)
@@ -136,7 +135,7 @@ module _ (program : Program) (plan : Plan) (v : IsValid program) (s : Proc) (a :
       let c : IsCallee program g = callee program t.stmt g v call in
       let number : b ≡ m.block = ap block_in is_m in
       let arguments : arguments_at program s ≡ values =
-      ap (λ ys. arguments_of_head program s (slice_get ys 0)) is ∙ ap (λ q. arguments_by (outcome q)) e in
+      ap (λ ys. arguments_of_head program s (slice_get ys 0)) is ∙ ap (λ q. arguments_by q) e in
       let same : values ≡ m.values = sym arguments ∙ ap values_of_mark is_m in
       let asked : AskedOf program (body_of program t.stmt) (kind_of program t.stmt)
       (Ok (invoke g values into, left)) =
@@ -177,7 +176,7 @@ module _ (program : Program) (plan : Plan) (v : IsValid program) (s : Proc) (a :
   asking : (q : Asked Deed) → head_deed program t s ≡ q → Goal (need_of_asked program plan t.stmt s q)
   asking (Ok p) e = doing p.0 p.1 e
       (subst (Yields (Suits (kind_of program t.stmt))) e
-      (suits program.exprs (kind_of program t.stmt) (top_cells s.frames) s.answers))
+      (suits program.exprs (kind_of program t.stmt) (top_frame s.frames).cells s.answers))
   asking (Err (Wants c)) e = unmarked (need_of_asked program plan t.stmt s (Err (Wants c))) refl
   asking (Err (Traps x)) e = unmarked (need_of_asked program plan t.stmt s (Err (Traps x))) refl
 

@@ -19,9 +19,9 @@ use Rattle.ppd_sem.specs.declared.proc.Need.{Need}
 use Rattle.ppd_sem.specs.declared.proc.Need.TheVariants.{Enter, Invoke}
 use Rattle.ppd_sem.specs.declared.proc.Proc.{Proc}
 use Rattle.ppd_sem.specs.declared.proc.Todo.{Todo}
-use Rattle.ppd_sem.specs.Blocks.{block_body, frames_past, skipped, write_all}
+use Rattle.ppd_sem.specs.Blocks.{block_body, frames_past, skipped}
 use Rattle.ppd_sem.specs.Described.{ends_body}
-use Rattle.ppd_sem.specs.Process.{act, act_by_need, cost, need_of, need_of_head, new_frame, receive_at, started}
+use Rattle.ppd_sem.specs.Process.{act, act_by_need, cost, need_of, need_of_head, new_frame, receive_at, started, on_top, with_values}
 use Rattle.ppd_sem.proofs.NeedWords.{act_at}
 use Rattle.ppd_sem.specs.Tables.{block_of}
 use Rattle.ppd_sem.proofs.TableWords.{or_zero}
@@ -74,7 +74,7 @@ below_rooted : (c : Option ℕ) (cs : List (Option ℕ)) → IsRooted (c ∷ cs)
 below_rooted c [] h = tt
 below_rooted c (d ∷ ds) h = h.1
 
-write_calls : (cs : List ℕ) (values : List ℤ) (fs : List Frame) → calls_of (write_all cs values fs) ≡ calls_of fs
+write_calls : (cs : List ℕ) (values : List ℤ) (fs : List Frame) → calls_of (on_top (with_values cs values) fs) ≡ calls_of fs
 write_calls cs values [] = refl
 write_calls cs values (f ∷ fs) = refl
 

@@ -1,6 +1,6 @@
 -- Each interval of a process that has ended is gone past by its postlog.
 use Rattle.std.proofs.Common.{◌≡◌, ℕ, suc, ◌+◌, ◌<◌, List, [], ◌∷◌, ◌++◌, length, Option, Some, None, refl, ap, sym, subst, ◌∙◌, arith, append_assoc}
-use Rattle.std.specs.Prelude.{⊤, fold, option_map, slice_get, take}
+use Rattle.std.specs.Prelude.{⊤, fold, option_map, slice_get, take, get_or}
 use Rattle.std.proofs.lemmas.List.{length-append}
 use Rattle.std.proofs.lemmas.List.Sums.{fold-append}
 use Rattle.std.proofs.lemmas.Option.{none-some}
@@ -17,7 +17,7 @@ use Rattle.ppd_model.specs.declared.tracing.Taken.{Taken}
 use Rattle.ppd_model.specs.Intervals.{Split, begun_split, spans_in, split_of, split_step, splits}
 use Rattle.ppd_model.specs.LocalTags.{AreOwn}
 use Rattle.ppd_model.specs.States.{act_on}
-use Rattle.ppd_model.specs.Story.{own_steps, story}
+use Rattle.ppd_model.specs.Story.{story}
 use Rattle.ppd_model.proofs.Items.{split_found}
 use Rattle.ppd_model.proofs.LocalTags.{own_steps_told}
 use Rattle.law_replay.proofs.Facts.State.{started_state}
@@ -50,16 +50,16 @@ module _ (program : Program) (policy : Policy) (v : IsValid program) (budget : �
   Follow n s (t ∷ ts) =
       (at (n + 1) ≡ act program plan s t.answer) × Follow (n + 1) (act program plan s t.answer) ts
 
-  follow : (done ts : List Taken) (n : ℕ) → own_steps whole p ≡ done ++ ts → length done ≡ n
+  follow : (done ts : List Taken) (n : ℕ) → get_or whole.steps p [] ≡ done ++ ts → length done ≡ n
       → Follow n (fold (act_on program plan) (started program plan p budget) done) ts
   follow done [] n e count = tt
   follow done (t ∷ ts) n e count =
       let one : length (done ++ t ∷ []) ≡ n + 1 = length-append done (t ∷ []) ∙ ap (λ m. m + 1) count in
-      let all : own_steps whole p ≡ (done ++ t ∷ []) ++ ts = e ∙ sym (append_assoc done (t ∷ []) ts) in
+      let all : get_or whole.steps p [] ≡ (done ++ t ∷ []) ++ ts = e ∙ sym (append_assoc done (t ∷ []) ts) in
       let last : fold (act_on program plan) (started program plan p budget) (done ++ t ∷ [])
       ≡ act program plan (fold (act_on program plan) (started program plan p budget) done) t.answer =
       fold-append (act_on program plan) (started program plan p budget) done (t ∷ []) in
-      let taken : take (n + 1) (own_steps whole p) ≡ done ++ t ∷ [] =
+      let taken : take (n + 1) (get_or whole.steps p []) ≡ done ++ t ∷ [] =
       ap (take (n + 1)) all ∙ ap (λ m. take m ((done ++ t ∷ []) ++ ts)) (sym one)
       ∙ take-append_seam (done ++ t ∷ []) ts in (
         ap (fold (act_on program plan) (started program plan p budget)) taken ∙ last,
@@ -90,10 +90,10 @@ module _ (program : Program) (policy : Policy) (v : IsValid program) (budget : �
   }
 
   pub gone_past_all : AreGonePast program policy v p there at
-      (split_of program plan budget whole p (own_steps whole p)).spans
+      (split_of program plan budget whole p (get_or whole.steps p [])).spans
   gone_past_all =
-      all_steps (own_steps whole p) (begun_split program plan p (started program plan p budget)) 0 begins refl
-      (own_steps_told program plan budget h p) (follow [] (own_steps whole p) 0 refl refl)
+      all_steps (get_or whole.steps p []) (begun_split program plan p (started program plan p budget)) 0 begins refl
+      (own_steps_told program plan budget h p) (follow [] (get_or whole.steps p []) 0 refl refl)
 
 pub skips_go_past : SkipsGoPast
 skips_go_past program policy budget h p k n i v e c =
@@ -115,8 +115,8 @@ skips_go_past program policy budget h p k n i v e c =
         let there : program.functions + p < length program.bodies =
         process_there program (plan_of program policy) budget h p x at in
         let zero_is : 0 + p ≡ p = omega arith in
-        let is : split_of program (plan_of program policy) budget s p (own_steps s p) ≡ x =
-        ap (λ q. split_of program (plan_of program policy) budget s q (own_steps s p)) (sym zero_is)
+        let is : split_of program (plan_of program policy) budget s p (get_or s.steps p []) ≡ x =
+        ap (λ q. split_of program (plan_of program policy) budget s q (get_or s.steps p [])) (sym zero_is)
         ∙ split_found program (plan_of program policy) budget s 0 s.steps p x at in
         gone_past_all program policy v budget h p there k n (marks i)
         (ap (λ (y : Split). option_map marks (slice_get y.spans (suc k))) is ∙ ap (option_map marks) e) c

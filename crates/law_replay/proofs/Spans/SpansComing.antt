@@ -2,7 +2,7 @@
 use Rattle.std.proofs.Common.{◌≡◌, ℕ, zero, suc, ◌+◌, ◌<◌, List, [], ◌∷◌, length, Option, Some, None, refl, ap, sym, ◌∙◌, subst, arith}
 use Rattle.std.proofs.lemmas.List.{length-map}
 use Rattle.std.proofs.lemmas.Option.{none-some, slice_get_past, slice_get_within}
-use Rattle.std.specs.Prelude.{slice_get}
+use Rattle.std.specs.Prelude.{slice_get, get_or}
 use Rattle.ppd_ast.specs.declared.plan.Plan.{Plan}
 use Rattle.ppd_ast.specs.declared.program.Program.{Program}
 use Rattle.ppd_ast.specs.declared.status.Status.{Status}
@@ -15,7 +15,7 @@ use Rattle.ppd_model.specs.declared.tracing.Story.{Story}
 use Rattle.ppd_model.specs.Intervals.{Span, Split, begun_split, split_of, split_step, splits, with_marks, with_own, with_step}
 use Rattle.ppd_model.specs.Logs.{status_of}
 use Rattle.ppd_model.specs.Marks.{Mark, opened, closed}
-use Rattle.ppd_model.specs.Story.{Moment, Telling, own_moments, own_steps, steps_of, story, told, unit_started}
+use Rattle.ppd_model.specs.Story.{Moment, Telling, steps_of, story, told, unit_started}
 use Rattle.ppd_model.specs.Synchronizations.{sync_of}
 use Rattle.ppd_model.proofs.Items.{split_found, splits_length}
 use Rattle.ppd_model.proofs.Prefixes.{objects_stay}
@@ -151,7 +151,7 @@ spans_are_coming program policy budget h p k x v whole at =
     let plan : Plan = plan_of program policy in
     let s : Story = story program plan budget h in
     let t : Telling = told program plan budget h in
-    let ms : List Moment = own_moments t p in
+    let ms : List Moment = get_or t.moments p [] in
     let below : p < length (splits program plan budget s) = slice_get_within (splits program plan budget s) p x at in
     let many : length (splits program plan budget s) ≡ length t.moments = splits_length program plan budget s 0 s.steps ∙ length-map t.moments steps_of in
     let there : program.functions + p < length program.bodies = omega (arith, below, many, moments_length program plan budget h, (objects_stay program plan budget h).processes) in
@@ -160,7 +160,7 @@ spans_are_coming program policy budget h p k x v whole at =
     let nests : IsNested program plan (started program plan p budget) ms 1 = nested program plan v p ms (started program plan p budget) 1 (steps_move.starts program plan p budget v there) refl run one in
     let z : 0 + p ≡ p = omega arith in
     let is : split_of program plan budget s p (steps_of ms) ≡ x =
-    ap (λ xs. split_of program plan budget s p xs) (sym (own_steps_are program plan budget h p)) ∙ ap (λ q. split_of program plan budget s q (own_steps s p)) (sym z) ∙ split_found program plan budget s 0 s.steps p x at in
+    ap (λ xs. split_of program plan budget s p xs) (sym (own_steps_are program plan budget h p)) ∙ ap (λ q. split_of program plan budget s q (get_or s.steps p [])) (sym z) ∙ split_found program plan budget s 0 s.steps p x at in
     subst (λ (w : Split). AreAlike (λ o i. IsSpanOf program plan k o w i) (opening_of program plan budget p ms k) (slice_get w.spans k)) is
     (as_span program plan budget s p ms k (opening_of program plan budget p ms k) (slice_get (split_of program plan budget s p (steps_of ms)).spans k)
     (begins_at program plan budget s p ms nests (is_live program plan ms (started program plan p budget) run) k))

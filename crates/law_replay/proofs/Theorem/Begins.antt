@@ -1,5 +1,5 @@
 -- The replay of an interval takes its first unit, and then goes along with the process.
-use Rattle.std.proofs.Common.{◌≡◌, ℕ, ◌+◌, ℤ, List, [], ◌∷◌, ◌++◌, map, None, Ok, ap, ap₂, sym, ◌∙◌, arith}
+use Rattle.std.proofs.Common.{◌≡◌, ℕ, ◌+◌, ℤ, List, [], ◌∷◌, ◌++◌, map, None, Ok, ap, ap₂, sym, ◌∙◌, arith, Some}
 use Rattle.std.specs.Prelude.{drop}
 use Rattle.ppd_ast.specs.declared.plan.BlockKind.{BlockKind}
 use Rattle.ppd_ast.specs.declared.plan.Plan.{Plan}
@@ -112,11 +112,11 @@ module _ (program : Program) (policy : Policy) (v : IsValid program) (o : Openin
       → o.proc.budget ≡ budget → AreRead plan (unit_in_force plan (block_unit plan kind) h.values) o.rest
       → replay program plan l budget ≡ gives (coming_in program plan k o)
   replay_gives k l is same purse reads =
-      ap₂ (λ b d. go_on (take_unit plan (block_unit plan (block_kind plan b)) (start b l.values d))
+      ap₂ (λ b d. go_on (take_unit plan (Some (block_unit plan (block_kind plan b))) (start b l.values d))
       (replay_from program plan (budget + 1))) is.block same
-      ∙ ap (λ vs. go_on (take_unit plan (block_unit plan (block_kind plan o.mark.block))
+      ∙ ap (λ vs. go_on (take_unit plan (Some (block_unit plan (block_kind plan o.mark.block)))
       (start o.mark.block vs depth)) (replay_from program plan (budget + 1))) is.values
-      ∙ ap (λ x. go_on (take_unit plan (block_unit plan x) (begun l.pieces))
+      ∙ ap (λ x. go_on (take_unit plan (Some (block_unit plan x)) (begun l.pieces))
       (replay_from program plan (budget + 1))) facts.kind
       ∙ ap (λ t. go_on t (replay_from program plan (budget + 1)))
       (unit_turn program plan (block_unit plan kind) (begun l.pieces) h.values

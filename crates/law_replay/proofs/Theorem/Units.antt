@@ -1,4 +1,5 @@
 -- The unit with which an interval begins: the values that it sets answer the reads that follow.
+use Rattle.std.specs.Option.{option_map_or}
 use Rattle.std.proofs.Common.{◌≡◌, ℕ, zero, suc, ◌+◌, ℤ, List, [], ◌∷◌, Option, Some, None, refl, ap, ap₂, sym, subst, ◌∙◌, true≢false}
 use Rattle.std.specs.Prelude.{is_some, slice_get, zip}
 use Rattle.ppd_ast.specs.declared.plan.Plan.{Plan}
@@ -11,14 +12,14 @@ use Rattle.ppd_sem.specs.declared.proc.Proc.{Proc}
 use Rattle.ppd_sem.specs.Process.{act, started}
 use Rattle.ppd_sem.specs.Tables.{unit_of}
 use Rattle.ppd_model.specs.Marks.{Mark, opened}
-use Rattle.ppd_model.specs.Story.{Moment, cells_of_unit, unit_started, values_of_unit}
+use Rattle.ppd_model.specs.Story.{Moment, unit_started, values_of_unit}
 use Rattle.law_replay.specs.InForce.Values.{AreRead, begun_in_force, in_force_after, in_force_by, with_unit}
 use Rattle.law_replay.specs.Coming.Pieces.{unit_pieces}
 use Rattle.law_replay.specs.Coming.Openings.{Opening, opening, opening_by, opening_of}
 
 -- the values in force where a unit starts
 abbrev pub unit_in_force : Plan → ℕ → List ℤ → List (ℕ × ℤ)
-unit_in_force plan u values = zip (cells_of_unit (slice_get plan.units u)) values
+unit_in_force plan u values = zip (option_map_or (λ u. u.cells) (slice_get plan.units u) []) values
 
 -- the reads of the opening are answered by its unit and by own writes
 abbrev pub IsReadFrom : Plan → Opening → Type 0

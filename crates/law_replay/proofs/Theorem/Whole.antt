@@ -12,7 +12,7 @@ use Rattle.ppd_model.specs.Intervals.{Span, Split, items_of, splits}
 use Rattle.ppd_model.specs.Logs.{closed_logs}
 use Rattle.ppd_model.specs.Races.{races}
 use Rattle.ppd_model.specs.Schedule.{IsWhole}
-use Rattle.ppd_model.specs.Story.{Moment, own_moments, story, told}
+use Rattle.ppd_model.specs.Story.{Moment, story, told}
 use Rattle.ppd_emul_model.specs.Replay.{replay}
 use Rattle.law_replay.proofs.InForce.Answered.{reads_are_in_force}
 use Rattle.law_steps.specs.OpenBlocks.Run.{IsRun}
@@ -33,7 +33,7 @@ module _ (spans : SpansAreComing) (program : Program) (policy : Policy) (budget 
   plan = plan_of program policy
 
   abbrev moments : List Moment
-  moments = own_moments (told program plan budget h) p
+  moments = get_or (told program plan budget h).moments p []
 
   module _ (there : program.functions + p < length program.bodies) where
     run : IsRun program plan (started program plan p budget) moments

@@ -1,9 +1,9 @@
 -- A process that runs in a function that is a block, which it called beside its replay.
-use Rattle.std.specs.Prelude.{◌≡◌, ℕ, zero, suc, ◌+◌, ◌≤◌, ⊤, true, false, length, List, ◌++◌, Some, slice_get}
+use Rattle.std.specs.Prelude.{◌≡◌, ℕ, zero, suc, ◌+◌, ◌≤◌, ⊤, true, false, length, List, ◌++◌, Some}
 use Rattle.ppd_ast.specs.declared.plan.BlockKind.TheVariants as block
 use Rattle.ppd_ast.specs.declared.plan.Plan.{Plan}
 use Rattle.ppd_ast.specs.declared.program.Program.{Program}
-use Rattle.ppd_ast.specs.Lookups.{kind_of, top_of_body}
+use Rattle.ppd_ast.specs.Lookups.{kind_of, body_numbered}
 use Rattle.ppd_sem.specs.declared.proc.Frame.{Frame}
 use Rattle.ppd_sem.specs.declared.proc.Need.TheVariants.{Invoke}
 use Rattle.ppd_sem.specs.declared.proc.Proc.{Proc}
@@ -53,7 +53,7 @@ pub record IsInCall (program : Program) (plan : Plan) (used inside : ℕ → Typ
 -- the body of a function that is a block: its statements, and last the one that closes it
 pub record IsCallBody (program : Program) (plan : Plan) (statements : ℕ → Type 0) (f : ℕ) : Type 0 where
   pub last : Todo
-  pub own : IsOwnTodo statements last (todos (top_of_body (slice_get program.bodies f)))
+  pub own : IsOwnTodo statements last (todos (body_numbered program f).top)
   pub ends : ends_body (kind_of program last.stmt) ≡ true
   pub last_is : last.entered ≡ false
   pub counts : 1 ≤ open_at program plan last

@@ -1,5 +1,5 @@
 -- A process inside a nested block: what the block leaves alone in the frame in which it began.
-use Rattle.std.specs.Prelude.{◌≡◌, ℕ, ◌+◌, ◌++◌, ◌<◌, Bool, true, false, List, [], ◌∷◌, length, Some, ⊤, ◌⊎◌}
+use Rattle.std.specs.Prelude.{◌≡◌, ℕ, ◌+◌, ◌++◌, ◌<◌, Bool, true, false, List, [], ◌∷◌, length, Some, ⊤, ◌⊎◌, get_or, pos}
 use Rattle.std.specs.List.{AllByRecursion as Each}
 use Rattle.ppd_ast.specs.declared.program.Kind.{Kind}
 use Rattle.ppd_ast.specs.declared.program.Kind.TheVariants.{Set, Zero, Call, Recv}
@@ -9,7 +9,6 @@ use Rattle.ppd_ast.specs.Lookups.{kind_of}
 use Rattle.ppd_sem.specs.declared.proc.Frame.{Frame}
 use Rattle.ppd_sem.specs.declared.proc.Todo.{Todo}
 use Rattle.ppd_sem.specs.declared.proc.Proc.{Proc}
-use Rattle.ppd_sem.specs.Ask.{cell_of}
 use Rattle.ppd_sem.specs.Deed.{Deed, set_local, clear, back, receive, turn, finish}
 use Rattle.ppd_sem.specs.Process.{into_of}
 use Rattle.law_replay.specs.Beside.Relation.{IsListOf}
@@ -39,7 +38,7 @@ pub record IsKeptBut (written : ℕ → Type 0) (f g : Frame) : Type 0 where
   pub body : g.body ≡ f.body
   pub call : g.call ≡ f.call
   pub lengths : length g.cells ≡ length f.cells
-  pub values : (c : ℕ) → (written c → ⊥) → cell_of g.cells c ≡ cell_of f.cells c
+  pub values : (c : ℕ) → (written c → ⊥) → get_or g.cells c (pos 0) ≡ get_or f.cells c (pos 0)
 
 -- what the call that made the frame receives into is some of these
 abbrev pub IsReceiving : Program → (ℕ → Type 0) → Frame → Type 0

@@ -1,10 +1,10 @@
 -- A process that replays an interval beside the one that ran it.
-use Rattle.std.specs.Prelude.{Option, Some, None, ◌≡◌, ℕ, ◌+◌, ◌≤◌, true, false, List, [], ◌∷◌, ◌++◌, length, if◌then◌else◌, ◌⊎◌, ⊤, slice_get, Ok, Err}
+use Rattle.std.specs.Prelude.{Option, Some, None, ◌≡◌, ℕ, ◌+◌, ◌≤◌, true, false, List, [], ◌∷◌, ◌++◌, length, if◌then◌else◌, ◌⊎◌, ⊤, Ok, Err}
 use Rattle.std.specs.List.{AllByRecursion as Each}
 use Rattle.ppd_ast.specs.declared.program.Kind.{Kind}
 use Rattle.ppd_ast.specs.declared.program.Kind.TheVariants.{Return, End}
 use Rattle.ppd_ast.specs.declared.program.Program.{Program}
-use Rattle.ppd_ast.specs.Lookups.{kind_of, top_of_body}
+use Rattle.ppd_ast.specs.Lookups.{kind_of, body_numbered}
 use Rattle.ppd_sem.specs.declared.proc.Frame.{Frame}
 use Rattle.ppd_sem.specs.declared.proc.Todo.{Todo}
 use Rattle.ppd_sem.specs.declared.proc.Proc.{Proc}
@@ -38,9 +38,9 @@ pub record HasEnds (program : Program) : Type 0 where
   pub nested : (s : ℕ) (stmts : List ℕ) → IsListOf (kind_of program s) stmts → (ts : List Todo)
       → past_body program (todos stmts ++ ts) ≡ past_body program ts
   pub ended : (s f : ℕ) → IsCallOf (kind_of program s) f → (ts : List Todo)
-      → HasEnd program (todos (top_of_body (slice_get program.bodies f)) ++ ts)
+      → HasEnd program (todos (body_numbered program f).top ++ ts)
   pub whole : (s f : ℕ) → IsCallOf (kind_of program s) f → (ts : List Todo)
-      → past_body program (todos (top_of_body (slice_get program.bodies f)) ++ ts) ≡ ts
+      → past_body program (todos (body_numbered program f).top ++ ts) ≡ ts
 
 -- the statements of a block, the local cells of its frame that they read, and whether one of them is a call
 pub record IsBlock (program : Program) (used inside : ℕ → Type 0) (calls : Type 0) : Type 0 where

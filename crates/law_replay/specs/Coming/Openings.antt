@@ -14,9 +14,9 @@ use Rattle.ppd_sem.specs.Process.{act, started}
 use Rattle.ppd_sem.specs.Tables.{block_of, unit_of}
 use Rattle.ppd_model.specs.Intervals.{Split, Span, items_of, splits}
 use Rattle.ppd_model.specs.Logs.{closed_logs}
-use Rattle.ppd_model.specs.Marks.{Mark, mark, opened}
+use Rattle.ppd_model.specs.Marks.{Mark, opened}
 use Rattle.ppd_model.specs.Schedule.{IsWhole}
-use Rattle.ppd_model.specs.Story.{Moment, own_moments, story, told, unit_started, values_of_unit}
+use Rattle.ppd_model.specs.Story.{Moment, story, told, unit_started, values_of_unit}
 use Rattle.law_steps.specs.OpenBlocks.Stack.{block_frames}
 use Rattle.law_replay.specs.Coming.Pieces.{Coming, before, coming, unit_pieces}
 
@@ -47,7 +47,7 @@ opening_of program plan budget p moments zero =
     let body = program.functions + p in
     let u = unit_of plan (start.Entry body) in
     Some (record {
-      mark = mark (unwrap_or (block_of plan (block.Process body)) 0) [];
+      mark = record { block = unwrap_or (block_of plan (block.Process body)) 0; values = [] };
       units = unit_pieces (Some u) (values_of_unit plan program.starts u);
       proc = started program plan p budget;
       rest = moments;
@@ -80,7 +80,8 @@ AreAlike R a b = ⊥
 
 -- interval k of process p begins in a schedule
 abbrev pub opening_at : Program → Plan → ℕ → List ℕ → ℕ → ℕ → Option Opening
-opening_at program plan budget h p k = opening_of program plan budget p (own_moments (told program plan budget h) p) k
+opening_at program plan budget h p k =
+    opening_of program plan budget p (get_or (told program plan budget h).moments p []) k
 
 -- the logs: for a valid program and the plan of any policy, in a whole schedule the log of each interval is that of
 -- its opening

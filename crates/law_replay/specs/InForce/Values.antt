@@ -1,5 +1,6 @@
 -- The shared values in force for a process: its own writes since its unit began, before that unit's values.
-use Rattle.std.specs.Prelude.{◌≡◌, ℕ, ◌+◌, ℤ, List, [], ◌∷◌, fold, zip, slice_get, Option, Some, None, ⊤}
+use Rattle.std.specs.Option.{option_map_or}
+use Rattle.std.specs.Prelude.{◌≡◌, ℕ, ◌+◌, ℤ, List, [], ◌∷◌, fold, zip, slice_get, Option, Some, None, ⊤, get_or}
 use Rattle.ppd_ast.specs.declared.plan.Plan.{Plan}
 use Rattle.ppd_ast.specs.declared.plan.Policy.{Policy}
 use Rattle.ppd_ast.specs.declared.plan.Start.TheVariants as start
@@ -12,14 +13,14 @@ use Rattle.ppd_sem.specs.declared.proc.Need.TheVariants.{Read, Write}
 use Rattle.ppd_sem.specs.Tables.{unit_of}
 use Rattle.ppd_model.specs.World.{World}
 use Rattle.ppd_model.specs.Schedule.{run}
-use Rattle.ppd_model.specs.Story.{Moment, cells_of_unit, own_moments, told, unit_started, values_of_unit}
+use Rattle.ppd_model.specs.Story.{Moment, told, unit_started, values_of_unit}
 use Rattle.ppd_model.specs.Races.{races}
 use Rattle.ppd_emul_model.specs.Replay.{value_in_force}
 
 -- a unit that starts sets the values in force
 abbrev pub with_unit : Plan → List (ℕ × ℤ) → List ℤ → Option ℕ → List (ℕ × ℤ)
 with_unit plan xs values None = xs
-with_unit plan xs values (Some u) = zip (cells_of_unit (slice_get plan.units u)) values
+with_unit plan xs values (Some u) = zip (option_map_or (λ u. u.cells) (slice_get plan.units u) []) values
 
 -- a write of the process itself stands before them
 abbrev pub in_force_by : Plan → List (ℕ × ℤ) → List ℤ → Need → List (ℕ × ℤ)
@@ -33,7 +34,7 @@ in_force_after plan xs m = in_force_by plan xs m.unit_values m.taken.need
 abbrev pub begun_in_force : Program → Plan → ℕ → List (ℕ × ℤ)
 begun_in_force program plan p =
     let u = unit_of plan (start.Entry (program.functions + p)) in
-    zip (cells_of_unit (slice_get plan.units u)) (values_of_unit plan program.starts u)
+    zip (option_map_or (λ u. u.cells) (slice_get plan.units u) []) (values_of_unit plan program.starts u)
 
 abbrev pub in_force : Program → Plan → ℕ → List Moment → List (ℕ × ℤ)
 in_force program plan p moments = fold (in_force_after plan) (begun_in_force program plan p) moments
@@ -52,4 +53,5 @@ abbrev pub ReadsAreInForce : Type 0
 ReadsAreInForce =
     (program : Program) (policy : Policy) (budget : ℕ) (h : List ℕ) (w : World) (p : ℕ)
     → IsValid program → run program (plan_of program policy) budget h ≡ Some w → races program (plan_of program policy) budget h ≡ []
-    → AreRead (plan_of program policy) (begun_in_force program (plan_of program policy) p) (own_moments (told program (plan_of program policy) budget h) p)
+    → AreRead (plan_of program policy) (begun_in_force program (plan_of program policy) p)
+    (get_or (told program (plan_of program policy) budget h).moments p [])

@@ -1,6 +1,6 @@
 -- A process of a valid program begins on course.
 use Rattle.std.proofs.Common.{◌≡◌, ℕ, ◌+◌, ◌≤◌, false, List, [], ◌∷◌, Option, Some, None, refl, sym, subst, ap, ◌∙◌, arith}
-use Rattle.std.specs.Prelude.{slice_get}
+use Rattle.std.specs.Prelude.{slice_get, unwrap_or}
 use Rattle.std.specs.List.{All}
 use Rattle.std.proofs.lemmas.List.{append-nil}
 use Rattle.ppd_ast.specs.declared.plan.Plan.{Plan}
@@ -8,7 +8,6 @@ use Rattle.ppd_ast.specs.declared.program.Body.{Body}
 use Rattle.ppd_ast.specs.declared.program.Program.{Program}
 use Rattle.ppd_ast.specs.Valid.{IsValid}
 use Rattle.ppd_ast.proofs.ValidLaws.{slice_get_below}
-use Rattle.ppd_ast.specs.Lookups.{top_of_body}
 use Rattle.ppd_sem.specs.declared.proc.Todo.{Todo}
 use Rattle.ppd_sem.specs.Process.{todos}
 use Rattle.ppd_sem.specs.Runs.{IsInner, IsRunnableBody}
@@ -20,6 +19,7 @@ use Rattle.law_steps.proofs.Course.Chains.{top_chain}
 use Rattle.law_steps.proofs.Course.Steps.{none_returns}
 use Rattle.law_steps.proofs.Course.Ways.{list_way}
 use Rattle.ppd_model.proofs.Changes.{some}
+use Rattle.ppd_ast.specs.Lookups.{no_body}
 
 begins : (xs : List ℕ) → BeginsList xs (todos xs)
 begins [] = record { first = refl; unmarked = λ u us same. absurd cc }
@@ -28,7 +28,7 @@ begins (x ∷ xs) = record {
   unmarked = λ u us same. let one : (record { stmt = x; entered = false; offered = false }) ≡ u = some (ap (λ l. slice_get l 0) same) in sym (ap (λ (z : Todo). z.entered) one);
 }
 
-way_of : (p : Program) (plan : Plan) (f : ℕ) (o : Option Body) → IsValid p → p.functions ≤ f → slice_get p.bodies f ≡ o → IsWay p plan (None ∷ []) (todos (top_of_body o))
+way_of : (p : Program) (plan : Plan) (f : ℕ) (o : Option Body) → IsValid p → p.functions ≤ f → slice_get p.bodies f ≡ o → IsWay p plan (None ∷ []) (todos (unwrap_or o no_body).top)
 way_of p plan f None v le at = tt
 way_of p plan f (Some b) v le at =
     let found = there_at (IsRunnableBody p) p.bodies f (valid-runnable p v).bodies (slice_get_below p.bodies f b at) in
@@ -37,7 +37,7 @@ way_of p plan f (Some b) v le at =
     subst (λ l. IsWay p plan (None ∷ []) l) (append-nil (todos b.top))
     (list_way p plan (None ∷ []) b.top [] None (top_chain p f b v at) (none_returns p b.cells b.top inside) refl (λ x h. tt) tt)
 
-first_of : (o : Option Body) → BeginsList (top_of_body o) (todos (top_of_body o))
+first_of : (o : Option Body) → BeginsList (unwrap_or o no_body).top (todos (unwrap_or o no_body).top)
 first_of None = begins []
 first_of (Some b) = begins b.top
 

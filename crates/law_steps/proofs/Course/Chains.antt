@@ -1,23 +1,23 @@
 -- In a valid program each statement of a list is followed by the next one, and the last by what follows the list.
-use Rattle.std.proofs.Common.{◌≡◌, ℕ, ◌+◌, ◌<◌, ◌≤◌, List, [], ◌∷◌, ◌++◌, false, Option, Some, None, refl, sym, subst, ap, ◌∙◌, arith, ◌||◌}
-use Rattle.std.specs.Prelude.{IsTrue, nat_eq, slice_get, ⊤}
-use Rattle.std.proofs.lemmas.Bool.{cond-true, cond-false, eq-eqb, ne_eqb}
+use Rattle.law_steps.proofs.Course.Rising.{child_stands, inner_kind, inner_rises, rises_above, rises_before, rises_behind, top_rises, top_stands}
+use Rattle.law_steps.proofs.Course.Standing.{not_in_later}
+use Rattle.ppd_ast.proofs.Members.{has_first, has_later, has_left, has_right}
+use Rattle.ppd_ast.proofs.Vocabulary.{inner_at}
+use Rattle.ppd_ast.specs.Lookups.{body_numbered, kind_of, no_body}
+use Rattle.ppd_ast.specs.Members.{RisesFrom, has}
+use Rattle.ppd_ast.specs.Order.{inner}
+use Rattle.ppd_ast.specs.Valid.{IsValid}
 use Rattle.ppd_ast.specs.declared.program.Body.{Body}
 use Rattle.ppd_ast.specs.declared.program.Kind.{Kind}
 use Rattle.ppd_ast.specs.declared.program.Kind.TheVariants as K
 use Rattle.ppd_ast.specs.declared.program.Program.{Program}
-use Rattle.ppd_ast.specs.Order.{inner}
-use Rattle.ppd_ast.proofs.Vocabulary.{inner_at}
-use Rattle.ppd_ast.specs.Valid.{IsValid}
-use Rattle.ppd_ast.specs.Members.{has, RisesFrom}
-use Rattle.ppd_ast.specs.Lookups.{kind_of, top_of_body, top_of}
-use Rattle.ppd_ast.proofs.Members.{has_first, has_later, has_left, has_right}
-use Rattle.ppd_cfg.specs.Flow.{follow, follow_under, follow_within, next_in}
-use Rattle.ppd_cfg.specs.Lists.{first_or}
-use Rattle.ppd_cfg.proofs.Following.{follows_its_list}
 use Rattle.ppd_blocks.specs.Walk.{stands_in}
-use Rattle.law_steps.proofs.Course.Rising.{child_stands, inner_kind, inner_rises, rises_above, rises_before, rises_behind, top_rises, top_stands}
-use Rattle.law_steps.proofs.Course.Standing.{not_in_later}
+use Rattle.ppd_cfg.proofs.Following.{follows_its_list}
+use Rattle.ppd_cfg.specs.Flow.{follow, follow_under, follow_within, next_in}
+use Rattle.std.proofs.Common.{List, None, Option, Some, [], ap, arith, false, refl, subst, sym, ℕ, ◌++◌, ◌+◌, ◌<◌, ◌||◌, ◌∙◌, ◌∷◌, ◌≡◌, ◌≤◌}
+use Rattle.std.proofs.lemmas.Bool.{cond-false, cond-true, eq-eqb, ne_eqb}
+use Rattle.std.specs.Option.{option_or}
+use Rattle.std.specs.Prelude.{IsTrue, nat_eq, slice_get, unwrap_or, ⊤}
 
 -- the next one is another statement, in which this one does not stand
 abbrev pub IsApart : Program → ℕ → List ℕ → Type 0
@@ -27,13 +27,13 @@ IsApart p x (y ∷ ys) = stands_in p x y ≡ false
 -- each statement is followed by the next one, and the last by `after`
 abbrev pub IsChain : Program → (after : Option ℕ) → List ℕ → Type 0
 IsChain p after [] = ⊤
-IsChain p after (x ∷ xs) = (follow p x ≡ first_or xs after) × IsApart p x xs × IsChain p after xs
+IsChain p after (x ∷ xs) = (follow p x ≡ option_or (slice_get xs 0) after) × IsApart p x xs × IsChain p after xs
 
-next_first : (x : ℕ) (xs : List ℕ) (after : Option ℕ) → next_in (x ∷ xs) x after ≡ first_or xs after
-next_first x xs after = cond-true (nat_eq x x) (first_or xs after) (next_in xs x after) (eq-eqb x x refl)
+next_first : (x : ℕ) (xs : List ℕ) (after : Option ℕ) → next_in (x ∷ xs) x after ≡ option_or (slice_get xs 0) after
+next_first x xs after = cond-true (nat_eq x x) (option_or (slice_get xs 0) after) (next_in xs x after) (eq-eqb x x refl)
 
 next_later : (x y : ℕ) (xs : List ℕ) (after : Option ℕ) → x < y → next_in (x ∷ xs) y after ≡ next_in xs y after
-next_later x y xs after lt = cond-false (nat_eq x y) (first_or xs after) (next_in xs y after) (ne_eqb x y (λ e. omega arith))
+next_later x y xs after lt = cond-false (nat_eq x y) (option_or (slice_get xs 0) after) (next_in xs y after) (ne_eqb x y (λ e. omega arith))
 
 apart : (p : Program) (x : ℕ) (xs : List ℕ) → IsValid p → RisesFrom (x + 1) xs → IsApart p x xs
 apart p x [] v rises = tt
@@ -94,4 +94,4 @@ top_chain p j b v at =
     (λ x h.
     let y = top_stands p j x b v at h in
     follows_its_list p x y.0 v y.1 ∙ ap (follow_under p (follow p) y.0.body x) y.2
-    ∙ ap (λ i. next_in (top_of p i) x None) y.3 ∙ ap (λ (o : Option Body). next_in (top_of_body o) x None) at)
+    ∙ ap (λ i. next_in (body_numbered p i).top x None) y.3 ∙ ap (λ (o : Option Body). next_in (unwrap_or o no_body).top x None) at)

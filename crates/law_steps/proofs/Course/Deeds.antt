@@ -1,13 +1,14 @@
 -- What each kind of statement does once its values are there.
 use Rattle.std.proofs.Common.{◌≡◌, ℕ, ℤ, Bool, true, false, List, Option, Ok, Err, refl, inl, inr, ◌⊎◌, if◌then◌else◌}
-use Rattle.std.specs.Prelude.{⊤, option_to_list}
+use Rattle.std.specs.Prelude.{⊤, option_to_list, pos}
+use Rattle.std.specs.Ordering.{int_eq}
 use Rattle.ppd_ast.specs.declared.program.Expr.{Expr}
 use Rattle.ppd_ast.specs.declared.program.Kind.{Kind}
 use Rattle.ppd_ast.specs.declared.program.Kind.TheVariants as K
 use Rattle.ppd_ast.specs.Numbered.{is_left, is_while}
 use Rattle.ppd_ast.specs.Term.{term}
 use Rattle.ppd_cfg.specs.Flow.{successors}
-use Rattle.ppd_sem.specs.Ask.{ask, is_zero}
+use Rattle.ppd_sem.specs.Ask.{ask}
 use Rattle.ppd_sem.specs.Asked.{Asked, and_then, gives}
 use Rattle.ppd_sem.specs.Deed.{Deed, set_local, set_shared, clear, branch, turn, leave, invoke, back, take, give, send, receive, print, pass, finish, ask_deed}
 use Rattle.ppd_sem.specs.Runs.{returns}
@@ -98,8 +99,8 @@ tested : (body : List ℕ) (b : Bool) → IsLoopDeed body (if b then leave else 
 tested body true = tt
 tested body false = refl
 
-tests_loop : (body : List ℕ) (r : Asked ℤ) → DoesLoop body (and_then r (λ v left. gives left (if is_zero v then leave else turn body)))
-tests_loop body (Ok q) = tested body (is_zero q.0)
+tests_loop : (body : List ℕ) (r : Asked ℤ) → DoesLoop body (and_then r (λ v left. gives left (if int_eq v (pos 0) then leave else turn body)))
+tests_loop body (Ok q) = tested body (int_eq q.0 (pos 0))
 tests_loop body (Err pause) = tt
 
 pub loop_deed : (es : List Expr) (e : ℕ) (body : List ℕ) (cells answers : List ℤ) → DoesLoop body (ask_deed es (K.While e body) cells answers)

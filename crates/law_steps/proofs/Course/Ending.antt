@@ -1,6 +1,6 @@
 -- A process of a valid program never runs out of statements.
 use Rattle.std.proofs.Common.{◌≡◌, ◌≢◌, ℕ, zero, suc, ℤ, ◌+◌, ◌-◌, ◌<◌, ◌≤◌, Bool, true, false, nat_le, nat_lt, List, [], ◌∷◌, ◌++◌, length, Option, Some, None, Ok, Err, refl, sym, subst, ap, ◌∙◌, arith, inl, inr, ◌⊎◌, true≢false, if◌then◌else◌}
-use Rattle.std.specs.Prelude.{IsSomeAnd, IsTrue, slice_get}
+use Rattle.std.specs.Prelude.{IsSomeAnd, IsTrue, slice_get, unwrap_or}
 use Rattle.std.proofs.lemmas.Bool.Decides.{nat_tests}
 use Rattle.ppd_ast.specs.declared.plan.BlockKind.TheVariants as block
 use Rattle.ppd_ast.specs.declared.plan.Plan.{Plan}
@@ -16,7 +16,7 @@ use Rattle.ppd_ast.specs.declared.status.Trap.TheVariants as trap
 use Rattle.ppd_ast.specs.Valid.{EndsBody, IsEnding, IsValid, IsValidBody, last_of}
 use Rattle.ppd_ast.proofs.ValidLaws.{slice_get_there, some_and, stmt_in_body, valid_body}
 use Rattle.ppd_ast.specs.Members.{has}
-use Rattle.ppd_ast.specs.Lookups.{kind_of, top_of_body}
+use Rattle.ppd_ast.specs.Lookups.{kind_of, body_numbered, no_body}
 use Rattle.ppd_ast.proofs.Vocabulary.{kind_of_stmt}
 use Rattle.ppd_ast.proofs.Members.{has_first, has_later}
 use Rattle.ppd_ast.specs.declared.limits.TheConstants.{MOST_CALLS}
@@ -29,7 +29,7 @@ use Rattle.ppd_sem.specs.declared.proc.Todo.{Todo}
 use Rattle.ppd_sem.specs.Asked.{Asked, gives}
 use Rattle.ppd_sem.specs.Deed.{Deed, set_local, set_shared, clear, branch, turn, leave, invoke, back, take, give, send, receive, print, pass, finish, ask_deed}
 use Rattle.ppd_sem.proofs.Offers.{CompletesSend, completes}
-use Rattle.ppd_sem.specs.Process.{chan_of, need_of_send, offer_of, act, act_by_asked, act_by_deed, act_by_need, cost, entry_of, head_deed, need_of, need_of_deed, need_of_head, need_of_leaving, todos, top_cells}
+use Rattle.ppd_sem.specs.Process.{chan_of, need_of_send, offer_of, act, act_by_asked, act_by_deed, act_by_need, cost, entry_of, head_deed, need_of, need_of_deed, need_of_head, need_of_leaving, todos, top_frame}
 use Rattle.ppd_sem.proofs.NeedWords.{act_at, need_by_entry, need_by_offer, need_of_running}
 use Rattle.ppd_sem.specs.Tables.{capacity_of, block_of, unit_of}
 use Rattle.ppd_sem.proofs.Progress.{act-stopped, need_at_status, need_at_todo}
@@ -75,7 +75,7 @@ module _ (p : Program) where
   deed_more a t ts (branch stmts) s h = more_behind stmts ts h
   deed_more a t ts (turn stmts) s h = more_behind stmts (t ∷ ts) (more_with t ts h)
   deed_more a t ts leave s h = h
-  deed_more a t ts (invoke f values into) s h = more_behind (top_of_body (slice_get p.bodies f)) ts h
+  deed_more a t ts (invoke f values into) s h = more_behind (body_numbered p f).top ts h
   deed_more a t ts (back value) s h = h
   deed_more a t ts (take sem) s h = h
   deed_more a t ts (give sem) s h = h
@@ -91,7 +91,7 @@ module _ (p : Program) where
   asked_more a t ts (Err (Traps x)) s is whole h none = absurd (none_some (sym none))
 
   ends_now : (t : Todo) (s : Proc) → kind_of p t.stmt ≡ K.End → head_deed p t s ≡ gives s.answers finish
-  ends_now t s is = ap (λ (k : Kind). ask_deed p.exprs k (top_cells s.frames) s.answers) is
+  ends_now t s is = ap (λ (k : Kind). ask_deed p.exprs k (top_frame s.frames).cells s.answers) is
 
   head_more : (a : Answer) (t : Todo) (ts : List Todo) (s : Proc) → s.todo ≡ t ∷ ts → EndsWithEnd p (t ∷ ts) → GoesUntilEnd p (act_by_asked p a t ts (head_deed p t s) s)
   head_more a t ts s is h =
@@ -231,7 +231,7 @@ body_ends p j b v le at =
     let ends : EndsBody b last.0 x.0.kind = subst (λ (body : Body). EndsBody body last.0 x.0.kind) mine own.2.ending in
     list_ends p b.top last.0 last.1 (ap kind_of_stmt x.1 ∙ ends_process b last.0 x.0.kind (valid.process ∙ late) x.2 ends)
 
-start_ends : (p : Program) (j : ℕ) (o : Option Body) → IsValid p → p.functions ≤ j → j < length p.bodies → slice_get p.bodies j ≡ o → EndsWithEnd p (todos (top_of_body o))
+start_ends : (p : Program) (j : ℕ) (o : Option Body) → IsValid p → p.functions ≤ j → j < length p.bodies → slice_get p.bodies j ≡ o → EndsWithEnd p (todos (unwrap_or o no_body).top)
 start_ends p j None v le lt at = let there = slice_get_there p.bodies j lt in absurd (none_some (sym at ∙ there.1))
 start_ends p j (Some b) v le lt at = body_ends p j b v le at
 

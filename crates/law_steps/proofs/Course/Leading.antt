@@ -1,5 +1,7 @@
 -- Each step keeps a process on course, and leads it where its need says.
 use Rattle.std.proofs.Common.{◌≡◌, ℕ, zero, suc, ◌+◌, ℤ, Bool, true, false, nat_lt, List, [], ◌∷◌, length, Option, Some, None, Ok, Err, refl, sym, subst, ap, ◌∙◌, if◌then◌else◌}
+use Rattle.std.specs.Prelude.{slice_set, replicate, pos}
+use Rattle.std.specs.List.{range_with_len}
 use Rattle.ppd_ast.specs.declared.plan.BlockKind.TheVariants as block
 use Rattle.ppd_ast.specs.declared.plan.Plan.{Plan}
 use Rattle.ppd_ast.specs.declared.plan.Start.{Start}
@@ -23,7 +25,7 @@ use Rattle.ppd_sem.specs.declared.proc.Todo.{Todo}
 use Rattle.ppd_sem.specs.Asked.{Asked}
 use Rattle.ppd_sem.specs.Deed.{Deed, set_local, set_shared, clear, branch, turn, leave, invoke, back, take, give, send, receive, print, pass, finish}
 use Rattle.ppd_sem.proofs.Offers.{offer_there, send_stays}
-use Rattle.ppd_sem.specs.Process.{chan_of, need_of_send, offer_of, act, act_by_asked, act_by_need, call_unit, charged, clear_top, cost, entry_of, head_deed, loop_of, need_of, need_of_asked, need_of_deed, need_of_head, need_of_leaving, returned, top_call, top_cells, value_of, within_budget, write_top}
+use Rattle.ppd_sem.specs.Process.{chan_of, need_of_send, offer_of, act, act_by_asked, act_by_need, call_unit, charged, cost, entry_of, head_deed, loop_of, need_of, need_of_asked, need_of_deed, need_of_head, need_of_leaving, returned, value_of, within_budget, on_top, top_frame, with_values}
 use Rattle.ppd_sem.proofs.NeedWords.{act_at, need_by_entry, need_by_offer}
 use Rattle.ppd_sem.specs.Runs.{returns}
 use Rattle.ppd_sem.specs.Tables.{capacity_of, block_of, unit_of}
@@ -69,7 +71,7 @@ acts_is p plan a t ts Stopped s = refl
 -- a step with this need, from a process whose head is statement h, keeps the course and leads where it says
 pub record Led (p : Program) (plan : Plan) (n : Need) (h : ℕ) (s after : Proc) : Type 0 where
   pub course : IsOnCourse p plan after
-  pub leads : LeadsTo p plan n h (top_call s.frames) s after
+  pub leads : LeadsTo p plan n h (top_frame s.frames).call s after
 
 module _ (p : Program) (plan : Plan) (v : IsValid p) (a : Answer) (t : Todo) (ts : List Todo) (s : Proc) (is_todo : s.todo ≡ t ∷ ts) (way : IsWay p plan (calls_of s.frames) (t ∷ ts)) where
   abbrev k : Kind
@@ -94,7 +96,7 @@ module _ (p : Program) (plan : Plan) (v : IsValid p) (a : Answer) (t : Todo) (ts
 
   -- ---- a return
 
-  is_back : returns k ≡ true → IsBehind p plan (top_call s.frames) ts
+  is_back : returns k ≡ true → IsBehind p plan (top_frame s.frames).call ts
   is_back e =
       subst (λ c. IsBehind p plan c ts) (top_call_is s.frames) (subst (λ r. IsBehind p plan (behind r t.stmt (calls_of s.frames)) ts) e way.0)
 
@@ -144,10 +146,10 @@ module _ (p : Program) (plan : Plan) (v : IsValid p) (a : Answer) (t : Todo) (ts
 
   by_deed : (d : Deed) (left : List ℤ) → entry_of p plan t ≡ None → DeedFits k d → Led p plan (need_of_deed p plan t.stmt s d) t.stmt s (acts p plan a t ts (Ok (d, left)) (need_of_deed p plan t.stmt s d) s)
   by_deed (set_local c x) left none l =
-      record { course = with_calls (write_top c x s.frames) ts (calls_write c x s.frames) (rest_way l.stays); leads = local_on p plan v t ts l (behind_it l.stays) }
+      record { course = with_calls (on_top (λ cells. slice_set cells c x) s.frames) ts (calls_write c x s.frames) (rest_way l.stays); leads = local_on p plan v t ts l (behind_it l.stays) }
   by_deed (set_shared c x) left none l = record { course = rest_way l.stays; leads = local_on p plan v t ts l (behind_it l.stays) }
   by_deed (clear base len) left none l =
-      record { course = with_calls (clear_top base len s.frames) ts (calls_clear base len s.frames) (rest_way l.stays); leads = local_on p plan v t ts l (behind_it l.stays) }
+      record { course = with_calls (on_top (with_values (range_with_len base len) (replicate len (pos 0))) s.frames) ts (calls_clear base len s.frames) (rest_way l.stays); leads = local_on p plan v t ts l (behind_it l.stays) }
   by_deed (branch stmts) left none b =
       let stays : returns k ≡ false = ap returns b.kind_is in
       record { course = choice_way p plan v t ts (calls_of s.frames) stmts b (behind_it stays) (rest_way stays); leads = choice_on p plan v t ts stmts b (behind_it stays) }
@@ -155,12 +157,12 @@ module _ (p : Program) (plan : Plan) (v : IsValid p) (a : Answer) (t : Todo) (ts
       record { course = turn_way p plan v t ts l.test stmts l.kind_is none (calls_of s.frames) way; leads = turn_on p plan v t ts l.test stmts l.kind_is none }
   by_deed leave left none l = leaving (block_of plan (block.Loop t.stmt)) none l refl left
   by_deed (invoke f values into) left none i = invoking f values into (nat_lt MOST_CALLS (s.below + length s.frames)) i left
-  by_deed (back value) left none e = record { course = back_way value e; leads = goes_back (top_call s.frames) (is_back e) }
+  by_deed (back value) left none e = record { course = back_way value e; leads = goes_back (top_frame s.frames).call (is_back e) }
   by_deed (take sem) left none e = record { course = rest_way e; leads = starts (start.After t.stmt) e }
   by_deed (give sem) left none e = record { course = rest_way e; leads = starts (start.After t.stmt) e }
   by_deed (send chan x) left none e = sending chan x (capacity_of p chan) e left
   by_deed (receive chan into) left none e =
-      record { course = with_calls (write_top into (value_of a) s.frames) ts (calls_write into (value_of a) s.frames) (rest_way e); leads = starts (start.After t.stmt) e }
+      record { course = with_calls (on_top (λ cells. slice_set cells into (value_of a)) s.frames) ts (calls_write into (value_of a) s.frames) (rest_way e); leads = starts (start.After t.stmt) e }
   by_deed (print x) left none l = record { course = rest_way l.stays; leads = local_on p plan v t ts l (behind_it l.stays) }
   by_deed pass left none l = record { course = rest_way l.stays; leads = local_on p plan v t ts l (behind_it l.stays) }
   by_deed finish left none e = record { course = rest_way e; leads = refl }
@@ -210,7 +212,7 @@ module _ (p : Program) (plan : Plan) (v : IsValid p) (a : Answer) (t : Todo) (ts
   led_head =
       let asked : Asked Deed = head_deed p t s in
       let n : Need = need_of_head p plan t s in
-      let fits : Fits k asked = deed_fits p.exprs (top_cells s.frames) s.answers (kind_of p t.stmt) in
+      let fits : Fits k asked = deed_fits p.exprs (top_frame s.frames).cells s.answers (kind_of p t.stmt) in
       subst (λ (after : Proc). Led p plan (within_budget plan s n) t.stmt s after) (acts_is p plan a t ts (within_budget plan s n) s)
       (by_purse (nat_lt s.budget (s.spent + cost plan n)) n asked
       (by_offer (offer_of p t) (need_by_entry p plan t.stmt s (entry_of p plan t) asked) asked offer_stays (by_entry (entry_of p plan t) asked refl fits)))
@@ -224,7 +226,7 @@ led_at p plan s a h (Some x) todo v course is todo_is head =
     let same : act p plan s a ≡ s = act-stopped p plan s a stopped in
     record {
       course = subst (λ (after : Proc). IsOnCourse p plan after) (sym same) course;
-      leads = subst (λ (n : Need). LeadsTo p plan n h (top_call s.frames) s (act p plan s a)) (sym stopped) same;
+      leads = subst (λ (n : Need). LeadsTo p plan n h (top_frame s.frames).call s (act p plan s a)) (sym stopped) same;
     }
 led_at p plan s a h None [] v course is todo_is head = absurd (none_some head)
 led_at p plan s a h None (t ∷ ts) v course is todo_is head =

@@ -1,30 +1,30 @@
 -- In a valid program what follows a statement does not stand in it.
-use Rattle.std.proofs.Common.{◌≡◌, ℕ, zero, suc, ◌<◌, List, [], ◌∷◌, ◌++◌, Bool, true, false, Option, Some, None, refl, sym, subst, ap, ◌∙◌, arith, inl, inr, ◌⊎◌, true≢false}
-use Rattle.std.specs.Prelude.{IsTrue, nat_eq, slice_get, if◌then◌else◌}
-use Rattle.std.proofs.lemmas.Bool.{cond-true, cond-false, cases_Bool}
+use Rattle.law_steps.proofs.Course.Rising.{child_stands, inner_kind, parent_below, parent_same, top_stands}
+use Rattle.law_steps.proofs.Course.Standing.{as_parent}
+use Rattle.ppd_ast.proofs.Members.{has_first, has_later, has_left, has_right}
+use Rattle.ppd_ast.specs.Lookups.{body_numbered, kind_of, no_body}
+use Rattle.ppd_ast.specs.Members.{has}
+use Rattle.ppd_ast.specs.Order.{inner}
+use Rattle.ppd_ast.specs.Valid.{IsValid}
+use Rattle.ppd_ast.specs.declared.limits.TheConstants.{MOST_NESTING}
 use Rattle.ppd_ast.specs.declared.program.Body.{Body}
 use Rattle.ppd_ast.specs.declared.program.Kind.{Kind}
 use Rattle.ppd_ast.specs.declared.program.Kind.TheVariants as K
 use Rattle.ppd_ast.specs.declared.program.Program.{Program}
 use Rattle.ppd_ast.specs.declared.program.Stmt.{Stmt}
-use Rattle.ppd_ast.specs.Order.{inner}
-use Rattle.ppd_ast.specs.Valid.{IsValid}
-use Rattle.ppd_ast.specs.Members.{has}
-use Rattle.ppd_ast.specs.Lookups.{kind_of, top_of_body, top_of}
-use Rattle.ppd_ast.proofs.Members.{has_first, has_later, has_left, has_right}
-use Rattle.ppd_ast.specs.declared.limits.TheConstants.{MOST_NESTING}
-use Rattle.ppd_cfg.specs.Flow.{follow, follow_under, follow_within, next_in}
-use Rattle.ppd_cfg.specs.Lists.{first_or}
+use Rattle.ppd_blocks.specs.Walk.{stands_in}
 use Rattle.ppd_cfg.proofs.Depths.{follow_none}
 use Rattle.ppd_cfg.proofs.Following.{follows_its_list}
-use Rattle.ppd_blocks.specs.Walk.{stands_in}
-use Rattle.law_steps.proofs.Course.Rising.{child_stands, inner_kind, parent_below, parent_same, top_stands}
-use Rattle.law_steps.proofs.Course.Standing.{as_parent}
+use Rattle.ppd_cfg.specs.Flow.{follow, follow_under, follow_within, next_in}
 use Rattle.ppd_model.proofs.Changes.{some}
 use Rattle.ppd_model.proofs.Parents.{none_some}
+use Rattle.std.proofs.Common.{Bool, List, None, Option, Some, [], ap, arith, false, inl, inr, refl, subst, suc, sym, true, true≢false, zero, ℕ, ◌++◌, ◌<◌, ◌∙◌, ◌∷◌, ◌≡◌, ◌⊎◌}
+use Rattle.std.proofs.lemmas.Bool.{cases_Bool, cond-false, cond-true}
+use Rattle.std.specs.Option.{option_or}
+use Rattle.std.specs.Prelude.{IsTrue, if◌then◌else◌, nat_eq, slice_get, unwrap_or}
 
 -- the next one is of the list, or what follows it
-first_cases : (xs : List ℕ) (after : Option ℕ) (u : ℕ) → first_or xs after ≡ Some u → IsTrue (has xs u) ⊎ (after ≡ Some u)
+first_cases : (xs : List ℕ) (after : Option ℕ) (u : ℕ) → option_or (slice_get xs 0) after ≡ Some u → IsTrue (has xs u) ⊎ (after ≡ Some u)
 first_cases [] after u h = inr h
 first_cases (x ∷ xs) after u h = inl (subst (λ y. IsTrue (has (x ∷ xs) y)) (some h) (has_first x xs))
 
@@ -32,8 +32,8 @@ next_cases : (xs : List ℕ) (s : ℕ) (after : Option ℕ) (u : ℕ) → next_i
 next_cases [] s after u h = absurd (none_some h)
 next_cases (x ∷ xs) s after u h =
     elim (cases_Bool (nat_eq x s)) [
-      | inl is ↦ later (first_cases xs after u (sym (cond-true (nat_eq x s) (first_or xs after) (next_in xs s after) is) ∙ h))
-      | inr isnt ↦ later (next_cases xs s after u (sym (cond-false (nat_eq x s) (first_or xs after) (next_in xs s after) isnt) ∙ h))
+      | inl is ↦ later (first_cases xs after u (sym (cond-true (nat_eq x s) (option_or (slice_get xs 0) after) (next_in xs s after) is) ∙ h))
+      | inr isnt ↦ later (next_cases xs s after u (sym (cond-false (nat_eq x s) (option_or (slice_get xs 0) after) (next_in xs s after) isnt) ∙ h))
     ]
   where
     later : IsTrue (has xs u) ⊎ (after ≡ Some u) → IsTrue (has (x ∷ xs) u) ⊎ (after ≡ Some u)
@@ -43,10 +43,10 @@ in_choice : (b : Bool) (first second : List ℕ) (u : ℕ) → IsTrue (has (if b
 in_choice true first second u h = has_left first second u h
 in_choice false first second u h = has_right first second u h
 
-top_orphan : (p : Program) (j u r : ℕ) (y : Stmt) → IsValid p → IsTrue (has (top_of p j) u) → slice_get p.stmts u ≡ Some y → y.parent ≡ Some r → ⊥
+top_orphan : (p : Program) (j u r : ℕ) (y : Stmt) → IsValid p → IsTrue (has (body_numbered p j).top u) → slice_get p.stmts u ≡ Some y → y.parent ≡ Some r → ⊥
 top_orphan p j u r y v h at is = by (slice_get p.bodies j) refl h
   where
-    by : (o : Option Body) → slice_get p.bodies j ≡ o → IsTrue (has (top_of_body o) u) → ⊥
+    by : (o : Option Body) → slice_get p.bodies j ≡ o → IsTrue (has (unwrap_or o no_body).top u) → ⊥
     by None e i = absurd (true≢false (sym i))
     by (Some b) e i =
         let z = top_stands p j u b v e i in
@@ -79,8 +79,8 @@ module _ (p : Program) (v : IsValid p) (u r : ℕ) (y : Stmt) (at : slice_get p.
 
   under : (t : ℕ) (x : Stmt) (o : Option ℕ) → slice_get p.stmts t ≡ Some x → x.parent ≡ o → ((q : ℕ) → q < t → follow p q ≡ Some u → r < q) → follow p t ≡ Some u → r < t
   under t x None e none further f =
-      let g : next_in (top_of p x.body) t None ≡ Some u = sym (follows_its_list p t x v e ∙ ap (follow_under p (follow p) x.body t) none) ∙ f in
-      elim (next_cases (top_of p x.body) t None u g) [ inl i ↦ absurd (top_orphan p x.body u r y v i at is) | inr o ↦ absurd (none_some o) ]
+      let g : next_in (body_numbered p x.body).top t None ≡ Some u = sym (follows_its_list p t x v e ∙ ap (follow_under p (follow p) x.body t) none) ∙ f in
+      elim (next_cases (body_numbered p x.body).top t None u g) [ inl i ↦ absurd (top_orphan p x.body u r y v i at is) | inr o ↦ absurd (none_some o) ]
   under t x (Some q) e some further f =
       let less : q < t = parent_below p t q x v e some in
       within q t (kind_of p q) refl less (further q less) (sym (follows_its_list p t x v e ∙ ap (follow_under p (follow p) x.body t) some) ∙ f)

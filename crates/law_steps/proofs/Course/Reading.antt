@@ -1,8 +1,9 @@
 -- A shared cell that a statement wants is one that its expressions may read.
 use Rattle.std.proofs.Common.{◌≡◌, ℕ, ◌+◌, ◌<◌, ◌≤◌, ℤ, pos, negsuc, neg_ℤ, Bool, true, false, nat_lt, List, [], ◌∷◌, Option, Some, None, Result, Ok, Err, refl, subst, arith, if◌then◌else◌}
-use Rattle.std.specs.Prelude.{IsTrue, not as negated, ⊤}
+use Rattle.std.specs.Prelude.{IsTrue, not as negated, ⊤, get_or}
 use Rattle.std.specs.List.{range_with_len}
 use Rattle.std.proofs.lemmas.Bool.Decides.{nat_tests}
+use Rattle.std.specs.Ordering.{int_eq}
 use Rattle.ppd_ast.specs.declared.plan.Plan.{Plan}
 use Rattle.ppd_ast.specs.declared.program.Expr.{Expr}
 use Rattle.ppd_ast.specs.declared.program.Kind.{Kind}
@@ -23,10 +24,10 @@ use Rattle.ppd_sem.specs.declared.proc.Need.{Need}
 use Rattle.ppd_sem.specs.declared.proc.Need.TheVariants as need
 use Rattle.ppd_sem.specs.declared.proc.Proc.{Proc}
 use Rattle.ppd_sem.specs.declared.proc.Todo.{Todo}
-use Rattle.ppd_sem.specs.Ask.{ask, calc, cell_of, checked, element, is_zero, truth}
+use Rattle.ppd_sem.specs.Ask.{ask, calc, checked, element, truth}
 use Rattle.ppd_sem.specs.Asked.{Asked, and_then, gives, lift, read_shared}
 use Rattle.ppd_sem.specs.Deed.{Deed, set_local, set_shared, branch, turn, leave, invoke, back, send, print, pass, ask_all, ask_deed, ask_stored}
-use Rattle.ppd_sem.specs.Process.{offer_of, cost, entry_of, head_deed, need_of_deed, need_of_head, top_cells}
+use Rattle.ppd_sem.specs.Process.{offer_of, cost, entry_of, head_deed, need_of_deed, need_of_head, top_frame}
 use Rattle.ppd_sem.proofs.NeedWords.{need_by_entry, need_by_offer, need_by_status, need_of_running}
 use Rattle.ppd_sem.specs.Passed.{next_stmt_of}
 use Rattle.ppd_sem.proofs.Offers.{IsDeedNeed, deed_need}
@@ -75,8 +76,8 @@ asks : (W : ℕ → Type 0) (t : Term) (cells answers : List ℤ) → AllIn W t 
 asks W (const v) cells answers h = tt
 asks W (local c) cells answers h = tt
 asks W (local_at base len i) cells answers h =
-    then_gives W free (ask i cells answers) (λ at left. and_then (lift left (element base len at)) (λ c left. gives left (cell_of cells c))) (asks W i cells answers h)
-    (λ at left u. then_gives W free (lift left (element base len at)) (λ c left. gives left (cell_of cells c)) (lift_gives W left (element base len at)) (λ c left u. tt))
+    then_gives W free (ask i cells answers) (λ at left. and_then (lift left (element base len at)) (λ c left. gives left (get_or cells c (pos 0)))) (asks W i cells answers h)
+    (λ at left u. then_gives W free (lift left (element base len at)) (λ c left. gives left (get_or cells c (pos 0))) (lift_gives W left (element base len at)) (λ c left u. tt))
 asks W (shared c) cells answers h = read_gives W c answers (h c (has_first c []))
 asks W (shared_at base len i) cells answers h =
     then_gives W free (ask i cells answers) (λ at left. and_then (lift left (element base len at)) (λ c left. read_shared left c))
@@ -86,20 +87,20 @@ asks W (shared_at base len i) cells answers h =
     (λ c left w. read_gives W c left w))
 asks W (neg a) cells answers h =
     then_gives W free (ask a cells answers) (λ x left. lift left (checked (neg_ℤ x))) (asks W a cells answers h) (λ x left u. lift_gives W left (checked (neg_ℤ x)))
-asks W (not a) cells answers h = then_gives W free (ask a cells answers) (λ x left. gives left (truth (is_zero x))) (asks W a cells answers h) (λ x left u. tt)
+asks W (not a) cells answers h = then_gives W free (ask a cells answers) (λ x left. gives left (truth (int_eq x (pos 0)))) (asks W a cells answers h) (λ x left u. tt)
 asks W (two op a b) cells answers h =
     then_gives W free (ask a cells answers) (λ x left. and_then (ask b cells left) (λ y left. lift left (calc op x y))) (asks W a cells answers (λ c k. h c (has_left (cells_in true a) (cells_in true b) c k)))
     (λ x left u. then_gives W free (ask b cells left) (λ y left. lift left (calc op x y)) (asks W b cells left (λ c k. h c (has_right (cells_in true a) (cells_in true b) c k))) (λ y left u. lift_gives W left (calc op x y)))
 asks W (and a b) cells answers h =
-    then_gives W free (ask a cells answers) (λ x left. if is_zero x then gives left (pos 0) else and_then (ask b cells left) (λ y left. gives left (truth (negated (is_zero y)))))
+    then_gives W free (ask a cells answers) (λ x left. if int_eq x (pos 0) then gives left (pos 0) else and_then (ask b cells left) (λ y left. gives left (truth (negated (int_eq y (pos 0))))))
     (asks W a cells answers (λ c k. h c (has_left (cells_in true a) (cells_in true b) c k)))
-    (λ x left u. if_gives W (is_zero x) (gives left (pos 0)) (and_then (ask b cells left) (λ y left. gives left (truth (negated (is_zero y))))) tt
-    (then_gives W free (ask b cells left) (λ y left. gives left (truth (negated (is_zero y)))) (asks W b cells left (λ c k. h c (has_right (cells_in true a) (cells_in true b) c k))) (λ y left u. tt)))
+    (λ x left u. if_gives W (int_eq x (pos 0)) (gives left (pos 0)) (and_then (ask b cells left) (λ y left. gives left (truth (negated (int_eq y (pos 0)))))) tt
+    (then_gives W free (ask b cells left) (λ y left. gives left (truth (negated (int_eq y (pos 0))))) (asks W b cells left (λ c k. h c (has_right (cells_in true a) (cells_in true b) c k))) (λ y left u. tt)))
 asks W (or a b) cells answers h =
-    then_gives W free (ask a cells answers) (λ x left. if is_zero x then and_then (ask b cells left) (λ y left. gives left (truth (negated (is_zero y)))) else gives left (pos 1))
+    then_gives W free (ask a cells answers) (λ x left. if int_eq x (pos 0) then and_then (ask b cells left) (λ y left. gives left (truth (negated (int_eq y (pos 0))))) else gives left (pos 1))
     (asks W a cells answers (λ c k. h c (has_left (cells_in true a) (cells_in true b) c k)))
-    (λ x left u. if_gives W (is_zero x) (and_then (ask b cells left) (λ y left. gives left (truth (negated (is_zero y))))) (gives left (pos 1))
-    (then_gives W free (ask b cells left) (λ y left. gives left (truth (negated (is_zero y)))) (asks W b cells left (λ c k. h c (has_right (cells_in true a) (cells_in true b) c k))) (λ y left u. tt)) tt)
+    (λ x left u. if_gives W (int_eq x (pos 0)) (and_then (ask b cells left) (λ y left. gives left (truth (negated (int_eq y (pos 0)))))) (gives left (pos 1))
+    (then_gives W free (ask b cells left) (λ y left. gives left (truth (negated (int_eq y (pos 0))))) (asks W b cells left (λ c k. h c (has_right (cells_in true a) (cells_in true b) c k))) (λ y left u. tt)) tt)
 
 asks_all : (W : ℕ → Type 0) (es : List Expr) (uses : List ℕ) (cells answers : List ℤ) → ((e : ℕ) → IsTrue (has uses e) → AllIn W (term es e)) → Gives W free (ask_all es uses cells answers)
 asks_all W es [] cells answers h = tt
@@ -126,8 +127,8 @@ module _ (W : ℕ → Type 0) (es : List Expr) (cells answers : List ℤ) where
   deeds (K.Set (T.Shared c) e) h = valued e (λ v left. gives left (set_shared c v)) h (λ v left. tt)
   deeds (K.Set (T.SharedAt base len i) e) h = stored (term es i) (term es e) base len set_shared (h i (has_first i (e ∷ []))) (h e (has_later i e (e ∷ []) (has_first e [])))
   deeds (K.Zero base len) h = tt
-  deeds (K.If e first second) h = valued e (λ v left. gives left (branch (if is_zero v then second else first))) h (λ v left. tt)
-  deeds (K.While e body) h = valued e (λ v left. gives left (if is_zero v then leave else turn body)) h (λ v left. tt)
+  deeds (K.If e first second) h = valued e (λ v left. gives left (branch (if int_eq v (pos 0) then second else first))) h (λ v left. tt)
+  deeds (K.While e body) h = valued e (λ v left. gives left (if int_eq v (pos 0) then leave else turn body)) h (λ v left. tt)
   deeds (K.Call f args into) h = then_gives W free (ask_all es args cells answers) (λ vs left. gives left (invoke f vs into)) (asks_all W es args cells answers h) (λ vs left u. tt)
   deeds (K.Return None) h = tt
   deeds (K.Return (Some e)) h = valued e (λ v left. gives left (back (Some v))) h (λ v left. tt)
@@ -136,7 +137,7 @@ module _ (W : ℕ → Type 0) (es : List Expr) (cells answers : List ℤ) where
   deeds (K.Send c e) h = valued e (λ v left. gives left (send c v)) h (λ v left. tt)
   deeds (K.Recv c into) h = tt
   deeds (K.Print e) h = valued e (λ v left. gives left (print v)) h (λ v left. tt)
-  deeds (K.Assert e) h = valued e (λ v left. if is_zero v then Err (Traps trap.Assert) else gives left pass) h (λ v left. if_gives W (is_zero v) (Err (Traps trap.Assert)) (gives left pass) tt tt)
+  deeds (K.Assert e) h = valued e (λ v left. if int_eq v (pos 0) then Err (Traps trap.Assert) else gives left pass) h (λ v left. if_gives W (int_eq v (pos 0)) (Err (Traps trap.Assert)) (gives left pass) tt tt)
   deeds K.End h = tt
 
 -- ---- needs
@@ -169,7 +170,7 @@ head_need p plan t s =
     let k : Kind = kind_of p t.stmt in
     offered_need (λ c. IsTrue (has (reads true p.exprs k) c)) plan t.stmt (offer_of p t) (need_by_entry p plan t.stmt s (entry_of p plan t) (head_deed p t s))
     (entered_need (λ c. IsTrue (has (reads true p.exprs k) c)) p plan t.stmt s (entry_of p plan t) (head_deed p t s)
-    (deeds (λ c. IsTrue (has (reads true p.exprs k) c)) p.exprs (top_cells s.frames) s.answers k
+    (deeds (λ c. IsTrue (has (reads true p.exprs k) c)) p.exprs (top_frame s.frames).cells s.answers k
     (λ e u c h. flat_from (λ e. cells_in true (term p.exprs e)) (kind_uses k) e c u h)))
 
 running_need : (p : Program) (plan : Plan) (ts : List Todo) (s : Proc) (h : ℕ) → next_stmt_of ts ≡ Some h → ReadsSuch (λ c. IsTrue (has (reads true p.exprs (kind_of p h)) c)) (need_of_running p plan ts s)

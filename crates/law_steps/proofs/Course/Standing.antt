@@ -1,6 +1,6 @@
 -- In a valid program: whether a statement stands in another one.
 use Rattle.std.proofs.Common.{◌-◌, ◌≡◌, ◌≢◌, ℕ, zero, suc, ◌+◌, ◌<◌, ◌≤◌, Bool, true, false, Option, Some, None, refl, sym, subst, ap, ◌∙◌, arith, inl, inr, true≢false, ◌||◌}
-use Rattle.std.specs.Prelude.{IsTrue, nat_eq, slice_get, ⊤}
+use Rattle.std.specs.Prelude.{IsTrue, nat_eq, slice_get, ⊤, option_and_then}
 use Rattle.std.specs.List.{flat_map}
 use Rattle.std.proofs.lemmas.Bool.{eq-eqb, ne_eqb}
 use Rattle.ppd_ast.specs.declared.program.Program.{Program}
@@ -10,7 +10,6 @@ use Rattle.ppd_ast.proofs.Vocabulary.{inner_at}
 use Rattle.ppd_ast.specs.Valid.{IsValid}
 use Rattle.ppd_ast.specs.Members.{has}
 use Rattle.ppd_ast.proofs.Members.{has_cons, flat_gives}
-use Rattle.ppd_ast.specs.Lookups.{parent_if}
 use Rattle.ppd_ast.specs.declared.limits.TheConstants.{MOST_NESTING}
 use Rattle.ppd_blocks.specs.Walk.{stands_at, stands_in}
 use Rattle.law_steps.proofs.Course.Rising.{Place, child_stands, parent_below, place_of, top_stands}
@@ -29,7 +28,7 @@ IsBelow : ℕ → Option ℕ → Type 0
 IsBelow n None = ⊤
 IsBelow n (Some q) = q < n
 
-outer_below : (p : Program) (q n : ℕ) (o : Option Stmt) → IsValid p → slice_get p.stmts q ≡ o → q < n → IsBelow n (parent_if o)
+outer_below : (p : Program) (q n : ℕ) (o : Option Stmt) → IsValid p → slice_get p.stmts q ≡ o → q < n → IsBelow n (option_and_then (λ (x : Stmt). x.parent) o)
 unfolding IsBelow
 outer_below p q n None v at lt = tt
 outer_below p q n (Some x) v at lt = by x.parent refl
@@ -44,8 +43,8 @@ above_all zero p n o v h = refl
 above_all (suc d) p n None v h = refl
 above_all (suc d) p n (Some q) v h =
     let other : nat_eq q n ≡ false = ne_eqb q n (λ e. omega arith) in
-    or_no (nat_eq q n) (stands_at d p.stmts n (parent_if (slice_get p.stmts q))) other
-    (above_all d p n (parent_if (slice_get p.stmts q)) v (outer_below p q n (slice_get p.stmts q) v refl h))
+    or_no (nat_eq q n) (stands_at d p.stmts n (option_and_then (λ x. x.parent) (slice_get p.stmts q))) other
+    (above_all d p n (option_and_then (λ x. x.parent) (slice_get p.stmts q)) v (outer_below p q n (slice_get p.stmts q) v refl h))
 
 pub not_in_later : (p : Program) (s t : ℕ) → IsValid p → s < t → stands_in p s t ≡ false
 unfolding IsBelow
@@ -53,21 +52,21 @@ not_in_later p s t v lt = above_all MOST_NESTING p t (Some s) v lt
 
 -- ---- one step outwards
 
-pub outwards : (d : ℕ) (p : Program) (u x : ℕ) → stands_at (suc d) p.stmts u (Some x) ≡ (nat_eq x u || stands_at d p.stmts u (parent_if (slice_get p.stmts x)))
+pub outwards : (d : ℕ) (p : Program) (u x : ℕ) → stands_at (suc d) p.stmts u (Some x) ≡ (nat_eq x u || stands_at d p.stmts u (option_and_then (λ x. x.parent) (slice_get p.stmts x)))
 unfolding stands_at
 outwards d p u x = refl
 
 outwards_to : (d : ℕ) (p : Program) (u x t : ℕ) (y : Stmt) → slice_get p.stmts x ≡ Some y → y.parent ≡ Some t → stands_at (suc d) p.stmts u (Some x) ≡ (nat_eq x u || stands_at d p.stmts u (Some t))
-outwards_to d p u x t y at is = outwards d p u x ∙ ap (λ (o : Option Stmt). nat_eq x u || stands_at d p.stmts u (parent_if o)) at ∙ ap (λ o. nat_eq x u || stands_at d p.stmts u o) is
+outwards_to d p u x t y at is = outwards d p u x ∙ ap (λ (o : Option Stmt). nat_eq x u || stands_at d p.stmts u (option_and_then (λ (x : Stmt). x.parent) o)) at ∙ ap (λ o. nat_eq x u || stands_at d p.stmts u o) is
 
 -- a statement stands in itself, and in its parent
 pub in_itself : (p : Program) (t : ℕ) → stands_in p t t ≡ true
-in_itself p t = outwards (MOST_NESTING - 1) p t t ∙ or_yes (nat_eq t t) (stands_at (MOST_NESTING - 1) p.stmts t (parent_if (slice_get p.stmts t))) (eq-eqb t t refl)
+in_itself p t = outwards (MOST_NESTING - 1) p t t ∙ or_yes (nat_eq t t) (stands_at (MOST_NESTING - 1) p.stmts t (option_and_then (λ x. x.parent) (slice_get p.stmts t))) (eq-eqb t t refl)
 
 pub in_parent : (p : Program) (x t : ℕ) (y : Stmt) → slice_get p.stmts x ≡ Some y → y.parent ≡ Some t → stands_in p x t ≡ true
 in_parent p x t y at is =
     outwards_to (MOST_NESTING - 1) p t x t y at is
-    ∙ ap (λ b. nat_eq x t || b) (outwards 62 p t t ∙ or_yes (nat_eq t t) (stands_at 62 p.stmts t (parent_if (slice_get p.stmts t))) (eq-eqb t t refl)) ∙ or_true (nat_eq x t)
+    ∙ ap (λ b. nat_eq x t || b) (outwards 62 p t t ∙ or_yes (nat_eq t t) (stands_at 62 p.stmts t (option_and_then (λ x. x.parent) (slice_get p.stmts t))) (eq-eqb t t refl)) ∙ or_true (nat_eq x t)
   where
     or_true : (b : Bool) → (b || true) ≡ true
     or_true true = refl
@@ -94,7 +93,7 @@ top_deep p s y at is zero u l = absurd (omega arith)
 top_deep p s y at is (suc m) u l = one m ∙ sym (one 0)
   where
     one : (m : ℕ) → stands_at (suc m) p.stmts u (Some s) ≡ (nat_eq s u || false)
-    one m = outwards m p u s ∙ ap (λ (o : Option Stmt). nat_eq s u || stands_at m p.stmts u (parent_if o)) at ∙ ap (λ o. nat_eq s u || stands_at m p.stmts u o) is ∙ ap (λ b. nat_eq s u || b) (none_outer m p u)
+    one m = outwards m p u s ∙ ap (λ (o : Option Stmt). nat_eq s u || stands_at m p.stmts u (option_and_then (λ (x : Stmt). x.parent) o)) at ∙ ap (λ o. nat_eq s u || stands_at m p.stmts u o) is ∙ ap (λ b. nat_eq s u || b) (none_outer m p u)
 
 child_deep : (e : ℕ) (p : Program) (c t : ℕ) (y : Stmt) → slice_get p.stmts c ≡ Some y → y.parent ≡ Some t → IsDeep e p t → IsDeep (suc e) p c
 unfolding IsDeep

@@ -1,33 +1,4 @@
 -- Where each deed leads a process that is on course.
-use Rattle.std.proofs.Common.{◌≡◌, ℕ, Bool, true, false, List, [], ◌∷◌, ◌++◌, length, Option, Some, None, refl, sym, subst, ap, ◌∙◌, inl, inr, ◌⊎◌, true≢false, if◌then◌else◌}
-use Rattle.std.specs.Prelude.{IsTrue, slice_get, option_to_list}
-use Rattle.std.specs.List.{All}
-use Rattle.ppd_ast.specs.declared.plan.BlockKind.TheVariants as block
-use Rattle.ppd_ast.specs.declared.plan.Plan.{Plan}
-use Rattle.ppd_ast.specs.declared.program.Body.{Body}
-use Rattle.ppd_ast.specs.declared.program.Kind.{Kind}
-use Rattle.ppd_ast.specs.declared.program.Kind.TheVariants as K
-use Rattle.ppd_ast.specs.declared.program.Program.{Program}
-use Rattle.ppd_ast.specs.declared.program.Stmt.{Stmt}
-use Rattle.ppd_ast.specs.Numbered.{is_left, is_while}
-use Rattle.ppd_ast.specs.Order.{inner}
-use Rattle.ppd_ast.specs.Valid.{IsValid}
-use Rattle.ppd_ast.proofs.ValidLaws.{slice_get_below}
-use Rattle.ppd_ast.specs.Members.{has}
-use Rattle.ppd_ast.specs.Lookups.{kind_of, top_of_body, top_of}
-use Rattle.ppd_ast.proofs.Vocabulary.{kind_of_stmt}
-use Rattle.ppd_ast.proofs.Members.{has_first, has_left, has_right, all_has}
-use Rattle.ppd_cfg.specs.Flow.{follow, next_of, successors}
-use Rattle.ppd_cfg.specs.Lists.{first_or, rising}
-use Rattle.ppd_sem.specs.declared.proc.Todo.{Todo}
-use Rattle.ppd_sem.specs.Process.{entry_of, loop_of, todos}
-use Rattle.ppd_sem.specs.Runs.{AreOfFunction, IsCallable, IsInner, IsRunnable, IsRunnableStmt, LeadsOn, returns, size_of}
-use Rattle.ppd_sem.specs.Tables.{block_of}
-use Rattle.ppd_sem.proofs.Kept.{there_at}
-use Rattle.ppd_sem.proofs.Validity.{valid-runnable}
-use Rattle.ppd_sem.specs.Passed.{next_stmt_of}
-use Rattle.ppd_blocks.specs.Walk.{stands_in}
-use Rattle.law_steps.specs.Course.{BeginsList, GoesOn, IsBehind, IsMarkedBehind, IsWay}
 use Rattle.law_steps.proofs.Course.Chains.{IsChain, body_chain, first_chain, second_chain, top_chain}
 use Rattle.law_steps.proofs.Course.Deeds.{IsBranch, IsInvoke, IsLocal}
 use Rattle.law_steps.proofs.Course.Outward.{as_parent_behind}
@@ -35,8 +6,38 @@ use Rattle.law_steps.proofs.Course.Rising.{child_stands, inner_kind, parent_belo
 use Rattle.law_steps.proofs.Course.Standing.{in_itself, in_parent, not_in_later}
 use Rattle.law_steps.proofs.Course.Successors.{has_rising_left, has_rising_right}
 use Rattle.law_steps.proofs.Course.Ways.{function_way, head_todos, list_way}
+use Rattle.law_steps.specs.Course.{BeginsList, GoesOn, IsBehind, IsMarkedBehind, IsWay}
+use Rattle.ppd_ast.proofs.Members.{all_has, has_first, has_left, has_right}
+use Rattle.ppd_ast.proofs.ValidLaws.{slice_get_below}
+use Rattle.ppd_ast.proofs.Vocabulary.{kind_of_stmt}
+use Rattle.ppd_ast.specs.Lookups.{body_numbered, kind_of, no_body}
+use Rattle.ppd_ast.specs.Members.{has}
+use Rattle.ppd_ast.specs.Numbered.{is_left, is_while}
+use Rattle.ppd_ast.specs.Order.{inner}
+use Rattle.ppd_ast.specs.Valid.{IsValid}
+use Rattle.ppd_ast.specs.declared.plan.BlockKind.TheVariants as block
+use Rattle.ppd_ast.specs.declared.plan.Plan.{Plan}
+use Rattle.ppd_ast.specs.declared.program.Body.{Body}
+use Rattle.ppd_ast.specs.declared.program.Kind.{Kind}
+use Rattle.ppd_ast.specs.declared.program.Kind.TheVariants as K
+use Rattle.ppd_ast.specs.declared.program.Program.{Program}
+use Rattle.ppd_ast.specs.declared.program.Stmt.{Stmt}
+use Rattle.ppd_blocks.specs.Walk.{stands_in}
+use Rattle.ppd_cfg.specs.Flow.{follow, next_of, successors}
+use Rattle.ppd_cfg.specs.Lists.{rising}
 use Rattle.ppd_model.proofs.Changes.{some}
 use Rattle.ppd_model.proofs.Parents.{none_some}
+use Rattle.ppd_sem.proofs.Kept.{there_at}
+use Rattle.ppd_sem.proofs.Validity.{valid-runnable}
+use Rattle.ppd_sem.specs.Passed.{next_stmt_of}
+use Rattle.ppd_sem.specs.Process.{entry_of, loop_of, todos}
+use Rattle.ppd_sem.specs.Runs.{AreOfFunction, IsCallable, IsInner, IsRunnable, IsRunnableStmt, LeadsOn, returns, size_of}
+use Rattle.ppd_sem.specs.Tables.{block_of}
+use Rattle.ppd_sem.specs.declared.proc.Todo.{Todo}
+use Rattle.std.proofs.Common.{Bool, List, None, Option, Some, [], ap, false, if◌then◌else◌, inl, inr, length, refl, subst, sym, true, true≢false, ℕ, ◌++◌, ◌∙◌, ◌∷◌, ◌≡◌, ◌⊎◌}
+use Rattle.std.specs.List.{All}
+use Rattle.std.specs.Option.{option_or}
+use Rattle.std.specs.Prelude.{IsTrue, option_to_list, slice_get, unwrap_or}
 
 -- ---- what a valid program's tables say of a statement
 
@@ -111,12 +112,12 @@ module _ (p : Program) (plan : Plan) (v : IsValid p) (t : Todo) (ts : List Todo)
         let y = child (K.If e first second) x is_if i in
         λ b is. h.marks b is ∙ sym (as_parent_behind p x t.stmt u.stmt y.0 v y.1 y.2 (sym h.follows))
 
-    choice_next : (stmts : List ℕ) (u : ℕ) → (stmts ≡ first) ⊎ (stmts ≡ second) → first_or stmts (follow p t.stmt) ≡ Some u → IsTrue (has (next_of p t.stmt) u)
+    choice_next : (stmts : List ℕ) (u : ℕ) → (stmts ≡ first) ⊎ (stmts ≡ second) → option_or (slice_get stmts 0) (follow p t.stmt) ≡ Some u → IsTrue (has (next_of p t.stmt) u)
     choice_next stmts u c f =
         let after : Option ℕ = follow p t.stmt in
         subst (λ (kind : Kind). IsTrue (has (successors t.stmt kind after) u)) (sym is_if) (elim c [
-          | inl one ↦ has_rising_left (first_or first after) (first_or second after) u (ap (λ xs. first_or xs after) (sym one) ∙ f)
-          | inr two ↦ has_rising_right (first_or first after) (first_or second after) u (ap (λ xs. first_or xs after) (sym two) ∙ f)
+          | inl one ↦ has_rising_left (option_or (slice_get first 0) after) (option_or (slice_get second 0) after) u (ap (λ xs. option_or (slice_get xs 0) after) (sym one) ∙ f)
+          | inr two ↦ has_rising_right (option_or (slice_get first 0) after) (option_or (slice_get second 0) after) u (ap (λ xs. option_or (slice_get xs 0) after) (sym two) ∙ f)
         ])
 
     choice_begins : (stmts : List ℕ) → (stmts ≡ first) ⊎ (stmts ≡ second) → IsBehind p plan (Some t.stmt) ts → (u : Todo) (us : List Todo) → todos stmts ++ ts ≡ u ∷ us
@@ -135,7 +136,7 @@ module _ (p : Program) (plan : Plan) (v : IsValid p) (t : Todo) (ts : List Todo)
 
   pub choice_on : (stmts : List ℕ) → IsBranch k stmts → IsBehind p plan (Some t.stmt) ts → GoesOn p plan t.stmt (todos stmts ++ ts)
   choice_on stmts b h u us same =
-      let f : first_or stmts (follow p t.stmt) ≡ Some u.stmt = ap (first_or stmts) (sym h.follows) ∙ sym (head_todos stmts ts) ∙ ap next_stmt_of same in
+      let f : option_or (slice_get stmts 0) (follow p t.stmt) ≡ Some u.stmt = ap (option_or (slice_get stmts 0)) (sym h.follows) ∙ sym (head_todos stmts ts) ∙ ap next_stmt_of same in
       record {
         next = choice_next b.test b.first b.second b.kind_is stmts u.stmt b.choice f;
         same_unit = ap is_left b.kind_is;
@@ -166,7 +167,7 @@ module _ (p : Program) (plan : Plan) (v : IsValid p) (t : Todo) (ts : List Todo)
         let inside : LeadsOn p l.0 (K.While e body) = subst (λ (kind : Kind). LeadsOn p l.0 kind) is_while_of l.1 in
         list_way p plan calls body (t ∷ ts) (Some t.stmt) (body_chain p t.stmt v e body is_while_of) (none_returns p l.0 body inside) refl turn_marks way
 
-    loop_next : (u : ℕ) → IsTrue (has (rising (first_or body (Some t.stmt)) (follow p t.stmt)) u) → IsTrue (has (next_of p t.stmt) u)
+    loop_next : (u : ℕ) → IsTrue (has (rising (option_or (slice_get body 0) (Some t.stmt)) (follow p t.stmt)) u) → IsTrue (has (next_of p t.stmt) u)
     loop_next u h = subst (λ (kind : Kind). IsTrue (has (successors t.stmt kind (follow p t.stmt)) u)) (sym is_while_of) h
 
     turn_begins : (stmts : List ℕ) → body ≡ stmts → (u : Todo) (us : List Todo) → todos stmts ++ t ∷ ts ≡ u ∷ us
@@ -185,10 +186,10 @@ module _ (p : Program) (plan : Plan) (v : IsValid p) (t : Todo) (ts : List Todo)
 
     pub turn_on : GoesOn p plan t.stmt (todos body ++ t ∷ ts)
     turn_on u us same =
-        let f : first_or body (Some t.stmt) ≡ Some u.stmt = sym (head_todos body (t ∷ ts)) ∙ ap next_stmt_of same in
+        let f : option_or (slice_get body 0) (Some t.stmt) ≡ Some u.stmt = sym (head_todos body (t ∷ ts)) ∙ ap next_stmt_of same in
         let begins = turn_begins body refl u us same in
         record {
-          next = loop_next u.stmt (has_rising_left (first_or body (Some t.stmt)) (follow p t.stmt) u.stmt f);
+          next = loop_next u.stmt (has_rising_left (option_or (slice_get body 0) (Some t.stmt)) (follow p t.stmt) u.stmt f);
           same_unit = ap is_left is_while_of;
           marks = begins.0;
           inside = λ b w is. begins.1;
@@ -199,7 +200,7 @@ module _ (p : Program) (plan : Plan) (v : IsValid p) (t : Todo) (ts : List Todo)
     leave_on none h u us same =
         let f : follow p t.stmt ≡ Some u.stmt = sym h.follows ∙ ap next_stmt_of same in
         record {
-          next = loop_next u.stmt (has_rising_right (first_or body (Some t.stmt)) (follow p t.stmt) u.stmt f);
+          next = loop_next u.stmt (has_rising_right (option_or (slice_get body 0) (Some t.stmt)) (follow p t.stmt) u.stmt f);
           same_unit = ap is_left is_while_of;
           marks = marks_of t.stmt u us ts same h.marks;
           inside = λ b w is. absurd (none_some (sym none ∙ is));
@@ -212,21 +213,21 @@ module _ (p : Program) (plan : Plan) (v : IsValid p) (t : Todo) (ts : List Todo)
       let l = leads p t.stmt v in
       (length i.arguments, subst (λ (kind : Kind). LeadsOn p l.0 kind) i.kind_is l.1)
 
-  module _ (f : ℕ) (n : ℕ) (ends : AreOfFunction p n (top_of_body (slice_get p.bodies f))) where
-    pub call_way : (calls : List (Option ℕ)) → IsBehind p plan (Some t.stmt) ts → IsWay p plan calls ts → IsWay p plan (Some t.stmt ∷ calls) (todos (top_of_body (slice_get p.bodies f)) ++ ts)
+  module _ (f : ℕ) (n : ℕ) (ends : AreOfFunction p n (body_numbered p f).top) where
+    pub call_way : (calls : List (Option ℕ)) → IsBehind p plan (Some t.stmt) ts → IsWay p plan calls ts → IsWay p plan (Some t.stmt ∷ calls) (todos (body_numbered p f).top ++ ts)
     call_way calls h way = by (slice_get p.bodies f) refl ends
       where
-        by : (o : Option Body) → slice_get p.bodies f ≡ o → AreOfFunction p n (top_of_body o) → IsWay p plan (Some t.stmt ∷ calls) (todos (top_of_body o) ++ ts)
+        by : (o : Option Body) → slice_get p.bodies f ≡ o → AreOfFunction p n (unwrap_or o no_body).top → IsWay p plan (Some t.stmt ∷ calls) (todos (unwrap_or o no_body).top ++ ts)
         by None at ends = absurd ends
         by (Some b) at ends = function_way p plan (Some t.stmt) calls n b.top ts (top_chain p f b v at) ends h way
 
-    pub call_begins : BeginsList (top_of p f) (todos (top_of_body (slice_get p.bodies f)) ++ ts)
+    pub call_begins : BeginsList (body_numbered p f).top (todos (body_numbered p f).top ++ ts)
     call_begins = by (slice_get p.bodies f) ends
       where
         list : (xs : List ℕ) → AreOfFunction p n xs → BeginsList xs (todos xs ++ ts)
         list [] ends = absurd ends
         list (x ∷ xs) ends = record { first = refl; unmarked = λ u us same. let one : (record { stmt = x; entered = false; offered = false }) ≡ u = some (ap (λ l. slice_get l 0) same) in sym (ap (λ (z : Todo). z.entered) one) }
 
-        by : (o : Option Body) → AreOfFunction p n (top_of_body o) → BeginsList (top_of_body o) (todos (top_of_body o) ++ ts)
+        by : (o : Option Body) → AreOfFunction p n (unwrap_or o no_body).top → BeginsList (unwrap_or o no_body).top (todos (unwrap_or o no_body).top ++ ts)
         by None ends = absurd ends
         by (Some b) ends = list b.top ends

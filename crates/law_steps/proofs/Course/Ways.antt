@@ -1,13 +1,13 @@
 -- A list of statements that is put before what is to do is on the way.
+use Rattle.std.specs.Option.{option_or}
 use Rattle.std.proofs.Common.{◌≡◌, ℕ, List, [], ◌∷◌, ◌++◌, Bool, true, false, Option, Some, None, refl, sym, subst, ◌∙◌}
-use Rattle.std.specs.Prelude.{IsTrue}
+use Rattle.std.specs.Prelude.{IsTrue, slice_get}
 use Rattle.ppd_ast.specs.declared.plan.Plan.{Plan}
 use Rattle.ppd_ast.specs.declared.program.Program.{Program}
 use Rattle.ppd_ast.specs.Members.{has}
 use Rattle.ppd_ast.specs.Lookups.{kind_of}
 use Rattle.ppd_ast.proofs.Members.{has_first, has_later}
 use Rattle.ppd_cfg.specs.Flow.{follow}
-use Rattle.ppd_cfg.specs.Lists.{first_or}
 use Rattle.ppd_sem.specs.declared.proc.Todo.{Todo}
 use Rattle.ppd_sem.specs.Process.{todos}
 use Rattle.ppd_sem.specs.Runs.{AreOfFunction, returns}
@@ -15,13 +15,13 @@ use Rattle.ppd_sem.specs.Passed.{next_stmt_of}
 use Rattle.law_steps.specs.Course.{IsBehind, IsMarkedBehind, IsWay, behind, calls_left}
 use Rattle.law_steps.proofs.Course.Chains.{IsApart, IsChain}
 
-pub head_todos : (xs : List ℕ) (ts : List Todo) → next_stmt_of (todos xs ++ ts) ≡ first_or xs (next_stmt_of ts)
+pub head_todos : (xs : List ℕ) (ts : List Todo) → next_stmt_of (todos xs ++ ts) ≡ option_or (slice_get xs 0) (next_stmt_of ts)
 head_todos [] ts = refl
 head_todos (x ∷ xs) ts = refl
 
 module _ (p : Program) (plan : Plan) where
   -- a statement, and those of its list behind it
-  behind_next : (x : ℕ) (xs : List ℕ) (ts : List Todo) (after : Option ℕ) → next_stmt_of ts ≡ after → follow p x ≡ first_or xs after → IsApart p x xs → IsMarkedBehind p plan (Some x) ts → IsBehind p plan (Some x) (todos xs ++ ts)
+  behind_next : (x : ℕ) (xs : List ℕ) (ts : List Todo) (after : Option ℕ) → next_stmt_of ts ≡ after → follow p x ≡ option_or (slice_get xs 0) after → IsApart p x xs → IsMarkedBehind p plan (Some x) ts → IsBehind p plan (Some x) (todos xs ++ ts)
   behind_next x [] ts after head f apart marks = record { follows = head ∙ sym f; marks = marks }
   behind_next x (y ∷ ys) ts after head f apart marks = record { follows = sym f; marks = λ b is. sym apart }
 

@@ -1,14 +1,15 @@
 -- The returns to come are those of the frames above the process's own, and so after each step.
 use Rattle.std.proofs.Common.{◌≡◌, ℕ, suc, ◌+◌, ◌≤◌, ℤ, true, false, List, [], ◌∷◌, ◌++◌, Option, Some, None, Ok, Err, refl, ap, sym, subst, ◌∙◌, arith, if◌then◌else◌}
 use Rattle.std.specs.List.{All}
-use Rattle.std.specs.Prelude.{drop, slice_get}
+use Rattle.std.specs.Prelude.{drop, slice_get, unwrap_or}
+use Rattle.std.specs.Option.{option_map_or}
 use Rattle.ppd_ast.specs.Valid.{IsValid}
 use Rattle.ppd_ast.proofs.ValidLaws.{each_at}
 use Rattle.ppd_ast.specs.declared.program.Body.{Body}
 use Rattle.ppd_ast.specs.declared.plan.Plan.{Plan}
 use Rattle.ppd_ast.specs.declared.program.Program.{Program}
 use Rattle.ppd_ast.specs.declared.program.Stmt.{Stmt}
-use Rattle.ppd_ast.specs.Lookups.{kind_of, top_of_body, body_of_stmt, body_of}
+use Rattle.ppd_ast.specs.Lookups.{kind_of, body_of, body_numbered, no_body}
 use Rattle.ppd_sem.specs.declared.asking.Pause.TheVariants.{Wants, Traps}
 use Rattle.ppd_sem.specs.declared.proc.Answer.{Answer}
 use Rattle.ppd_sem.specs.declared.proc.Need.{Need}
@@ -27,7 +28,7 @@ use Rattle.law_steps.specs.OpenBlocks.Stack.{returning}
 
 -- ---- the returns of lists of statements
 
-same_body : (o : Option Stmt) → body_of_stmt o ≡ body_of_stmt o
+same_body : (o : Option Stmt) → option_map_or (λ (x : Stmt). x.body) o 0 ≡ option_map_or (λ (x : Stmt). x.body) o 0
 same_body None = refl
 same_body (Some x) = refl
 
@@ -83,7 +84,7 @@ module _ (program : Program) (plan : Plan) (v : IsValid program) (a : Answer) (t
   by_deed (invoke f values into) left at h =
       moved (Ok (invoke f values into, left)) at
       (ap (λ bs. f ∷ bs) (framed ∙ ap (λ bs. bs ++ base) (head_stays program t ts h.0))
-      ∙ ap (λ bs. bs ++ base) (sym (top_returns program f (top_of_body (slice_get program.bodies f)) ts h.1.0)))
+      ∙ ap (λ bs. bs ++ base) (sym (top_returns program f (body_numbered program f).top ts h.1.0)))
   by_deed (back value) left at h =
       moved (Ok (back value, left)) at
       (bodies-returned program value s.frames ∙ ap (λ bs. drop 1 bs) (framed ∙ ap (λ bs. bs ++ base) (head_returns program t ts h.0)))
@@ -127,14 +128,14 @@ none_return program n [] h = refl
 none_return program n (i ∷ is) h = head_stays program (record { stmt = i; entered = false; offered = false }) (todos is) (h 0 i (omega arith)).stays ∙ none_return program n is (λ k d lt. h (suc k) d (omega arith))
 
 -- the outermost statements of a process return nowhere
-pub process_stays : (program : Program) (f : ℕ) → IsValid program → program.functions ≤ f → (n : ℕ) × All (IsInner program n) (top_of_body (slice_get program.bodies f))
+pub process_stays : (program : Program) (f : ℕ) → IsValid program → program.functions ≤ f → (n : ℕ) × All (IsInner program n) (body_numbered program f).top
 process_stays program f v le = by (slice_get program.bodies f) refl
   where
-    by : (o : Option Body) → slice_get program.bodies f ≡ o → (n : ℕ) × All (IsInner program n) (top_of_body o)
+    by : (o : Option Body) → slice_get program.bodies f ≡ o → (n : ℕ) × All (IsInner program n) (unwrap_or o no_body).top
     by None e = (0, λ k d lt. absurd (omega (arith, lt)))
     by (Some b) e = (b.cells, (each_at (IsRunnableBody program) program.bodies f b (valid-runnable program v).bodies e).top le)
 
 pub started_framed : (program : Program) (plan : Plan) (p budget : ℕ) → IsValid program → bodies_in (started program plan p budget).frames ≡ returning program (started program plan p budget).todo ++ (program.functions + p) ∷ []
 started_framed program plan p budget v =
     let inner = process_stays program (program.functions + p) v (omega arith) in
-    ap (λ bs. bs ++ (program.functions + p) ∷ []) (sym (none_return program inner.0 (top_of_body (slice_get program.bodies (program.functions + p))) inner.1))
+    ap (λ bs. bs ++ (program.functions + p) ∷ []) (sym (none_return program inner.0 (body_numbered program (program.functions + p)).top inner.1))

@@ -1,7 +1,7 @@
 -- Each step opens its block inside those that are open, or closes the innermost.
 use Rattle.std.proofs.Common.{◌≡◌, ℕ, zero, suc, ◌+◌, ℤ, Bool, true, false, nat_lt, List, [], ◌∷◌, ◌++◌, length, Option, Some, None, Ok, Err, refl, ap, sym, subst, ◌∙◌, if◌then◌else◌, append_assoc}
 use Rattle.std.proofs.lemmas.Option.{none-some}
-use Rattle.std.specs.Prelude.{option_to_list, slice_get}
+use Rattle.std.specs.Prelude.{option_to_list}
 use Rattle.ppd_ast.specs.Numbered.{is_while}
 use Rattle.ppd_ast.specs.Valid.{IsValid}
 use Rattle.ppd_ast.specs.declared.plan.BlockKind.TheVariants as block
@@ -9,7 +9,7 @@ use Rattle.ppd_ast.specs.declared.plan.Plan.{Plan}
 use Rattle.ppd_ast.specs.declared.plan.Start.TheVariants as start
 use Rattle.ppd_ast.specs.declared.program.Program.{Program}
 use Rattle.ppd_ast.specs.declared.status.Trap.TheVariants as trap
-use Rattle.ppd_ast.specs.Lookups.{kind_of, top_of_body, body_of}
+use Rattle.ppd_ast.specs.Lookups.{kind_of, body_of, body_numbered}
 use Rattle.ppd_ast.specs.declared.limits.TheConstants.{MOST_CALLS}
 use Rattle.law_steps.specs.Course.{IsWay, behind, calls_of, follow_if}
 use Rattle.law_steps.proofs.Course.Deeds.{IsLoopDeed}
@@ -22,7 +22,7 @@ use Rattle.ppd_sem.specs.declared.proc.Proc.{Proc}
 use Rattle.ppd_sem.specs.declared.proc.Todo.{Todo}
 use Rattle.ppd_sem.specs.Asked.{Asked}
 use Rattle.ppd_sem.specs.Deed.{Deed, set_local, set_shared, clear, branch, turn, leave, invoke, back, take, give, send, receive, print, pass, finish}
-use Rattle.ppd_sem.specs.Process.{act_by_asked, act_by_deed, act_by_need, call_unit, chan_of, cost, entry_of, head_deed, loop_of, need_of_asked, need_of_deed, need_of_head, need_of_leaving, need_of_send, offer_of, todos, top_body, top_call, top_cells}
+use Rattle.ppd_sem.specs.Process.{act_by_asked, act_by_deed, act_by_need, call_unit, chan_of, cost, entry_of, head_deed, loop_of, need_of_asked, need_of_deed, need_of_head, need_of_leaving, need_of_send, offer_of, todos, top_frame}
 use Rattle.ppd_sem.proofs.NeedWords.{need_by_entry, need_by_offer, need_of_running}
 use Rattle.ppd_sem.specs.Runs.{returns, bodies_in}
 use Rattle.ppd_sem.specs.Tables.{block_of, capacity_of, unit_of}
@@ -37,14 +37,14 @@ use Rattle.law_steps.proofs.OpenBlocks.Framed.{head_returns, head_stays}
 use Rattle.law_steps.proofs.OpenBlocks.DeedKinds.{Finishes, FinishesIf, finishing, found_while, loop_is, no_loop, return_no_loop, send_is, while_block, while_stays}
 use Rattle.law_steps.proofs.OpenBlocks.Opened.{head_plain, inner_plain, no_entered, no_returned, top_opens}
 
-pub top_is : (s : Proc) (b : ℕ) (bs : List ℕ) → bodies_in s.frames ≡ b ∷ bs → top_body s.frames ≡ b
+pub top_is : (s : Proc) (b : ℕ) (bs : List ℕ) → bodies_in s.frames ≡ b ∷ bs → (top_frame s.frames).body ≡ b
 top_is s b bs e = by s.frames e
   where
     first : List ℕ → ℕ
     first [] = 0
     first (x ∷ xs) = x
 
-    by : (frames : List _) → bodies_in frames ≡ b ∷ bs → top_body frames ≡ b
+    by : (frames : List _) → bodies_in frames ≡ b ∷ bs → (top_frame frames).body ≡ b
     by [] e = absurd (cc)
     by (f ∷ fs) e = ap first e
 
@@ -79,7 +79,7 @@ module _ (program : Program) (plan : Plan) (p : ℕ) (v : IsValid program) (a : 
 
   module _ (d : Deed) (left : List ℤ) (at : head_deed program t s ≡ Ok (d, left)) where
     other_deed : ((body : List ℕ) → IsLoopDeed body d → ⊥) → is_while (kind_of program t.stmt) ≡ false
-    other_deed none = no_loop program.exprs (kind_of program t.stmt) (top_cells s.frames) s.answers d left at none
+    other_deed none = no_loop program.exprs (kind_of program t.stmt) (top_frame s.frames).cells s.answers d left at none
 
     -- a deed that only takes the head away
     plain : ((body : List ℕ) → IsLoopDeed body d → ⊥) → returns (kind_of program t.stmt) ≡ false → (act_by_deed program a t ts d (record s { answers = [] })).todo ≡ ts → before ≡ open_blocks program plan (act_by_asked program a t ts (head_deed program t s) s).todo ++ base
@@ -136,26 +136,26 @@ module _ (program : Program) (plan : Plan) (p : ℕ) (v : IsValid program) (a : 
     calling true f values into left at h = unchanged
     calling false f values into left at h =
         moved (need.Invoke (block_of plan (block.Function f)) (unit_of plan (start.Entry f))) (Ok (invoke f values into, left)) at
-        (invoking (block_of plan (block.Function f)) (unit_of plan (start.Entry f)) (todos (top_of_body (slice_get program.bodies f)) ++ ts)
+        (invoking (block_of plan (block.Function f)) (unit_of plan (start.Entry f)) (todos (body_numbered program f).top ++ ts)
         (gone (other_deed (invoke f values into) left at (λ body z. z)) h.0)
-        (ap (λ bs. bs ++ base) (top_opens program plan f (top_of_body (slice_get program.bodies f)) ts h.1.0) ∙ append_assoc (option_to_list (block_of plan (block.Function f))) (open_blocks program plan ts) base))
+        (ap (λ bs. bs ++ base) (top_opens program plan f (body_numbered program f).top ts h.1.0) ∙ append_assoc (option_to_list (block_of plan (block.Function f))) (open_blocks program plan ts) base))
 
     backing : (o u : Option ℕ) (todo : List Todo) → before ≡ option_to_list o ++ (open_blocks program plan todo ++ base) → Goes (need.Back o u) todo
     backing None u todo e = e
     backing (Some b) u todo e = e
 
     returning_back : (value : Option ℤ) (left : List ℤ) → head_deed program t s ≡ Ok (back value, left) → returns (kind_of program t.stmt) ≡ true
-        → Tells (need.Back (block_of plan (block.Function (top_body s.frames))) (call_unit plan (top_call s.frames)))
+        → Tells (need.Back (block_of plan (block.Function (top_frame s.frames).body)) (call_unit plan (top_frame s.frames).call))
     returning_back value left at ret =
         let none : entered_block program plan t ≡ [] = no_entered program plan t (while_block plan t.stmt (kind_of program t.stmt) (return_no_loop (kind_of program t.stmt) ret)) in
-        let own : top_body s.frames ≡ body_of program t.stmt = top_is s (body_of program t.stmt) (returning program ts ++ (program.functions + p) ∷ []) (framed ∙ ap (λ bs. bs ++ (program.functions + p) ∷ []) (head_returns program t ts ret)) in
-        let here : returned_block program plan t ≡ option_to_list (block_of plan (block.Function (top_body s.frames))) =
+        let own : (top_frame s.frames).body ≡ body_of program t.stmt = top_is s (body_of program t.stmt) (returning program ts ++ (program.functions + p) ∷ []) (framed ∙ ap (λ bs. bs ++ (program.functions + p) ∷ []) (head_returns program t ts ret)) in
+        let here : returned_block program plan t ≡ option_to_list (block_of plan (block.Function (top_frame s.frames).body)) =
         ap (λ b. if b then option_to_list (block_of plan (block.Function (body_of program t.stmt))) else []) ret ∙ ap (λ n. option_to_list (block_of plan (block.Function n))) (sym own) in
-        moved (need.Back (block_of plan (block.Function (top_body s.frames))) (call_unit plan (top_call s.frames))) (Ok (back value, left)) at
-        (backing (block_of plan (block.Function (top_body s.frames))) (call_unit plan (top_call s.frames)) ts
+        moved (need.Back (block_of plan (block.Function (top_frame s.frames).body)) (call_unit plan (top_frame s.frames).call)) (Ok (back value, left)) at
+        (backing (block_of plan (block.Function (top_frame s.frames).body)) (call_unit plan (top_frame s.frames).call) ts
         (ap (λ xs. ((xs ++ returned_block program plan t) ++ open_blocks program plan ts) ++ base) none
         ∙ ap (λ xs. (xs ++ open_blocks program plan ts) ++ base) here
-        ∙ append_assoc (option_to_list (block_of plan (block.Function (top_body s.frames)))) (open_blocks program plan ts) base))
+        ∙ append_assoc (option_to_list (block_of plan (block.Function (top_frame s.frames).body))) (open_blocks program plan ts) base))
 
     -- ---- the end
 
@@ -169,11 +169,11 @@ module _ (program : Program) (plan : Plan) (p : ℕ) (v : IsValid program) (a : 
         none_left [] e = refl
         none_left (u ∷ us) e = absurd (none-some u.stmt (sym e))
 
-    finishing_off : (left : List ℤ) → head_deed program t s ≡ Ok (finish, left) → returns (kind_of program t.stmt) ≡ false → Tells (need.End (or_zero (block_of plan (block.Process (top_body s.frames)))))
+    finishing_off : (left : List ℤ) → head_deed program t s ≡ Ok (finish, left) → returns (kind_of program t.stmt) ≡ false → Tells (need.End (or_zero (block_of plan (block.Process (top_frame s.frames).body))))
     finishing_off left at stays =
-        let fits : Finishes (kind_of program t.stmt) finish = subst (FinishesIf (kind_of program t.stmt)) at (finishing program.exprs (kind_of program t.stmt) (top_cells s.frames) s.answers) in
+        let fits : Finishes (kind_of program t.stmt) finish = subst (FinishesIf (kind_of program t.stmt)) at (finishing program.exprs (kind_of program t.stmt) (top_frame s.frames).cells s.answers) in
         let none : ts ≡ [] = nothing_after stays fits in
-        let own : top_body s.frames ≡ program.functions + p =
+        let own : (top_frame s.frames).body ≡ program.functions + p =
         top_is s (program.functions + p) [] (framed ∙ ap (λ bs. bs ++ (program.functions + p) ∷ []) (head_stays program t ts stays) ∙ ap (λ us. returning program us ++ (program.functions + p) ∷ []) none) in
         gone (other_deed finish left at (λ body z. z)) stays ∙ ap (λ us. open_blocks program plan us ++ base) none
         ∙ ap (λ n. or_zero (block_of plan (block.Process n)) ∷ []) (sym own)
@@ -196,7 +196,7 @@ module _ (program : Program) (plan : Plan) (p : ℕ) (v : IsValid program) (a : 
     by_deed leave left at h = leaving_by (block_of plan (block.Loop t.stmt)) refl
       where
         loop : is_while (kind_of program t.stmt) ≡ true
-        loop = subst (DoesIf (kind_of program t.stmt)) at (does program.exprs (kind_of program t.stmt) (top_cells s.frames) s.answers)
+        loop = subst (DoesIf (kind_of program t.stmt)) at (does program.exprs (kind_of program t.stmt) (top_frame s.frames).cells s.answers)
 
         leaving_by : (o : Option ℕ) → block_of plan (block.Loop t.stmt) ≡ o → Tells (need_of_leaving plan t.stmt o)
         leaving_by o e = leaving o left at (loop_is plan t.stmt (kind_of program t.stmt) loop ∙ e) h
@@ -208,7 +208,7 @@ module _ (program : Program) (plan : Plan) (p : ℕ) (v : IsValid program) (a : 
     by_deed (receive c into) left at h = plain (receive c into) left at (λ body z. z) h refl
     by_deed (print x) left at h = plain (print x) left at (λ body z. z) h refl
     by_deed pass left at h = plain pass left at (λ body z. z) h refl
-    by_deed finish left at h = moved (need.End (or_zero (block_of plan (block.Process (top_body s.frames))))) (Ok (finish, left)) at (finishing_off left at h)
+    by_deed finish left at h = moved (need.End (or_zero (block_of plan (block.Process (top_frame s.frames).body)))) (Ok (finish, left)) at (finishing_off left at h)
 
     by_asked : (x : Asked Deed) → head_deed program t s ≡ x → AskedOf program (body_of program t.stmt) (kind_of program t.stmt) x → Tells (need_of_asked program plan t.stmt s x)
     by_asked (Ok q) at h = by_deed q.0 q.1 at h

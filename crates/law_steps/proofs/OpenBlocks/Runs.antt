@@ -18,7 +18,7 @@ use Rattle.ppd_model.specs.LocalTags.{AreOwn}
 use Rattle.ppd_model.specs.Prefixes.{Good}
 use Rattle.ppd_model.specs.Schedule.{IsWhole, run_from, started_world}
 use Rattle.ppd_model.specs.States.{act_on, state_of, states_from}
-use Rattle.ppd_model.specs.Story.{Moment, Telling, moment_of, number_of, own_moments, steps_of, tell, told}
+use Rattle.ppd_model.specs.Story.{Moment, Telling, moment_of, number_of, steps_of, tell, told}
 use Rattle.ppd_model.specs.Synchronizations.{kind_of_sync, numbered}
 use Rattle.ppd_model.specs.declared.tracing.Taken.{Taken}
 use Rattle.ppd_model.specs.World.{World, answer, can, change, enabled, need}
@@ -149,7 +149,7 @@ module _ (program : Program) (plan : Plan) where
 
     -- process p after its moments
     abbrev last_of : List ℕ → ℕ → Proc
-    last_of h p = fold (act_on program plan) (started program plan p budget) (steps_of (own_moments (told program plan budget h) p))
+    last_of h p = fold (act_on program plan) (started program plan p budget) (steps_of (get_or (told program plan budget h).moments p []))
 
     pub process_is : (h : List ℕ) (p : ℕ) → program.functions + p < length program.bodies → slice_get (told program plan budget h).world.procs p ≡ Some (last_of h p)
     process_is h p there =
@@ -170,11 +170,11 @@ module _ (program : Program) (plan : Plan) where
         let needs : need program plan w p ≡ need_of program plan s = ap (need_at program plan) (process_is h p there) in
         let stuck : can w (need_of program plan s) ≡ false = ap (can w) (sym needs) ∙ subst (λ x. enabled program plan x p ≡ false) (sym same) (whole.over.nobody p) in
         waits w (need_of program plan s) stuck
-        (never_runs_out.needs program plan s (until_end (steps_of (own_moments (told program plan budget h) p)) (started program plan p budget) (never_runs_out.starts program plan p budget v there)) running)
+        (never_runs_out.needs program plan s (until_end (steps_of (get_or (told program plan budget h).moments p [])) (started program plan p budget) (never_runs_out.starts program plan p budget v there)) running)
 
 pub schedules_run : SchedulesAreRuns
 schedules_run program plan budget h p v whole there =
-    let ms : List Moment = own_moments (told program plan budget h) p in
+    let ms : List Moment = get_or (told program plan budget h).moments p [] in
     is_run program plan ms (started program plan p budget)
     (subst (AreOwn program plan (started program plan p budget)) (own_steps_are program plan budget h p) (own_steps_told program plan budget h p))
     (taken_at (told program plan budget h).moments p

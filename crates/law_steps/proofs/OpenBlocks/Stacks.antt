@@ -1,11 +1,9 @@
 -- Each step of a process of a valid program opens and closes blocks as it says.
 use Rattle.std.proofs.Common.{◌≡◌, ℕ, suc, ◌+◌, List, [], ◌∷◌, ◌++◌, None, refl, ap, sym, ◌∙◌, subst, arith}
 use Rattle.std.specs.List.{All}
-use Rattle.std.specs.Prelude.{slice_get}
 use Rattle.ppd_ast.specs.Valid.{IsValid}
 use Rattle.ppd_ast.specs.declared.plan.Plan.{Plan}
 use Rattle.ppd_ast.specs.declared.program.Program.{Program}
-use Rattle.ppd_ast.specs.Lookups.{top_of_body}
 use Rattle.law_steps.specs.Course.{IsWay, calls_of}
 use Rattle.law_steps.proofs.Course.Beginning.{starts_on_course}
 use Rattle.law_steps.proofs.Course.Ending.{never_runs_out}
@@ -24,6 +22,7 @@ use Rattle.law_steps.proofs.OpenBlocks.Depths.{deep}
 use Rattle.law_steps.proofs.OpenBlocks.Framed.{act_framed, process_stays, started_framed}
 use Rattle.law_steps.proofs.OpenBlocks.Moving.{head_moves}
 use Rattle.law_steps.proofs.OpenBlocks.Opened.{new_plain}
+use Rattle.ppd_ast.specs.Lookups.{body_numbered}
 
 none_open : (program : Program) (plan : Plan) (n : ℕ) (stmts : List ℕ) → All (IsInner program n) stmts → open_blocks program plan (todos stmts) ≡ []
 none_open program plan n [] h = refl
@@ -60,7 +59,7 @@ steps_move = record {
     until_end = never_runs_out.starts program plan p budget v lt;
   };
   alone = λ program plan p budget v. (let inner = process_stays program (program.functions + p) v (omega arith) in
-      ap (λ bs. bs ++ process_block program plan p ∷ []) (none_open program plan inner.0 (top_of_body (slice_get program.bodies (program.functions + p))) inner.1));
+      ap (λ bs. bs ++ process_block program plan p ∷ []) (none_open program plan inner.0 (body_numbered program (program.functions + p)).top inner.1));
   stays = λ program plan p s a v h. record {
     frames = act_framed program plan s a ((program.functions + p) ∷ []) v h.frames;
     course = stays_on_course program plan s a v h.course;

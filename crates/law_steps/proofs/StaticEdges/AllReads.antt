@@ -1,5 +1,6 @@
 -- Every value that an event reads comes over a data edge.
 use Rattle.std.proofs.Common.{◌≡◌, ℕ, List, Some, refl}
+use Rattle.ppd_model.specs.Story.{story}
 use Rattle.ppd_ast.specs.Valid.{IsValid}
 use Rattle.ppd_ast.specs.declared.plan.Plan.{Plan}
 use Rattle.ppd_ast.specs.declared.program.Program.{Program}
@@ -13,8 +14,8 @@ use Rattle.law_steps.specs.Sound.{ComesOverData, HasWriter, ReadsComeOverEdges, 
 use Rattle.law_steps.proofs.StaticEdges.OwnCells.LocalReads.{local_reads_come}
 use Rattle.law_steps.proofs.StaticEdges.SharedCells.SharedReads.{shared_reads_come}
 
-by_spot : (program : Program) (plan : Plan) (budget : ℕ) (h : List ℕ) (p n : ℕ) (e : TracedEvent) (i : ℕ) (a : Access) (id : EventId) (s : Spot) → a.spot ≡ s → IsValid program → event_at (full_trace program plan budget h) p n ≡ Some e
-    → HasWriter e i a id → ComesOverData program (full_trace program plan budget h) id e.event.stmt s
+by_spot : (program : Program) (plan : Plan) (budget : ℕ) (h : List ℕ) (p n : ℕ) (e : TracedEvent) (i : ℕ) (a : Access) (id : EventId) (s : Spot) → a.spot ≡ s → IsValid program → event_at (full_trace program plan budget (story program plan budget h)) p n ≡ Some e
+    → HasWriter e i a id → ComesOverData program (full_trace program plan budget (story program plan budget h)) id e.event.stmt s
 by_spot program plan budget h p n e i a id (Local frame c) spot v is w = local_reads_come program plan budget h p n e i a id frame c v is w spot
 by_spot program plan budget h p n e i a id (Shared c) spot v is w = shared_reads_come program plan budget h p n e i a id c v is w spot
 

@@ -1,40 +1,40 @@
 -- Control comes over the static edges.
-use Rattle.std.proofs.Common.{◌≡◌, ℕ, ◌+◌, ◌<◌, Bool, true, false, List, [], ◌∷◌, ◌++◌, Option, Some, None, refl, ap, sym, subst, ◌∙◌, length, inl, inr, ◌⊎◌, append_assoc, true≢false}
-use Rattle.ppd_model.specs.declared.tracing.Story.{Story}
-use Rattle.ppd_model.specs.declared.tracing.Taken.{Taken}
-use Rattle.ppd_model.specs.declared.tracing.Tracing.{Tracing}
-use Rattle.std.specs.Prelude.{slice_get, nat_eq, ◌&&◌, if◌then◌else◌}
-use Rattle.std.specs.List.{Contains}
-use Rattle.std.proofs.lemmas.Bool.{and_parts, cond-true, cond-false, eqb-true}
-use Rattle.ppd_ast.specs.Numbered.{is_while as is_loop, is_while, is_call}
+use Rattle.law_steps.proofs.StaticEdges.Events.{is_event_of, traced_by_steps}
+use Rattle.law_steps.proofs.StaticEdges.Lists.{here, in_right, there}
+use Rattle.law_steps.proofs.StaticEdges.States.{HasHead, event_head, head_stmt, head_there, runs_all}
+use Rattle.law_steps.specs.Sound.{ComesOverControl, ControlComesOverEdges, IsEventOf, control_edge}
+use Rattle.ppd_ast.proofs.ValidLaws.{slice_get_there}
+use Rattle.ppd_ast.proofs.Vocabulary.{kind_of_stmt}
+use Rattle.ppd_ast.specs.Lookups.{kind_of}
+use Rattle.ppd_ast.specs.Numbered.{is_call, is_while, is_while as is_loop}
 use Rattle.ppd_ast.specs.Valid.{IsValid}
 use Rattle.ppd_ast.specs.declared.plan.Plan.{Plan}
 use Rattle.ppd_ast.specs.declared.program.Kind.{Kind}
 use Rattle.ppd_ast.specs.declared.program.Kind.TheVariants.{Call, While}
 use Rattle.ppd_ast.specs.declared.program.Program.{Program}
 use Rattle.ppd_ast.specs.declared.program.Stmt.{Stmt}
-use Rattle.ppd_ast.proofs.ValidLaws.{slice_get_there}
-use Rattle.ppd_ast.specs.Lookups.{kind_of, parent_if}
-use Rattle.ppd_ast.proofs.Vocabulary.{kind_of_stmt}
-use Rattle.ppd_deps.specs.declared.edges.StaticEdge.{StaticEdge}
-use Rattle.ppd_deps.specs.declared.edges.StaticEdge.TheVariants.{ControlEntry, Control}
-use Rattle.ppd_deps.specs.Edges.{control_into, data_into, edges_of}
 use Rattle.ppd_deps.proofs.Vocabulary.{control_of, outer_edge}
-use Rattle.ppd_sem.specs.declared.proc.Todo.{Todo}
-use Rattle.ppd_sem.specs.Process.{need_of, started}
-use Rattle.ppd_sem.specs.Described.{is_event}
-use Rattle.ppd_model.specs.declared.trace.EventId.{EventId}
-use Rattle.ppd_model.specs.FullTrace.{begun_tracing, event_of, full_trace}
-use Rattle.ppd_model.specs.LocalTags.{AreOwn}
-use Rattle.ppd_model.specs.Parents.{IsBegunBy, IsFromStart, IsLatestTest, is_choice, is_test_at}
-use Rattle.ppd_model.specs.Story.{own_steps, story}
+use Rattle.ppd_deps.specs.Edges.{control_into, data_into, edges_of}
+use Rattle.ppd_deps.specs.declared.edges.StaticEdge.{StaticEdge}
+use Rattle.ppd_deps.specs.declared.edges.StaticEdge.TheVariants.{Control, ControlEntry}
 use Rattle.ppd_model.proofs.LocalTags.{own_steps_told}
 use Rattle.ppd_model.proofs.Parents.{own_from}
 use Rattle.ppd_model.proofs.ValidParents.{valid_parents}
-use Rattle.law_steps.specs.Sound.{ComesOverControl, ControlComesOverEdges, IsEventOf, control_edge}
-use Rattle.law_steps.proofs.StaticEdges.Events.{is_event_of, traced_by_steps}
-use Rattle.law_steps.proofs.StaticEdges.Lists.{here, in_right, there}
-use Rattle.law_steps.proofs.StaticEdges.States.{HasHead, event_head, head_stmt, head_there, runs_all}
+use Rattle.ppd_model.specs.FullTrace.{begun_tracing, event_of, full_trace}
+use Rattle.ppd_model.specs.LocalTags.{AreOwn}
+use Rattle.ppd_model.specs.Parents.{IsBegunBy, IsFromStart, IsLatestTest, is_choice, is_test_at}
+use Rattle.ppd_model.specs.Story.{story}
+use Rattle.ppd_model.specs.declared.trace.EventId.{EventId}
+use Rattle.ppd_model.specs.declared.tracing.Story.{Story}
+use Rattle.ppd_model.specs.declared.tracing.Taken.{Taken}
+use Rattle.ppd_model.specs.declared.tracing.Tracing.{Tracing}
+use Rattle.ppd_sem.specs.Described.{is_event}
+use Rattle.ppd_sem.specs.Process.{need_of, started}
+use Rattle.ppd_sem.specs.declared.proc.Todo.{Todo}
+use Rattle.std.proofs.Common.{Bool, List, None, Option, Some, [], ap, append_assoc, false, inl, inr, length, refl, subst, sym, true, true≢false, ℕ, ◌++◌, ◌+◌, ◌<◌, ◌∙◌, ◌∷◌, ◌≡◌, ◌⊎◌}
+use Rattle.std.proofs.lemmas.Bool.{and_parts, cond-false, cond-true, eqb-true}
+use Rattle.std.specs.List.{Contains}
+use Rattle.std.specs.Prelude.{get_or, if◌then◌else◌, nat_eq, option_and_then, slice_get, ◌&&◌}
 
 -- ---- the edges
 
@@ -42,7 +42,7 @@ in_edges : (p : Program) (t : ℕ) (e : StaticEdge) (o : Option Stmt) → slice_
 in_edges p t e o at h = in_right e (data_into p t) (control_into p t) (subst (λ x. Contains (control_of t x) e) (sym at) h)
 
 -- the statement round it
-outer_of : (p : Program) (t outer : ℕ) (o : Option Stmt) → slice_get p.stmts t ≡ o → parent_if o ≡ Some outer → Contains (edges_of p t) (Control outer)
+outer_of : (p : Program) (t outer : ℕ) (o : Option Stmt) → slice_get p.stmts t ≡ o → option_and_then (λ (x : Stmt). x.parent) o ≡ Some outer → Contains (edges_of p t) (Control outer)
 outer_of p t outer None at is = absurd (cc)
 outer_of p t outer (Some x) at is =
     in_edges p t (Control outer) (Some x) at
@@ -61,7 +61,7 @@ itself p t (Some x) at is =
     (subst (λ es. Contains es (Control t)) (sym (cond-true (is_loop x.kind) (Control t ∷ []) [] (same_loop x.kind is))) (here (Control t) [])))
 
 -- the entry
-entry_of : (p : Program) (t : ℕ) (x : Stmt) → slice_get p.stmts t ≡ Some x → parent_if (Some x) ≡ None → Contains (edges_of p t) ControlEntry
+entry_of : (p : Program) (t : ℕ) (x : Stmt) → slice_get p.stmts t ≡ Some x → option_and_then (λ (x : Stmt). x.parent) (Some x) ≡ None → Contains (edges_of p t) ControlEntry
 entry_of p t x at is =
     in_edges p t ControlEntry (Some x) at
     (subst (λ e. Contains (control_of t (Some x)) e) (ap outer_edge is) (here (outer_edge x.parent) (if is_loop x.kind then Control t ∷ [] else [])))
@@ -103,48 +103,48 @@ module _ (program : Program) (plan : Plan) (budget : ℕ) (h : List ℕ) (p : �
   start = begun_tracing (started program plan p budget)
 
   -- the latest test is an event of the statement
-  test_is : (k s : ℕ) (before : List Taken) (taken : Taken) (after : List Taken) (event : EventId) (passed : Bool) → own_steps told_story p ≡ before ++ taken ∷ after
-      → IsLatestTest program plan told_story p k s start before event passed → IsEventOf (full_trace program plan budget h) event s × (is_choice (kind_of program s) ≡ true)
+  test_is : (k s : ℕ) (before : List Taken) (taken : Taken) (after : List Taken) (event : EventId) (passed : Bool) → get_or told_story.steps p [] ≡ before ++ taken ∷ after
+      → IsLatestTest program plan told_story p k s start before event passed → IsEventOf (full_trace program plan budget (story program plan budget h)) event s × (is_choice (kind_of program s) ≡ true)
   test_is k s before taken after event passed steps l =
       let u : Tracing = traced_by_steps program plan budget h p l.before in
       let both = and_parts (is_event l.taken.need) (nat_eq (k + 1) (length u.proc.frames) && is_test_at program s u.proc.todo) l.tests in
       let at = and_parts (nat_eq (k + 1) (length u.proc.frames)) (is_test_at program s u.proc.todo) both.1 in
       let tests : Tests program s u.proc.todo = tests_of program s u.proc.todo at.1 in
-      let all : own_steps told_story p ≡ l.before ++ l.taken ∷ (l.after ++ taken ∷ after) = steps ∙ ap (λ xs. xs ++ taken ∷ after) l.steps_are ∙ append_assoc l.before (l.taken ∷ l.after) (taken ∷ after) in
+      let all : get_or told_story.steps p [] ≡ l.before ++ l.taken ∷ (l.after ++ taken ∷ after) = steps ∙ ap (λ xs. xs ++ taken ∷ after) l.steps_are ∙ append_assoc l.before (l.taken ∷ l.after) (taken ∷ after) in
       let stmt : (event_of program plan u.proc l.taken u.proc.todo).stmt ≡ s = ap (λ todo. (event_of program plan u.proc l.taken todo).stmt) tests.is ∙ tests.stmt_is in (
-        subst (λ i. IsEventOf (full_trace program plan budget h) i s) (sym l.event_is) (is_event_of program plan budget h p l.before l.taken (l.after ++ taken ∷ after) s all both.0 stmt),
+        subst (λ i. IsEventOf (full_trace program plan budget (story program plan budget h)) i s) (sym l.event_is) (is_event_of program plan budget h p l.before l.taken (l.after ++ taken ∷ after) s all both.0 stmt),
         tests.choice,
       )
 
   -- a parent that is a test
-  by_test : (t k s : ℕ) (before : List Taken) (taken : Taken) (after : List Taken) (event : EventId) (passed : Bool) (parent : Option EventId) → own_steps told_story p ≡ before ++ taken ∷ after
+  by_test : (t k s : ℕ) (before : List Taken) (taken : Taken) (after : List Taken) (event : EventId) (passed : Bool) (parent : Option EventId) → get_or told_story.steps p [] ≡ before ++ taken ∷ after
       → IsLatestTest program plan told_story p k s start before event passed → parent ≡ Some event → Contains (edges_of program t) (Control s)
-      → ComesOverControl program (full_trace program plan budget h) parent t
+      → ComesOverControl program (full_trace program plan budget (story program plan budget h)) parent t
   by_test t k s before taken after event passed parent steps l is edge =
       let test = test_is k s before taken after event passed steps l in
-      subst (λ o. ComesOverControl program (full_trace program plan budget h) o t) (sym is)
+      subst (λ o. ComesOverControl program (full_trace program plan budget (story program plan budget h)) o t) (sym is)
       (record { from = s; is_of = test.0; edge = subst (λ e. Contains (edges_of program t) e) (sym (choice_edge program s test.1)) edge })
 
   -- a parent that is a call, or none
-  by_call : (t k : ℕ) (before : List Taken) (taken : Taken) (after : List Taken) (parent : Option EventId) → own_steps told_story p ≡ before ++ taken ∷ after
+  by_call : (t k : ℕ) (before : List Taken) (taken : Taken) (after : List Taken) (parent : Option EventId) → get_or told_story.steps p [] ≡ before ++ taken ∷ after
       → IsBegunBy program plan told_story p k start before parent ⊎ IsFromStart program plan k start before parent → Contains (edges_of program t) ControlEntry
-      → ComesOverControl program (full_trace program plan budget h) parent t
+      → ComesOverControl program (full_trace program plan budget (story program plan budget h)) parent t
   by_call t k before taken after parent steps h2 edge = elim h2 [
     | inl c ↦
         let u : Tracing = traced_by_steps program plan budget h p c.before in
         let s : ℕ = (event_of program plan u.proc c.taken u.proc.todo).stmt in
-        let all : own_steps told_story p ≡ c.before ++ c.taken ∷ (c.after ++ taken ∷ after) = steps ∙ ap (λ xs. xs ++ taken ∷ after) c.steps_are ∙ append_assoc c.before (c.taken ∷ c.after) (taken ∷ after) in
-        subst (λ o. ComesOverControl program (full_trace program plan budget h) o t) (sym c.call_is)
+        let all : get_or told_story.steps p [] ≡ c.before ++ c.taken ∷ (c.after ++ taken ∷ after) = steps ∙ ap (λ xs. xs ++ taken ∷ after) c.steps_are ∙ append_assoc c.before (c.taken ∷ c.after) (taken ∷ after) in
+        subst (λ o. ComesOverControl program (full_trace program plan budget (story program plan budget h)) o t) (sym c.call_is)
         (record {
           from = s;
           is_of = is_event_of program plan budget h p c.before c.taken (c.after ++ taken ∷ after) s all c.finishes refl;
           edge = subst (λ e. Contains (edges_of program t) e) (sym (call_edge program s c.calls)) edge;
         })
-    | inr f ↦ subst (λ o. ComesOverControl program (full_trace program plan budget h) o t) (sym f.call_is) edge
+    | inr f ↦ subst (λ o. ComesOverControl program (full_trace program plan budget (story program plan budget h)) o t) (sym f.call_is) edge
   ]
 
   -- the statement of an event is there
-  event_there : (before : List Taken) (taken : Taken) (after : List Taken) (s : ℕ) → own_steps told_story p ≡ before ++ taken ∷ after → is_event taken.need ≡ true
+  event_there : (before : List Taken) (taken : Taken) (after : List Taken) (s : ℕ) → get_or told_story.steps p [] ≡ before ++ taken ∷ after → is_event taken.need ≡ true
       → (event_of program plan (traced_by_steps program plan budget h p before).proc taken (traced_by_steps program plan budget h p before).proc.todo).stmt ≡ s → s < length program.stmts
   event_there before taken after s steps finishes is =
       let u : Tracing = traced_by_steps program plan budget h p before in
@@ -167,6 +167,6 @@ control_comes program plan budget h p n e valid is =
         | inr top ↦
             let x = slice_get_there program.stmts t (event_there program plan budget h p valid w.event.before w.event.taken w.event.after t w.event.steps_are w.event.finishes stmt_is) in
             by_call program plan budget h p valid t w.activation w.event.before w.event.taken w.event.after e.parent w.event.steps_are top.call
-            (entry_of program t x.0 x.1 (ap parent_if (sym x.1) ∙ top.top))
+            (entry_of program t x.0 x.1 (ap (option_and_then (λ (x : Stmt). x.parent)) (sym x.1) ∙ top.top))
       ]
     ]

@@ -1,19 +1,20 @@
 -- The data edges that lead to a statement.
-use Rattle.std.proofs.Common.{ℕ, ◌<◌, List, [], ◌∷◌, false, true, length, map, sym, subst, inl, inr}
-use Rattle.std.specs.Prelude.{IsTrue, slice_get}
-use Rattle.std.specs.List.{Contains, flat_map, range_with_len}
-use Rattle.ppd_ast.specs.declared.program.Program.{Program}
+use Rattle.law_steps.proofs.StaticEdges.Lists.{here, in_left, in_right, there}
+use Rattle.ppd_ast.proofs.Members.{filter_has, from_zero, has_cons}
+use Rattle.ppd_ast.specs.Lookups.{body_numbered, body_of}
 use Rattle.ppd_ast.specs.Members.{has}
-use Rattle.ppd_ast.specs.Lookups.{body_of, locals_of}
-use Rattle.ppd_ast.proofs.Members.{has_cons, filter_has, from_zero}
-use Rattle.ppd_cfg.specs.Reach.{Reached}
+use Rattle.ppd_ast.specs.declared.program.Program.{Program}
 use Rattle.ppd_cfg.proofs.Leading.{leads-tests}
+use Rattle.ppd_cfg.specs.Reach.{Reached}
+use Rattle.ppd_deps.proofs.Vocabulary.{data_from, local_edge, shared_edge, shared_from}
+use Rattle.ppd_deps.specs.Edges.{begins, comes_to, control_into, data_into, edges_of, kept_rows, locals_from}
+use Rattle.ppd_deps.specs.Named.{own_vars, shared_reads, shared_writes}
 use Rattle.ppd_deps.specs.declared.edges.StaticEdge.{StaticEdge}
 use Rattle.ppd_deps.specs.declared.edges.StaticEdge.TheVariants.{Data}
-use Rattle.ppd_deps.specs.Edges.{begins, comes_to, control_into, data_into, edges_of, kept_rows, locals_from}
-use Rattle.ppd_deps.proofs.Vocabulary.{data_from, local_edge, shared_edge, shared_from}
-use Rattle.ppd_deps.specs.Named.{local_reads, shared_reads, shared_writes}
-use Rattle.law_steps.proofs.StaticEdges.Lists.{here, in_left, in_right, there}
+use Rattle.ppd_sets.specs.Used.{reads_at}
+use Rattle.std.proofs.Common.{List, [], false, inl, inr, length, map, subst, sym, true, ℕ, ◌<◌, ◌∷◌}
+use Rattle.std.specs.List.{Contains, flat_map, range_with_len}
+use Rattle.std.specs.Prelude.{IsTrue, slice_get}
 
 mapped : {X : Type 0} (f : ℕ → X) (xs : List ℕ) (v : ℕ) → IsTrue (has xs v) → Contains (map f xs) (f v)
 mapped f [] v h = absurd (cc)
@@ -34,11 +35,11 @@ data_edge : (p : Program) (s t : ℕ) (e : StaticEdge) → s < length p.stmts �
 data_edge p s t e lt c = in_left e (data_into p t) (control_into p t) (gathered (λ s. data_from p s t) (range_with_len 0 (length p.stmts)) s e (from_zero s (length p.stmts) lt) c)
 
 -- of a local variable that the statement reads, and to which what is written comes
-pub local_data : (p : Program) (s t v : ℕ) → s < length p.stmts → IsTrue (has (local_reads p t) v) → Reached (kept_rows p (body_of p t) (slice_get (locals_of p (body_of p t)) v)) (begins p (body_of p t) s v) t → Contains (edges_of p t) (Data s false v)
+pub local_data : (p : Program) (s t v : ℕ) → s < length p.stmts → IsTrue (has (own_vars p (reads_at false p) t) v) → Reached (kept_rows p (body_of p t) (slice_get (body_numbered p (body_of p t)).locals v)) (begins p (body_of p t) s v) t → Contains (edges_of p t) (Data s false v)
 local_data p s t v lt reads way =
-    let comes : IsTrue (comes_to p (body_of p t) s v t) = (leads-tests (kept_rows p (body_of p t) (slice_get (locals_of p (body_of p t)) v)) (begins p (body_of p t) s v) t).1 way in
+    let comes : IsTrue (comes_to p (body_of p t) s v t) = (leads-tests (kept_rows p (body_of p t) (slice_get (body_numbered p (body_of p t)).locals v)) (begins p (body_of p t) s v) t).1 way in
     data_edge p s t (Data s false v) lt (in_right (Data s false v) (map (shared_edge s) (shared_from p s t)) (map (local_edge s) (locals_from p s t))
-    (mapped (local_edge s) (locals_from p s t) v (filter_has (λ w. comes_to p (body_of p t) s w t) (local_reads p t) v reads comes)))
+    (mapped (local_edge s) (locals_from p s t) v (filter_has (λ w. comes_to p (body_of p t) s w t) (own_vars p (reads_at false p) t) v reads comes)))
 
 -- of a shared variable that the one writes and the other reads
 pub shared_data : (p : Program) (s t v : ℕ) → s < length p.stmts → IsTrue (has (shared_writes p s) v) → IsTrue (has (shared_reads p t) v) → Contains (edges_of p t) (Data s true v)

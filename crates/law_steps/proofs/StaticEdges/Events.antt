@@ -1,23 +1,23 @@
 -- Each step that finishes or traps a statement is an event of the trace, under the name that it has.
-use Rattle.std.proofs.Common.{◌≡◌, ℕ, zero, suc, ◌+◌, true, List, [], ◌∷◌, ◌++◌, Some, refl, ap, sym, ◌∙◌, length, arith, inl, inr, ◌⊎◌}
+use Rattle.law_steps.specs.Sound.{IsEventOf, event_at}
+use Rattle.ppd_ast.specs.declared.plan.Plan.{Plan}
+use Rattle.ppd_ast.specs.declared.program.Program.{Program}
+use Rattle.ppd_model.proofs.CountedOn.{kept_at, last_at}
+use Rattle.ppd_model.proofs.ParentEvents.{events_at}
+use Rattle.ppd_model.specs.FullTrace.{begun_tracing, event_of, full_trace, me_in, trace_by, trace_step, traced_by, tracing_of}
+use Rattle.ppd_model.specs.Story.{story}
+use Rattle.ppd_model.specs.declared.trace.EventId.{EventId}
+use Rattle.ppd_model.specs.declared.trace.TracedEvent.{TracedEvent}
 use Rattle.ppd_model.specs.declared.tracing.Story.{Story}
 use Rattle.ppd_model.specs.declared.tracing.Taken.{Taken}
 use Rattle.ppd_model.specs.declared.tracing.Tracing.{Tracing}
-use Rattle.std.specs.Prelude.{fold, get_or, slice_get}
-use Rattle.std.proofs.lemmas.List.Sums.{fold-append}
-use Rattle.ppd_ast.specs.declared.plan.Plan.{Plan}
-use Rattle.ppd_ast.specs.declared.program.Program.{Program}
-use Rattle.ppd_sem.specs.declared.proc.Need.{Need}
-use Rattle.ppd_sem.specs.declared.proc.Need.TheVariants.{Read, Enter, Budget, Stopped}
-use Rattle.ppd_sem.specs.Process.{started}
 use Rattle.ppd_sem.specs.Described.{is_event}
-use Rattle.ppd_model.specs.declared.trace.EventId.{EventId}
-use Rattle.ppd_model.specs.declared.trace.TracedEvent.{TracedEvent}
-use Rattle.ppd_model.specs.FullTrace.{begun_tracing, event_of, full_trace, me_in, trace_by, trace_step, traced_by, tracing_of}
-use Rattle.ppd_model.specs.Story.{own_steps, story}
-use Rattle.ppd_model.proofs.ParentEvents.{events_at}
-use Rattle.ppd_model.proofs.CountedOn.{last_at, kept_at}
-use Rattle.law_steps.specs.Sound.{IsEventOf, event_at}
+use Rattle.ppd_sem.specs.Process.{started}
+use Rattle.ppd_sem.specs.declared.proc.Need.{Need}
+use Rattle.ppd_sem.specs.declared.proc.Need.TheVariants.{Budget, Enter, Read, Stopped}
+use Rattle.std.proofs.Common.{List, Some, [], ap, arith, inl, inr, length, refl, suc, sym, true, zero, ℕ, ◌++◌, ◌+◌, ◌∙◌, ◌∷◌, ◌≡◌, ◌⊎◌}
+use Rattle.std.proofs.lemmas.List.Sums.{fold-append}
+use Rattle.std.specs.Prelude.{fold, get_or, slice_get}
 
 module _ (program : Program) (plan : Plan) (story : Story) (p : ℕ) where
   abbrev after_all : Tracing → List Taken → Tracing
@@ -98,14 +98,14 @@ module _ (program : Program) (plan : Plan) (budget : ℕ) (h : List ℕ) (p : �
   abbrev pub traced_by_steps : List Taken → Tracing
   traced_by_steps steps = fold (trace_step program plan told_story p) (begun_tracing (started program plan p budget)) steps
 
-  pub events_of : get_or (full_trace program plan budget h).events p [] ≡ (traced_by_steps (own_steps told_story p)).events
+  pub events_of : get_or (full_trace program plan budget (story program plan budget h)).events p [] ≡ (traced_by_steps (get_or told_story.steps p [])).events
   events_of =
-      events_at program plan budget told_story 0 p told_story.steps ∙ ap (λ m. (tracing_of program plan budget told_story m (own_steps told_story p)).events) (let z : 0 + p ≡ p = omega arith in z)
+      events_at program plan budget told_story 0 p told_story.steps ∙ ap (λ m. (tracing_of program plan budget told_story m (get_or told_story.steps p [])).events) (let z : 0 + p ≡ p = omega arith in z)
 
   -- the event of a step is in the trace, by its name
-  pub is_event_of : (before : List Taken) (x : Taken) (after : List Taken) (s : ℕ) → own_steps told_story p ≡ before ++ x ∷ after → is_event x.need ≡ true
+  pub is_event_of : (before : List Taken) (x : Taken) (after : List Taken) (s : ℕ) → get_or told_story.steps p [] ≡ before ++ x ∷ after → is_event x.need ≡ true
       → (event_of program plan (traced_by_steps before).proc x (traced_by_steps before).proc.todo).stmt ≡ s
-      → IsEventOf (full_trace program plan budget h) (me_in p (traced_by_steps before)) s
+      → IsEventOf (full_trace program plan budget (story program plan budget h)) (me_in p (traced_by_steps before)) s
   is_event_of before x after s steps e is = record {
     event = traced program plan told_story p (traced_by_steps before) x;
     there =
@@ -116,19 +116,19 @@ module _ (program : Program) (plan : Plan) (budget : ℕ) (h : List ℕ) (p : �
   }
 
   -- each event of the trace is of a step
-  pub event_step : (n : ℕ) (e : TracedEvent) → event_at (full_trace program plan budget h) p n ≡ Some e → IsStepOf program plan told_story p (begun_tracing (started program plan p budget)) (own_steps told_story p) e
-  event_step n e is = elim (step_of program plan told_story p (begun_tracing (started program plan p budget)) (own_steps told_story p) n e (ap (λ es. slice_get es n) (sym events_of) ∙ is)) [
+  pub event_step : (n : ℕ) (e : TracedEvent) → event_at (full_trace program plan budget (story program plan budget h)) p n ≡ Some e → IsStepOf program plan told_story p (begun_tracing (started program plan p budget)) (get_or told_story.steps p []) e
+  event_step n e is = elim (step_of program plan told_story p (begun_tracing (started program plan p budget)) (get_or told_story.steps p []) n e (ap (λ es. slice_get es n) (sym events_of) ∙ is)) [
     | inl none ↦ absurd (cc)
     | inr s ↦ s
   ]
 
   -- what is in the trace of its first steps is in the trace
-  pub in_trace : (before after : List Taken) (id : EventId) (e : TracedEvent) (s : ℕ) → own_steps told_story p ≡ before ++ after → id.process ≡ p → slice_get (traced_by_steps before).events id.number ≡ Some e → e.event.stmt ≡ s
-      → IsEventOf (full_trace program plan budget h) id s
+  pub in_trace : (before after : List Taken) (id : EventId) (e : TracedEvent) (s : ℕ) → get_or told_story.steps p [] ≡ before ++ after → id.process ≡ p → slice_get (traced_by_steps before).events id.number ≡ Some e → e.event.stmt ≡ s
+      → IsEventOf (full_trace program plan budget (story program plan budget h)) id s
   in_trace before after id e s steps own there is = record {
     event = e;
     there =
-        ap (λ q. event_at (full_trace program plan budget h) q id.number) own
+        ap (λ q. event_at (full_trace program plan budget (story program plan budget h)) q id.number) own
         ∙ ap (λ es. slice_get es id.number) events_of
         ∙ ap (λ xs. slice_get (traced_by_steps xs).events id.number) steps
         ∙ ap (λ (t : Tracing). slice_get t.events id.number) (fold-append (trace_step program plan told_story p) (begun_tracing (started program plan p budget)) before after)

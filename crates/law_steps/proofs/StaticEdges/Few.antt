@@ -1,10 +1,10 @@
 -- Variables that each have a cell, and share none, are no more than the cells.
 use Rattle.std.proofs.Common.{◌≡◌, ℕ, zero, suc, ◌+◌, ◌<◌, ◌≤◌, true, cond, List, [], ◌∷◌, Option, Some, None, length, refl, sym, ap, ◌∙◌, arith, inl, inr}
-use Rattle.std.specs.Prelude.{count_by, nat_le, nat_lt, slice_get}
+use Rattle.std.specs.Prelude.{count_by, nat_le, nat_lt, slice_get, unwrap_or}
 use Rattle.std.specs.List.{All}
 use Rattle.std.proofs.lemmas.Bool.{and_from, cases_eq, cond-true, le-leb, lt-ltb}
 use Rattle.std.proofs.lemmas.List.Sums.{sum_by-append}
-use Rattle.ppd_ast.specs.Cells.{CoverCells, after, holds, size}
+use Rattle.ppd_ast.specs.Cells.{CoverCells, after, holds}
 use Rattle.ppd_ast.specs.Valid.{IsValid, IsValidBody}
 use Rattle.ppd_ast.specs.declared.program.Body.{Body}
 use Rattle.ppd_ast.specs.declared.program.Program.{Program}
@@ -60,9 +60,9 @@ hit (suc n) c x lt h = elim (cases_eq c n) [
 
 -- ---- each variable holds one
 
-first_held : (n : ℕ) (x : Var) → after x ≤ n → 0 < size x.len → 1 ≤ hits n x
+first_held : (n : ℕ) (x : Var) → after x ≤ n → 0 < unwrap_or x.len 1 → 1 ≤ hits n x
 first_held n x within some =
-    let end : x.base + size x.len ≤ n = within in
+    let end : x.base + unwrap_or x.len 1 ≤ n = within in
     hit n x.base x (omega arith) (and_from (nat_le x.base x.base) (nat_lt x.base (after x)) (le-leb x.base x.base (omega arith)) (lt-ltb x.base (after x) (omega arith)))
 
 long : (n : ℕ) (vs : List Var) → All (λ x. after x ≤ n) vs → HaveCells vs → length vs ≤ total n vs

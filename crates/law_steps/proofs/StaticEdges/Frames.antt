@@ -1,34 +1,34 @@
 -- Which calls began the frames of a process, and that their bodies run.
-use Rattle.std.proofs.Common.{◌≡◌, ℕ, ◌+◌, ◌-◌, ◌<◌, ℤ, List, [], ◌∷◌, Option, Some, None, Ok, Err, length, map, refl, sym, ap, ◌∙◌, subst, arith}
-use Rattle.std.specs.Prelude.{IsTrue, ⊤, drop}
+use Rattle.law_steps.proofs.Course.Deeds.{Fits, deed_fits}
+use Rattle.ppd_ast.proofs.Members.{flat_from, has_first, in_bounds_has}
+use Rattle.ppd_ast.specs.Lookups.{body_of, kind_of}
+use Rattle.ppd_ast.specs.Members.{has}
 use Rattle.ppd_ast.specs.Valid.{IsValid}
 use Rattle.ppd_ast.specs.declared.plan.Plan.{Plan}
 use Rattle.ppd_ast.specs.declared.program.Kind.{Kind}
 use Rattle.ppd_ast.specs.declared.program.Kind.TheVariants as K
 use Rattle.ppd_ast.specs.declared.program.Program.{Program}
-use Rattle.ppd_ast.specs.Members.{has}
-use Rattle.ppd_ast.specs.Lookups.{kind_of, body_of}
-use Rattle.ppd_ast.proofs.Members.{has_first, in_bounds_has, flat_from}
-use Rattle.ppd_cfg.specs.Lists.{row}
-use Rattle.ppd_cfg.specs.Reach.{Reached, next, start}
 use Rattle.ppd_cfg.proofs.Rows.{row_at}
-use Rattle.law_steps.proofs.Course.Deeds.{Fits, deed_fits}
-use Rattle.ppd_deps.proofs.Vocabulary.{processes}
+use Rattle.ppd_cfg.specs.Reach.{Reached, next, start}
 use Rattle.ppd_deps.proofs.Arriving.{body_there}
 use Rattle.ppd_deps.proofs.Bodies.{stands_among}
-use Rattle.ppd_sem.specs.declared.asking.Pause.TheVariants.{Wants, Traps}
+use Rattle.ppd_deps.proofs.Vocabulary.{processes}
+use Rattle.ppd_sem.proofs.NeedWords.{act_at}
+use Rattle.ppd_sem.specs.Asked.{Asked}
+use Rattle.ppd_sem.specs.Deed.{Deed, back, clear, invoke, receive, set_local}
+use Rattle.ppd_sem.specs.Process.{act, act_by_asked, act_by_deed, act_by_need, head_deed, into_at, into_of, need_of, on_top, receive_at, returned, started, top_frame, with_values}
+use Rattle.ppd_sem.specs.declared.asking.Pause.TheVariants.{Traps, Wants}
 use Rattle.ppd_sem.specs.declared.proc.Answer.{Answer}
 use Rattle.ppd_sem.specs.declared.proc.Frame.{Frame}
 use Rattle.ppd_sem.specs.declared.proc.Need.{Need}
-use Rattle.ppd_sem.specs.declared.proc.Need.TheVariants.{Enter, Offer, Done, Trap, Budget, Stopped}
+use Rattle.ppd_sem.specs.declared.proc.Need.TheVariants.{Budget, Done, Enter, Offer, Stopped, Trap}
 use Rattle.ppd_sem.specs.declared.proc.Proc.{Proc}
 use Rattle.ppd_sem.specs.declared.proc.Todo.{Todo}
-use Rattle.ppd_sem.specs.Asked.{Asked}
-use Rattle.ppd_sem.specs.Deed.{Deed, set_local, clear, invoke, back, receive}
-use Rattle.ppd_sem.specs.Process.{act, act_by_asked, act_by_deed, act_by_need, clear_top, head_deed, into_of, need_of, receive_at, returned, returned_from, started, top_cells, write_top}
-use Rattle.ppd_sets.specs.Used.{call_rows, callee, stmts_at}
 use Rattle.ppd_sets.proofs.Vocabulary.{calls_at}
-use Rattle.ppd_sem.proofs.NeedWords.{act_at}
+use Rattle.ppd_sets.specs.Used.{call_rows, callee, stmts_at}
+use Rattle.std.proofs.Common.{Err, List, None, Ok, Option, Some, [], ap, arith, length, map, refl, subst, sym, ℕ, ℤ, ◌+◌, ◌-◌, ◌<◌, ◌∙◌, ◌∷◌, ◌≡◌}
+use Rattle.std.specs.List.{range_with_len}
+use Rattle.std.specs.Prelude.{IsTrue, drop, get_or, pos, replicate, slice_set, ⊤}
 
 -- ---- links
 
@@ -39,11 +39,11 @@ Link = ℕ × Option ℕ
 abbrev pub links : List Frame → List Link
 links frames = map (λ f. (f.body, f.call)) frames
 
-links_write : (c : ℕ) (v : ℤ) (frames : List Frame) → links (write_top c v frames) ≡ links frames
+links_write : (c : ℕ) (v : ℤ) (frames : List Frame) → links (on_top (λ cells. slice_set cells c v) frames) ≡ links frames
 links_write c v [] = refl
 links_write c v (f ∷ fs) = refl
 
-links_clear : (base len : ℕ) (frames : List Frame) → links (clear_top base len frames) ≡ links frames
+links_clear : (base len : ℕ) (frames : List Frame) → links (on_top (with_values (range_with_len base len) (replicate len (pos 0))) frames) ≡ links frames
 links_clear base len [] = refl
 links_clear base len (f ∷ fs) = refl
 
@@ -52,7 +52,7 @@ links_receive (Some c) (Some v) frames = links_write c v frames
 links_receive (Some c) None frames = refl
 links_receive None value frames = refl
 
-links_from : (p : Program) (call : Option ℕ) (value : Option ℤ) (frames : List Frame) → links (returned_from p call value frames) ≡ links frames
+links_from : (p : Program) (call : Option ℕ) (value : Option ℤ) (frames : List Frame) → links (receive_at (into_at p call) value frames) ≡ links frames
 links_from p None value frames = refl
 links_from p (Some c) value frames = links_receive (into_of (kind_of p c)) value frames
 
@@ -81,7 +81,7 @@ module _ (p : Program) (a : Answer) (t : Todo) (ts : List Todo) where
   by_asked s (Err (Traps x)) h = same refl
 
   pub head_fits : (s : Proc) → Fits (kind_of p t.stmt) (head_deed p t s)
-  head_fits s = deed_fits p.exprs (top_cells s.frames) s.answers (kind_of p t.stmt)
+  head_fits s = deed_fits p.exprs (top_frame s.frames).cells s.answers (kind_of p t.stmt)
 
   by_need : (plan : Plan) (s : Proc) (n : Need) → Relinks p t.stmt (links s.frames) (links (act_by_need p plan a t ts n s).frames)
   by_need plan s Stopped = same refl
@@ -138,7 +138,7 @@ calls_run p t f args into v there is run lt =
     let called : IsTrue (has (callee (kind_of p t)) f) = subst (λ (k : Kind). IsTrue (has (callee k) f)) (sym is) (has_first f []) in
     let listed : IsTrue (has (calls_at p b) f) = flat_from (λ s. callee (kind_of p s)) (stmts_at p b) t f (stands_among p t v there) called in
     let e : 0 + b ≡ b = omega arith in
-    let at : row (call_rows p) b ≡ calls_at p b = row_at (calls_at p) 0 (length p.bodies) b below ∙ ap (calls_at p) e in
+    let at : get_or (call_rows p) b [] ≡ calls_at p b = row_at (calls_at p) 0 (length p.bodies) b below ∙ ap (calls_at p) e in
     next (run below) (subst (λ xs. IsTrue (has xs f)) (sym at) listed)
 
 module _ (p : Program) (v : IsValid p) (t : ℕ) (there : t < length p.stmts) where

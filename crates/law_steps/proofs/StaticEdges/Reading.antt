@@ -1,8 +1,9 @@
 -- What a statement reads is among what it may read.
 use Rattle.std.proofs.Common.{◌≡◌, ℕ, zero, suc, ◌+◌, ◌<◌, ◌≤◌, ℤ, pos, negsuc, Bool, true, false, nat_lt, List, [], ◌∷◌, ◌++◌, Some, None, Ok, Err, refl, subst, ap, sym, arith, if◌then◌else◌}
-use Rattle.std.specs.Prelude.{IsTrue, ⊤, slice_get}
+use Rattle.std.specs.Prelude.{IsTrue, ⊤, slice_get, get_or}
 use Rattle.std.specs.List.{range_with_len}
 use Rattle.std.proofs.lemmas.Bool.{ltb-true}
+use Rattle.std.specs.Ordering.{int_eq}
 use Rattle.ppd_ast.specs.declared.program.Expr.{Expr}
 use Rattle.ppd_ast.specs.declared.program.Kind.{Kind}
 use Rattle.ppd_ast.specs.declared.program.Kind.TheVariants as K
@@ -15,9 +16,9 @@ use Rattle.ppd_ast.proofs.Members.{has_first, has_later, has_left, has_right, in
 use Rattle.ppd_sem.specs.declared.event.Access.{Access}
 use Rattle.ppd_sem.specs.declared.event.Spot.{Spot}
 use Rattle.ppd_sem.specs.declared.event.Spot.TheVariants.{Local, Shared}
-use Rattle.ppd_sem.specs.Ask.{ask, element, is_zero}
+use Rattle.ppd_sem.specs.Ask.{ask, element}
 use Rattle.ppd_sem.specs.Asked.{Asked, and_then, lift, once}
-use Rattle.ppd_sem.specs.Reads.{ask_place, local_read, reads_of, reads_of_all, reads_of_kind, reads_of_stored, shared_read}
+use Rattle.ppd_sem.specs.Reads.{ask_place, reads_of, reads_of_all, reads_of_kind, reads_of_stored, shared_read, local_accesses}
 use Rattle.ppd_sets.specs.Named.{cells_in, reads}
 
 -- each access is at such a place
@@ -85,9 +86,9 @@ module _ (W : Spot → Type 0) (frame : ℕ) where
   terms_at (const v) cells answers h = tt
   terms_at (local c) cells answers h = (h.locals c (has_first c []), tt)
   terms_at (local_at base len i) cells answers h =
-      both_at W (reads_of frame i cells answers) (once (ask_place i base len cells answers) (λ c left. local_read frame cells c))
+      both_at W (reads_of frame i cells answers) (once (ask_place i base len cells answers) (λ c left. local_accesses frame c (get_or cells c (pos 0) ∷ [])))
       (terms_at i cells answers (record { locals = λ c k. h.locals c (has_right (range_with_len base len) (cells_in false i) c k); shareds = h.shareds }))
-      (placed W base len (λ c left. local_read frame cells c)
+      (placed W base len (λ c left. local_accesses frame c (get_or cells c (pos 0) ∷ []))
       (λ c left low high. (h.locals c (has_left (range_with_len base len) (cells_in false i) c (in_bounds_has base len c low high)), tt)) (ask i cells answers))
   terms_at (shared c) cells answers h = read_at W c answers (h.shareds c (has_first c []))
   terms_at (shared_at base len i) cells answers h =
@@ -101,15 +102,15 @@ module _ (W : Spot → Type 0) (frame : ℕ) where
       both_at W (reads_of frame a cells answers) (once (ask a cells answers) (λ x left. reads_of frame b cells left)) (terms_at a cells answers (left_in W frame a b (two op a b) (λ w. refl) h))
       (once_at W (ask a cells answers) (λ x left. reads_of frame b cells left) (λ x left. terms_at b cells left (right_in W frame a b (two op a b) (λ w. refl) h)))
   terms_at (and a b) cells answers h =
-      both_at W (reads_of frame a cells answers) (once (ask a cells answers) (λ x left. if is_zero x then [] else reads_of frame b cells left))
+      both_at W (reads_of frame a cells answers) (once (ask a cells answers) (λ x left. if int_eq x (pos 0) then [] else reads_of frame b cells left))
       (terms_at a cells answers (left_in W frame a b (and a b) (λ w. refl) h))
-      (once_at W (ask a cells answers) (λ x left. if is_zero x then [] else reads_of frame b cells left)
-      (λ x left. if_at W (is_zero x) [] (reads_of frame b cells left) tt (terms_at b cells left (right_in W frame a b (and a b) (λ w. refl) h))))
+      (once_at W (ask a cells answers) (λ x left. if int_eq x (pos 0) then [] else reads_of frame b cells left)
+      (λ x left. if_at W (int_eq x (pos 0)) [] (reads_of frame b cells left) tt (terms_at b cells left (right_in W frame a b (and a b) (λ w. refl) h))))
   terms_at (or a b) cells answers h =
-      both_at W (reads_of frame a cells answers) (once (ask a cells answers) (λ x left. if is_zero x then reads_of frame b cells left else []))
+      both_at W (reads_of frame a cells answers) (once (ask a cells answers) (λ x left. if int_eq x (pos 0) then reads_of frame b cells left else []))
       (terms_at a cells answers (left_in W frame a b (or a b) (λ w. refl) h))
-      (once_at W (ask a cells answers) (λ x left. if is_zero x then reads_of frame b cells left else [])
-      (λ x left. if_at W (is_zero x) (reads_of frame b cells left) [] (terms_at b cells left (right_in W frame a b (or a b) (λ w. refl) h)) tt))
+      (once_at W (ask a cells answers) (λ x left. if int_eq x (pos 0) then reads_of frame b cells left else [])
+      (λ x left. if_at W (int_eq x (pos 0)) (reads_of frame b cells left) [] (terms_at b cells left (right_in W frame a b (or a b) (λ w. refl) h)) tt))
 
   all_args : (es : List Expr) (args : List ℕ) (cells answers : List ℤ) → ((e : ℕ) → IsTrue (has args e) → AllIn W frame (term es e)) → AllAt W (reads_of_all frame es args cells answers)
   all_args es [] cells answers h = tt

@@ -3,7 +3,7 @@ use Rattle.std.proofs.Common.{◌≡◌, ℕ, ◌+◌, ◌<◌, ◌^◌, zero, s
 use Rattle.ppd_model.specs.declared.tracing.Story.{Story}
 use Rattle.ppd_model.specs.declared.tracing.Taken.{Taken}
 use Rattle.ppd_model.specs.declared.tracing.Tracing.{Tracing}
-use Rattle.std.specs.Prelude.{fold, slice_get}
+use Rattle.std.specs.Prelude.{fold, slice_get, unwrap_or}
 use Rattle.std.specs.List.{All}
 use Rattle.std.proofs.lemmas.Option.{slice_get_within}
 use Rattle.ppd_ast.specs.declared.plan.Plan.{Plan}
@@ -11,7 +11,6 @@ use Rattle.ppd_ast.specs.declared.program.Body.{Body}
 use Rattle.ppd_ast.specs.declared.program.Program.{Program}
 use Rattle.ppd_ast.specs.declared.status.Status.{Status}
 use Rattle.ppd_ast.specs.Valid.{IsValid}
-use Rattle.ppd_ast.specs.Lookups.{top_of_body}
 use Rattle.ppd_sem.specs.declared.proc.Answer.{Answer}
 use Rattle.ppd_sem.specs.declared.proc.Proc.{Proc}
 use Rattle.ppd_sem.specs.declared.proc.Todo.{Todo}
@@ -24,6 +23,7 @@ use Rattle.ppd_sem.proofs.Starts.{started_runs}
 use Rattle.ppd_sem.proofs.Validity.{valid-runnable}
 use Rattle.ppd_sem.specs.Described.{is_event}
 use Rattle.ppd_model.specs.FullTrace.{begun_tracing, event_of, trace_step}
+use Rattle.ppd_ast.specs.Lookups.{no_body}
 
 -- ---- all states
 
@@ -39,7 +39,7 @@ started_at : (program : Program) (f budget : ℕ) (plan : Plan) (p : ℕ) (o : O
 started_at program f budget plan p None f_is v e =
     let at : slice_get program.bodies (program.functions + p) ≡ None = ap (slice_get program.bodies) (sym f_is) ∙ e in
     record {
-      todo = subst (λ (o : Option Body). AreOver program (length (cells_for o []) ∷ []) (todos (top_of_body o))) (sym at) tt;
+      todo = subst (λ (o : Option Body). AreOver program (length (cells_for o []) ∷ []) (todos (unwrap_or o no_body).top)) (sym at) tt;
       frames = subst (λ (o : Option Body). All (λ n. n < 2 ^ 16) (length (cells_for o []) ∷ [])) (sym at) small;
       below = omega arith;
       steps = omega arith;

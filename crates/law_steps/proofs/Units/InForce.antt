@@ -1,43 +1,43 @@
 -- The head of what a process has to do is reached in the unit in force, or is a block loop that is yet to be entered.
-use Rattle.std.proofs.Common.{◌≡◌, ℕ, ◌<◌, true, false, List, [], ◌∷◌, Option, Some, None, refl, ap, sym, subst, ◌∙◌, inl, inr, ◌⊎◌, length, true≢false}
-use Rattle.std.specs.Prelude.{⊤, get_or, IsSome, not, ◌&&◌, ◌||◌, slice_get, unwrap_or, option_to_list}
-use Rattle.std.proofs.lemmas.Bool.{cases_Bool}
-use Rattle.std.proofs.lemmas.Option.{slice_get_within}
-use Rattle.ppd_ast.specs.declared.program.Body.{Body}
-use Rattle.ppd_ast.specs.declared.program.Kind.{Kind}
-use Rattle.ppd_ast.specs.declared.program.Kind.TheVariants as kind
-use Rattle.ppd_ast.specs.declared.program.Program.{Program}
-use Rattle.ppd_ast.specs.declared.program.Stmt.{Stmt}
+use Rattle.law_steps.proofs.Units.Listed.{IsListed}
+use Rattle.law_steps.proofs.Units.Needs.{AreCalled, IsCallIf, IsEntering, Tells, need_enters, need_tells, top_called}
+use Rattle.law_steps.proofs.Units.Numbers.{after_listed, block_loop, enter_listed, entry_listed, exit_listed, loop_block, loop_is_while}
+use Rattle.law_steps.specs.Course.{BeginsList, EntersLoop, GoesAlong, GoesOn, LeadsTo, OffersSend, ReturnsBehind, StartsBehind}
+use Rattle.ppd_ast.proofs.Members.{has_first}
+use Rattle.ppd_ast.proofs.Vocabulary.{kind_of_stmt}
+use Rattle.ppd_ast.specs.Lookups.{body_numbered, kind_of, no_body}
+use Rattle.ppd_ast.specs.Members.{has}
+use Rattle.ppd_ast.specs.Numbered.{is_left, is_while}
+use Rattle.ppd_ast.specs.Valid.{IsValid}
 use Rattle.ppd_ast.specs.declared.plan.BlockKind.TheVariants.{Loop}
 use Rattle.ppd_ast.specs.declared.plan.Plan.{Plan}
 use Rattle.ppd_ast.specs.declared.plan.Policy.{Policy}
 use Rattle.ppd_ast.specs.declared.plan.Start.{Start}
 use Rattle.ppd_ast.specs.declared.plan.Start.TheVariants as start
-use Rattle.ppd_ast.specs.Numbered.{is_left, is_while}
-use Rattle.ppd_ast.specs.Valid.{IsValid}
-use Rattle.ppd_ast.specs.Members.{has}
-use Rattle.ppd_ast.specs.Lookups.{kind_of, top_of_body, top_of}
-use Rattle.ppd_ast.proofs.Vocabulary.{kind_of_stmt}
-use Rattle.ppd_ast.proofs.Members.{has_first}
-use Rattle.ppd_cfg.specs.Flow.{follow}
-use Rattle.ppd_cfg.specs.Lists.{first_or}
-use Rattle.ppd_cfg.specs.Reach.{Reached, next, start as starts_at}
-use Rattle.ppd_blocks.proofs.Vocabulary.{all_starts, block_loops}
-use Rattle.ppd_blocks.specs.Walk.{begin_of, enters, is_between, leaves, stands_in, unit_rows, unless}
+use Rattle.ppd_ast.specs.declared.program.Body.{Body}
+use Rattle.ppd_ast.specs.declared.program.Kind.{Kind}
+use Rattle.ppd_ast.specs.declared.program.Kind.TheVariants as kind
+use Rattle.ppd_ast.specs.declared.program.Program.{Program}
+use Rattle.ppd_ast.specs.declared.program.Stmt.{Stmt}
 use Rattle.ppd_blocks.proofs.Staying.{row_from, unless_no}
+use Rattle.ppd_blocks.proofs.Vocabulary.{all_starts, block_loops}
 use Rattle.ppd_blocks.specs.Blocks.{plan_of}
+use Rattle.ppd_blocks.specs.Walk.{begin_of, enters, is_between, stands_in, unit_rows}
+use Rattle.ppd_cfg.specs.Flow.{follow}
+use Rattle.ppd_cfg.specs.Reach.{Reached, next, start as starts_at}
+use Rattle.ppd_model.specs.Story.{unit_started}
+use Rattle.ppd_sem.specs.Process.{act, need_of, top_frame}
+use Rattle.ppd_sem.specs.Tables.{block_of, unit_of}
 use Rattle.ppd_sem.specs.declared.proc.Answer.{Answer}
 use Rattle.ppd_sem.specs.declared.proc.Need.{Need}
-use Rattle.ppd_sem.specs.declared.proc.Need.TheVariants.{Read, Write, Plain, Enter, Leave, Invoke, Back, P, V, Send, Offer, Done, Recv, End, Trap, Budget, Stopped}
+use Rattle.ppd_sem.specs.declared.proc.Need.TheVariants.{Back, Budget, Done, End, Enter, Invoke, Leave, Offer, P, Plain, Read, Recv, Send, Stopped, Trap, V, Write}
 use Rattle.ppd_sem.specs.declared.proc.Proc.{Proc}
 use Rattle.ppd_sem.specs.declared.proc.Todo.{Todo}
-use Rattle.ppd_sem.specs.Process.{act, need_of, top_call}
-use Rattle.ppd_sem.specs.Tables.{block_of, unit_of}
-use Rattle.ppd_model.specs.Story.{unit_started}
-use Rattle.law_steps.specs.Course.{OffersSend, BeginsList, EntersLoop, GoesAlong, GoesOn, LeadsTo, ReturnsBehind, StartsBehind}
-use Rattle.law_steps.proofs.Units.Listed.{IsListed}
-use Rattle.law_steps.proofs.Units.Needs.{AreCalled, IsCallIf, IsEntering, Tells, need_enters, need_tells, top_called}
-use Rattle.law_steps.proofs.Units.Numbers.{after_listed, block_loop, enter_listed, entry_listed, exit_listed, loop_block, loop_is_while}
+use Rattle.std.proofs.Common.{List, None, Option, Some, [], ap, false, inl, inr, length, refl, subst, sym, true, true≢false, ℕ, ◌<◌, ◌∙◌, ◌∷◌, ◌≡◌, ◌⊎◌}
+use Rattle.std.proofs.lemmas.Bool.{cases_Bool}
+use Rattle.std.proofs.lemmas.Option.{slice_get_within}
+use Rattle.std.specs.List.{find}
+use Rattle.std.specs.Prelude.{IsSome, get_or, not, option_to_list, slice_get, unwrap_or, ⊤, ◌&&◌, ◌||◌}
 
 -- ---- kinds
 
@@ -98,14 +98,14 @@ module _ (program : Program) (policy : Policy) where
   begun : (s : Start) (n : ℕ) (o : Option ℕ) → begin_of program loops s ≡ o → o ≡ Some n → IsInUnit s n
   begun s n o e is = subst (λ (x : Option ℕ). Reached (unit_rows program loops) (option_to_list x) n) (sym (e ∙ is)) (starts_at (has_first n []))
 
-  by_follow : (a : ℕ) (origin : Start) (t : Todo) → begin_of program loops origin ≡ unless (enters program loops a) (follow program a) → Some t.stmt ≡ follow program a → IsMarked a t
+  by_follow : (a : ℕ) (origin : Start) (t : Todo) → begin_of program loops origin ≡ find (λ t. not (enters program loops a t)) (option_to_list (follow program a)) → Some t.stmt ≡ follow program a → IsMarked a t
       → IsYetToEnter t ⊎ IsInUnit origin t.stmt
   by_follow a origin t begins follows marks = elim (entered_or a t marks) [
     | inl yet ↦ inl yet
-    | inr apart ↦ inr (begun origin t.stmt (unless (enters program loops a) (follow program a)) begins (ap (unless (enters program loops a)) (sym follows) ∙ unless_no (enters program loops a) t.stmt apart))
+    | inr apart ↦ inr (begun origin t.stmt (find (λ t. not (enters program loops a t)) (option_to_list (follow program a))) begins (ap (λ o. find (λ t. not (enters program loops a t)) (option_to_list o)) (sym follows) ∙ unless_no (enters program loops a) t.stmt apart))
   ]
 
-  starts_behind : (a : ℕ) (origin : Start) (u : ℕ) (todo : List Todo) → begin_of program loops origin ≡ unless (enters program loops a) (follow program a) → IsListed (all_starts program loops) origin
+  starts_behind : (a : ℕ) (origin : Start) (u : ℕ) (todo : List Todo) → begin_of program loops origin ≡ find (λ t. not (enters program loops a t)) (option_to_list (follow program a)) → IsListed (all_starts program loops) origin
       → StartsBehind program plan a origin u todo → HasHeadOf u todo
   starts_behind a origin u [] begins listed h = tt
   starts_behind a origin u (t ∷ ts) begins listed h = record {
@@ -115,11 +115,11 @@ module _ (program : Program) (policy : Policy) where
     head = by_follow a origin t begins h.goes.follows h.goes.marks;
   }
 
-  body_of : (b n : ℕ) (o : Option Body) → slice_get program.bodies b ≡ o → Some n ≡ first_or (top_of_body o) None → IsListed (all_starts program loops) (start.Entry b)
+  body_of : (b n : ℕ) (o : Option Body) → slice_get program.bodies b ≡ o → Some n ≡ slice_get (unwrap_or o no_body).top 0 → IsListed (all_starts program loops) (start.Entry b)
   body_of b n None at e = cc
   body_of b n (Some body) at e = entry_listed program loops b body at
 
-  pub starts_body : (b u : ℕ) (todo : List Todo) → u ≡ unit_of plan (start.Entry b) → BeginsList (top_of program b) todo → HasHeadOf u todo
+  pub starts_body : (b u : ℕ) (todo : List Todo) → u ≡ unit_of plan (start.Entry b) → BeginsList (body_numbered program b).top todo → HasHeadOf u todo
   starts_body b u [] is h = tt
   starts_body b u (t ∷ ts) is h = record {
     origin = start.Entry b;
@@ -127,13 +127,13 @@ module _ (program : Program) (policy : Policy) where
     listed = body_of b t.stmt (slice_get program.bodies b) refl h.first;
     head = elim (cases_Bool (has loops t.stmt)) [
       | inl loop ↦ inl (loop, h.unmarked t ts refl)
-      | inr isnt ↦ inr (begun (start.Entry b) t.stmt (unless (has loops) (first_or (top_of program b) None)) refl (ap (unless (has loops)) (sym h.first) ∙ unless_no (has loops) t.stmt isnt))
+      | inr isnt ↦ inr (begun (start.Entry b) t.stmt (find (λ t. not (has loops t)) (option_to_list (slice_get (body_numbered program b).top 0))) refl (ap (λ o. find (λ t. not (has loops t)) (option_to_list o)) (sym h.first) ∙ unless_no (has loops) t.stmt isnt))
     ];
   }
 
   -- ---- a unit goes on
 
-  stays_inside : (s : ℕ) (t : Todo) → GoesAlong program plan s t → leaves program loops s t.stmt ≡ false
+  stays_inside : (s : ℕ) (t : Todo) → GoesAlong program plan s t → enters program loops t.stmt s ≡ false
   stays_inside s t g = elim (cases_Bool (has loops s)) [
     | inr isnt ↦ ap (λ b. b && not (stands_in program t.stmt s)) isnt
     | inl is ↦
@@ -146,8 +146,8 @@ module _ (program : Program) (policy : Policy) where
     | inl yet ↦ inl yet
     | inr apart ↦
         (let within : is_between program loops s t.stmt ≡ false =
-        ap (λ b. b || (enters program loops s t.stmt || leaves program loops s t.stmt)) g.same_unit
-        ∙ ap (λ b. b || leaves program loops s t.stmt) apart ∙ stays_inside s t g in
+        ap (λ b. b || (enters program loops s t.stmt || enters program loops t.stmt s)) g.same_unit
+        ∙ ap (λ b. b || enters program loops t.stmt s) apart ∙ stays_inside s t g in
         inr (next reached (row_from program loops s t.stmt g.next (ap not within))))
   ]
 
@@ -213,14 +213,14 @@ module _ (program : Program) (policy : Policy) where
         marked : (w : Todo) → w ≡ t → HasHead u (record w { offered = true })
         marked w e = subst (λ z. HasHead u (record z { offered = true })) (sym e) (record { origin = h.origin; unit_is = h.unit_is; listed = h.listed; head = h.head })
 
-    by_need : (n : Need) → need_of program plan s ≡ n → Tells program plan t.stmt n → LeadsTo program plan n t.stmt (top_call s.frames) s now → IsInForce (unwrap_or (unit_started n) u) now
+    by_need : (n : Need) → need_of program plan s ≡ n → Tells program plan t.stmt n → LeadsTo program plan n t.stmt (top_frame s.frames).call s now → IsInForce (unwrap_or (unit_started n) u) now
     by_need (Read c) e tells g = inr (subst (HasHeadOf u) (sym (g ∙ is)) h)
     by_need (Write c x) e tells g = plainly (λ k. subst IsEntering e k) g
     by_need Plain e tells g = plainly (λ k. subst IsEntering e k) g
     by_need (Enter b w) e tells g = inr (enters_loop t.stmt b w s.todo now.todo v g)
     by_need (Leave b w) e tells g = inr (starts_behind t.stmt (start.Exit t.stmt) w now.todo refl (exit_there t.stmt b v tells) g)
     by_need (Invoke b w) e tells g = inr (starts_body g.function w now.todo g.unit_is g.goes)
-    by_need (Back b unit) e tells g = inr (returns_behind (top_call s.frames) unit u now.todo v (top_called program s.frames called) g)
+    by_need (Back b unit) e tells g = inr (returns_behind (top_frame s.frames).call unit u now.todo v (top_called program s.frames called) g)
     by_need (P x w) e tells g = behind w tells g
     by_need (V x w) e tells g = behind w tells g
     by_need (Send x y w) e tells g = behind w tells g
@@ -232,5 +232,5 @@ module _ (program : Program) (policy : Policy) where
     by_need Budget e tells g = inl g
     by_need Stopped e tells g = inr (subst (λ (p : Proc). HasHeadOf u p.todo) (sym g) (subst (HasHeadOf u) (sym is) h))
 
-    pub steps_on : LeadsTo program plan (need_of program plan s) t.stmt (top_call s.frames) s now → IsInForce (unwrap_or (unit_started (need_of program plan s)) u) now
+    pub steps_on : LeadsTo program plan (need_of program plan s) t.stmt (top_frame s.frames).call s now → IsInForce (unwrap_or (unit_started (need_of program plan s)) u) now
     steps_on g = by_need (need_of program plan s) refl (need_tells program plan s t ts is) g

@@ -1,13 +1,12 @@
 -- What stands somewhere in a list, and the first element that passes a test.
 use Rattle.std.proofs.Common.{◌≡◌, ℕ, zero, suc, ◌+◌, ◌<◌, List, [], ◌∷◌, ◌++◌, Bool, true, false, Some, None, refl, sym, ap, ◌∙◌, subst, inl, inr, cond, arith, length, true≢false}
 use Rattle.std.specs.Prelude.{IsTrue, nat_lt, not, slice_get}
-use Rattle.std.specs.List.{flat_map, position, position_or_len}
+use Rattle.std.specs.List.{flat_map, position, position_or_len, enumerate_from}
 use Rattle.std.proofs.lemmas.Bool.{cases_Bool, cond-true}
 use Rattle.std.proofs.lemmas.Bool.Decides.{nat_tests}
 use Rattle.std.proofs.lemmas.List.Quantifiers.{position-Some}
 use Rattle.std.proofs.lemmas.Option.{get_or_from_slice_get}
 use Rattle.ppd_ast.specs.declared.program.Body.{Body}
-use Rattle.ppd_ast.specs.Numbered.{each_from}
 use Rattle.ppd_ast.proofs.ValidLaws.{slice_get_there}
 use Rattle.ppd_ast.specs.Members.{has}
 use Rattle.ppd_ast.proofs.Members.{has_cons}
@@ -36,15 +35,15 @@ listed_flat f (m ∷ ns) n x h l = elim (has_cons m n ns h) [
   | inr t ↦ listed_right (f m) (flat_map f ns) x (listed_flat f ns n x t l)
 ]
 
-pub listed_each : {X : Type 0} (f : ℕ → Body → List X) (j : ℕ) (bs : List Body) (k : ℕ) (b : Body) (x : X) → slice_get bs k ≡ Some b → IsListed (f (j + k) b) x → IsListed (each_from f j bs) x
+pub listed_each : {X : Type 0} (f : ℕ → Body → List X) (j : ℕ) (bs : List Body) (k : ℕ) (b : Body) (x : X) → slice_get bs k ≡ Some b → IsListed (f (j + k) b) x → IsListed (flat_map (λ e. f e.0 e.1) (enumerate_from j bs)) x
 listed_each f j [] k b x at l = cc
 listed_each f j (c ∷ bs) zero b x at l =
     let e : j + zero ≡ j = omega arith in
     let same : b ≡ c = cc in
-    listed_left (f j c) (each_from f (j + 1) bs) x (subst (λ i. IsListed (f i c) x) e (subst (λ d. IsListed (f (j + zero) d) x) same l))
+    listed_left (f j c) (flat_map (λ e. f e.0 e.1) (enumerate_from (j + 1) bs)) x (subst (λ i. IsListed (f i c) x) e (subst (λ d. IsListed (f (j + zero) d) x) same l))
 listed_each f j (c ∷ bs) (suc k) b x at l =
     let e : j + suc k ≡ (j + 1) + k = omega arith in
-    listed_right (f j c) (each_from f (j + 1) bs) x (listed_each f (j + 1) bs k b x at (subst (λ i. IsListed (f i b) x) e l))
+    listed_right (f j c) (flat_map (λ e. f e.0 e.1) (enumerate_from (j + 1) bs)) x (listed_each f (j + 1) bs k b x at (subst (λ i. IsListed (f i b) x) e l))
 
 -- ---- the first that passes
 

@@ -7,10 +7,11 @@ use Rattle.ppd_ast.specs.declared.plan.Start.TheVariants.{Entry as AtEntry}
 use Rattle.ppd_ast.specs.declared.program.Program.{Program}
 use Rattle.ppd_ast.specs.declared.status.Status.{Status}
 use Rattle.ppd_model.specs.Entry.{Entry}
+use Rattle.ppd_model.specs.Entry.TheVariants as entry
 use Rattle.ppd_sem.specs.Tables.{unit_of}
 use Rattle.ppd_model.specs.declared.state.Logging.{Logging}
 use Rattle.ppd_model.specs.declared.tracing.Taken.{Taken}
-use Rattle.ppd_model.specs.Logs.{begun_log, ends, entries_of, log_step, postlogs, prelogs, status_of, syncs, units}
+use Rattle.ppd_model.specs.Logs.{begun_log, ends, entries_of, log_step, status_of, syncs, units, block_entries}
 use Rattle.ppd_model.specs.Marks.{Mark, closed, opened}
 use Rattle.ppd_model.specs.Story.{Moment, steps_of, unit_started}
 use Rattle.ppd_model.specs.Synchronizations.{Sync, sync_of}
@@ -18,7 +19,7 @@ use Rattle.law_steps.specs.Units.{IsLastOfLog, last_unit, unit_after, unit_logge
 
 -- ---- the entries of one step
 
-past_prelogs : (o : Option ℕ) (m : Option Mark) → fold unit_logged o (prelogs m) ≡ o
+past_prelogs : (o : Option ℕ) (m : Option Mark) → fold unit_logged o (block_entries entry.Prelog m) ≡ o
 past_prelogs o None = refl
 past_prelogs o (Some m) = refl
 
@@ -26,7 +27,7 @@ past_syncs : (o : Option ℕ) (l : Logging) (x : Taken) (s : Option Sync) → fo
 past_syncs o l x None = refl
 past_syncs o l x (Some s) = refl
 
-past_postlogs : (o : Option ℕ) (m : Option Mark) → fold unit_logged o (postlogs m) ≡ o
+past_postlogs : (o : Option ℕ) (m : Option Mark) → fold unit_logged o (block_entries entry.Postlog m) ≡ o
 past_postlogs o None = refl
 past_postlogs o (Some m) = refl
 
@@ -44,9 +45,9 @@ past_more a b c xs ys first second = fold-append unit_logged a xs ys ∙ ap (λ 
 
 past_step : (program : Program) (plan : Plan) (l : Logging) (m : Moment) (u : ℕ) → fold unit_logged (Some u) (entries_of program plan l m) ≡ Some (unit_after u m.taken)
 past_step program plan l m u =
-    let first : List Entry = prelogs (opened program plan l.proc m.taken.need) in
+    let first : List Entry = block_entries entry.Prelog (opened program plan l.proc m.taken.need) in
     let second : List Entry = syncs l m.taken (sync_of m.taken) in
-    let third : List Entry = postlogs (closed program plan l.proc m.taken.need) in
+    let third : List Entry = block_entries entry.Postlog (closed program plan l.proc m.taken.need) in
     let fourth : List Entry = units (unit_started m.taken.need) m.unit_values in
     let last : List Entry = ends l (status_of m.taken.need) in
     let now : Option ℕ = Some (unit_after u m.taken) in

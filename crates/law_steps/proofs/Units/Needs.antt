@@ -1,6 +1,6 @@
 -- What a need tells of its statement, and the calls that began a process's frames.
 use Rattle.std.proofs.Common.{◌≡◌, ℕ, zero, suc, ℤ, Bool, true, false, List, [], ◌∷◌, Option, Some, None, Ok, Err, refl, ap, sym, subst, ◌∙◌, cond, true≢false}
-use Rattle.std.specs.Prelude.{⊤, IsSome, if◌then◌else◌}
+use Rattle.std.specs.Prelude.{⊤, IsSome, if◌then◌else◌, slice_set, replicate, pos}
 use Rattle.ppd_ast.specs.declared.plan.BlockKind.TheVariants.{Loop}
 use Rattle.ppd_ast.specs.declared.plan.Plan.{Plan}
 use Rattle.ppd_ast.specs.declared.program.Expr.{Expr}
@@ -22,7 +22,8 @@ use Rattle.ppd_sem.specs.Asked.{Asked}
 use Rattle.ppd_sem.specs.Deed.{Deed, set_local, set_shared, clear, branch, turn, leave, invoke, back, take, give, send, receive, print, pass, finish, ask_deed}
 use Rattle.ppd_sem.proofs.Offers.{offer_there}
 use Rattle.std.proofs.lemmas.Option.{none-some}
-use Rattle.ppd_sem.specs.Process.{chan_of, need_of_send, offer_of, act, act_by_asked, act_by_deed, act_by_need, clear_top, entry_of, head_deed, into_of, loop_of, need_of, need_of_asked, need_of_leaving, receive_at, returned, returned_from, started, top_call, write_top}
+use Rattle.std.specs.List.{range_with_len}
+use Rattle.ppd_sem.specs.Process.{chan_of, need_of_send, offer_of, act, act_by_asked, act_by_deed, act_by_need, entry_of, head_deed, into_of, loop_of, need_of, need_of_asked, need_of_leaving, receive_at, returned, started, on_top, top_frame, into_at, with_values}
 use Rattle.ppd_sem.proofs.NeedWords.{act_at, need_by_entry, need_by_offer, need_by_status, need_of_running}
 use Rattle.ppd_sem.specs.Tables.{capacity_of, block_of}
 use Rattle.ppd_sem.proofs.OfKind.{IsDeedOf, OfAsked, asked_holds, invokes, receives, releases, sends, takes}
@@ -208,15 +209,15 @@ abbrev pub AreCalled : Program → List Frame → Type 0
 AreCalled program [] = ⊤
 AreCalled program (f ∷ fs) = IsCallIf program f.call × AreCalled program fs
 
-pub top_called : (program : Program) (fs : List Frame) → AreCalled program fs → IsCallIf program (top_call fs)
+pub top_called : (program : Program) (fs : List Frame) → AreCalled program fs → IsCallIf program (top_frame fs).call
 top_called program [] h = tt
 top_called program (f ∷ fs) h = h.0
 
-write_called : (program : Program) (c : ℕ) (v : ℤ) (fs : List Frame) → AreCalled program fs → AreCalled program (write_top c v fs)
+write_called : (program : Program) (c : ℕ) (v : ℤ) (fs : List Frame) → AreCalled program fs → AreCalled program (on_top (λ cells. slice_set cells c v) fs)
 write_called program c v [] h = tt
 write_called program c v (f ∷ fs) h = h
 
-clear_called : (program : Program) (base len : ℕ) (fs : List Frame) → AreCalled program fs → AreCalled program (clear_top base len fs)
+clear_called : (program : Program) (base len : ℕ) (fs : List Frame) → AreCalled program fs → AreCalled program (on_top (with_values (range_with_len base len) (replicate len (pos 0))) fs)
 clear_called program base len [] h = tt
 clear_called program base len (f ∷ fs) h = h
 
@@ -225,7 +226,7 @@ receive_called program (Some c) (Some v) fs h = write_called program c v fs h
 receive_called program (Some c) None fs h = h
 receive_called program None value fs h = h
 
-from_called : (program : Program) (call : Option ℕ) (value : Option ℤ) (fs : List Frame) → AreCalled program fs → AreCalled program (returned_from program call value fs)
+from_called : (program : Program) (call : Option ℕ) (value : Option ℤ) (fs : List Frame) → AreCalled program fs → AreCalled program (receive_at (into_at program call) value fs)
 from_called program None value fs h = h
 from_called program (Some c) value fs h = receive_called program (into_of (kind_of program c)) value fs h
 

@@ -1,5 +1,5 @@
 -- The steps of a process in a run: each is what its state needs, and at the end it has stopped or waits.
-use Rattle.std.specs.Prelude.{◌≡◌, ℕ, ◌+◌, ◌<◌, Bool, true, false, List, [], ◌∷◌, length, ℤ, Option, Some, None, is_some, ⊤}
+use Rattle.std.specs.Prelude.{◌≡◌, ℕ, ◌+◌, ◌<◌, Bool, true, false, List, [], ◌∷◌, length, ℤ, Option, Some, None, is_some, ⊤, get_or}
 use Rattle.ppd_ast.specs.Valid.{IsValid}
 use Rattle.ppd_ast.specs.declared.plan.Plan.{Plan}
 use Rattle.ppd_ast.specs.declared.program.Program.{Program}
@@ -10,7 +10,7 @@ use Rattle.ppd_sem.specs.declared.proc.Need.TheVariants.{Read, Recv, Stopped}
 use Rattle.ppd_sem.specs.declared.proc.Proc.{Proc}
 use Rattle.ppd_sem.specs.Process.{act, need_of, started}
 use Rattle.ppd_model.specs.Schedule.{IsWhole}
-use Rattle.ppd_model.specs.Story.{Moment, own_moments, told}
+use Rattle.ppd_model.specs.Story.{Moment, told}
 use Rattle.ppd_model.specs.Synchronizations.{kind_of_sync}
 
 -- what a step that was taken is given, besides the value of a read
@@ -36,4 +36,4 @@ IsRun program plan s (m ∷ ms) =
 abbrev pub SchedulesAreRuns : Type 0
 SchedulesAreRuns =
     (program : Program) (plan : Plan) (budget : ℕ) (h : List ℕ) (p : ℕ) → IsValid program → IsWhole program plan budget h → program.functions + p < length program.bodies
-    → IsRun program plan (started program plan p budget) (own_moments (told program plan budget h) p)
+    → IsRun program plan (started program plan p budget) (get_or (told program plan budget h).moments p [])

@@ -9,7 +9,7 @@ use Rattle.ppd_parse.specs.Grammar.{Shape, leaf, node, Shapes, no_shapes, shape_
 use Rattle.ppd_parse.specs.Limits.{is_sign}
 use Rattle.ppd_parse.specs.Stack.{is_binary}
 use Rattle.ppd_check_names.specs.Syntax.{Formula}
-use Rattle.ppd_check_names.specs.Reading.{Phrase, token, formula, goal, phrase, goal_formula, as_formula, kind, is_bracket, formula_at, joined, unary, goal_of, made, said, all_said}
+use Rattle.ppd_check_names.specs.Reading.{Phrase, token, formula, goal, phrase, goal_formula, as_formula, kind, same_kind, formula_at, joined, unary, made, said, all_said, as_goal}
 use Rattle.ppd_check.proofs.Limits.Trees.{signs, signs_in, levels, levels_in, IsJoined, Fits, FitsIn}
 use Rattle.ppd_check.proofs.Limits.Depths.{place_in}
 use Rattle.ppd_check.proofs.Limits.Small.{indexes}
@@ -119,11 +119,11 @@ joined_sign no_shapes h = absurd h
 joined_sign (shape_then t no_shapes) h = absurd h
 joined_sign (shape_then t (shape_then (node r f) ts)) h = absurd h
 
-goal_few : (ps : List Phrase) (b : Bool) → is_bracket (kind (phrase ps 1)) ≡ b → operators_in (goal_formula (goal_of ps)) ≤ weight_all ps
+goal_few : (ps : List Phrase) (b : Bool) → same_kind K.LeftBracket (kind (phrase ps 1)) ≡ b → operators_in (goal_formula (as_goal (made R.Place ps))) ≤ weight_all ps
 goal_few ps true e = rw (e) (omega (arith, formula_few ps 2, one_weight ps 2))
 goal_few ps false e = rw (e) (omega arith)
 
-goal_below : (n : ℕ) (ps : List Phrase) (b : Bool) → is_bracket (kind (phrase ps 1)) ≡ b → Below n ps → indexes (goal_formula (goal_of ps)) ≤ 1 + n
+goal_below : (n : ℕ) (ps : List Phrase) (b : Bool) → same_kind K.LeftBracket (kind (phrase ps 1)) ≡ b → Below n ps → indexes (goal_formula (as_goal (made R.Place ps))) ≤ 1 + n
 goal_below n ps true e h = rw (e) (omega (arith, formula_below n ps 2 h))
 goal_below n ps false e h = rw (e) (omega arith)
 
@@ -134,7 +134,7 @@ made_few R.Unary ts h w = omega (arith, unary_few (all_said ts) (kind (phrase (a
 made_few R.Binary ts h w =
     let ps : List Phrase = all_said ts in
     omega (arith, joined_few (kind (phrase ps 1)) (formula_at ps 0) (formula_at ps 2), formula_few ps 0, formula_few ps 2, three_weights ps, sign_weight (phrase ps 1) (kind (phrase ps 1)) refl (joined_sign ts h.0.1), w)
-made_few R.Place ts h w = omega (arith, goal_few (all_said ts) (is_bracket (kind (phrase (all_said ts) 1))) refl, w)
+made_few R.Place ts h w = omega (arith, goal_few (all_said ts) (same_kind K.LeftBracket (kind (phrase (all_said ts) 1))) refl, w)
 made_few r ts h w = omega arith
 
 mutual
@@ -149,7 +149,7 @@ mutual
 made_below : (n m : ℕ) (r : Rule) (ps : List Phrase) → place_in r + m ≤ n → Below m ps → depth (made r ps) ≤ n
 made_below n m R.Unary ps e h = omega (arith, unary_below m ps (kind (phrase ps 0)) refl h, e)
 made_below n m R.Binary ps e h = omega (arith, joined_below (kind (phrase ps 1)) (formula_at ps 0) (formula_at ps 2), formula_below m ps 0 h, formula_below m ps 2 h, e)
-made_below n m R.Place ps e h = omega (arith, goal_below m ps (is_bracket (kind (phrase ps 1))) refl h, e)
+made_below n m R.Place ps e h = omega (arith, goal_below m ps (same_kind K.LeftBracket (kind (phrase ps 1))) refl h, e)
 made_below n m r ps e h = omega arith
 
 mutual

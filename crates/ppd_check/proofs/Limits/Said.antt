@@ -1,5 +1,5 @@
 -- What a tree within the limits says is small: its names, its expressions, and how deep its statements stand in one another.
-use Rattle.std.proofs.Common.{◌≡◌, refl, sym, ap, ◌∙◌, ℕ, zero, suc, ◌+◌, ◌-◌, ◌≤◌, ℤ, pos, Bool, true, false, if◌then◌else◌, List, [], ◌∷◌, ◌++◌, drop, Some, None, arith}
+use Rattle.std.proofs.Common.{◌≡◌, refl, sym, ap, ◌∙◌, ℕ, zero, suc, ◌+◌, ◌-◌, ◌≤◌, ℤ, pos, Bool, true, false, if◌then◌else◌, List, [], ◌∷◌, ◌++◌, drop, Some, None, arith, slice_index_or}
 use Rattle.std.specs.Prelude.{⊤}
 use Rattle.std.specs.List.{AllByRecursion, flat_map}
 use Rattle.ppd_ast.specs.declared.limits.TheConstants.{MOST_OPEN, MOST_SOURCE_OPERATORS}
@@ -8,9 +8,9 @@ use Rattle.ppd_lex.specs.declared.token.Kind.TheVariants as K
 use Rattle.ppd_parse.specs.declared.symbol.Rule.{Rule}
 use Rattle.ppd_parse.specs.declared.symbol.Rule.TheVariants as R
 use Rattle.ppd_parse.specs.Grammar.{Shape, leaf, node, Shapes, no_shapes, shape_then}
-use Rattle.ppd_parse.specs.Stack.{is_assign}
-use Rattle.ppd_check_names.specs.Syntax.{Name, Number, Formula, number, variable, plain, received, fresh, array, Row, stop, simple, block, choice, repeat, count, Item, semaphore, channel}
-use Rattle.ppd_check_names.specs.Reading.{Phrase, token, formula, goal, value, calling, changing, row, body, names, items, nowhere, name_of, phrase, last, as_token, goal_formula, as_formula, as_goal, called, as_value, as_row, as_block, as_names, as_items, kind, is_bracket, is_minus, is_semicolon, is_int, is_recv, is_name, is_formula, name_at, formula_at, before, beyond, formulas, goal_of, value_said, local_item, changed, followed, rows, locals, some_change, for_start, for_test, for_row, returned, worded, statement, shared_item, number_behind, numbered, params, made, said, all_said, number_at}
+use Rattle.ppd_check_names.specs.declared.nodes.Number.{Number}
+use Rattle.ppd_check_names.specs.Syntax.{Name, Formula, number, variable, plain, received, fresh, array, Row, stop, simple, block, choice, repeat, count, Item, semaphore, channel}
+use Rattle.ppd_check_names.specs.Reading.{Phrase, token, formula, goal, value, calling, changing, row, body, names, items, nowhere, name_of, phrase, last, as_token, goal_formula, as_formula, as_goal, called, as_value, as_row, as_block, as_names, as_items, kind, same_kind, is_formula, name_at, formula_at, before, beyond, formulas, local_item, changed, followed, rows, locals, some_change, for_start, for_row, returned, worded, statement, shared_item, number_behind, numbered, params, made, said, all_said, number_at}
 use Rattle.ppd_check.proofs.Limits.Trees.{signs_in, levels, levels_in, OwnFits, is_for, starts_for, Fits, FitsIn, statement_in}
 use Rattle.ppd_check.proofs.Limits.Depths.{place_in}
 use Rattle.ppd_check.proofs.Limits.Small.{IsSmall, IsShort, IsSmallGoal, IsSmallValue, IsSmallIfAny, IsSmallSimple, IsSmallChange, IsSmallRow, IsSmallItem}
@@ -107,11 +107,11 @@ either_holds P false x y h i = i
 
 before_small : (n : ℕ) (ps : List Phrase) → AreSmall n ps → AreSmall n (before ps)
 before_small n [] h = tt
-before_small n (p ∷ ps) h = either_holds (AreSmall n) (is_semicolon (kind p)) [] (p ∷ before ps) tt (h.0, before_small n ps h.1)
+before_small n (p ∷ ps) h = either_holds (AreSmall n) (same_kind K.Semicolon (kind p)) [] (p ∷ before ps) tt (h.0, before_small n ps h.1)
 
 beyond_small : (n : ℕ) (ps : List Phrase) → AreSmall n ps → AreSmall n (beyond ps)
 beyond_small n [] h = tt
-beyond_small n (p ∷ ps) h = either_holds (AreSmall n) (is_semicolon (kind p)) ps (beyond ps) h.1 (beyond_small n ps h.1)
+beyond_small n (p ∷ ps) h = either_holds (AreSmall n) (same_kind K.Semicolon (kind p)) ps (beyond ps) h.1 (beyond_small n ps h.1)
 
 drop_small : (n k : ℕ) (ps : List Phrase) → AreSmall n ps → AreSmall n (drop k ps)
 drop_small n zero ps h = h
@@ -124,7 +124,7 @@ small_formulas n (p ∷ ps) h = either_holds (AllByRecursion IsSmall) (is_formul
 
 short_params : (n : ℕ) (ps : List Phrase) → AreSmall n ps → AllByRecursion IsShort (params ps)
 short_params n [] h = tt
-short_params n (p ∷ ps) h = either_holds (AllByRecursion IsShort) (is_name (kind p)) (name_of (as_token p) ∷ params ps) (params ps) (short_name n p h.0, short_params n ps h.1) (short_params n ps h.1)
+short_params n (p ∷ ps) h = either_holds (AllByRecursion IsShort) (same_kind K.Name (kind p)) (name_of (as_token p) ∷ params ps) (params ps) (short_name n p h.0, short_params n ps h.1) (short_params n ps h.1)
 
 pub all_join : {X : Type 0} (P : X → Type 0) (xs ys : List X) → AllByRecursion P xs → AllByRecursion P ys → AllByRecursion P (xs ++ ys)
 all_join P [] ys h i = i
@@ -169,9 +169,9 @@ value_small : (n : ℕ) (ps : List Phrase) (k : ℕ) → AreSmall n ps → IsSma
 value_small n ps k h = small_value n (phrase ps k) (small_at n ps k h)
 
 start_small : (n : ℕ) (ps : List Phrase) → AreSmall n ps → IsSmallChange (for_start ps)
-start_small n ps h = either_holds IsSmallChange (is_int (kind (phrase ps 0))) (Some (fresh (name_at ps 1) (plain (formula_at ps 3)))) (some_change (phrase ps 0)) (name_short n ps 1 h, formula_small n ps 3 h) (small_change n (phrase ps 0) (small_at n ps 0 h))
+start_small n ps h = either_holds IsSmallChange (same_kind K.IntWord (kind (phrase ps 0))) (Some (fresh (name_at ps 1) (plain (formula_at ps 3)))) (some_change (phrase ps 0)) (name_short n ps 1 h, formula_small n ps 3 h) (small_change n (phrase ps 0) (small_at n ps 0 h))
 
-test_small : (fs : List Formula) → AllByRecursion IsSmall fs → IsSmall (for_test fs)
+test_small : (fs : List Formula) → AllByRecursion IsSmall fs → IsSmall (slice_index_or fs 0 (number (pos 1)))
 test_small [] h = small_number (pos 1)
 test_small (f ∷ fs) h = h.0
 
@@ -194,7 +194,7 @@ for_small m n ps le two_levels h =
     )
 
 returned_small : (n : ℕ) (p : Phrase) → IsSmallPhrase n p → IsSmallIfAny (returned p)
-returned_small n p h = either_holds IsSmallIfAny (is_semicolon (kind p)) None (Some (as_value p)) tt (small_value n p h)
+returned_small n p h = either_holds IsSmallIfAny (same_kind K.Semicolon (kind p)) None (Some (as_value p)) tt (small_value n p h)
 
 worded_small : (m n : ℕ) (ps : List Phrase) (k : Kind) → kind (phrase ps 0) ≡ k → m + 1 ≤ n → (k ≡ K.ForWord → 2 ≤ n) → AreSmall m ps → IsSmallRow n (worded ps)
 worded_small m n ps K.IfWord e le f h = rw (e) ((omega (arith, le), formula_small m ps 2 h, row_below m n (phrase ps 4) le (small_at m ps 4 h), row_below m n (phrase ps 6) le (small_at m ps 6 h), tt))
@@ -218,8 +218,8 @@ statement_small m n p ps le f h i = tt
 
 local_small : (n : ℕ) (ps : List Phrase) → AreSmall n ps → IsSmallSimple (local_item ps)
 local_small n ps h =
-    either_holds IsSmallSimple (is_bracket (kind (phrase ps 1))) (array (name_at ps 0) (number_at ps 2)) _ (name_short n ps 0 h)
-    (either_holds IsSmallSimple (is_assign (kind (phrase ps 1))) (fresh (name_at ps 0) (as_value (phrase ps 2))) (fresh (name_at ps 0) (plain (number (pos 0)))) (name_short n ps 0 h, value_small n ps 2 h) (name_short n ps 0 h, small_number (pos 0)))
+    either_holds IsSmallSimple (same_kind K.LeftBracket (kind (phrase ps 1))) (array (name_at ps 0) (number_at ps 2)) _ (name_short n ps 0 h)
+    (either_holds IsSmallSimple (same_kind K.AssignMark (kind (phrase ps 1))) (fresh (name_at ps 0) (as_value (phrase ps 2))) (fresh (name_at ps 0) (plain (number (pos 0)))) (name_short n ps 0 h, value_small n ps 2 h) (name_short n ps 0 h, small_number (pos 0)))
 
 goal_small_at : (n : ℕ) (ps : List Phrase) (k : ℕ) → AreSmall n ps → IsSmallGoal (as_goal (phrase ps k))
 goal_small_at n ps k h = small_goal n (phrase ps k) (small_at n ps k h)
@@ -231,18 +231,18 @@ changed_small n ps K.SubtractMark e h = rw (e) ((goal_small_at n ps 0 h, formula
 changed_small n ps K.IncreaseMark e h = rw (e) ((goal_small_at n ps 0 h, small_number (pos 1)))
 changed_small n ps k e h = rw (e) ((goal_small_at n ps 0 h, small_number (pos 1)))
 
-said_value_small : (n : ℕ) (ps : List Phrase) → AreSmall n ps → IsSmallValue (value_said ps)
-said_value_small n ps h = either_holds IsSmallValue (is_recv (kind (phrase ps 0))) (received (name_at ps 2)) (called (phrase ps 0)) tt (small_called n (phrase ps 0) (small_at n ps 0 h))
+said_value_small : (n : ℕ) (ps : List Phrase) → AreSmall n ps → IsSmallValue (as_value (made R.Value ps))
+said_value_small n ps h = either_holds IsSmallValue (same_kind K.RecvWord (kind (phrase ps 0))) (received (name_at ps 2)) (called (phrase ps 0)) tt (small_called n (phrase ps 0) (small_at n ps 0 h))
 
 -- Items.
 
 shared_small : (n : ℕ) (ps : List Phrase) → AreSmall n ps → IsSmallItem (shared_item ps)
-shared_small n ps h = either_holds IsSmallItem (is_bracket (kind (phrase ps 1))) _ _ (name_short n ps 0 h) (either_holds IsSmallItem (is_minus (kind (phrase ps 2))) _ _ (name_short n ps 0 h) (name_short n ps 0 h))
+shared_small n ps h = either_holds IsSmallItem (same_kind K.LeftBracket (kind (phrase ps 1))) _ _ (name_short n ps 0 h) (either_holds IsSmallItem (same_kind K.MinusMark (kind (phrase ps 2))) _ _ (name_short n ps 0 h) (name_short n ps 0 h))
 
 numbered_small : (n : ℕ) (make : Name → Number → Item) → ((x : Name) (k : Number) → IsShort x → IsSmallItem (make x k)) → (ps : List Phrase) → AreSmall n ps → AllByRecursion IsSmallItem (numbered make ps)
 numbered_small n make f [] h = tt
 numbered_small n make f (p ∷ ps) h =
-    either_holds (AllByRecursion IsSmallItem) (is_name (kind p)) (make (name_of (as_token p)) (number_behind (name_of (as_token p)) ps) ∷ numbered make ps) (numbered make ps) (f _ _ (short_name n p h.0), numbered_small n make f ps h.1) (numbered_small n make f ps h.1)
+    either_holds (AllByRecursion IsSmallItem) (same_kind K.Name (kind p)) (make (name_of (as_token p)) (number_behind (name_of (as_token p)) ps) ∷ numbered make ps) (numbered make ps) (f _ _ (short_name n p h.0), numbered_small n make f ps h.1) (numbered_small n make f ps h.1)
 
 -- Trees.
 
@@ -267,9 +267,9 @@ record Known (n m : ℕ) (r : Rule) (ts : Shapes) : Type 0 where
 made_small : (n m : ℕ) (r : Rule) (ts : Shapes) → Known n m r ts → AreSmall m (all_said ts) → IsSmallPhrase n (made r (all_said ts))
 made_small n m R.Unary ts k h = record { few = omega (arith, k.own, k.weight_few); shallow = k.shallow }
 made_small n m R.Binary ts k h = record { few = omega (arith, k.own.0, k.weight_few); shallow = k.shallow }
-made_small n m R.Place ts k h = record { few = goal_operators (is_bracket (kind (phrase (all_said ts) 1))) refl; shallow = k.shallow }
+made_small n m R.Place ts k h = record { few = goal_operators (same_kind K.LeftBracket (kind (phrase (all_said ts) 1))) refl; shallow = k.shallow }
   where
-    goal_operators : (b : Bool) → is_bracket (kind (phrase (all_said ts) 1)) ≡ b → operators_in (goal_formula (goal_of (all_said ts))) ≤ MOST_SOURCE_OPERATORS
+    goal_operators : (b : Bool) → same_kind K.LeftBracket (kind (phrase (all_said ts) 1)) ≡ b → operators_in (goal_formula (as_goal (made R.Place (all_said ts)))) ≤ MOST_SOURCE_OPERATORS
     goal_operators true e = rw (e) (formula_small m (all_said ts) 2 h).few
     goal_operators false e = rw (e) (omega arith)
 made_small n m R.Leaf ts k h = omega arith

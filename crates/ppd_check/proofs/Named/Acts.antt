@@ -10,8 +10,9 @@ use Rattle.ppd_ast.specs.declared.program.Program.{Program}
 use Rattle.ppd_ast.specs.Term.{Term}
 use Rattle.ppd_ast.specs.Cells.{IsScalarOf, IsArrayOf, NamesWhole, IsWholeTarget, IsScalarIfAny}
 use Rattle.ppd_ast.specs.Valid.{CallsRightly}
+use Rattle.ppd_check_names.specs.declared.meaning.Use.TheVariants as U
 use Rattle.ppd_check_names.specs.declared.fault.Cause.TheVariants.{Arity, VoidValue}
-use Rattle.ppd_check_names.specs.Names.{Scope, meaning, fits_index, is_semaphore, is_channel, semaphore_of, channel_of, function_of}
+use Rattle.ppd_check_names.specs.Names.{Scope, meaning, number_as}
 use Rattle.ppd_check_names.specs.declared.meaning.Meaning.{Meaning}
 use Rattle.ppd_check_names.specs.declared.meaning.Meaning.TheVariants as M
 use Rattle.ppd_check_names.specs.Faults.{if_so}
@@ -20,7 +21,7 @@ use Rattle.ppd_check_stmts.specs.Code.{Spot}
 use Rattle.ppd_check_stmts.specs.Table.{roots, target, spot_terms, kind}
 use Rattle.ppd_check_names.specs.Syntax.{Name, Formula, Goal, scalar, item, Value, plain, result, received}
 use Rattle.ppd_check_names.specs.Reading.{goal_formula}
-use Rattle.ppd_check_stmts.specs.Expressions.{read_scalar, read_element, term_of, name_faults, formula_faults, wrong_call, call_faults}
+use Rattle.ppd_check_stmts.specs.Expressions.{read, term_of, name_faults, formula_faults, wrong_call, call_faults}
 use Rattle.ppd_check_stmts.proofs.Vocabulary.{wrong_use}
 use Rattle.ppd_check_stmts.specs.Statements.{spot, spot_of, put, value_faults}
 use Rattle.ppd_check_stmts.proofs.Costs.Tables.{length_roots}
@@ -59,20 +60,20 @@ module _ (p : Program) (locals : List Var) where
   target_whole (C.shared c) k h = h
   target_whole (C.shared_at base n i) k h = h.0
 
-  scalar_spot : (o : Option Meaning) (q : Place) → IfSome o (IsThere p locals) → wrong_use (fits_index false) o q ≡ [] → IsWholeSpot (spot (read_scalar o))
+  scalar_spot : (o : Option Meaning) (q : Place) → IfSome o (IsThere p locals) → wrong_use U.Scalar o q ≡ [] → IsWholeSpot (spot (read o None))
   scalar_spot o q a h =
-      scalar_used (λ m. IfSome m (IsThere p locals) → IsWholeSpot (spot (read_scalar m))) (λ base b. b) (λ base b. b) o q h a
+      scalar_used (λ m. IfSome m (IsThere p locals) → IsWholeSpot (spot (read m None))) (λ base b. b) (λ base b. b) o q h a
 
-  element_spot : (o : Option Meaning) (q : Place) (i : Term) → IfSome o (IsThere p locals) → wrong_use (fits_index true) o q ≡ [] → NamesWhole p.shared locals i
-      → IsWholeSpot (spot (read_element o i))
+  element_spot : (o : Option Meaning) (q : Place) (i : Term) → IfSome o (IsThere p locals) → wrong_use U.Element o q ≡ [] → NamesWhole p.shared locals i
+      → IsWholeSpot (spot (read o (Some i)))
   element_spot o q i a h w =
-      array_used (λ m. IfSome m (IsThere p locals) → IsWholeSpot (spot (read_element m i))) (λ base n b. (b, w)) (λ base n b. (b, w)) o q h a
+      array_used (λ m. IfSome m (IsThere p locals) → IsWholeSpot (spot (read m (Some i)))) (λ base n b. (b, w)) (λ base n b. (b, w)) o q h a
 
   pub spot_whole : (s : List Scope) (g : Goal) → AreAllThere p locals s → formula_faults s (goal_formula g) ≡ [] → IsWholeSpot (spot_of s g)
   spot_whole s (scalar x) there h = scalar_spot (meaning s x.text) x.place (meaning_there p locals s x.text there) h
   spot_whole s (item x i) there h =
-      element_spot (meaning s x.text) x.place (term_of s i) (meaning_there p locals s x.text there) (nil_left (name_faults (fits_index true) s x) (formula_faults s i) h)
-      (formula_whole p locals s i there (nil_right (name_faults (fits_index true) s x) (formula_faults s i) h))
+      element_spot (meaning s x.text) x.place (term_of s i) (meaning_there p locals s x.text there) (nil_left (name_faults U.Element s x) (formula_faults s i) h)
+      (formula_whole p locals s i there (nil_right (name_faults U.Element s x) (formula_faults s i) h))
 
   -- One statement.
 
@@ -103,7 +104,7 @@ module _ (p : Program) (locals : List Var) where
   pub assert_rightly : (e : Term) → NamesWhole p.shared locals e → IsNamedRightly p locals (C.assert e)
   assert_rightly e w = record { terms = one_whole e w; writes = λ k. tt; object = λ k. tt; call = λ k. tt }
 
-  semaphore_there : (o : Option Meaning) (q : Place) → IfSome o (IsThere p locals) → wrong_use is_semaphore o q ≡ [] → semaphore_of o < length p.sems
+  semaphore_there : (o : Option Meaning) (q : Place) → IfSome o (IsThere p locals) → wrong_use U.Semaphore o q ≡ [] → number_as U.Semaphore o < length p.sems
   semaphore_there None q a h = absurd (not_nil _ _ h)
   semaphore_there (Some (M.Shared base n)) q a h = absurd (not_nil _ _ h)
   semaphore_there (Some (M.Local base n)) q a h = absurd (not_nil _ _ h)
@@ -112,7 +113,7 @@ module _ (p : Program) (locals : List Var) where
   semaphore_there (Some (M.Function k n g)) q a h = absurd (not_nil _ _ h)
   semaphore_there (Some M.Process) q a h = absurd (not_nil _ _ h)
 
-  channel_there : (o : Option Meaning) (q : Place) → IfSome o (IsThere p locals) → wrong_use is_channel o q ≡ [] → channel_of o < length p.chans
+  channel_there : (o : Option Meaning) (q : Place) → IfSome o (IsThere p locals) → wrong_use U.Channel o q ≡ [] → number_as U.Channel o < length p.chans
   channel_there None q a h = absurd (not_nil _ _ h)
   channel_there (Some (M.Shared base n)) q a h = absurd (not_nil _ _ h)
   channel_there (Some (M.Local base n)) q a h = absurd (not_nil _ _ h)
@@ -121,26 +122,26 @@ module _ (p : Program) (locals : List Var) where
   channel_there (Some (M.Function k n g)) q a h = absurd (not_nil _ _ h)
   channel_there (Some M.Process) q a h = absurd (not_nil _ _ h)
 
-  pub take_rightly : (s : List Scope) (x : Name) → AreAllThere p locals s → name_faults is_semaphore s x ≡ [] → IsNamedRightly p locals (C.take (semaphore_of (meaning s x.text)))
+  pub take_rightly : (s : List Scope) (x : Name) → AreAllThere p locals s → name_faults U.Semaphore s x ≡ [] → IsNamedRightly p locals (C.take (number_as U.Semaphore (meaning s x.text)))
   take_rightly s x there h =
       record { terms = All-nil (NamesWhole p.shared locals); writes = λ k. tt; object = λ k. semaphore_there (meaning s x.text) x.place (meaning_there p locals s x.text there) h; call = λ k. tt }
 
-  pub give_rightly : (s : List Scope) (x : Name) → AreAllThere p locals s → name_faults is_semaphore s x ≡ [] → IsNamedRightly p locals (C.give (semaphore_of (meaning s x.text)))
+  pub give_rightly : (s : List Scope) (x : Name) → AreAllThere p locals s → name_faults U.Semaphore s x ≡ [] → IsNamedRightly p locals (C.give (number_as U.Semaphore (meaning s x.text)))
   give_rightly s x there h =
       record { terms = All-nil (NamesWhole p.shared locals); writes = λ k. tt; object = λ k. semaphore_there (meaning s x.text) x.place (meaning_there p locals s x.text there) h; call = λ k. tt }
 
-  pub send_rightly : (s : List Scope) (x : Name) (e : Term) → AreAllThere p locals s → name_faults is_channel s x ≡ [] → NamesWhole p.shared locals e
-      → IsNamedRightly p locals (C.send (channel_of (meaning s x.text)) e)
+  pub send_rightly : (s : List Scope) (x : Name) (e : Term) → AreAllThere p locals s → name_faults U.Channel s x ≡ [] → NamesWhole p.shared locals e
+      → IsNamedRightly p locals (C.send (number_as U.Channel (meaning s x.text)) e)
   send_rightly s x e there h w =
       record { terms = one_whole e w; writes = λ k. tt; object = λ k. channel_there (meaning s x.text) x.place (meaning_there p locals s x.text there) h; call = λ k. tt }
 
-  receive_rightly : (s : List Scope) (x : Name) (c : ℕ) → AreAllThere p locals s → name_faults is_channel s x ≡ [] → IsScalarOf locals c
-      → IsNamedRightly p locals (C.receive (channel_of (meaning s x.text)) c)
+  receive_rightly : (s : List Scope) (x : Name) (c : ℕ) → AreAllThere p locals s → name_faults U.Channel s x ≡ [] → IsScalarOf locals c
+      → IsNamedRightly p locals (C.receive (number_as U.Channel (meaning s x.text)) c)
   receive_rightly s x c there h w =
       record { terms = All-nil (NamesWhole p.shared locals); writes = λ k. w; object = λ k. channel_there (meaning s x.text) x.place (meaning_there p locals s x.text there) h; call = λ k. tt }
 
   call_there : (o : Option Meaning) (q : Place) (args : List Term) (into : Option ℕ) → IfSome o (IsThere p locals) → wrong_call o q (length args) (is_some into) ≡ []
-      → (m : ℕ) → CallsRightly p (kind m (C.call (function_of o) args into))
+      → (m : ℕ) → CallsRightly p (kind m (C.call (number_as U.Function o) args into))
   call_there None q args into a h m = absurd (not_nil _ _ h)
   call_there (Some (M.Shared base n)) q args into a h m = absurd (not_nil _ _ h)
   call_there (Some (M.Local base n)) q args into a h m = absurd (not_nil _ _ h)
@@ -166,7 +167,7 @@ module _ (p : Program) (locals : List Var) where
   call_there (Some M.Process) q args into a h m = absurd (not_nil _ _ h)
 
   pub call_rightly : (s : List Scope) (f : Name) (args : List Formula) (into : Option ℕ) → AreAllThere p locals s → call_faults s (is_some into) f args ≡ [] → IsScalarIfAny locals into
-      → IsNamedRightly p locals (C.call (function_of (meaning s f.text)) (map (term_of s) args) into)
+      → IsNamedRightly p locals (C.call (number_as U.Function (meaning s f.text)) (map (term_of s) args) into)
   call_rightly s f args into there h w =
       record {
         terms = formulas_whole p locals s args there (nil_right (wrong_call (meaning s f.text) f.place (length args) (is_some into)) (flat_map (formula_faults s) args) h);

@@ -1,5 +1,6 @@
 -- An accepted source declares no more than the limits allow.
-use Rattle.std.proofs.Common.{◌≡◌, refl, sym, ap, subst, ◌∙◌, ℕ, zero, suc, ◌+◌, ◌-◌, ◌<◌, ◌≤◌, arith, Bool, true, false, cond, nat_lt, nat_le, List, [], ◌∷◌, ◌++◌, map, drop, length, Option, Some, None, ◌⊎◌, inl, inr}
+use Rattle.std.proofs.Common.{◌≡◌, refl, sym, ap, subst, ◌∙◌, ℕ, zero, suc, ◌+◌, ◌-◌, ◌<◌, ◌≤◌, arith, Bool, true, false, cond, nat_lt, List, [], ◌∷◌, ◌++◌, map, drop, length, Option, Some, None, ◌⊎◌, inl, inr}
+use Rattle.std.specs.Ordering.{is_le, nat_cmp, ordering_then}
 use Rattle.std.specs.List.{All, Contains, flat_map, filter, count_by}
 use Rattle.std.proofs.lemmas.List.{length-append, length-drop}
 use Rattle.std.proofs.lemmas.List.Elements.{All-nil, All-cons, All-weaker, All-contains}
@@ -9,7 +10,7 @@ use Rattle.ppd_ast.specs.declared.program.Place.{Place}
 use Rattle.ppd_check_names.specs.declared.fault.Cause.TheVariants.{TooMany}
 use Rattle.ppd_check_names.specs.declared.fault.Limit.{Limit}
 use Rattle.ppd_check_names.specs.declared.fault.Limit.TheVariants as L
-use Rattle.ppd_check_names.specs.Faults.{at, by_then}
+use Rattle.ppd_check_names.specs.Faults.{at}
 use Rattle.ppd_check_names.specs.Syntax.{Name}
 use Rattle.ppd_check.proofs.PastMost.{up_to_itself, count_all}
 use Rattle.ppd_check_bodies.specs.Sources.{past_statements}
@@ -22,14 +23,14 @@ use Rattle.ppd_check_names.specs.Globals.{past}
 abbrev IsUpTo : (line column line' column' : ℕ) → Type 0
 IsUpTo a b c d = (a < c) ⊎ ((a ≡ c) × (b ≤ d))
 
-said_up : (a b c d : ℕ) → by_then a c (nat_le b d) ≡ true → IsUpTo a b c d
+said_up : (a b c d : ℕ) → is_le (ordering_then (nat_cmp a c) (nat_cmp b d)) ≡ true → IsUpTo a b c d
 said_up a b c d h = grind (arith, h)
 
-up_said : (a b c d : ℕ) → IsUpTo a b c d → by_then a c (nat_le b d) ≡ true
+up_said : (a b c d : ℕ) → IsUpTo a b c d → is_le (ordering_then (nat_cmp a c) (nat_cmp b d)) ≡ true
 up_said a b c d (inl h) = grind (arith, h)
 up_said a b c d (inr h) = grind (arith, h)
 
-said_past : (a b c d : ℕ) → by_then a c (nat_le b d) ≡ false → (c < a) ⊎ ((a ≡ c) × (d < b))
+said_past : (a b c d : ℕ) → is_le (ordering_then (nat_cmp a c) (nat_cmp b d)) ≡ false → (c < a) ⊎ ((a ≡ c) × (d < b))
 said_past a b c d h = grind (arith, h)
 
 -- x comes after q, and p does not

@@ -10,8 +10,8 @@ use Rattle.ppd_check_names.specs.declared.frame.Variable.{Variable}
 use Rattle.ppd_check_names.specs.declared.frame.Frame.{Frame}
 use Rattle.ppd_check_names.specs.declared.meaning.Meaning.TheVariants as M
 use Rattle.ppd_check_names.specs.Fitted.{fitted}
-use Rattle.ppd_check_names.specs.Syntax.{Name, Simple, fresh, array, store, change, call, give_back, take, give, send, print, assert, Row, stop, simple, block, choice, repeat, count}
-use Rattle.ppd_check_stmts.specs.Statements.{opened, with_scopes_of, goal_name, spot_of, via_hidden, return_via_hidden, after, after_row}
+use Rattle.ppd_check_names.specs.Syntax.{Name, plain, Simple, fresh, array, store, change, call, give_back, take, give, send, print, assert, Row, stop, simple, block, choice, repeat, count}
+use Rattle.ppd_check_stmts.specs.Statements.{opened, with_scopes_of, goal_name, spot_of, via_hidden, after, after_row}
 use Rattle.ppd_check_stmts.proofs.Vocabulary.{hidden_if, after_any}
 use Rattle.ppd_check_names.specs.Frames.{after_cells, variable_of, declared, with_hidden}
 use Rattle.ppd_check_names.proofs.Declared.Counted.{end_cells, end_cells_more}
@@ -66,7 +66,9 @@ after_leads (array x n) f = leads_on f.variables _
 after_leads (store g v) f = hidden_leads (via_hidden (spot_of f.scopes g) v) (goal_name g).place f
 after_leads (change g op e) f = leads_itself f.variables
 after_leads (call g args) f = leads_itself f.variables
-after_leads (give_back q v) f = hidden_leads (return_via_hidden v) q f
+after_leads (give_back q None) f = leads_itself f.variables
+after_leads (give_back q (Some (plain e))) f = leads_itself f.variables
+after_leads (give_back q (Some v)) f = hidden_leads true q f
 after_leads (take q x) f = leads_itself f.variables
 after_leads (give q x) f = leads_itself f.variables
 after_leads (send q x e) f = leads_itself f.variables
@@ -98,11 +100,11 @@ pub record IsOnTheWay (p : Program) (vs : List Variable) (f : Frame) : Type 0 wh
   pub names : AreAllThere p (vars 0 vs) f.scopes
 
 module _ (p : Program) (vs : List Variable) where
-  pub local_there : (n : Option ℕ) (x : Name) (f : Frame) → IsOnTheWay p vs f → LeadsTo (declared x n f).variables vs → IsThere p (vars 0 vs) (M.Local f.cells n)
+  pub local_there : (n : Option ℕ) (x : Name) (f : Frame) → IsOnTheWay p vs f → LeadsTo (declared n f x).variables vs → IsThere p (vars 0 vs) (M.Local f.cells n)
   local_there None x f way l = last_there vs f.variables (variable_of x None) f.cells l way.cells
   local_there (Some n) x f way l = last_there vs f.variables (variable_of x (Some n)) f.cells l way.cells
 
-  pub declared_on : (x : Name) (n : Option ℕ) (f : Frame) → IsOnTheWay p vs f → LeadsTo (declared x n f).variables vs → IsOnTheWay p vs (declared x n f)
+  pub declared_on : (x : Name) (n : Option ℕ) (f : Frame) → IsOnTheWay p vs f → LeadsTo (declared n f x).variables vs → IsOnTheWay p vs (declared n f x)
   declared_on x n f way l =
       record {
         cells = ap (λ c. after_cells c n) way.cells ∙ sym (end_cells_more 0 f.variables (variable_of x n));
@@ -129,7 +131,9 @@ module _ (p : Program) (vs : List Variable) where
   after_on (store g v) f way l = hidden_on (via_hidden (spot_of f.scopes g) v) (goal_name g).place f way l
   after_on (change g op e) f way l = way
   after_on (call g args) f way l = way
-  after_on (give_back q v) f way l = hidden_on (return_via_hidden v) q f way l
+  after_on (give_back q None) f way l = way
+  after_on (give_back q (Some (plain e))) f way l = way
+  after_on (give_back q (Some v)) f way l = hidden_on true q f way l
   after_on (take q x) f way l = way
   after_on (give q x) f way l = way
   after_on (send q x e) f way l = way

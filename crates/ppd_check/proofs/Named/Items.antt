@@ -1,29 +1,28 @@
 -- What is declared in the scope of a whole source is there.
-use Rattle.std.proofs.Common.{◌≡◌, refl, sym, ap, subst, ◌∙◌, ℕ, ℤ, pos, ◌+◌, ◌-◌, ◌^◌, ◌<◌, ◌≤◌, arith, List, [], ◌∷◌, ◌++◌, map, replicate, length, Some, None, slice_get}
-use Rattle.std.specs.List.{flat_map}
-use Rattle.std.proofs.lemmas.List.{append_assoc, append-nil, length-append, length-replicate}
 use Rattle.ppd_ast.specs.declared.limits.TheConstants.{MOST_LOCAL_CELLS}
 use Rattle.ppd_ast.specs.declared.program.Program.{Program}
-use Rattle.ppd_ast.specs.Cells.{size}
+use Rattle.ppd_check.proofs.Named.Cells.{cells_total, cells_within, total}
+use Rattle.ppd_check.proofs.Named.Frames.{LeadsTo, leads_further, leads_itself, leads_on, row_leads}
+use Rattle.ppd_check.proofs.Named.Terms.{nil_left, nil_right}
+use Rattle.ppd_check_bodies.specs.Sources.{all_stmts, bodies, body, codes, entered, entry, head_code, head_faults, head_frame, heads, params_faults, return_faults, vars}
+use Rattle.ppd_check_names.proofs.Declared.Counted.{end_cells, end_cells_more}
+use Rattle.ppd_check_names.specs.Fitted.{fitted}
+use Rattle.ppd_check_names.specs.Frames.{after_cells, declared, variable_of}
+use Rattle.ppd_check_names.specs.Globals.{Globals, Head, chan, past_cells, sem, with_item}
+use Rattle.ppd_check_names.specs.Holding.{with_items}
+use Rattle.ppd_check_names.specs.Names.{Scope}
+use Rattle.ppd_check_names.specs.Syntax.{Item, Name, channel, function, process, semaphore, shared, shared_array}
 use Rattle.ppd_check_names.specs.declared.fault.Fault.{Fault}
 use Rattle.ppd_check_names.specs.declared.fault.Limit.TheVariants as L
-use Rattle.ppd_check_names.specs.declared.frame.Variable.{Variable}
 use Rattle.ppd_check_names.specs.declared.frame.Frame.{Frame}
-use Rattle.ppd_check_names.specs.Fitted.{fitted}
-use Rattle.ppd_check_names.specs.Names.{Scope}
+use Rattle.ppd_check_names.specs.declared.frame.Variable.{Variable}
 use Rattle.ppd_check_stmts.specs.Code.{count}
-use Rattle.ppd_check_stmts.specs.Table.{flats, terms}
-use Rattle.ppd_check_names.specs.Syntax.{Name, Item, shared, shared_array, semaphore, channel, function, process}
 use Rattle.ppd_check_stmts.specs.Statements.{row_faults}
-use Rattle.ppd_check_names.specs.Frames.{after_cells, variable_of, declared}
-use Rattle.ppd_check_bodies.specs.Sources.{params_faults, outer, entry, head_code, head_frame, head_faults, heads, codes, vars, body, bodies, all_stmts}
-use Rattle.ppd_check_bodies.specs.Bodies.{with_params, return_faults}
-use Rattle.ppd_check_names.specs.Globals.{Head, Globals, with_item, past_cells}
-use Rattle.ppd_check_names.specs.Holding.{with_items, sem, chan}
-use Rattle.ppd_check_names.proofs.Declared.Counted.{end_cells, end_cells_more}
-use Rattle.ppd_check.proofs.Named.Terms.{nil_left, nil_right}
-use Rattle.ppd_check.proofs.Named.Frames.{LeadsTo, leads_itself, leads_further, leads_on, row_leads}
-use Rattle.ppd_check.proofs.Named.Cells.{total, cells_total, cells_within}
+use Rattle.ppd_check_stmts.specs.Table.{flats, terms}
+use Rattle.std.proofs.Common.{List, None, Some, [], ap, arith, fold, length, map, pos, refl, replicate, slice_get, subst, sym, ℕ, ℤ, ◌++◌, ◌+◌, ◌-◌, ◌<◌, ◌^◌, ◌∙◌, ◌∷◌, ◌≡◌, ◌≤◌}
+use Rattle.std.proofs.lemmas.List.{append-nil, append_assoc, length-append, length-replicate}
+use Rattle.std.specs.List.{flat_map}
+use Rattle.std.specs.Prelude.{unwrap_or}
 
 -- the table of what is declared
 abbrev pub table_of : Globals → Program
@@ -91,14 +90,14 @@ item_cells (channel x n) g h = h
 item_cells (function gives x params b) g h = h
 item_cells (process x b) g h = h
 
-total_push : (xs : List Variable) (v : Variable) → total (xs ++ v ∷ []) ≡ total xs + size v.length
+total_push : (xs : List Variable) (v : Variable) → total (xs ++ v ∷ []) ≡ total xs + unwrap_or v.length 1
 total_push [] v = omega arith
-total_push (x ∷ xs) v = let r : total (xs ++ v ∷ []) ≡ total xs + size v.length = total_push xs v in omega (arith, r)
+total_push (x ∷ xs) v = let r : total (xs ++ v ∷ []) ≡ total xs + unwrap_or v.length 1 = total_push xs v in omega (arith, r)
 
-more_starts : (starts more : List ℤ) (xs : List Variable) (v : Variable) → length starts ≡ total xs → length more ≡ size v.length → length (starts ++ more) ≡ total (xs ++ v ∷ [])
+more_starts : (starts more : List ℤ) (xs : List Variable) (v : Variable) → length starts ≡ total xs → length more ≡ unwrap_or v.length 1 → length (starts ++ more) ≡ total (xs ++ v ∷ [])
 more_starts starts more xs v h e =
     let a : length (starts ++ more) ≡ length starts + length more = length-append starts more in
-    let b : total (xs ++ v ∷ []) ≡ total xs + size v.length = total_push xs v in
+    let b : total (xs ++ v ∷ []) ≡ total xs + unwrap_or v.length 1 = total_push xs v in
     omega (arith, a, b, h, e)
 
 item_starts : (i : Item) (g : Globals) → length g.starts ≡ total g.shared → length (with_item i g).starts ≡ total (with_item i g).shared
@@ -125,15 +124,15 @@ pub body_at : (scope : Scope) (n : ℕ) (hs : List Head) (h : Head) (more : List
 body_at scope n [] h more = (n, refl)
 body_at scope n (k ∷ hs) h more = body_at scope (n + count (head_code scope k)) hs h more
 
-params_variables : (xs : List Name) (f : Frame) → (with_params xs f).variables ≡ f.variables ++ map (λ x. variable_of x None) xs
+params_variables : (xs : List Name) (f : Frame) → (fold (declared None) f xs).variables ≡ f.variables ++ map (λ x. variable_of x None) xs
 params_variables [] f = sym (append-nil f.variables)
 params_variables (x ∷ xs) f =
-    params_variables xs (declared x None f) ∙ append_assoc f.variables (variable_of x None ∷ []) (map (λ x. variable_of x None) xs)
+    params_variables xs (declared None f x) ∙ append_assoc f.variables (variable_of x None ∷ []) (map (λ x. variable_of x None) xs)
 
 -- the parameters are a body's first variables
 pub params_lead : (scope : Scope) (h : Head) → LeadsTo (map (λ x. variable_of x None) h.params) (head_frame scope h).variables
 params_lead scope h =
-    subst (λ l. LeadsTo l (head_frame scope h).variables) (params_variables h.params (outer scope)) (row_leads h.block.row (entry scope h))
+    subst (λ l. LeadsTo l (head_frame scope h).variables) (params_variables h.params (entered (scope ∷ []))) (row_leads h.block.row (entry scope h))
 
 names_total : (xs : List Name) (more : List Variable) → length xs ≤ total (map (λ x. variable_of x None) xs ++ more)
 names_total [] more = omega arith
@@ -145,7 +144,7 @@ cells_faults scope h e =
     let f3 : List Fault = past_cells MOST_LOCAL_CELLS L.Locals 0 (head_frame scope h).variables in
     let f2 : List Fault = return_faults h ++ f3 in
     let f1 : List Fault = row_faults h.block.row (entry scope h) ++ f2 in
-    nil_right (return_faults h) f3 (nil_right (row_faults h.block.row (entry scope h)) f2 (nil_right (params_faults h.params (outer scope)) f1 e))
+    nil_right (return_faults h) f3 (nil_right (row_faults h.block.row (entry scope h)) f2 (nil_right (params_faults h.params (entered (scope ∷ []))) f1 e))
 
 pub few_locals : MOST_LOCAL_CELLS < 2 ^ 16 - 1
 few_locals = omega arith

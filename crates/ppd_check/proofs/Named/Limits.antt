@@ -12,12 +12,13 @@ use Rattle.ppd_check_names.specs.declared.fault.Fault.{Fault}
 use Rattle.ppd_check_names.specs.declared.fault.Limit.TheVariants as L
 use Rattle.ppd_check_names.specs.Faults.{if_so}
 use Rattle.ppd_check_names.specs.Fitted.{fitted}
-use Rattle.ppd_check_names.specs.Syntax.{Number, Item, shared, shared_array, semaphore, channel, function, process, Source}
+use Rattle.ppd_check_names.specs.declared.nodes.Number.{Number}
+use Rattle.ppd_check_names.specs.Syntax.{Item, shared, shared_array, semaphore, channel, function, process, Source}
 use Rattle.ppd_check_names.specs.Frames.{twice_faults, size_faults}
 use Rattle.ppd_check_bodies.specs.Sources.{past_statements, head_faults, heads, codes, vars, bodies, core_of, faults_in, all_stmts}
 use Rattle.ppd_check_bodies.proofs.Heading.{length_bodies}
-use Rattle.ppd_check_names.specs.Globals.{Object, Globals, no_globals, item_name, item_size_faults, with_item, globals, items_faults, past, past_cells, count_faults}
-use Rattle.ppd_check_names.specs.Holding.{with_items, sem, chan}
+use Rattle.ppd_check_names.specs.Globals.{Object, Globals, no_globals, item_name, item_size_faults, with_item, globals, items_faults, past, past_cells, count_faults, sem, chan}
+use Rattle.ppd_check_names.specs.Holding.{with_items}
 use Rattle.ppd_check_names.proofs.Words.{head_name, object_name}
 use Rattle.ppd_check_names.proofs.Declared.Counted.{end_cells, le_true}
 use Rattle.ppd_check.proofs.Named.Terms.{nil_left, nil_right, unless_true}

@@ -6,20 +6,20 @@ use Rattle.ppd_ast.specs.declared.program.Var.{Var}
 use Rattle.ppd_ast.specs.declared.program.Program.{Program}
 use Rattle.ppd_ast.specs.Term as T
 use Rattle.ppd_ast.specs.Cells.{IsScalarOf}
+use Rattle.ppd_check_names.specs.declared.meaning.Use.TheVariants as U
 use Rattle.ppd_check_names.specs.declared.fault.Fault.{Fault}
 use Rattle.ppd_check_names.specs.declared.frame.Variable.{Variable}
 use Rattle.ppd_check_names.specs.declared.frame.Frame.{Frame}
 use Rattle.ppd_check_names.specs.Fitted.{fitted}
-use Rattle.ppd_check_names.specs.Names.{innermost, is_channel}
+use Rattle.ppd_check_names.specs.Names.{innermost}
 use Rattle.ppd_check_stmts.specs.Code as C
 use Rattle.ppd_check_stmts.specs.Code.{Spot, Act, Code, done, act, choice, loop, join, acts}
 use Rattle.ppd_check_names.specs.Syntax.{Value, plain, result, received, Simple, fresh, array, store, change, call, give_back, take, give, send, print, assert, Row, stop, simple, block, repeat, count}
 use Rattle.ppd_check_names.specs.Syntax as S
 use Rattle.ppd_check_names.specs.Reading.{goal_formula}
 use Rattle.ppd_check_stmts.specs.Expressions.{term_of, name_faults, formula_faults}
-use Rattle.ppd_check_stmts.specs.Statements.{opened, with_scopes_of, goal_name, spot_of, via_hidden, after, after_row, put, store_acts, place_of, acts_of, code_of, row_code, value_faults, faults_of, row_faults}
+use Rattle.ppd_check_stmts.specs.Statements.{opened, with_scopes_of, goal_name, spot_of, via_hidden, after, after_row, put, store_acts, place_of, acts_of, code_of, row_code, value_faults, faults_of, row_faults, code_of_any, faults_of_any}
 use Rattle.ppd_check_stmts.proofs.Vocabulary.{hidden_if, after_any}
-use Rattle.ppd_check_stmts.specs.Plain.{code_of_any, faults_of_any}
 use Rattle.ppd_check_names.specs.Frames.{declared, twice_faults}
 use Rattle.ppd_check_bodies.specs.Sources.{vars}
 use Rattle.ppd_check.proofs.Named.Rightly.{IsNamedRightly, AreNamedRightly}
@@ -111,9 +111,9 @@ module _ (p : Program) (vs : List Variable) where
 
   simple_rightly : (s : Simple) (f : Frame) → IsOnTheWay p vs f → LeadsTo (after s f).variables vs → faults_of s f ≡ [] → EachNamedRightly p (vars 0 vs) (acts_of s f)
   simple_rightly (fresh x v) f way l h =
-      let new : IsOnTheWay p vs (declared x None f) = declared_on p vs x None f way l in (
-        put_rightly p (vars 0 vs) (declared x None f).scopes f.cells v new.names
-            (nil_right (twice_faults (innermost f.scopes) x) (value_faults (declared x None f).scopes v) h)
+      let new : IsOnTheWay p vs (declared None f x) = declared_on p vs x None f way l in (
+        put_rightly p (vars 0 vs) (declared None f x).scopes f.cells v new.names
+            (nil_right (twice_faults (innermost f.scopes) x) (value_faults (declared None f x).scopes v) h)
             (local_there p vs None x f way l),
         tt,
       )
@@ -138,8 +138,8 @@ module _ (p : Program) (vs : List Variable) where
   simple_rightly (take q x) f way l h = (take_rightly p (vars 0 vs) f.scopes x way.names h, tt)
   simple_rightly (give q x) f way l h = (give_rightly p (vars 0 vs) f.scopes x way.names h, tt)
   simple_rightly (send q x e) f way l h = (
-    send_rightly p (vars 0 vs) f.scopes x (term_of f.scopes e) way.names (nil_left (name_faults is_channel f.scopes x) (formula_faults f.scopes e) h)
-        (formula_whole p (vars 0 vs) f.scopes e way.names (nil_right (name_faults is_channel f.scopes x) (formula_faults f.scopes e) h)),
+    send_rightly p (vars 0 vs) f.scopes x (term_of f.scopes e) way.names (nil_left (name_faults U.Channel f.scopes x) (formula_faults f.scopes e) h)
+        (formula_whole p (vars 0 vs) f.scopes e way.names (nil_right (name_faults U.Channel f.scopes x) (formula_faults f.scopes e) h)),
     tt,
   )
   simple_rightly (print q e) f way l h = (print_rightly p (vars 0 vs) (term_of f.scopes e) (formula_whole p (vars 0 vs) f.scopes e way.names h), tt)

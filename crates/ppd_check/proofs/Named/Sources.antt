@@ -1,5 +1,5 @@
 -- The names of an accepted source mean what is there, and each of its bodies names only that.
-use Rattle.std.proofs.Common.{◌≡◌, refl, sym, ap, subst, ◌∙◌, ℕ, ◌+◌, ◌<◌, ◌≤◌, arith, Bool, true, false, if◌then◌else◌, List, [], ◌∷◌, ◌++◌, map, length, Some, None, IsSomeAnd, slice_get}
+use Rattle.std.proofs.Common.{◌≡◌, refl, sym, ap, subst, ◌∙◌, ℕ, ◌+◌, ◌<◌, ◌≤◌, arith, Bool, true, false, if◌then◌else◌, List, [], ◌∷◌, ◌++◌, map, length, Some, None, IsSomeAnd, slice_get, fold}
 use Rattle.std.specs.List.{flat_map}
 use Rattle.std.proofs.lemmas.List.{append_assoc, length-append, length-map}
 use Rattle.ppd_ast.specs.declared.limits.TheConstants.{MOST_FUNCTIONS, MOST_LOCAL_CELLS}
@@ -18,10 +18,9 @@ use Rattle.ppd_check_stmts.specs.Code.{act, done}
 use Rattle.ppd_check_names.specs.Syntax.{Name, Item, shared, shared_array, semaphore, channel, function, process}
 use Rattle.ppd_check_stmts.specs.Statements.{row_code, row_faults}
 use Rattle.ppd_check_names.specs.Frames.{variable_of, declared}
-use Rattle.ppd_check_bodies.specs.Sources.{params_faults, outer, entry, ends_with_return, head_code, head_frame, head_faults, heads, vars, body, bodies}
-use Rattle.ppd_check_bodies.specs.Bodies.{with_params, close_code, return_faults}
-use Rattle.ppd_check_names.specs.Globals.{Head, Globals, no_globals, item_name, item_meaning, with_item, past_cells}
-use Rattle.ppd_check_names.specs.Holding.{with_items, sem, chan}
+use Rattle.ppd_check_bodies.specs.Sources.{params_faults, entered, entry, ends_with_return, head_code, head_frame, head_faults, heads, vars, body, bodies, close_code, return_faults}
+use Rattle.ppd_check_names.specs.Globals.{Head, Globals, no_globals, with_item, past_cells, sem, chan}
+use Rattle.ppd_check_names.specs.Holding.{with_items}
 use Rattle.ppd_check_names.proofs.Declared.Counted.{end_cells}
 use Rattle.ppd_check.proofs.Named.Rightly.{IsThere, AreThere, AreNamedRightly}
 use Rattle.ppd_check.proofs.Named.Terms.{nil_left, nil_right, declare_there}
@@ -84,24 +83,29 @@ function_there g locals before h allowed lead = (
         (subst (λ o. IsSomeAnd o (λ b. (length h.params ≡ b.params) × (h.gives ≡ b.value))) (sym at.1) (sym (few_params g.scope h breaks_none), refl))
 
 -- what the next item declares is there
-item_there : (g : Globals) (locals : List Var) (i : Item) (k : Globals) → IsAllowed g → k.cells ≡ end_cells 0 k.shared → HasAll (with_item i k) g → IsThere (table_of g) locals (item_meaning k i)
-item_there g locals (shared x v) k allowed cells has = last_there g.shared k.shared (variable_of x None) k.cells has.shared cells
-item_there g locals (shared_array x n) k allowed cells has = last_there g.shared k.shared (variable_of x (Some (fitted 16 n.value))) k.cells has.shared cells
-item_there g locals (semaphore x n) k allowed cells has =
-    subst (λ m. fitted 8 (length k.semaphores) < m) (sym (length-map g.semaphores sem)) (capped_byte (length k.semaphores) (length g.semaphores) (longer k.semaphores _ g.semaphores has.semaphores))
-item_there g locals (channel x n) k allowed cells has =
-    subst (λ m. fitted 8 (length k.channels) < m) (sym (length-map g.channels chan)) (capped_byte (length k.channels) (length g.channels) (longer k.channels _ g.channels has.channels))
-item_there g locals (function gives x params b) k allowed cells has =
-    function_there g locals k.functions (record { process = false; gives = gives; name = x; params = params; block = b }) allowed has.functions
-item_there g locals (process x b) k allowed cells has = tt
+item_there : (g : Globals) (locals : List Var) (i : Item) (k : Globals) → IsAllowed g → k.cells ≡ end_cells 0 k.shared → AreThere (table_of g) locals k.scope → HasAll (with_item i k) g
+    → AreThere (table_of g) locals (with_item i k).scope
+item_there g locals (shared x v) k allowed cells there has =
+    declare_there (table_of g) locals k.scope x.text _ (last_there g.shared k.shared (variable_of x None) k.cells has.shared cells) there
+item_there g locals (shared_array x n) k allowed cells there has =
+    declare_there (table_of g) locals k.scope x.text _ (last_there g.shared k.shared (variable_of x (Some (fitted 16 n.value))) k.cells has.shared cells) there
+item_there g locals (semaphore x n) k allowed cells there has =
+    declare_there (table_of g) locals k.scope x.text (M.Semaphore (fitted 8 (length k.semaphores)))
+    (subst (λ m. fitted 8 (length k.semaphores) < m) (sym (length-map g.semaphores sem)) (capped_byte (length k.semaphores) (length g.semaphores) (longer k.semaphores _ g.semaphores has.semaphores))) there
+item_there g locals (channel x n) k allowed cells there has =
+    declare_there (table_of g) locals k.scope x.text (M.Channel (fitted 8 (length k.channels)))
+    (subst (λ m. fitted 8 (length k.channels) < m) (sym (length-map g.channels chan)) (capped_byte (length k.channels) (length g.channels) (longer k.channels _ g.channels has.channels))) there
+item_there g locals (function gives x params b) k allowed cells there has =
+    declare_there (table_of g) locals k.scope x.text (M.Function (fitted 16 (length k.functions)) (length params) gives)
+    (function_there g locals k.functions (record { process = false; gives = gives; name = x; params = params; block = b }) allowed has.functions) there
+item_there g locals (process x b) k allowed cells there has = declare_there (table_of g) locals k.scope x.text M.Process tt there
 
 items_there : (g : Globals) (locals : List Var) (is : List Item) (k : Globals) → IsAllowed g → k.cells ≡ end_cells 0 k.shared → AreThere (table_of g) locals k.scope → HasAll (with_items is k) g
     → AreThere (table_of g) locals (with_items is k).scope
 items_there g locals [] k allowed cells there has = there
 items_there g locals (i ∷ is) k allowed cells there has =
     items_there g locals is (with_item i k) allowed (item_cells i k cells)
-    (declare_there (table_of g) locals k.scope (item_name i).text (item_meaning k i)
-    (item_there g locals i k allowed cells (has_further (with_item i k) (with_items is (with_item i k)) g (has_items is (with_item i k)) has)) there)
+    (item_there g locals i k allowed cells there (has_further (with_item i k) (with_items is (with_item i k)) g (has_items is (with_item i k)) has))
     has
 
 -- each name of the source's scope means what is there
@@ -111,13 +115,13 @@ names_there is locals allowed =
 
 -- Bodies.
 
-params_on : (p : Program) (vs : List Variable) (xs : List Name) (f : Frame) → IsOnTheWay p vs f → LeadsTo (with_params xs f).variables vs → IsOnTheWay p vs (with_params xs f)
+params_on : (p : Program) (vs : List Variable) (xs : List Name) (f : Frame) → IsOnTheWay p vs f → LeadsTo (fold (declared None) f xs).variables vs → IsOnTheWay p vs (fold (declared None) f xs)
 params_on p vs [] f way l = way
-params_on p vs (x ∷ xs) f way l = params_on p vs xs (declared x None f) (declared_on p vs x None f way (leads_further _ _ _ (params_grow xs (declared x None f)) l)) l
+params_on p vs (x ∷ xs) f way l = params_on p vs xs (declared None f x) (declared_on p vs x None f way (leads_further _ _ _ (params_grow xs (declared None f x)) l)) l
   where
-    params_grow : (xs : List Name) (f : Frame) → LeadsTo f.variables (with_params xs f).variables
+    params_grow : (xs : List Name) (f : Frame) → LeadsTo f.variables (fold (declared None) f xs).variables
     params_grow [] f = leads_itself f.variables
-    params_grow (x ∷ xs) f = leads_further _ _ _ (variable_of x None ∷ [], refl) (params_grow xs (declared x None f))
+    params_grow (x ∷ xs) f = leads_further _ _ _ (variable_of x None ∷ [], refl) (params_grow xs (declared None f x))
 
 close_rightly : (p : Program) (locals : List Var) (h : Head) → AreNamedRightly p locals (close_code h)
 close_rightly p locals h = go h.process (ends_with_return h.block.row)
@@ -129,7 +133,7 @@ close_rightly p locals h = go h.process (ends_with_return h.block.row)
 
 entry_on : (p : Program) (scope : Scope) (h : Head) → AreThere p (vars 0 (head_frame scope h).variables) scope → IsOnTheWay p (head_frame scope h).variables (entry scope h)
 entry_on p scope h there =
-    params_on p (head_frame scope h).variables h.params (outer scope)
+    params_on p (head_frame scope h).variables h.params (entered (scope ∷ []))
     (record { cells = refl; leads = ((head_frame scope h).variables, refl); names = (tt, (there, tt)) })
     (row_leads h.block.row (entry scope h))
 
@@ -146,7 +150,7 @@ head_rightly p scope h there steps e =
         let f3 : List Fault = past_cells MOST_LOCAL_CELLS L.Locals 0 (head_frame scope h).variables in
         let f2 : List Fault = return_faults h ++ f3 in
         let f1 : List Fault = row_faults h.block.row (entry scope h) ++ f2 in
-        nil_left (row_faults h.block.row (entry scope h)) f2 (nil_right (params_faults h.params (outer scope)) f1 e)
+        nil_left (row_faults h.block.row (entry scope h)) f2 (nil_right (params_faults h.params (entered (scope ∷ []))) f1 e)
 
 -- the frame of a function or a process: its variables share no cell and cover its cells, which are few, and its parameters come first
 pub record HasFrame (scope : Scope) (h : Head) : Type 0 where

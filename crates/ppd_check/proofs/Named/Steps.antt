@@ -10,8 +10,9 @@ use Rattle.ppd_parse.specs.declared.symbol.Rule.{Rule}
 use Rattle.ppd_parse.specs.declared.symbol.Rule.TheVariants as R
 use Rattle.ppd_parse.specs.Grammar.{Shape, Shapes, leaf, node, no_shapes, shape_then}
 use Rattle.ppd_parse.specs.Limits.{IsTree}
-use Rattle.ppd_check_names.specs.Syntax.{Name, Number, Row, stop, simple, block, choice, repeat, count, Item, shared, shared_array, semaphore, channel, function, process}
-use Rattle.ppd_check_names.specs.Reading.{Phrase, token, formula, goal, value, calling, changing, row, body, names, items, phrase, last, as_row, as_block, as_items, kind, is_semicolon, is_name, is_bracket, is_minus, beyond, changed, followed, rows, locals, some_change, for_row, worded, statement, shared_item, numbered, made, said, all_said, source_of}
+use Rattle.ppd_check_names.specs.declared.nodes.Number.{Number}
+use Rattle.ppd_check_names.specs.Syntax.{Name, Row, stop, simple, block, choice, repeat, count, Item, shared, shared_array, semaphore, channel, function, process}
+use Rattle.ppd_check_names.specs.Reading.{Phrase, token, formula, goal, value, calling, changing, row, body, names, items, phrase, last, as_row, as_block, as_items, kind, same_kind, beyond, changed, followed, rows, locals, some_change, for_row, worded, statement, shared_item, numbered, made, said, all_said, source_of}
 use Rattle.ppd_check_bodies.specs.Sources.{heads}
 use Rattle.ppd_check_names.specs.Globals.{Head, Globals, no_globals, with_item, globals}
 use Rattle.ppd_check_names.specs.Holding.{with_items}
@@ -70,9 +71,9 @@ changes_drop (suc n) (p ∷ ps) h = changes_drop n ps h.1
 
 changes_beyond : (ps : List Phrase) → AllByRecursion IsChanged ps → AllByRecursion IsChanged (beyond ps)
 changes_beyond [] h = tt
-changes_beyond (p ∷ ps) h = go (is_semicolon (kind p)) refl (changes_beyond ps h.1)
+changes_beyond (p ∷ ps) h = go (same_kind K.Semicolon (kind p)) refl (changes_beyond ps h.1)
   where
-    go : (b : Bool) → is_semicolon (kind p) ≡ b → AllByRecursion IsChanged (beyond ps) → AllByRecursion IsChanged (beyond (p ∷ ps))
+    go : (b : Bool) → same_kind K.Semicolon (kind p) ≡ b → AllByRecursion IsChanged (beyond ps) → AllByRecursion IsChanged (beyond (p ∷ ps))
     go true e rest = rw e (h.1)
     go false e rest = rw e rest
 
@@ -150,13 +151,13 @@ all_items (p ∷ ps) h = items_append (as_items p) (flat_map as_items ps) (items
 
 numbered_steps : (make : Name → Number → Item) → ((x : Name) (n : Number) → HasItemSteps (make x n)) → (ps : List Phrase) → AllByRecursion HasItemSteps (numbered make ps)
 numbered_steps make of [] = tt
-numbered_steps make of (p ∷ ps) = go (is_name (kind p)) refl (numbered_steps make of ps)
+numbered_steps make of (p ∷ ps) = go (same_kind K.Name (kind p)) refl (numbered_steps make of ps)
   where
-    go : (b : Bool) → is_name (kind p) ≡ b → AllByRecursion HasItemSteps (numbered make ps) → AllByRecursion HasItemSteps (numbered make (p ∷ ps))
+    go : (b : Bool) → same_kind K.Name (kind p) ≡ b → AllByRecursion HasItemSteps (numbered make ps) → AllByRecursion HasItemSteps (numbered make (p ∷ ps))
     go true e rest = rw e (of _ _, rest)
     go false e rest = rw e rest
 
-shared_steps : (ps : List Phrase) (b c : Bool) → is_bracket (kind (phrase ps 1)) ≡ b → is_minus (kind (phrase ps 2)) ≡ c → HasItemSteps (shared_item ps)
+shared_steps : (ps : List Phrase) (b c : Bool) → same_kind K.LeftBracket (kind (phrase ps 1)) ≡ b → same_kind K.MinusMark (kind (phrase ps 2)) ≡ c → HasItemSteps (shared_item ps)
 shared_steps ps true c e i = rw e tt
 shared_steps ps false true e i = rw e (rw i tt)
 shared_steps ps false false e i = rw e (rw i tt)
@@ -166,7 +167,7 @@ shared_steps ps false false e i = rw e (rw i tt)
 made_stepped : (r : Rule) (ps : List Phrase) → AllByRecursion IsStepped ps → (r ≡ R.Stmt → AllByRecursion IsChanged ps) → IsStepped (made r ps)
 made_stepped R.Source ps h c = all_items ps h
 made_stepped R.Shared ps h c = all_items ps h
-made_stepped R.Sitem ps h c = (shared_steps ps (is_bracket (kind (phrase ps 1))) (is_minus (kind (phrase ps 2))) refl refl, tt)
+made_stepped R.Sitem ps h c = (shared_steps ps (same_kind K.LeftBracket (kind (phrase ps 1))) (same_kind K.MinusMark (kind (phrase ps 2))) refl refl, tt)
 made_stepped R.Sems ps h c = numbered_steps semaphore (λ x n. tt) ps
 made_stepped R.Chans ps h c = numbered_steps channel (λ x n. tt) ps
 made_stepped R.Function ps h c = (block_row (last ps) (stepped_at ps (length ps - 1) h), tt)

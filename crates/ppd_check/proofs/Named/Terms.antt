@@ -8,16 +8,16 @@ use Rattle.ppd_ast.specs.declared.program.Var.{Var}
 use Rattle.ppd_ast.specs.declared.program.Program.{Program}
 use Rattle.ppd_ast.specs.Term.{Term}
 use Rattle.ppd_ast.specs.Cells.{NamesWhole}
+use Rattle.ppd_check_names.specs.declared.meaning.Use.TheVariants as U
 use Rattle.ppd_check_names.specs.declared.fault.Cause.{Cause}
-use Rattle.ppd_check_names.specs.Names.{Scope, meaning, declare, fits_index}
-use Rattle.ppd_check_names.specs.Declaring.{in_innermost}
+use Rattle.ppd_check_names.specs.Names.{Scope, meaning, declare, in_innermost}
 use Rattle.ppd_lex.specs.Front.{looked_up}
 use Rattle.std.specs.Option.{option_or}
 use Rattle.ppd_check_names.specs.declared.meaning.Meaning.{Meaning}
 use Rattle.ppd_check_names.specs.declared.meaning.Meaning.TheVariants as M
 use Rattle.ppd_check_names.specs.Faults.{if_so}
 use Rattle.ppd_check_names.specs.Syntax.{Formula, number, variable, element, negated, inverted, two, both, either}
-use Rattle.ppd_check_stmts.specs.Expressions.{read_scalar, read_element, term_of, name_faults, formula_faults}
+use Rattle.ppd_check_stmts.specs.Expressions.{read, term_of, name_faults, formula_faults}
 use Rattle.ppd_check_stmts.proofs.Vocabulary.{wrong_use}
 use Rattle.ppd_check.proofs.Named.Rightly.{IsThere, AreThere, AreAllThere}
 
@@ -45,13 +45,13 @@ if_so_false false q c h = refl
 -- A name that may stand without an index is a scalar variable, and one with an index an array.
 
 pub scalar_used : (P : Option Meaning → Type 0) → ((base : ℕ) → P (Some (M.Shared base None))) → ((base : ℕ) → P (Some (M.Local base None)))
-    → (o : Option Meaning) (q : Place) → wrong_use (fits_index false) o q ≡ [] → P o
+    → (o : Option Meaning) (q : Place) → wrong_use U.Scalar o q ≡ [] → P o
 scalar_used P s l (Some (M.Shared base None)) q h = s base
 scalar_used P s l (Some (M.Local base None)) q h = l base
 scalar_used P s l o q h = absurd (not_nil _ _ h)
 
 pub array_used : (P : Option Meaning → Type 0) → ((base n : ℕ) → P (Some (M.Shared base (Some n)))) → ((base n : ℕ) → P (Some (M.Local base (Some n))))
-    → (o : Option Meaning) (q : Place) → wrong_use (fits_index true) o q ≡ [] → P o
+    → (o : Option Meaning) (q : Place) → wrong_use U.Element o q ≡ [] → P o
 array_used P s l (Some (M.Shared base (Some n))) q h = s base n
 array_used P s l (Some (M.Local base (Some n))) q h = l base n
 array_used P s l o q h = absurd (not_nil _ _ h)
@@ -92,21 +92,21 @@ module _ (p : Program) (locals : List Var) where
 
   -- Expressions.
 
-  scalar_whole : (o : Option Meaning) (q : Place) → IfSome o (IsThere p locals) → wrong_use (fits_index false) o q ≡ [] → NamesWhole p.shared locals (read_scalar o)
+  scalar_whole : (o : Option Meaning) (q : Place) → IfSome o (IsThere p locals) → wrong_use U.Scalar o q ≡ [] → NamesWhole p.shared locals (read o None)
   scalar_whole o q a h =
-      scalar_used (λ m. IfSome m (IsThere p locals) → NamesWhole p.shared locals (read_scalar m)) (λ base b. b) (λ base b. b) o q h a
+      scalar_used (λ m. IfSome m (IsThere p locals) → NamesWhole p.shared locals (read m None)) (λ base b. b) (λ base b. b) o q h a
 
-  element_whole : (o : Option Meaning) (q : Place) (i : Term) → IfSome o (IsThere p locals) → wrong_use (fits_index true) o q ≡ [] → NamesWhole p.shared locals i
-      → NamesWhole p.shared locals (read_element o i)
+  element_whole : (o : Option Meaning) (q : Place) (i : Term) → IfSome o (IsThere p locals) → wrong_use U.Element o q ≡ [] → NamesWhole p.shared locals i
+      → NamesWhole p.shared locals (read o (Some i))
   element_whole o q i a h w =
-      array_used (λ m. IfSome m (IsThere p locals) → NamesWhole p.shared locals (read_element m i)) (λ base n b. (b, w)) (λ base n b. (b, w)) o q h a
+      array_used (λ m. IfSome m (IsThere p locals) → NamesWhole p.shared locals (read m (Some i))) (λ base n b. (b, w)) (λ base n b. (b, w)) o q h a
 
   pub formula_whole : (s : List Scope) (f : Formula) → AreAllThere p locals s → formula_faults s f ≡ [] → NamesWhole p.shared locals (term_of s f)
   formula_whole s (number n) there h = tt
   formula_whole s (variable x) there h = scalar_whole (meaning s x.text) x.place (meaning_there s x.text there) h
   formula_whole s (element x i) there h =
-      element_whole (meaning s x.text) x.place (term_of s i) (meaning_there s x.text there) (nil_left (name_faults (fits_index true) s x) (formula_faults s i) h)
-      (formula_whole s i there (nil_right (name_faults (fits_index true) s x) (formula_faults s i) h))
+      element_whole (meaning s x.text) x.place (term_of s i) (meaning_there s x.text there) (nil_left (name_faults U.Element s x) (formula_faults s i) h)
+      (formula_whole s i there (nil_right (name_faults U.Element s x) (formula_faults s i) h))
   formula_whole s (negated e) there h = formula_whole s e there h
   formula_whole s (inverted e) there h = formula_whole s e there h
   formula_whole s (two op a b) there h =

@@ -18,8 +18,7 @@ use Rattle.ppd_check_stmts.specs.Code.{Code}
 use Rattle.ppd_check_names.specs.Reading.{source_of}
 use Rattle.ppd_check_stmts.specs.Table.{terms}
 use Rattle.ppd_check_stmts.specs.Statements.{row_faults}
-use Rattle.ppd_check_bodies.specs.Sources.{head_faults, params_faults, past_statements, heads, codes, bodies, all_stmts, outer, entry, core_of, faults_in}
-use Rattle.ppd_check_bodies.specs.Bodies.{return_faults}
+use Rattle.ppd_check_bodies.specs.Sources.{head_faults, params_faults, past_statements, heads, codes, bodies, all_stmts, entered, entry, core_of, faults_in, return_faults}
 use Rattle.ppd_check_names.specs.Globals.{Head, Globals, no_globals, globals, items_faults, count_faults}
 use Rattle.ppd_check.proofs.Vocabulary.Sizes.{SourceFits}
 use Rattle.ppd_check_stmts.proofs.Table.Writing.{length_flats}
@@ -73,7 +72,7 @@ heads_unbroken t a =
 
 head_returns : (scope : Scope) (h : Head) → head_faults scope h ≡ [] → return_faults h ≡ []
 head_returns scope h e =
-    let x = nil_parts (params_faults h.params (outer scope)) _ e in
+    let x = nil_parts (params_faults h.params (entered (scope ∷ []))) _ e in
     let y = nil_parts (row_faults h.block.row (entry scope h)) _ x.1 in
     (nil_parts (return_faults h) _ y.1).0
 

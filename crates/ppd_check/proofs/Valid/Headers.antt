@@ -7,9 +7,9 @@ use Rattle.ppd_lex.specs.declared.token.Kind.TheVariants as K
 use Rattle.ppd_parse.specs.declared.symbol.Rule.{Rule}
 use Rattle.ppd_parse.specs.declared.symbol.Rule.TheVariants as R
 use Rattle.ppd_parse.specs.Grammar.{Shape, leaf, node, Shapes, no_shapes, shape_then}
-use Rattle.ppd_parse.specs.Stack.{is_assign}
-use Rattle.ppd_check_names.specs.Syntax.{Simple, Row, stop, simple, block, choice, repeat, count, Item, shared, shared_array, semaphore, channel, function, process, Name, Number}
-use Rattle.ppd_check_names.specs.Reading.{Phrase, token, formula, goal, value, calling, changing, row, body, names, items, phrase, as_row, as_block, as_items, before, beyond, is_semicolon, kind, is_name, is_bracket, is_minus, is_int, followed, rows, locals, some_change, for_start, for_row, worded, statement, local_item, changed, shared_item, numbered, number_behind, name_of, as_token, made, said, all_said, last}
+use Rattle.ppd_check_names.specs.declared.nodes.Number.{Number}
+use Rattle.ppd_check_names.specs.Syntax.{Simple, Row, stop, simple, block, choice, repeat, count, Item, shared, shared_array, semaphore, channel, function, process, Name}
+use Rattle.ppd_check_names.specs.Reading.{Phrase, token, formula, goal, value, calling, changing, row, body, names, items, phrase, as_row, as_block, as_items, before, beyond, same_kind, kind, followed, rows, locals, some_change, for_start, for_row, worded, statement, local_item, changed, shared_item, numbered, number_behind, name_of, as_token, made, said, all_said, last}
 use Rattle.ppd_check_bodies.specs.Sources.{simple_returns}
 use Rattle.ppd_check.proofs.Limits.Said.{all_join}
 
@@ -66,11 +66,11 @@ either_list false xs ys h i = i
 
 before_passes : (ps : List Phrase) → AllPass ps → AllPass (before ps)
 before_passes [] h = tt
-before_passes (p ∷ ps) h = either_list (is_semicolon (kind p)) [] (p ∷ before ps) tt (h.0, before_passes ps h.1)
+before_passes (p ∷ ps) h = either_list (same_kind K.Semicolon (kind p)) [] (p ∷ before ps) tt (h.0, before_passes ps h.1)
 
 beyond_passes : (ps : List Phrase) → AllPass ps → AllPass (beyond ps)
 beyond_passes [] h = tt
-beyond_passes (p ∷ ps) h = either_list (is_semicolon (kind p)) ps (beyond ps) h.1 (beyond_passes ps h.1)
+beyond_passes (p ∷ ps) h = either_list (same_kind K.Semicolon (kind p)) ps (beyond ps) h.1 (beyond_passes ps h.1)
 
 drop_passes : (k : ℕ) (ps : List Phrase) → AllPass ps → AllPass (drop k ps)
 drop_passes zero ps h = h
@@ -123,7 +123,7 @@ either_simple true s t h i = h
 either_simple false s t h i = i
 
 start_passes : (ps : List Phrase) → AllPass ps → PassesIfAny (for_start ps)
-start_passes ps h = either_change (is_int (kind (phrase ps 0))) _ (some_change (phrase ps 0)) refl (change_passes (phrase ps 0) (phrase_passes ps 0 h))
+start_passes ps h = either_change (same_kind K.IntWord (kind (phrase ps 0))) _ (some_change (phrase ps 0)) refl (change_passes (phrase ps 0) (phrase_passes ps 0 h))
 
 last_passes : (ps : List Phrase) → AllPass ps → PhrasePasses (last ps)
 last_passes ps h = phrase_passes ps _ h
@@ -159,7 +159,7 @@ statement_passes (calling f args) ps h i = tt
 statement_passes p ps h i = tt
 
 local_passes : (ps : List Phrase) → Passes (local_item ps)
-local_passes ps = either_simple (is_bracket (kind (phrase ps 1))) _ _ refl (either_simple (is_assign (kind (phrase ps 1))) _ _ refl refl)
+local_passes ps = either_simple (same_kind K.LeftBracket (kind (phrase ps 1))) _ _ refl (either_simple (same_kind K.AssignMark (kind (phrase ps 1))) _ _ refl refl)
 
 changed_passes : (ps : List Phrase) (k : Kind) → kind (phrase ps 1) ≡ k → Passes (changed ps)
 changed_passes ps K.AssignMark e = rw (e) refl
@@ -175,7 +175,7 @@ either_item true s t h i = h
 either_item false s t h i = i
 
 shared_passes : (ps : List Phrase) → ItemPasses (shared_item ps)
-shared_passes ps = either_item (is_bracket (kind (phrase ps 1))) _ _ tt (either_item (is_minus (kind (phrase ps 2))) _ _ tt tt)
+shared_passes ps = either_item (same_kind K.LeftBracket (kind (phrase ps 1))) _ _ tt (either_item (same_kind K.MinusMark (kind (phrase ps 2))) _ _ tt tt)
 
 either_items : (b : Bool) (xs ys : List Item) → AllByRecursion ItemPasses xs → AllByRecursion ItemPasses ys → AllByRecursion ItemPasses (if b then xs else ys)
 either_items true xs ys h i = h
@@ -184,7 +184,7 @@ either_items false xs ys h i = i
 numbered_pass : (make : Name → Number → Item) → ((x : Name) (n : Number) → ItemPasses (make x n)) → (ps : List Phrase) → AllByRecursion ItemPasses (numbered make ps)
 numbered_pass make h [] = tt
 numbered_pass make h (p ∷ ps) =
-    either_items (is_name (kind p)) (make (name_of (as_token p)) (number_behind (name_of (as_token p)) ps) ∷ numbered make ps) (numbered make ps) (h _ _, numbered_pass make h ps) (numbered_pass make h ps)
+    either_items (same_kind K.Name (kind p)) (make (name_of (as_token p)) (number_behind (name_of (as_token p)) ps) ∷ numbered make ps) (numbered make ps) (h _ _, numbered_pass make h ps) (numbered_pass make h ps)
 
 all_items_pass : (ps : List Phrase) → AllPass ps → AllByRecursion ItemPasses (flat_map as_items ps)
 all_items_pass [] h = tt

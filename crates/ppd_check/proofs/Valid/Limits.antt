@@ -1,5 +1,6 @@
 -- A source within the limits of the grammar and of tokens is not too large for its program.
 use Rattle.std.proofs.Common.{◌≡◌, sym, ◌∙◌, subst, ℕ, ◌+◌, ◌-◌, ◌≤◌, arith, List, [], ◌∷◌, length, Option, Some, None}
+use Rattle.ppd_ast.specs.declared.program.Place.{Place}
 use Rattle.std.specs.List.{AllByRecursion}
 use Rattle.std.proofs.lemmas.List.Elements.{recursion_from_All}
 use Rattle.ppd_ast.specs.declared.limits.TheConstants.{MOST_NAME_BYTES, MOST_OPEN}
@@ -11,7 +12,7 @@ use Rattle.ppd_parse.specs.Grammar.{Shape, leaf, node, Shapes, no_shapes, shape_
 use Rattle.ppd_parse.specs.Leaves.{leaves, leaves_in, leaves_of}
 use Rattle.ppd_parse.specs.Limits.{IsTree}
 use Rattle.ppd_parse.proofs.TreeLeaves.{program_leaves}
-use Rattle.ppd_check_names.specs.Reading.{text_of, source_of, said, as_items}
+use Rattle.ppd_check_names.specs.Reading.{name_of, source_of, said, as_items}
 use Rattle.ppd_check.proofs.Valid.Lists.{all_parts}
 use Rattle.ppd_check.proofs.Limits.Trees.{levels, FitsAll, statement_in}
 use Rattle.ppd_check.proofs.Limits.Signs.{fits_program}
@@ -106,15 +107,15 @@ each_of : {X : Type 0} (P Q : X → Type 0) → ((x : X) → P x → Q x) → (x
 each_of P Q f [] h = tt
 each_of P Q f (x ∷ xs) h = (f x h.0, each_of P Q f xs h.1)
 
-kind_short : (k : TokenKind) → IsKind k → length (text_of k) ≤ MOST_NAME_BYTES
-kind_short (W.Name text) h = h.1
-kind_short (W.Number n) h = omega arith
-kind_short (W.Word n) h = omega arith
-kind_short (W.Mark n) h = omega arith
-kind_short W.End h = omega arith
-
 abbrev TokenIsShort : Token → Type 0
-TokenIsShort x = length (text_of x.kind) ≤ MOST_NAME_BYTES
+TokenIsShort x = length (name_of x).text ≤ MOST_NAME_BYTES
+
+kind_short : (k : TokenKind) (from to : ℕ) (p : Place) → IsKind k → TokenIsShort (record { kind = k; from = from; to = to; place = p })
+kind_short (W.Name text) from to p h = h.1
+kind_short (W.Number n) from to p h = omega arith
+kind_short (W.Word n) from to p h = omega arith
+kind_short (W.Mark n) from to p h = omega arith
+kind_short W.End from to p h = omega arith
 
 mutual
   short_tree : (t : Shape) → AllByRecursion TokenIsShort (leaves t) → AreShort t
@@ -130,7 +131,7 @@ mutual
 -- the tree of formed tokens says a source that is not too large for its program
 pub tree_fits : (size : ℕ) (ts : List Token) (t : Shape) → AreFormed size ts → IsTree ts (t ∷ []) → Z.SourceFits (source_of t)
 tree_fits size ts t formed tree =
-    let all : AllByRecursion TokenIsShort ts = each_of (IsFormed size) TokenIsShort (λ x h. kind_short x.kind h.kind) ts (recursion_from_All (IsFormed size) ts formed.each) in
+    let all : AllByRecursion TokenIsShort ts = each_of (IsFormed size) TokenIsShort (λ x h. kind_short x.kind x.from x.to x.place h.kind) ts (recursion_from_All (IsFormed size) ts formed.each) in
     let same : leaves_of (t ∷ []) ≡ ts = program_leaves tree.program ∙ tree.tokens in
     let short : AreShort t = short_tree t (all_parts TokenIsShort (leaves t) [] (subst (λ (xs : List Token). AllByRecursion TokenIsShort xs) (sym same) all)).0 in
     let fits : FitsAll (t ∷ []) = fits_program tree.program tree.limits in

@@ -15,14 +15,12 @@ use Rattle.ppd_check_names.specs.Names.{Scope}
 use Rattle.ppd_check_stmts.specs.Code.{Code, Act, Spot, done, act, choice, loop, join, acts, count}
 use Rattle.ppd_check_stmts.specs.Code as C
 use Rattle.ppd_check_stmts.specs.Table.{weights, terms, kind, numbers, stmts, root}
-use Rattle.ppd_check_stmts.specs.Statements.{spot_of, put, store_acts, acts_of, code_of, row_code, opened, with_scopes_of, after_row, after, place_of}
+use Rattle.ppd_check_stmts.specs.Statements.{spot_of, put, store_acts, acts_of, code_of, row_code, opened, with_scopes_of, after_row, after, place_of, code_of_any}
 use Rattle.ppd_check_stmts.proofs.Vocabulary.{after_any}
-use Rattle.ppd_check_stmts.specs.Plain.{code_of_any}
 use Rattle.ppd_check_names.specs.Frames.{declared}
 use Rattle.ppd_check_names.specs.Syntax as S
 use Rattle.ppd_check_names.specs.Syntax.{Simple, Row, Value}
-use Rattle.ppd_check_bodies.specs.Sources.{simple_returns, returns, last_return, ends_with_return, head_code, entry}
-use Rattle.ppd_check_bodies.specs.Bodies.{return_faults}
+use Rattle.ppd_check_bodies.specs.Sources.{simple_returns, returns, last_return, ends_with_return, head_code, entry, return_faults}
 use Rattle.ppd_check_names.specs.Globals.{Head}
 use Rattle.ppd_check_stmts.proofs.Table.Joined.{numbers_join, stmts_join}
 use Rattle.ppd_check_stmts.proofs.Rows.Nested.{join_done}
@@ -81,7 +79,7 @@ store_inner m (S.result g args) f = (tt, (tt, tt))
 store_inner m (S.received x) f = (tt, (tt, tt))
 
 acts_inner : (s : Simple) (f : Frame) → Passes s → AreInner (acts_of s f)
-acts_inner (S.fresh x v) f h = (put_inner (declared x None f).scopes f.cells v, tt)
+acts_inner (S.fresh x v) f h = (put_inner (declared None f x).scopes f.cells v, tt)
 acts_inner (S.array x n) f h = (tt, tt)
 acts_inner (S.store g v) f h = store_inner (spot_of f.scopes g) v f
 acts_inner (S.change g op e) f h = (tt, tt)

@@ -1,49 +1,47 @@
 -- The core statements of a source are no larger than it.
-use Rattle.std.proofs.Common.{◌≡◌, refl, sym, ap, ◌∙◌, subst, ℕ, suc, ◌+◌, ◌<◌, ◌≤◌, ◌^◌, max, Bool, true, false, if◌then◌else◌, arith, List, [], ◌∷◌, map, length, Option, Some, None}
-use Rattle.std.specs.Prelude.{decimal}
-use Rattle.std.specs.List.{AllByRecursion}
-use Rattle.std.proofs.lemmas.Fmt.{length-decimal-le}
-use Rattle.std.proofs.lemmas.List.Elements.{All-from_recursion}
+use Rattle.ppd_ast.specs.Term as T
+use Rattle.ppd_ast.specs.Term.{Term}
+use Rattle.ppd_ast.specs.Uses.{depth_of, operators_of}
+use Rattle.ppd_ast.specs.Valid.{IsName}
 use Rattle.ppd_ast.specs.declared.limits.TheConstants.{MOST_NESTING, MOST_OPERATORS, MOST_SOURCE_OPERATORS}
 use Rattle.ppd_ast.specs.declared.program.Place.{Place}
-use Rattle.ppd_ast.specs.Term.{Term}
-use Rattle.ppd_ast.specs.Term as T
-use Rattle.ppd_ast.specs.Uses.{operators_of, depth_of}
-use Rattle.ppd_ast.specs.Valid.{IsName}
-use Rattle.ppd_check_names.specs.declared.meaning.Meaning.TheVariants as M
-use Rattle.ppd_check_names.specs.declared.frame.Variable.{Variable}
-use Rattle.ppd_check_names.specs.declared.frame.Frame.{Frame}
-use Rattle.ppd_check_names.specs.Fitted.{fitted}
-use Rattle.ppd_check_names.specs.declared.meaning.Meaning.{Meaning}
-use Rattle.ppd_check_names.specs.Names.{Scope, meaning}
-use Rattle.ppd_check_stmts.specs.Code.{Code, Act, Spot, done, act, choice, loop, join, acts}
-use Rattle.ppd_check_stmts.specs.Code as C
-use Rattle.ppd_check_stmts.specs.Expressions.{term_of, read_scalar, read_element}
-use Rattle.ppd_check_names.specs.Reading.{goal_formula}
-use Rattle.ppd_check_names.specs.Syntax.{Name, Formula, number, variable, element, negated, inverted, two, both, either, Goal, scalar, item, Value, plain, result, received, Simple, Row}
-use Rattle.ppd_check_names.specs.Syntax as S
-use Rattle.ppd_check_stmts.specs.Table.{spot_terms, act_terms, terms}
-use Rattle.ppd_check_stmts.specs.Statements.{spot, spot_of, put, store_acts, return_acts, acts_of, code_of, row_code, via_hidden, return_via_hidden, goal_name, opened, with_scopes_of, after, after_row, place_of}
-use Rattle.ppd_check_stmts.proofs.Vocabulary.{hidden_if, after_any}
-use Rattle.ppd_check_stmts.specs.Plain.{code_of_any}
-use Rattle.ppd_check_names.specs.Frames.{declared, after_cells}
-use Rattle.ppd_check_names.proofs.Words.{hidden_name}
-use Rattle.ppd_check_bodies.specs.Sources.{head_code, head_frame, outer, entry, ends_with_return, vars}
-use Rattle.ppd_check_bodies.specs.Bodies.{close_code, with_params}
-use Rattle.ppd_check_names.specs.Globals.{Head}
-use Rattle.ppd_check.proofs.Vocabulary.Sizes.{operators_in, depth_in, IsSmall, AreSmall, IsShort, GoalFits, ValueFits, ValueFitsIfAny, SimpleFits, SimpleFitsIfAny, RowFits, nested}
-use Rattle.ppd_check_stmts.proofs.Table.Joined.{terms_join}
-use Rattle.ppd_check.proofs.Valid.Facts.{TermSmall, nesting, HeadSizes}
 use Rattle.ppd_check.proofs.Limits.Said.{all_join}
+use Rattle.ppd_check.proofs.Valid.Facts.{HeadSizes, TermSmall, nesting}
+use Rattle.ppd_check.proofs.Vocabulary.Sizes.{AreSmall, GoalFits, IsShort, IsSmall, RowFits, SimpleFits, SimpleFitsIfAny, ValueFits, depth_in, nested, operators_in}
+use Rattle.ppd_check_bodies.specs.Sources.{close_code, ends_with_return, entered, entry, head_code, head_frame, vars}
+use Rattle.ppd_check_names.proofs.Words.{hidden_name}
+use Rattle.ppd_check_names.specs.Fitted.{fitted}
+use Rattle.ppd_check_names.specs.Frames.{after_cells, declared}
+use Rattle.ppd_check_names.specs.Globals.{Head}
+use Rattle.ppd_check_names.specs.Names.{Scope, meaning}
+use Rattle.ppd_check_names.specs.Reading.{goal_formula}
+use Rattle.ppd_check_names.specs.Syntax as S
+use Rattle.ppd_check_names.specs.Syntax.{Formula, Goal, Name, Row, Simple, Value, both, either, element, inverted, item, negated, number, plain, received, result, scalar, two, variable}
+use Rattle.ppd_check_names.specs.declared.frame.Frame.{Frame}
+use Rattle.ppd_check_names.specs.declared.frame.Variable.{Variable}
+use Rattle.ppd_check_names.specs.declared.meaning.Meaning.{Meaning}
+use Rattle.ppd_check_names.specs.declared.meaning.Meaning.TheVariants as M
+use Rattle.ppd_check_stmts.proofs.Table.Joined.{terms_join}
+use Rattle.ppd_check_stmts.proofs.Vocabulary.{after_any, hidden_if}
+use Rattle.ppd_check_stmts.specs.Code as C
+use Rattle.ppd_check_stmts.specs.Code.{Act, Code, Spot, act, acts, choice, done, join, loop}
+use Rattle.ppd_check_stmts.specs.Expressions.{read, term_of}
+use Rattle.ppd_check_stmts.specs.Statements.{acts_of, after, after_row, code_of, code_of_any, goal_name, opened, place_of, put, row_code, spot, spot_of, store_acts, via_hidden, with_scopes_of}
+use Rattle.ppd_check_stmts.specs.Table.{act_terms, spot_terms, terms}
+use Rattle.std.proofs.Common.{Bool, List, None, Option, Some, [], ap, arith, false, fold, if◌then◌else◌, length, map, max, refl, subst, suc, sym, true, ℕ, ◌+◌, ◌<◌, ◌^◌, ◌∙◌, ◌∷◌, ◌≡◌, ◌≤◌}
+use Rattle.std.proofs.lemmas.Fmt.{length-decimal-le}
+use Rattle.std.proofs.lemmas.List.Elements.{All-from_recursion}
+use Rattle.std.specs.List.{AllByRecursion}
+use Rattle.std.specs.Prelude.{decimal}
 
 -- The terms of expressions are as large.
 
-scalar_operators : (m : Option Meaning) → operators_of (read_scalar m) ≡ 0
+scalar_operators : (m : Option Meaning) → operators_of (read m None) ≡ 0
 scalar_operators (Some (M.Local c None)) = refl
 scalar_operators (Some (M.Shared c None)) = refl
 scalar_operators m = refl
 
-element_operators : (m : Option Meaning) (i : Term) → operators_of (read_element m i) ≡ operators_of i
+element_operators : (m : Option Meaning) (i : Term) → operators_of (read m (Some i)) ≡ operators_of i
 element_operators (Some (M.Local c (Some n))) i = refl
 element_operators (Some (M.Shared c (Some n))) i = refl
 element_operators m i = refl
@@ -58,12 +56,12 @@ operators_term s (two op a b) = omega (arith, operators_term s a, operators_term
 operators_term s (both a b) = omega (arith, operators_term s a, operators_term s b)
 operators_term s (either a b) = omega (arith, operators_term s a, operators_term s b)
 
-scalar_depth : (m : Option Meaning) → depth_of (read_scalar m) ≡ 1
+scalar_depth : (m : Option Meaning) → depth_of (read m None) ≡ 1
 scalar_depth (Some (M.Local c None)) = refl
 scalar_depth (Some (M.Shared c None)) = refl
 scalar_depth m = refl
 
-element_depth : (m : Option Meaning) (i : Term) → depth_of (read_element m i) ≡ 1 + depth_of i
+element_depth : (m : Option Meaning) (i : Term) → depth_of (read m (Some i)) ≡ 1 + depth_of i
 element_depth (Some (M.Local c (Some n))) i = refl
 element_depth (Some (M.Shared c (Some n))) i = refl
 element_depth m i = refl
@@ -99,13 +97,13 @@ ActsSmall list = AllByRecursion (λ a. TermsSmall (act_terms a)) list
 spot_small : (s : List Scope) (g : Goal) → GoalFits g → TermsSmall (spot_terms (spot_of s g))
 spot_small s (scalar x) h = of_scalar (meaning s x.text)
   where
-    of_scalar : (m : Option Meaning) → TermsSmall (spot_terms (spot (read_scalar m)))
+    of_scalar : (m : Option Meaning) → TermsSmall (spot_terms (spot (read m None)))
     of_scalar (Some (M.Local c None)) = tt
     of_scalar (Some (M.Shared c None)) = tt
     of_scalar m = tt
 spot_small s (item x i) h = of_item (meaning s x.text) (term_of s i) (term_small s i h)
   where
-    of_item : (m : Option Meaning) (t : Term) → TermSmall t → TermsSmall (spot_terms (spot (read_element m t)))
+    of_item : (m : Option Meaning) (t : Term) → TermSmall t → TermsSmall (spot_terms (spot (read m (Some t))))
     of_item (Some (M.Local c (Some n))) t h = (h, tt)
     of_item (Some (M.Shared c (Some n))) t h = (h, tt)
     of_item m t h = (h, tt)
@@ -125,12 +123,6 @@ store_small (C.local c) (received x) f h i = (tt, tt)
 store_small m (result g args) f h i = (put_small f.scopes f.cells (result g args) i, (all_join TermSmall (spot_terms m) (T.local f.cells ∷ []) h (cell_small f.cells, tt), tt))
 store_small m (received x) f h i = (tt, (all_join TermSmall (spot_terms m) (T.local f.cells ∷ []) h (cell_small f.cells, tt), tt))
 
-return_small : (v : Option Value) (f : Frame) → ValueFitsIfAny v → ActsSmall (return_acts v f)
-return_small None f h = (tt, tt)
-return_small (Some (plain e)) f h = ((term_small f.scopes e h, tt), tt)
-return_small (Some (result g args)) f h = (put_small f.scopes f.cells (result g args) h, ((cell_small f.cells, tt), tt))
-return_small (Some (received x)) f h = (tt, ((cell_small f.cells, tt), tt))
-
 goal_size : (g : Goal) → GoalFits g → (operators_in (goal_formula g) ≤ MOST_SOURCE_OPERATORS) × (depth_in (goal_formula g) ≤ MOST_OPERATORS)
 goal_size (scalar x) h = (omega arith, omega arith)
 goal_size (item x i) h = (h.0, omega (arith, h.1))
@@ -143,13 +135,16 @@ changed_small s g op e h i =
     )
 
 acts_small : (s : Simple) (f : Frame) → SimpleFits s → ActsSmall (acts_of s f)
-acts_small (S.fresh x v) f h = (put_small (declared x None f).scopes f.cells v h.1, tt)
+acts_small (S.fresh x v) f h = (put_small (declared None f x).scopes f.cells v h.1, tt)
 acts_small (S.array x n) f h = (tt, tt)
 acts_small (S.store g v) f h = store_small (spot_of f.scopes g) v f (spot_small f.scopes g h.0) h.1
 acts_small (S.change g op e) f h =
     (all_join TermSmall (spot_terms (spot_of f.scopes g)) (T.two op (term_of f.scopes (goal_formula g)) (term_of f.scopes e) ∷ []) (spot_small f.scopes g h.0) (changed_small f.scopes g op e h.0 h.1, tt), tt)
 acts_small (S.call g args) f h = (terms_small f.scopes args h, tt)
-acts_small (S.give_back p v) f h = return_small v f h
+acts_small (S.give_back p None) f h = (tt, tt)
+acts_small (S.give_back p (Some (plain e))) f h = ((term_small f.scopes e h, tt), tt)
+acts_small (S.give_back p (Some (result g args))) f h = (put_small f.scopes f.cells (result g args) h, ((cell_small f.cells, tt), tt))
+acts_small (S.give_back p (Some (received x))) f h = (tt, ((cell_small f.cells, tt), tt))
 acts_small (S.take p x) f h = (tt, tt)
 acts_small (S.give p x) f h = (tt, tt)
 acts_small (S.send p x e) f h = ((term_small f.scopes e h, tt), tt)
@@ -257,7 +252,7 @@ hidden_short n =
     let l : length (decimal (fitted 16 n)) ≤ 5 = length-decimal-le 5 (fitted 16 n) (omega arith) (omega (arith, few)) (omega (arith, few)) in
     omega (arith, l)
 
-declared_short : (x : Name) (o : Option ℕ) (f : Frame) → IsShort x → AreShort f.variables → AreShort (declared x o f).variables
+declared_short : (x : Name) (o : Option ℕ) (f : Frame) → IsShort x → AreShort f.variables → AreShort (declared o f x).variables
 declared_short x o f h i = all_join (λ v. IsName v.name) f.variables _ i (h, tt)
 
 hidden_frame : (b : Bool) (p : Place) (f : Frame) → AreShort f.variables → AreShort (hidden_if b p f).variables
@@ -268,7 +263,9 @@ after_short : (s : Simple) (f : Frame) → SimpleFits s → AreShort f.variables
 after_short (S.fresh x v) f h i = declared_short x None f h.0 i
 after_short (S.array x n) f h i = declared_short x (Some (fitted 16 n.value)) f h i
 after_short (S.store g v) f h i = hidden_frame (via_hidden (spot_of f.scopes g) v) (goal_name g).place f i
-after_short (S.give_back p v) f h i = hidden_frame (return_via_hidden v) p f i
+after_short (S.give_back p None) f h i = i
+after_short (S.give_back p (Some (plain e))) f h i = i
+after_short (S.give_back p (Some v)) f h i = hidden_frame true p f i
 after_short s f h i = i
 
 any_short : (o : Option Simple) (f : Frame) → SimpleFitsIfAny o → AreShort f.variables → AreShort (after_any o f).variables
@@ -284,9 +281,9 @@ row_short (S.repeat p e b r) f h i = row_short r (after_row b f) h.2 (row_short 
 row_short (S.count p start e step b r) f h i =
     row_short r (with_scopes_of f (after_row b (after_any start (opened f)))) h.4 (row_short b (after_any start (opened f)) h.3 (any_short start (opened f) h.0 i))
 
-params_short : (xs : List Name) (f : Frame) → AllByRecursion IsShort xs → AreShort f.variables → AreShort (with_params xs f).variables
+params_short : (xs : List Name) (f : Frame) → AllByRecursion IsShort xs → AreShort f.variables → AreShort (fold (declared None) f xs).variables
 params_short [] f h i = i
-params_short (x ∷ xs) f h i = params_short xs (declared x None f) h.1 (declared_short x None f h.0 i)
+params_short (x ∷ xs) f h i = params_short xs (declared None f x) h.1 (declared_short x None f h.0 i)
 
 pub vars_short : (base : ℕ) (vs : List Variable) → AreShort vs → AllByRecursion (λ v. IsName v.name) (vars base vs)
 vars_short base [] h = tt
@@ -294,7 +291,7 @@ vars_short base (v ∷ vs) h = (h.0, vars_short (after_cells base v.length) vs h
 
 head_short : (scope : Scope) (h : Head) → AllByRecursion IsShort h.params → RowFits h.block.row → AllByRecursion (λ v. IsName v.name) (vars 0 (head_frame scope h).variables)
 head_short scope h p r =
-    vars_short 0 (head_frame scope h).variables (row_short h.block.row (entry scope h) r (params_short h.params (outer scope) p tt))
+    vars_short 0 (head_frame scope h).variables (row_short h.block.row (entry scope h) r (params_short h.params (entered (scope ∷ [])) p tt))
 
 -- Functions and processes.
 

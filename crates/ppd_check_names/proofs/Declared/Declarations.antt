@@ -16,15 +16,16 @@ use Rattle.ppd_check_names.specs.Fitted.{fitted}
 use Rattle.ppd_check_names.specs.Names.{Meaning, Scope, innermost}
 use Rattle.ppd_check_names.specs.Names as N
 use Rattle.ppd_check_names.specs.Frames.{after_cells, variable_of, twice_faults, size_faults}
-use Rattle.ppd_check_names.specs.Syntax.{Name, Number, Block, Item, shared, shared_array, semaphore, channel, function, process}
+use Rattle.ppd_check_names.specs.declared.nodes.Number.{Number}
+use Rattle.ppd_check_names.specs.Syntax.{Name, Block, Item, shared, shared_array, semaphore, channel, function, process}
 use Rattle.ppd_check_names.specs.Reading.{as_items}
 use Rattle.ppd_check_names.specs.Nodes.{phrase_of}
 use Rattle.ppd_check_names.specs.Declaring.{named, kept, with_shared, with_numbered, with_function, with_process, twice, counted, celled, numbered_over}
 use Rattle.ppd_check_names.specs.Items.{numbered_item, least_number, most_number}
 use Rattle.ppd_check_names.specs.Holding.{head_of, head_at, IsHeadAt, Holds, item_counted, noted_at, noted, Declares}
 use Rattle.ppd_check_names.specs.Globals as S
-use Rattle.ppd_check_names.specs.Globals.{Object, item_name, item_size_faults, with_item}
-use Rattle.ppd_check_names.specs.Holding.{sem, chan, with_items}
+use Rattle.ppd_check_names.specs.Globals.{Object, item_name, item_size_faults, with_item, sem, chan}
+use Rattle.ppd_check_names.specs.Holding.{with_items}
 use Rattle.ppd_check_names.proofs.Found.First.{found_in_both, first_of_both_none}
 
 with_both : (is js : List Item) (s : S.Globals) → with_items (is ++ js) s ≡ with_items js (with_items is s)

@@ -1,5 +1,6 @@
 -- Functions and processes at nodes, with their counts of parameters.
 use Rattle.std.proofs.Common.{◌≡◌, refl, sym, ap, subst, ◌∙◌, ℕ, ◌+◌, ◌<◌, ◌≤◌, arith, Bool, true, false, if◌then◌else◌, List, [], ◌∷◌, ◌++◌, take, length, get_or, Option}
+use Rattle.ppd_lex.specs.declared.token.Kind.TheVariants as K
 use Rattle.std.specs.List.{flat_map}
 use Rattle.std.proofs.lemmas.List.{take_more, map-append, length-append, length-map, take_all}
 use Rattle.std.proofs.lemmas.List.Concat.{flat_map-append}
@@ -11,7 +12,7 @@ use Rattle.ppd_check_names.specs.declared.fault.Limit.TheVariants as L
 use Rattle.ppd_check_names.specs.declared.globals.Globals.{Globals}
 use Rattle.ppd_check_names.specs.Faults.{first, first_of_both}
 use Rattle.ppd_check_names.specs.Syntax.{Name}
-use Rattle.ppd_check_names.specs.Reading.{Phrase, token, nowhere, phrase, last, kind, is_name, is_int, as_token, as_names, as_block, as_items, name_of, name_at, params}
+use Rattle.ppd_check_names.specs.Reading.{Phrase, token, nowhere, phrase, last, kind, same_kind, as_token, as_names, as_block, as_items, name_of, name_at, params}
 use Rattle.ppd_check_names.specs.Nodes.{phrase_of, phrases_of, phrases_below, children_of, SaysBy}
 use Rattle.ppd_check_names.specs.Declaring.{with_function, with_process, twice, counted}
 use Rattle.ppd_check_names.specs.Holding.{head_of, Declares}
@@ -26,19 +27,19 @@ params_cons q ps qs e false = e
 
 pub params_append : (ps qs : List Phrase) → params (ps ++ qs) ≡ params ps ++ params qs
 params_append [] qs = refl
-params_append (p ∷ ps) qs = params_cons p ps qs (params_append ps qs) (is_name (kind p))
+params_append (p ∷ ps) qs = params_cons p ps qs (params_append ps qs) (same_kind K.Name (kind p))
 
 one_param : (x : Name) (b : Bool) → length (if b then x ∷ [] else []) ≡ (if b then 1 else 0)
 one_param x true = refl
 one_param x false = refl
 
-pub names_more : (ps : List Phrase) (k m n s : ℕ) → k < length ps → m ≡ length (params (take k ps)) → n ≡ (if is_name (kind (phrase ps k)) then 1 else 0) → s ≡ m + n
+pub names_more : (ps : List Phrase) (k m n s : ℕ) → k < length ps → m ≡ length (params (take k ps)) → n ≡ (if same_kind K.Name (kind (phrase ps k)) then 1 else 0) → s ≡ m + n
     → s ≡ length (params (take (k + 1) ps))
 names_more ps k m n s h a b e =
     let q : Phrase = phrase ps k in
     e
     ∙ ap (λ i. i + n) a
-    ∙ ap (λ i. length (params (take k ps)) + i) (b ∙ sym (one_param (name_of (as_token q)) (is_name (kind q))))
+    ∙ ap (λ i. length (params (take k ps)) + i) (b ∙ sym (one_param (name_of (as_token q)) (same_kind K.Name (kind q))))
     ∙ sym (length-append (params (take k ps)) (params (q ∷ [])))
     ∙ ap length (sym (params_append (take k ps) (q ∷ [])))
     ∙ ap (λ l. length (params l)) (sym (take_more ps k (token nowhere) h))
@@ -83,13 +84,13 @@ params_all ns i k m cs is h a = a ∙ ap (λ l. length (flat_map as_names (phras
 
 pub declares_function_at : (ns : List Node) (i : ℕ) (g : Bool) (x : Name) (n : ℕ) (old new : Globals) (f f' : Option Fault)
     → i < length ns → SaysBy R.Function (phrases_below ns i) (phrase_of ns i)
-    → g ≡ is_int (kind (phrase (phrases_below ns i) 0)) → x ≡ name_at (phrases_below ns i) 1 → n ≡ length (flat_map as_names (phrases_below ns i))
+    → g ≡ same_kind K.IntWord (kind (phrase (phrases_below ns i) 0)) → x ≡ name_at (phrases_below ns i) 1 → n ≡ length (flat_map as_names (phrases_below ns i))
     → new ≡ with_function i x n g old → f' ≡ first_of_both f (first (twice x old ++ counted MOST_FUNCTIONS (length old.functions) L.Functions x.place))
     → Declares ns (as_items (phrase_of ns i)) old new f f'
 declares_function_at ns i g x n old new f f' l says a b c e w =
     let ps : List Phrase = phrases_below ns i in
     subst (λ is. Declares ns is old new f f') (sym (ap as_items says))
-    (declares_function ns i (is_int (kind (phrase ps 0))) (name_at ps 1) (flat_map as_names ps) (as_block (last ps)) old new f f'
+    (declares_function ns i (same_kind K.IntWord (kind (phrase ps 0))) (name_at ps 1) (flat_map as_names ps) (as_block (last ps)) old new f f'
     (record { within = l; said = ap (λ p. head_of (as_items p)) says })
     (ap as_items says)
     (e ∙ ap (λ y. with_function i y n g old) b ∙ ap (λ m. with_function i (name_at ps 1) m g old) c ∙ ap (λ t. with_function i (name_at ps 1) (length (flat_map as_names ps)) t old) a)

@@ -5,8 +5,7 @@ use Rattle.std.specs.Map.{lookup}
 use Rattle.std.proofs.lemmas.List.{take_more, map-append, reverse-append, length-reverse, length-map}
 use Rattle.std.proofs.lemmas.Bool.{true≢false}
 use Rattle.indexmap.specs.IndexMap.{IndexMap, get_by, insert_entry}
-use Rattle.ppd_check_names.specs.Names.{Meaning, Scope, meaning, scope_of, declare}
-use Rattle.ppd_check_names.specs.Declaring.{in_innermost}
+use Rattle.ppd_check_names.specs.Names.{Meaning, Scope, meaning, scope_of, declare, in_innermost}
 use Rattle.ppd_lex.specs.Front.{looked_up}
 use Rattle.std.specs.Option.{option_or}
 

@@ -1,5 +1,5 @@
 -- How much a tree says, against the number of its nodes.
-use Rattle.std.proofs.Common.{◌≡◌, refl, ap, ℕ, zero, suc, ◌+◌, ◌*◌, ◌≤◌, pos, arith, Bool, true, false, if◌then◌else◌, List, [], ◌∷◌, ◌++◌, length, drop}
+use Rattle.std.proofs.Common.{◌≡◌, refl, ap, ℕ, zero, suc, ◌+◌, ◌*◌, ◌≤◌, pos, arith, Bool, true, false, if◌then◌else◌, List, [], ◌∷◌, ◌++◌, length, drop, slice_index_or}
 use Rattle.std.specs.List.{flat_map}
 use Rattle.std.proofs.lemmas.List.{length-append}
 use Rattle.std.proofs.lemmas.List.Concat.{flat_map-cons}
@@ -9,9 +9,9 @@ use Rattle.ppd_parse.specs.declared.symbol.Rule.{Rule}
 use Rattle.ppd_parse.specs.declared.symbol.Rule.TheVariants as R
 use Rattle.ppd_parse.specs.Grammar.{Shape, leaf, node, Shapes, no_shapes, shape_then}
 use Rattle.ppd_parse.specs.Size.{weigh, weigh_in}
-use Rattle.ppd_parse.specs.Stack.{is_assign}
-use Rattle.ppd_check_names.specs.Syntax.{Name, Number, Formula, number, variable, element, negated, inverted, two, both, either, plain, Simple, fresh, array, Row, stop, simple, block, choice, repeat, count, Item, shared, shared_array, semaphore, channel, function, process}
-use Rattle.ppd_check_names.specs.Reading.{Phrase, token, formula, goal, value, calling, changing, row, body, names, items, name_of, phrase, last, as_token, as_formula, as_goal, called, as_value, as_row, as_block, as_names, as_items, kind, is_bracket, is_minus, is_semicolon, is_int, is_recv, is_name, name_at, formula_at, before, beyond, joined, unary, formulas, goal_of, value_said, local_item, changed, followed, rows, locals, some_change, for_start, for_test, for_row, returned, worded, statement, shared_item, number_behind, numbered, params, made, said, all_said, number_at}
+use Rattle.ppd_check_names.specs.declared.nodes.Number.{Number}
+use Rattle.ppd_check_names.specs.Syntax.{Name, Formula, number, variable, element, negated, inverted, two, both, either, plain, Simple, fresh, array, Row, stop, simple, block, choice, repeat, count, Item, shared, shared_array, semaphore, channel, function, process}
+use Rattle.ppd_check_names.specs.Reading.{Phrase, token, formula, goal, value, calling, changing, row, body, names, items, name_of, phrase, last, as_token, as_formula, as_goal, called, as_value, as_row, as_block, as_names, as_items, kind, same_kind, name_at, formula_at, before, beyond, joined, unary, formulas, local_item, changed, followed, rows, locals, some_change, for_start, for_row, returned, worded, statement, shared_item, number_behind, numbered, params, made, said, all_said, number_at}
 use Rattle.ppd_check_stmts.proofs.Costs.Rows.{size, args_size, value_size, any_value_size, goal_size, simple_size, any_size, row_size}
 
 -- Measures of what phrases say.
@@ -172,7 +172,7 @@ joined_size k a b = refl
 binary_size : (ps : List Phrase) → 2 * size (joined (kind (phrase ps 1)) (formula_at ps 0) (formula_at ps 2)) ≤ 6 + all_rest ps
 binary_size ps = omega (arith, joined_size (kind (phrase ps 1)) (formula_at ps 0) (formula_at ps 2), formula_at_size ps 0, formula_at_size ps 2, rest_at_both ps)
 
-place_size : (ps : List Phrase) (b : Bool) → is_bracket (kind (phrase ps 1)) ≡ b → 2 * goal_size (goal_of ps) ≤ 4 + all_rest ps
+place_size : (ps : List Phrase) (b : Bool) → same_kind K.LeftBracket (kind (phrase ps 1)) ≡ b → 2 * goal_size (as_goal (made R.Place ps)) ≤ 4 + all_rest ps
 place_size ps true e = rw (e) (omega (arith, formula_at_size ps 2, rest_at ps 2))
 place_size ps false e = rw (e) (omega arith)
 
@@ -197,11 +197,11 @@ either_simple n false s t h i = i
 
 local_size : (ps : List Phrase) → simple_size (local_item ps) ≤ 4 + all_rest ps
 local_size ps =
-    either_simple (4 + all_rest ps) (is_bracket (kind (phrase ps 1))) (array (name_at ps 0) (number_at ps 2)) _ (omega arith)
-    (either_simple (4 + all_rest ps) (is_assign (kind (phrase ps 1))) (fresh (name_at ps 0) (as_value (phrase ps 2))) (fresh (name_at ps 0) (plain (number (pos 0))))
+    either_simple (4 + all_rest ps) (same_kind K.LeftBracket (kind (phrase ps 1))) (array (name_at ps 0) (number_at ps 2)) _ (omega arith)
+    (either_simple (4 + all_rest ps) (same_kind K.AssignMark (kind (phrase ps 1))) (fresh (name_at ps 0) (as_value (phrase ps 2))) (fresh (name_at ps 0) (plain (number (pos 0))))
     (omega (arith, value_size_of (phrase ps 2), rest_at ps 2)) (omega arith))
 
-said_value_size : (ps : List Phrase) (b : Bool) → is_recv (kind (phrase ps 0)) ≡ b → value_size (value_said ps) ≤ 1 + all_rest ps
+said_value_size : (ps : List Phrase) (b : Bool) → same_kind K.RecvWord (kind (phrase ps 0)) ≡ b → value_size (as_value (made R.Value ps)) ≤ 1 + all_rest ps
 said_value_size ps true e = rw (e) (omega arith)
 said_value_size ps false e = rw (e) (omega (arith, called_size (phrase ps 0), rest_at ps 0))
 
@@ -238,17 +238,17 @@ drop_rest (suc k) (p ∷ ps) = omega (arith, drop_rest k ps)
 
 cut_rest : (ps : List Phrase) → all_rest (before ps) + all_rest (beyond ps) ≤ all_rest ps
 cut_rest [] = omega arith
-cut_rest (p ∷ ps) = cut (is_semicolon (kind p)) (cut_rest ps)
+cut_rest (p ∷ ps) = cut (same_kind K.Semicolon (kind p)) (cut_rest ps)
   where
     cut : (b : Bool) → all_rest (before ps) + all_rest (beyond ps) ≤ all_rest ps → all_rest (if b then [] else p ∷ before ps) + all_rest (if b then ps else beyond ps) ≤ rest_of p + all_rest ps
     cut true h = omega arith
     cut false h = omega (arith, h)
 
-start_size : (ps : List Phrase) (b : Bool) → is_int (kind (phrase ps 0)) ≡ b → any_size (for_start ps) ≤ 4 + all_rest ps
+start_size : (ps : List Phrase) (b : Bool) → same_kind K.IntWord (kind (phrase ps 0)) ≡ b → any_size (for_start ps) ≤ 4 + all_rest ps
 start_size ps true e = rw (e) (omega (arith, formula_at_size ps 3, rest_at ps 3))
 start_size ps false e = rw (e) (omega (arith, change_size (phrase ps 0), rest_at ps 0))
 
-test_size : (fs : List Formula) → size (for_test fs) ≤ 1 + args_size fs
+test_size : (fs : List Formula) → size (slice_index_or fs 0 (number (pos 1))) ≤ 1 + args_size fs
 test_size [] = omega arith
 test_size (f ∷ fs) = omega arith
 
@@ -262,7 +262,7 @@ for_size ps =
       drop_rest 2 ps,
       cut_rest inside,
       cut_rest later,
-      start_size (before inside) (is_int (kind (phrase (before inside) 0))) refl,
+      start_size (before inside) (same_kind K.IntWord (kind (phrase (before inside) 0))) refl,
       test_size (formulas (before later)),
       formulas_size (before later),
       change_size (phrase step 0),
@@ -274,7 +274,7 @@ for_size ps =
     last_rows : (ps : List Phrase) → rows_of (last ps) ≤ all_rows ps
     last_rows ps = rows_at ps _
 
-returned_size : (p : Phrase) (b : Bool) → is_semicolon (kind p) ≡ b → any_value_size (returned p) ≤ 1 + rest_of p
+returned_size : (p : Phrase) (b : Bool) → same_kind K.Semicolon (kind p) ≡ b → any_value_size (returned p) ≤ 1 + rest_of p
 returned_size p true e = rw (e) (omega arith)
 returned_size p false e = rw (e) (value_size_of p)
 
@@ -282,7 +282,7 @@ worded_size : (ps : List Phrase) (k : Kind) → kind (phrase ps 0) ≡ k → row
 worded_size ps K.IfWord e = rw (e) (omega (arith, formula_at_size ps 2, rest_at ps 2, row_size_of (phrase ps 4), row_size_of (phrase ps 6), rows_at_both ps))
 worded_size ps K.WhileWord e = rw (e) (omega (arith, formula_at_size ps 2, rest_at ps 2, row_size_of (phrase ps 4), rows_at ps 4))
 worded_size ps K.ForWord e = rw (e) (for_size ps)
-worded_size ps K.ReturnWord e = rw (e) (omega (arith, returned_size (phrase ps 1) (is_semicolon (kind (phrase ps 1))) refl, rest_at ps 1))
+worded_size ps K.ReturnWord e = rw (e) (omega (arith, returned_size (phrase ps 1) (same_kind K.Semicolon (kind (phrase ps 1))) refl, rest_at ps 1))
 worded_size ps K.TakeWord e = rw (e) (omega arith)
 worded_size ps K.GiveWord e = rw (e) (omega arith)
 worded_size ps K.SendWord e = rw (e) (omega (arith, formula_at_size ps 4, rest_at ps 4))
@@ -305,7 +305,7 @@ either_item true s t h i = h
 either_item false s t h i = i
 
 shared_size : (ps : List Phrase) → item_size (shared_item ps) ≤ 1
-shared_size ps = either_item (is_bracket (kind (phrase ps 1))) _ _ (omega arith) (either_item (is_minus (kind (phrase ps 2))) _ _ (omega arith) (omega arith))
+shared_size ps = either_item (same_kind K.LeftBracket (kind (phrase ps 1))) _ _ (omega arith) (either_item (same_kind K.MinusMark (kind (phrase ps 2))) _ _ (omega arith) (omega arith))
 
 either_items : (n : ℕ) (b : Bool) (xs ys : List Item) → items_size xs ≤ n → items_size ys ≤ n → items_size (if b then xs else ys) ≤ n
 either_items n true xs ys h i = h
@@ -317,7 +317,7 @@ numbered_size make f (p ∷ ps) =
     let x : Name = name_of (as_token p) in
     let k : Number = number_behind x ps in
     let m : items_size (numbered make ps) ≤ length ps = numbered_size make f ps in
-    either_items (suc (length ps)) (is_name (kind p)) (make x k ∷ numbered make ps) (numbered make ps) (omega (arith, f x k, m)) (omega (arith, m))
+    either_items (suc (length ps)) (same_kind K.Name (kind p)) (make x k ∷ numbered make ps) (numbered make ps) (omega (arith, f x k, m)) (omega (arith, m))
 
 items_append : (xs ys : List Item) → items_size (xs ++ ys) ≡ items_size xs + items_size ys
 items_append [] ys = omega arith
@@ -347,7 +347,7 @@ params_size : (ps : List Phrase) → length (params ps) ≤ length ps
 params_size [] = omega arith
 params_size (p ∷ ps) =
     let m : length (params ps) ≤ length ps = params_size ps in
-    either_names (suc (length ps)) (is_name (kind p)) (name_of (as_token p) ∷ params ps) (params ps) (omega (arith, m)) (omega (arith, m))
+    either_names (suc (length ps)) (same_kind K.Name (kind p)) (name_of (as_token p) ∷ params ps) (params ps) (omega (arith, m)) (omega (arith, m))
 
 -- Trees.
 
@@ -357,7 +357,7 @@ says p = rows_of p + rest_of p
 made_size : (r : Rule) (ps : List Phrase) → says (made r ps) ≤ 8 + length ps + all_rows ps + all_rest ps
 made_size R.Unary ps = omega (arith, unary_size ps (kind (phrase ps 0)) refl)
 made_size R.Binary ps = omega (arith, binary_size ps)
-made_size R.Place ps = omega (arith, place_size ps (is_bracket (kind (phrase ps 1))) refl)
+made_size R.Place ps = omega (arith, place_size ps (same_kind K.LeftBracket (kind (phrase ps 1))) refl)
 made_size R.Leaf ps = omega arith
 made_size R.Source ps = omega (arith, all_items ps)
 made_size R.Shared ps = omega (arith, all_items ps)
@@ -376,7 +376,7 @@ made_size R.Process ps = omega (arith, block_size (last ps), last_rows ps)
 made_size R.Block ps = omega (arith, rows_size ps)
 made_size R.Local ps = omega (arith, locals_size ps)
 made_size R.Litem ps = omega (arith, local_size ps)
-made_size R.Value ps = omega (arith, said_value_size ps (is_recv (kind (phrase ps 0))) refl)
+made_size R.Value ps = omega (arith, said_value_size ps (same_kind K.RecvWord (kind (phrase ps 0))) refl)
 made_size R.Call ps = omega (arith, formulas_size ps)
 made_size R.Change ps = omega (arith, changed_size ps (kind (phrase ps 1)) refl)
 made_size R.Stmt ps = omega (arith, statement_size (phrase ps 0) ps (rows_at ps 0) (rest_at_both ps))

@@ -11,13 +11,12 @@ use Rattle.ppd_check_names.specs.Names.{Scope, meaning}
 use Rattle.ppd_check_names.specs.Fitted.{fitted}
 use Rattle.ppd_check_stmts.specs.Code as C
 use Rattle.ppd_check_stmts.specs.Code.{Spot, Act, Code, done, act, choice, loop, join, acts}
-use Rattle.ppd_check_stmts.specs.Expressions.{term_of, read_scalar, read_element}
+use Rattle.ppd_check_stmts.specs.Expressions.{term_of, read}
 use Rattle.ppd_check_names.specs.Reading.{goal_formula}
 use Rattle.ppd_check_names.specs.Syntax as S
 use Rattle.ppd_check_names.specs.Syntax.{Name, Formula, Goal, Value, plain, result, received, Simple, fresh, array, store, change, call, give_back, take, give, send, print, assert, Row, stop, simple, block, repeat, count}
-use Rattle.ppd_check_stmts.specs.Statements.{opened, with_scopes_of, spot, spot_of, via_hidden, return_via_hidden, after, after_row, place_of, put, store_acts, return_acts, acts_of, code_of, row_code, goal_name}
+use Rattle.ppd_check_stmts.specs.Statements.{opened, with_scopes_of, spot, spot_of, via_hidden, after, after_row, place_of, put, store_acts, acts_of, code_of, row_code, goal_name, code_of_any}
 use Rattle.ppd_check_stmts.proofs.Vocabulary.{hidden_if, after_any}
-use Rattle.ppd_check_stmts.specs.Plain.{code_of_any}
 use Rattle.ppd_check_names.specs.Frames.{variable_of, declared}
 use Rattle.ppd_check_names.proofs.Words.{hidden_name}
 use Rattle.ppd_check_stmts.specs.Table.{weight, weights, spot_terms}
@@ -82,12 +81,12 @@ row_size (count p start e step b r) = 2 + any_size start + size e + any_size ste
 
 -- Expressions.
 
-scalar_weight : (m : Option Meaning) → weight (read_scalar m) ≡ 1
+scalar_weight : (m : Option Meaning) → weight (read m None) ≡ 1
 scalar_weight (Some (M.Local c None)) = refl
 scalar_weight (Some (M.Shared c None)) = refl
 scalar_weight m = refl
 
-element_weight : (m : Option Meaning) (i : Term) → weight (read_element m i) ≡ 1 + weight i
+element_weight : (m : Option Meaning) (i : Term) → weight (read m (Some i)) ≡ 1 + weight i
 element_weight (Some (M.Local c (Some n))) i = omega arith
 element_weight (Some (M.Shared c (Some n))) i = omega arith
 element_weight m i = omega arith
@@ -109,13 +108,13 @@ args_weight s (f ∷ fs) = omega (arith, term_weight s f, args_weight s fs)
 spot_weight : (s : List Scope) (g : Goal) → weights (spot_terms (spot_of s g)) ≤ goal_size g
 spot_weight s (S.scalar x) = of_scalar (meaning s x.text)
   where
-    of_scalar : (m : Option Meaning) → weights (spot_terms (spot (read_scalar m))) ≤ 1
+    of_scalar : (m : Option Meaning) → weights (spot_terms (spot (read m None))) ≤ 1
     of_scalar (Some (M.Local c None)) = omega arith
     of_scalar (Some (M.Shared c None)) = omega arith
     of_scalar m = omega arith
 spot_weight s (S.item x i) = omega (arith, of_item (meaning s x.text) (term_of s i), term_weight s i)
   where
-    of_item : (m : Option Meaning) (t : Term) → weights (spot_terms (spot (read_element m t))) ≤ weight t
+    of_item : (m : Option Meaning) (t : Term) → weights (spot_terms (spot (read m (Some t)))) ≤ weight t
     of_item (Some (M.Local c (Some n))) t = omega arith
     of_item (Some (M.Shared c (Some n))) t = omega arith
     of_item m t = omega arith
@@ -148,7 +147,7 @@ hidden_more : (b : Bool) (p : Place) (f : Frame) → length (hidden_if b p f).va
 hidden_more true p f = omega (arith, length-append f.variables (record { name = hidden_name (fitted 16 (f.hidden + 1)); length = None; place = p } ∷ []))
 hidden_more false p f = omega arith
 
-declared_more : (x : Name) (n : Option ℕ) (f : Frame) → length (declared x n f).variables ≡ length f.variables + 1
+declared_more : (x : Name) (n : Option ℕ) (f : Frame) → length (declared n f x).variables ≡ length f.variables + 1
 declared_more x n f = length-append f.variables (variable_of x n ∷ [])
 
 store_load : (m : Spot) (v : Value) (f : Frame) → acts_load (store_acts m v f) ≤ 5 + weights (spot_terms m) + value_size v
@@ -158,22 +157,19 @@ store_load (C.local c) (received x) f = omega arith
 store_load m (result g args) f = omega (arith, put_load f.scopes f.cells (result g args), set_load m (T.local f.cells))
 store_load m (received x) f = omega (arith, set_load m (T.local f.cells))
 
-return_load : (v : Option Value) (f : Frame) → acts_load (return_acts v f) ≤ 5 + any_value_size v
-return_load None f = omega arith
-return_load (Some (plain e)) f = omega (arith, term_weight f.scopes e)
-return_load (Some (result g args)) f = omega (arith, put_load f.scopes f.cells (result g args))
-return_load (Some (received x)) f = omega arith
-
 -- a statement's core statements and the variables after it
 simple_load : (s : Simple) (f : Frame) → acts_load (acts_of s f) + length (after s f).variables ≤ length f.variables + simple_size s
-simple_load (fresh x v) f = omega (arith, put_load (declared x None f).scopes f.cells v, declared_more x None f)
+simple_load (fresh x v) f = omega (arith, put_load (declared None f x).scopes f.cells v, declared_more x None f)
 simple_load (array x n) f = omega (arith, declared_more x (Some (fitted 16 n.value)) f)
 simple_load (store g v) f = omega (arith, store_load (spot_of f.scopes g) v f, spot_weight f.scopes g, hidden_more (via_hidden (spot_of f.scopes g) v) (goal_name g).place f)
 simple_load (change g op e) f =
     let t : Term = T.two op (term_of f.scopes (goal_formula g)) (term_of f.scopes e) in
     omega (arith, set_load (spot_of f.scopes g) t, spot_weight f.scopes g, term_weight f.scopes (goal_formula g), term_weight f.scopes e)
 simple_load (call g args) f = omega (arith, args_weight f.scopes args)
-simple_load (give_back p v) f = omega (arith, return_load v f, hidden_more (return_via_hidden v) p f)
+simple_load (give_back p None) f = omega arith
+simple_load (give_back p (Some (plain e))) f = omega (arith, term_weight f.scopes e)
+simple_load (give_back p (Some (result g args))) f = omega (arith, put_load f.scopes f.cells (result g args), hidden_more true p f)
+simple_load (give_back p (Some (received x))) f = omega (arith, hidden_more true p f)
 simple_load (take p x) f = omega arith
 simple_load (give p x) f = omega arith
 simple_load (send p x e) f = omega (arith, term_weight f.scopes e)
@@ -195,7 +191,9 @@ simple_grows : (s : Simple) (f : Frame) → length f.variables ≤ length (after
 simple_grows (fresh x v) f = omega (arith, declared_more x None f)
 simple_grows (array x n) f = omega (arith, declared_more x (Some (fitted 16 n.value)) f)
 simple_grows (store g v) f = hidden_grows (via_hidden (spot_of f.scopes g) v) (goal_name g).place f
-simple_grows (give_back p v) f = hidden_grows (return_via_hidden v) p f
+simple_grows (give_back p None) f = omega arith
+simple_grows (give_back p (Some (plain e))) f = omega arith
+simple_grows (give_back p (Some v)) f = hidden_grows true p f
 simple_grows (change g op e) f = omega arith
 simple_grows (call g args) f = omega arith
 simple_grows (take p x) f = omega arith

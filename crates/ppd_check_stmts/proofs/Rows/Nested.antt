@@ -1,5 +1,5 @@
 -- The rows of blocks, and the scopes round them.
-use Rattle.std.proofs.Common.{◌≡◌, refl, sym, ap, subst, ◌∙◌, ℕ, ◌+◌, ◌<◌, Bool, true, false, List, [], ◌∷◌, ◌++◌, take, drop, length, get_or}
+use Rattle.std.proofs.Common.{◌≡◌, refl, sym, ap, subst, ◌∙◌, ℕ, ◌+◌, ◌<◌, Bool, true, false, List, [], ◌∷◌, ◌++◌, take, drop, length, get_or, None, Some}
 use Rattle.std.proofs.lemmas.List.{append-nil}
 use Rattle.ppd_ast.specs.declared.program.Place.{Place}
 use Rattle.ppd_parse.specs.declared.node.Node.{Node}
@@ -7,13 +7,12 @@ use Rattle.ppd_check_names.specs.declared.frame.Frame.{Frame}
 use Rattle.ppd_check_names.specs.declared.writer.Writer.{Writer}
 use Rattle.ppd_check_names.specs.declared.writer.Site.{Site}
 use Rattle.ppd_check_stmts.specs.Code.{Code, done, act, choice as choose, loop, join}
-use Rattle.ppd_check_names.specs.Names.{Scope}
-use Rattle.ppd_check_names.specs.Declaring.{in_innermost}
+use Rattle.ppd_check_names.specs.Names.{Scope, in_innermost}
 use Rattle.ppd_check_names.specs.Nodes.{phrase_of, phrases_of}
 use Rattle.ppd_check_names.specs.Reading.{Phrase, as_row, rows, followed}
 use Rattle.ppd_check_stmts.specs.Statements.{after, after_row, opened, with_scopes_of, row_code, row_faults}
 use Rattle.ppd_check_stmts.proofs.Vocabulary.{after_any, hidden_if}
-use Rattle.ppd_check_names.specs.Syntax.{Simple, fresh, array, store, change, call, give_back, take as take_sem, give, send, print, assert, Row, stop, simple, block, choice, repeat, count}
+use Rattle.ppd_check_names.specs.Syntax.{plain, Simple, fresh, array, store, change, call, give_back, take as take_sem, give, send, print, assert, Row, stop, simple, block, choice, repeat, count}
 use Rattle.ppd_check_stmts.specs.Writing.{Wrote, Walked}
 use Rattle.ppd_check_stmts.proofs.Rows.Declaring.{walked_followed, phrases_more}
 
@@ -69,7 +68,9 @@ outer_after : (s : Simple) (f : Frame) → drop 1 (after s f).scopes ≡ drop 1 
 outer_after (fresh x v) f = outer_declared _ f.scopes
 outer_after (array x n) f = outer_declared _ f.scopes
 outer_after (store g v) f = outer_hidden _ _ f
-outer_after (give_back p v) f = outer_hidden _ p f
+outer_after (give_back p None) f = refl
+outer_after (give_back p (Some (plain e))) f = refl
+outer_after (give_back p (Some v)) f = refl
 outer_after (change g o e) f = refl
 outer_after (call g args) f = refl
 outer_after (take_sem p x) f = refl

@@ -1,7 +1,8 @@
 -- The first semicolon among phrases.
-use Rattle.std.proofs.Common.{pos, ◌≡◌, refl, sym, ap, ◌∙◌, ℕ, zero, suc, ◌+◌, ◌-◌, ◌<◌, ◌≤◌, arith, Bool, true, false, if◌then◌else◌, List, [], ◌∷◌, ◌++◌, take, drop, length, get_or}
+use Rattle.std.proofs.Common.{pos, ◌≡◌, refl, sym, ap, ◌∙◌, ℕ, zero, suc, ◌+◌, ◌-◌, ◌<◌, ◌≤◌, arith, Bool, true, false, if◌then◌else◌, List, [], ◌∷◌, ◌++◌, take, drop, length, get_or, slice_index_or}
+use Rattle.ppd_lex.specs.declared.token.Kind.TheVariants as K
 use Rattle.std.proofs.lemmas.List.{take_more, drop_more, drop_all, get_or_past, get_or-drop, length-drop, append_assoc}
-use Rattle.ppd_check_names.specs.Reading.{Phrase, token, nowhere, kind, phrase, before, beyond, is_semicolon, is_formula, as_formula, formulas, for_test}
+use Rattle.ppd_check_names.specs.Reading.{Phrase, token, nowhere, kind, phrase, before, beyond, same_kind, is_formula, as_formula, formulas}
 use Rattle.ppd_check_names.specs.Syntax.{Formula, number}
 
 -- no semicolon stands from one number up to another
@@ -23,7 +24,7 @@ beyond_other : (ps qs : List Phrase) (b : Bool) → b ≡ false → (if b then p
 beyond_other ps qs true h = absurd (grind (arith, h))
 beyond_other ps qs false h = refl
 
-pub searched_more : (ps : List Phrase) (from at : ℕ) → at < length ps → is_semicolon (kind (phrase ps at)) ≡ false → Searched ps from at → Searched ps from (at + 1)
+pub searched_more : (ps : List Phrase) (from at : ℕ) → at < length ps → same_kind K.Semicolon (kind (phrase ps at)) ≡ false → Searched ps from at → Searched ps from (at + 1)
 searched_more ps from at h other s =
     let p : Phrase = phrase ps at in
     let split : drop at ps ≡ p ∷ drop (at + 1) ps = drop_more ps at (token nowhere) h in
@@ -40,10 +41,10 @@ searched_more ps from at h other s =
       before =
           s.before
           ∙ ap (λ l. take (at - from) (drop from ps) ++ before l) split
-          ∙ ap (λ l. take (at - from) (drop from ps) ++ l) (before_other p (drop (at + 1) ps) (is_semicolon (kind p)) other)
+          ∙ ap (λ l. take (at - from) (drop from ps) ++ l) (before_other p (drop (at + 1) ps) (same_kind K.Semicolon (kind p)) other)
           ∙ sym (append_assoc (take (at - from) (drop from ps)) (p ∷ []) (before (drop (at + 1) ps)))
           ∙ ap (λ l. l ++ before (drop (at + 1) ps)) taken;
-      beyond = s.beyond ∙ ap beyond split ∙ beyond_other (drop (at + 1) ps) (beyond (drop (at + 1) ps)) (is_semicolon (kind p)) other;
+      beyond = s.beyond ∙ ap beyond split ∙ beyond_other (drop (at + 1) ps) (beyond (drop (at + 1) ps)) (same_kind K.Semicolon (kind p)) other;
     }
 
 -- what stands before it, and what behind it
@@ -79,19 +80,19 @@ pub part_none : (ps : List Phrase) (from n k : ℕ) → n ≤ k → phrase ps (l
 part_none ps from n k h = get_or_past ps (length ps) (token nowhere) (omega arith) ∙ sym (past_part n k (drop from ps) h)
 
 -- the first expression of a part
-test_here : (n : ℕ) (qs : List Phrase) → 0 < n → is_formula (phrase qs 0) ≡ true → for_test (formulas (take n qs)) ≡ as_formula (phrase qs 0)
+test_here : (n : ℕ) (qs : List Phrase) → 0 < n → is_formula (phrase qs 0) ≡ true → slice_index_or (formulas (take n qs)) 0 (number (pos 1)) ≡ as_formula (phrase qs 0)
 test_here zero qs h e = absurd (omega (arith, h))
 test_here (suc n) [] h e = absurd (grind (arith, e))
-test_here (suc n) (q ∷ qs) h e = ap for_test (chosen (is_formula q) (as_formula q ∷ formulas (take n qs)) (formulas (take n qs)) e)
+test_here (suc n) (q ∷ qs) h e = ap (λ fs. slice_index_or fs 0 (number (pos 1))) (chosen (is_formula q) (as_formula q ∷ formulas (take n qs)) (formulas (take n qs)) e)
   where
     chosen : (b : Bool) (xs ys : List Formula) → b ≡ true → (if b then xs else ys) ≡ xs
     chosen true xs ys e = refl
     chosen false xs ys e = absurd (grind (arith, e))
 
-test_later : (n : ℕ) (qs : List Phrase) → is_formula (phrase qs 0) ≡ false → for_test (formulas (take (suc n) qs)) ≡ for_test (formulas (take n (drop 1 qs)))
+test_later : (n : ℕ) (qs : List Phrase) → is_formula (phrase qs 0) ≡ false → slice_index_or (formulas (take (suc n) qs)) 0 (number (pos 1)) ≡ slice_index_or (formulas (take n (drop 1 qs))) 0 (number (pos 1))
 test_later zero [] e = refl
 test_later (suc n) [] e = refl
-test_later n (q ∷ qs) e = ap for_test (chosen (is_formula q) (as_formula q ∷ formulas (take n qs)) (formulas (take n qs)) e)
+test_later n (q ∷ qs) e = ap (λ fs. slice_index_or fs 0 (number (pos 1))) (chosen (is_formula q) (as_formula q ∷ formulas (take n qs)) (formulas (take n qs)) e)
   where
     chosen : (b : Bool) (xs ys : List Formula) → b ≡ false → (if b then xs else ys) ≡ ys
     chosen true xs ys e = absurd (grind (arith, e))
@@ -110,7 +111,7 @@ phrase_first ps at =
 -- no expression stands from one number up to another
 pub record Sought (ps : List Phrase) (from end at : ℕ) : Type 0 where
   pub upto : at ≤ end
-  pub test : for_test (formulas (take (end - from) (drop from ps))) ≡ for_test (formulas (take (end - at) (drop at ps)))
+  pub test : slice_index_or (formulas (take (end - from) (drop from ps))) 0 (number (pos 1)) ≡ slice_index_or (formulas (take (end - at) (drop at ps))) 0 (number (pos 1))
 
 pub sought_start : (ps : List Phrase) (from end : ℕ) → from ≤ end → Sought ps from end from
 sought_start ps from end h = record { upto = h; test = refl }
@@ -123,17 +124,17 @@ sought_more ps from end at h e s =
       upto = omega (arith, h);
       test =
           s.test
-          ∙ ap (λ n. for_test (formulas (take n (drop at ps)))) one
+          ∙ ap (λ n. slice_index_or (formulas (take n (drop at ps))) 0 (number (pos 1))) one
           ∙ test_later (end - (at + 1)) (drop at ps) (ap is_formula (phrase_first ps at) ∙ e)
-          ∙ ap (λ l. for_test (formulas (take (end - (at + 1)) l))) (drop_one at ps ∙ ap (λ n. drop n ps) next);
+          ∙ ap (λ l. slice_index_or (formulas (take (end - (at + 1)) l)) 0 (number (pos 1))) (drop_one at ps ∙ ap (λ n. drop n ps) next);
     }
 
 pub sought_found : (ps : List Phrase) (from end at : ℕ) → at < end → is_formula (phrase ps at) ≡ true → Sought ps from end at
-    → as_formula (phrase ps at) ≡ for_test (formulas (take (end - from) (drop from ps)))
+    → as_formula (phrase ps at) ≡ slice_index_or (formulas (take (end - from) (drop from ps))) 0 (number (pos 1))
 sought_found ps from end at h e s =
     sym (s.test ∙ test_here (end - at) (drop at ps) (omega (arith, h)) (ap is_formula (phrase_first ps at) ∙ e) ∙ ap as_formula (phrase_first ps at))
 
-pub sought_none : (ps : List Phrase) (from end at : ℕ) → end ≤ at → Sought ps from end at → number (pos 1) ≡ for_test (formulas (take (end - from) (drop from ps)))
+pub sought_none : (ps : List Phrase) (from end at : ℕ) → end ≤ at → Sought ps from end at → number (pos 1) ≡ slice_index_or (formulas (take (end - from) (drop from ps))) 0 (number (pos 1))
 sought_none ps from end at h s =
     let none : end - at ≡ 0 = omega (arith, h) in
-    sym (s.test ∙ ap (λ n. for_test (formulas (take n (drop at ps)))) none)
+    sym (s.test ∙ ap (λ n. slice_index_or (formulas (take n (drop at ps))) 0 (number (pos 1))) none)

@@ -12,9 +12,8 @@ use Rattle.ppd_check_stmts.specs.Code.{Code, done, join, loop}
 use Rattle.ppd_check_stmts.specs.Expressions.{term_of, formula_faults}
 use Rattle.ppd_check_stmts.specs.Plain.{row_any}
 use Rattle.ppd_check_names.specs.Reading.{followed}
-use Rattle.ppd_check_stmts.specs.Statements.{after, after_row, code_of, faults_of, row_code, row_faults, opened, with_scopes_of}
+use Rattle.ppd_check_stmts.specs.Statements.{after, after_row, code_of, faults_of, row_code, row_faults, opened, with_scopes_of, code_of_any, faults_of_any}
 use Rattle.ppd_check_stmts.proofs.Vocabulary.{after_any}
-use Rattle.ppd_check_stmts.specs.Plain.{code_of_any, faults_of_any}
 use Rattle.ppd_check_names.specs.Syntax.{Simple, Formula, Row, stop, repeat, count}
 use Rattle.ppd_check_stmts.specs.Writing.{Wrote, WroteRow, Walked, inside}
 use Rattle.ppd_check_stmts.proofs.Rows.Inside.{Begun, Ended, walked_repeat}

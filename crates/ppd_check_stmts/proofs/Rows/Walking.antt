@@ -16,9 +16,8 @@ use Rattle.ppd_check_stmts.specs.Expressions.{term_of, formula_faults}
 use Rattle.ppd_check_stmts.specs.Code.{Code, done, act, choice, loop, join, count}
 use Rattle.ppd_check_stmts.specs.Table.{weight, weights, flat, flats, root, terms, numbers, stmts}
 use Rattle.ppd_check_names.specs.Reading.{followed}
-use Rattle.ppd_check_stmts.specs.Statements.{code_of, faults_of, after, after_row, row_code, row_faults, opened, with_scopes_of}
+use Rattle.ppd_check_stmts.specs.Statements.{code_of, faults_of, after, after_row, row_code, row_faults, opened, with_scopes_of, code_of_any, faults_of_any}
 use Rattle.ppd_check_stmts.proofs.Vocabulary.{after_any}
-use Rattle.ppd_check_stmts.specs.Plain.{code_of_any, faults_of_any}
 use Rattle.ppd_check_names.specs.Syntax.{Row, stop, simple, block, repeat}
 use Rattle.ppd_check_names.specs.Syntax as S
 use Rattle.ppd_check_stmts.specs.Writing.{Wrote, WroteRow}

@@ -1,5 +1,5 @@
 -- The walk of statements, function by function.
-use Rattle.std.proofs.Common.{◌≡◌, refl, sym, ap, subst, ◌∙◌, ℕ, ◌≤◌, List, [], take, drop, length, Option, Some}
+use Rattle.std.proofs.Common.{◌≡◌, refl, sym, ap, subst, ◌∙◌, ℕ, ◌≤◌, List, [], take, drop, length, Option, Some, slice_index_or, pos}
 use Rattle.std.proofs.lemmas.List.{take_all}
 use Rattle.ppd_ast.specs.declared.program.Kind.TheVariants as K
 use Rattle.ppd_ast.specs.declared.program.Place.{Place}
@@ -17,12 +17,11 @@ use Rattle.ppd_check_stmts.specs.declared.lowering.Lowering.{Lowering}
 use Rattle.ppd_check_stmts.specs.Outputs.{Keeps}
 use Rattle.ppd_check_stmts.specs.Expressions.{term_of, formula_faults}
 use Rattle.ppd_check_names.specs.Nodes.{phrase_of, phrases_of, phrases_below, children_of, SaysBy}
-use Rattle.ppd_check_names.specs.Reading.{Phrase, as_row, before, beyond, for_row, for_start, for_test, formula_at, formulas, kind, last, locals, phrase, place_at, rows, some_change, statement, worded}
+use Rattle.ppd_check_names.specs.Reading.{Phrase, as_row, before, beyond, for_row, for_start, formula_at, formulas, kind, last, locals, phrase, place_at, rows, some_change, statement, worded}
 use Rattle.ppd_check_stmts.specs.Code.{Code}
 use Rattle.ppd_check_stmts.specs.Plain.{row_any, plain_statement}
-use Rattle.ppd_check_stmts.specs.Statements.{opened}
-use Rattle.ppd_check_stmts.specs.Plain.{code_of_any, faults_of_any}
-use Rattle.ppd_check_names.specs.Syntax.{Simple, Formula, Row, stop, choice, repeat, count}
+use Rattle.ppd_check_stmts.specs.Statements.{opened, code_of_any, faults_of_any}
+use Rattle.ppd_check_names.specs.Syntax.{Simple, Formula, Row, stop, choice, repeat, count, number as constant}
 use Rattle.ppd_check_stmts.specs.Writing.{Began, Walked, Wrote, inside}
 use Rattle.ppd_check_stmts.proofs.Rows.Declaring.{walked_none}
 use Rattle.ppd_check_stmts.proofs.Rows.Inside.{Begun, Ended, walked_choice, walked_repeat}
@@ -105,7 +104,7 @@ while_walked site p p' e e' r f g u w y z n number ids row row' hp he b turn end
     (walked_repeat site p' e' r f g u (tested u w) w y z (held_at site p') n number ids row row' (begun_of site p' (term_of f.scopes e') (formula_faults f.scopes e') u w n number row row' b) turn ended)
 
 pub for_walked : (site : Site) (ps : List Phrase) (p : Place) (e : Formula) (q : Phrase) (f o g k m h : Frame) (u v x y z a : Writer) (n number : ℕ) (ids ids' row row' row'' : List ℕ)
-    → p ≡ place_at ps 0 → e ≡ for_test (formulas (before (beyond (drop 2 ps)))) → q ≡ last ps
+    → p ≡ place_at ps 0 → e ≡ slice_index_or (formulas (before (beyond (drop 2 ps)))) 0 (constant (pos 1)) → q ≡ last ps
     → o ≡ opened f
     → Walked site (row_any (for_start (before (drop 2 ps)))) o g u v row row'
     → Began site p (term_of g.scopes e) (formula_faults g.scopes e) v x n number row' row''
@@ -118,7 +117,7 @@ pub for_walked : (site : Site) (ps : List Phrase) (p : Place) (e : Formula) (q :
 for_walked site ps p e q f o g k m h u v x y z a n number ids ids' row row' row'' hp he hq op start b turn step same ended close =
     let i : Option Simple = for_start (before (drop 2 ps)) in
     let t : Option Simple = some_change (phrase (beyond (beyond (drop 2 ps))) 0) in
-    let d : Formula = for_test (formulas (before (beyond (drop 2 ps)))) in
+    let d : Formula = slice_index_or (formulas (before (beyond (drop 2 ps)))) 0 (constant (pos 1)) in
     walked_as site (count p i e t (as_row q) stop) (for_row ps) f h u a row row''
     (ap (λ (j : Place). count j i e t (as_row q) stop) hp ∙ ap (λ (c : Formula). count (place_at ps 0) i c t (as_row q) stop) he ∙ ap (λ (r : Phrase). count (place_at ps 0) i d t (as_row r) stop) hq)
     (walked_count site p i t e (as_row q) f o g k m h u v (tested v x) x y z a (held_at site p) n number ids ids' row row' row'' op start

@@ -10,7 +10,7 @@ use Rattle.ppd_check_names.specs.declared.meaning.Meaning.{Meaning}
 use Rattle.ppd_check_names.specs.Names.{Scope}
 use Rattle.ppd_check_names.specs.declared.meaning.Meaning.TheVariants as M
 use Rattle.ppd_check_names.specs.Syntax.{Formula, negated, inverted}
-use Rattle.ppd_check_stmts.specs.Expressions.{term_of, read_element, formula_faults}
+use Rattle.ppd_check_stmts.specs.Expressions.{term_of, read, formula_faults}
 use Rattle.ppd_check_stmts.specs.Table.{below, weight, root, flat}
 use Rattle.ppd_check_stmts.specs.Forms.{joined_by, joined_expr, Added}
 
@@ -109,11 +109,11 @@ added_joined s op f g old mid last new j k n a b e h =
     (added_over_two (joined_term op) (joined_expr op) (joined_over op) old mid last new (term_of s f) (term_of s g) j k n a b e h)
 
 pub added_element : (m : Option Meaning) (e : Expr) (i : Term) (old mid new : List Expr) (k n : ℕ)
-    → ((r : ℕ) (t : Term) → k ≡ root r t → flat r (read_element m t) ≡ flat r t ++ e ∷ [])
-    → Added old i mid k → new ≡ mid ++ e ∷ [] → n ≡ length mid → Added old (read_element m i) new n
+    → ((r : ℕ) (t : Term) → k ≡ root r t → flat r (read m (Some t)) ≡ flat r t ++ e ∷ [])
+    → Added old i mid k → new ≡ mid ++ e ∷ [] → n ≡ length mid → Added old (read m (Some i)) new n
 added_element m e i old mid new k n is a added number =
     let count : length mid ≡ length old + weight i = added_length old i mid k a in
-    let b : below (read_element m i) ≡ weight i = below_element m i in
+    let b : below (read m (Some i)) ≡ weight i = below_element m i in
     record {
       table =
           added
@@ -123,7 +123,7 @@ added_element m e i old mid new k n is a added number =
       number = omega (arith, number, count, b);
     }
   where
-    below_element : (m : Option Meaning) (i : Term) → below (read_element m i) ≡ weight i
+    below_element : (m : Option Meaning) (i : Term) → below (read m (Some i)) ≡ weight i
     below_element None i = refl
     below_element (Some (M.Local b (Some n))) i = refl
     below_element (Some (M.Shared b (Some n))) i = refl

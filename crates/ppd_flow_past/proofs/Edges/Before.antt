@@ -12,9 +12,10 @@ use Rattle.ppd_race.specs.LogRecord.{sets_from}
 use Rattle.ppd_race.proofs.Built.{sets_count}
 use Rattle.ppd_model.specs.declared.graph.EdgeId.{EdgeId}
 use Rattle.ppd_model.specs.declared.graph.NodeId.{NodeId}
-use Rattle.ppd_model.specs.HappenedBefore.{closed_through, ends_before, is_direct, is_edge_before, node, nodes, own_syncs, sync_at}
+use Rattle.ppd_model.specs.HappenedBefore.{closed_through, is_before, is_direct, is_edge_before, node, sync_at}
 use Rattle.ppd_model.specs.RecordedSets.{record_in, sync_in}
 use Rattle.ppd_model.specs.Synchronizations.{Sync, leads_at}
+use Rattle.ppd_model.proofs.OrderWords.{nodes_from}
 use Rattle.ppd_model.proofs.Tested.{tests_edges, leads_to_none}
 use Rattle.ppd_ast.proofs.Those.{both}
 
@@ -35,11 +36,10 @@ no_way program syncs (n ∷ ns) a b e =
     (no_way program syncs ns n b e)
     ∙ and-false (closed_through (is_direct program syncs) ns a n)
 
-none_before : (program : Program) (syncs : List (List Sync)) (p i q j : ℕ) → length (own_syncs syncs q) < j
-    → ends_before program syncs p i q j ≡ false
-none_before program syncs p i q zero lt = refl
-none_before program syncs p i q (suc j) lt =
-    no_way program syncs (nodes syncs) (node p i) (node q j) (slice_get_past (own_syncs syncs q) j (omega arith))
+none_before : (program : Program) (syncs : List (List Sync)) (a : NodeId) (q j : ℕ) → length (get_or syncs q []) ≤ j
+    → is_before program syncs a (node q j) ≡ false
+none_before program syncs a q j le =
+    no_way program syncs (nodes_from 0 syncs) a (node q j) (slice_get_past (get_or syncs q []) j le)
 
 -- ---- how many edges there are
 
@@ -62,16 +62,19 @@ module _ (program : Program) (logs : Logs) (g : SyncGraph) (is : IsGraphOf progr
   pub before_none : (a b : EdgeId) → edge_count g b.process ≤ b.edge
       → (nat_eq a.process b.process && nat_lt a.edge b.edge) ≡ is_edge_before program (record_in logs) a b
   before_none a b le =
-      by (nat_eq a.process b.process) (none b.edge (there_or_none logs.lists b.process b.edge (subst (λ sets. length
-      (get_or sets b.process []) ≤ b.edge) is.sets le)))
+      none b.edge (there_or_none logs.lists b.process b.edge (subst (λ sets. length
+      (get_or sets b.process []) ≤ b.edge) is.sets le))
     where
-      none : (j : ℕ) → (length (own_syncs (record_in logs) b.process) < j) ⊎ (j ≡ 0)
-          → ends_before program (record_in logs) a.process a.edge b.process j ≡ false
-      none j (inl lt) = none_before program (record_in logs) a.process a.edge b.process j lt
-      none j (inr e) = ap (ends_before program (record_in logs) a.process a.edge b.process) e
+      -- the test by cases, where the way between them is none
+      by : (same earlier way : Bool) → way ≡ false → (same && earlier) ≡ (if same then earlier else way)
+      by true earlier way e = refl
+      by false earlier way e = sym e
 
-      by : (s : Bool) → ends_before program (record_in logs) a.process a.edge b.process b.edge ≡ false
-          → (s && nat_lt a.edge b.edge) ≡ (if s then nat_lt a.edge b.edge else ends_before program
-          (record_in logs) a.process a.edge b.process b.edge)
-      by true e = refl
-      by false e = sym e
+      none : (j : ℕ) → (length (get_or (record_in logs) b.process []) < j) ⊎ (j ≡ 0)
+          → (nat_eq a.process b.process && nat_lt a.edge j)
+          ≡ is_edge_before program (record_in logs) a (record b { edge = j })
+      none zero o = by (nat_eq a.process b.process) (nat_lt a.edge 0) false refl
+      none (suc j) (inl lt) =
+          by (nat_eq a.process b.process) (nat_lt a.edge (suc j)) _
+          (none_before program (record_in logs) (node a.process a.edge) b.process j (omega (arith, lt)))
+      none (suc j) (inr e) = absurd (omega (arith, e))

@@ -1,9 +1,8 @@
 -- Where intervals begin and end, as the index of a past has them.
 use Rattle.std.proofs.Common.{◌≡◌, ℕ, ◌+◌, ◌-◌, ◌<◌, Bool, false, ◌&&◌, List, Option, Some, None, refl, ap, sym, ◌∙◌, drop, length}
-use Rattle.std.specs.Prelude.{nat_le, nat_lt, option_map, slice_get, if◌then◌else◌}
+use Rattle.std.specs.Prelude.{nat_le, nat_lt, option_map, slice_get, if◌then◌else◌, get_or, []}
 use Rattle.std.proofs.lemmas.List.{length-map}
 use Rattle.ppd_entry.specs.declared.entry.Entry.{Entry}
-use Rattle.ppd_entry.specs.Entries.{entries_at}
 use Rattle.ppd_emul.specs.Interval.{Interval}
 use Rattle.ppd_emul.specs.Row.{Row}
 use Rattle.ppd_emul.specs.Indexes.{IsIndexOf, interval_of, rows_at}
@@ -45,7 +44,7 @@ stands_by n (Some r) = refl
 
 module _ (past : Past) (p k : ℕ) (h : IsIndexOf past.plan.now past.logs.now past.index.now.tables) where
   abbrev entries : List Entry
-  entries = entries_at past.logs.now p
+  entries = get_or past.logs.now.lists p []
 
   pub first_is : (o : Option Interval) → o ≡ option_map interval_of (slice_get (rows_at past.index.now.tables p) k)
       → first_or entries o ≡ first_edge entries k
@@ -76,7 +75,7 @@ innermost_next n m k xs b lt h =
     ∙ ap (λ c. innermost_from n (if c then k else m) (k + 1) (drop (k + 1) xs)) (sym (h ∙ ap (stands_there n) there.1))
 
 pub extents_count : (past : Past) (p : ℕ) → IsIndexOf past.plan.now past.logs.now past.index.now.tables
-    → length (extents (entries_at past.logs.now p)) ≡ length (rows_at past.index.now.tables p)
+    → length (extents (get_or past.logs.now.lists p [])) ≡ length (rows_at past.index.now.tables p)
 extents_count past p h =
     ap length (sym (rows_are past.plan.now past.index.now.tables past.logs.now.lists p h))
     ∙ length-map (rows_at past.index.now.tables p) extent_of

@@ -1,4 +1,5 @@
 -- By the clauses of the top call the headline holds of each run that a call tells of.
+use Rattle.ppd_top.specs.declared.loads.TheConstants.{MOST_BYTES, MOST_RECORDING}
 use Rattle.std.proofs.Common.{◌≡◌, ◌⊎◌, ℕ, List, [], Option, Some, arith, inl, inr, refl, ap, sym, subst, take, ◌∙◌}
 use Rattle.std.proofs.lemmas.Option.{same_Some}
 use Rattle.ppd_ast.specs.declared.program.Program.{Program}
@@ -7,8 +8,8 @@ use Rattle.ppd_io.specs.Content.{Loads}
 use Rattle.ppd_top.specs.Commands.{known_of}
 use Rattle.ppd_top.specs.Ran.{Options}
 use Rattle.ppd_top.specs.Call.{Call}
-use Rattle.ppd_top.specs.Clauses.{IsOutcome, IsPromised, RanWhole, WasAnswered, WasDrilled, WasQueried, WasShown, WasStored}
-use Rattle.ppd_top.specs.Top.{most_bytes, most_recording}
+use Rattle.ppd_top.specs.Clauses.{IsOutcome, IsPromised, RanWhole, WasAnswered, WasDone}
+use Rattle.ppd_top.specs.Clauses.WasDone.{answered as done_answered, drilled as done_drilled, queried as done_queried, ran as done_ran, shown as done_shown, stored as done_stored}
 use Rattle.ppd_top.specs.Words.{Request, asked}
 use Rattle.ppd_top.specs.Words.Request.{on_source, on_recording, on_number, on_query}
 use Rattle.ppd_top.specs.Words.Command.{Flow, Run as RunTo, Show}
@@ -16,6 +17,7 @@ use Rattle.ppd_top.specs.Promises.Calls.{AcceptedProgramsAreTold, AsksFlow, Asks
 use Rattle.ppd_top.specs.Promises.Headline.{Headline}
 use Rattle.ppd_top.specs.Promises.OfRuns.{RunsHaveTheHeadline}
 use Rattle.ppd_top.specs.Promises.Runs.{Run}
+use Rattle.ppd_top.proofs.Queried.{one_asked_name}
 
 -- ---- words ask for one thing
 
@@ -72,25 +74,6 @@ module _ (holds : RunsHaveTheHeadline) (c : Call) (o : IsOutcome c) where
     status_is = w.status_is;
   }
 
-  stored : WasStored c → RunTells c
-  stored w = record {
-    name = w.read.name;
-    recording = w.recording;
-    options = w.read.options;
-    run = run_by w.read.bytes w.read.program w.read.options c.schedule;
-    known = known_of w.read.program w.read.options c.schedule;
-    stored = w.stored;
-    asked = w.read.asked;
-    loaded = w.read.loaded;
-    policy_is = refl;
-    budget_is = refl;
-    taken = refl;
-    headline = holds (run_by w.read.bytes w.read.program w.read.options c.schedule) w.read.accepted w.whole;
-    is = w.is;
-    kept = w.kept;
-    written = w.written;
-  }
-
   answered : WasAnswered c → DebugTells c
   answered w = record {
     name = w.recalled.name;
@@ -109,15 +92,15 @@ module _ (holds : RunsHaveTheHeadline) (c : Call) (o : IsOutcome c) where
   }
 
   flow : AsksFlow c → HasAnswered c → FlowTells c
-  flow a (inl is) = by (o.run is)
+  flow a (inl is) = by (o.done is)
     where
-      by : RanWhole c ⊎ (WasShown c ⊎ (WasStored c ⊎ (WasAnswered c ⊎ (WasDrilled c ⊎ WasQueried c)))) → FlowTells c
-      by (inl w) = ran w
-      by (inr (inl w)) = let e : 0 ≡ 2 = one_kind a.2 w.read.asked in absurd (omega (arith, e))
-      by (inr (inr (inl w))) = let e : 0 ≡ 1 = one_kind a.2 w.read.asked in absurd (omega (arith, e))
-      by (inr (inr (inr (inl w)))) = let e : 0 ≡ 3 = one_kind a.2 w.recalled.asked in absurd (omega (arith, e))
-      by (inr (inr (inr (inr (inl w))))) = let e : 0 ≡ 4 = one_kind a.2 w.asked in absurd (omega (arith, e))
-      by (inr (inr (inr (inr (inr w))))) = let e : 0 ≡ 5 = one_kind a.2 w.asked in absurd (omega (arith, e))
+      by : WasDone c → FlowTells c
+      by (done_ran w) = ran w
+      by (done_shown read none written) = let e : 0 ≡ 2 = one_kind a.2 read.asked in absurd (omega (arith, e))
+      by (done_stored recording read bytes whole is_run kept others written) = let e : 0 ≡ 1 = one_kind a.2 read.asked in absurd (omega (arith, e))
+      by (done_answered w) = let e : 0 ≡ 3 = one_kind a.2 w.recalled.asked in absurd (omega (arith, e))
+      by (done_drilled number program asks read whole out is_out status_is written agreeing) = let e : 0 ≡ 4 = one_kind a.2 asks in absurd (omega (arith, e))
+      by (done_queried w) = let e : 0 ≡ 5 = one_kind a.2 w.recalled.asked in absurd (omega (arith, e))
   flow a (inr s) = by (o.lines s)
     where
       by : RanWhole c ⊎ WasAnswered c → FlowTells c
@@ -125,26 +108,42 @@ module _ (holds : RunsHaveTheHeadline) (c : Call) (o : IsOutcome c) where
       by (inr w) = let e : 0 ≡ 3 = one_kind a.2 w.recalled.asked in absurd (omega (arith, e))
 
   run : AsksRun c → c.status ≡ 0 → RunTells c
-  run a is = by (o.run is)
+  run a is = by (o.done is)
     where
-      by : RanWhole c ⊎ (WasShown c ⊎ (WasStored c ⊎ (WasAnswered c ⊎ (WasDrilled c ⊎ WasQueried c)))) → RunTells c
-      by (inl w) = let e : 1 ≡ 0 = one_kind a.3 w.read.asked in absurd (omega (arith, e))
-      by (inr (inl w)) = let e : 1 ≡ 2 = one_kind a.3 w.read.asked in absurd (omega (arith, e))
-      by (inr (inr (inl w))) = stored w
-      by (inr (inr (inr (inl w)))) = let e : 1 ≡ 3 = one_kind a.3 w.recalled.asked in absurd (omega (arith, e))
-      by (inr (inr (inr (inr (inl w))))) = let e : 1 ≡ 4 = one_kind a.3 w.asked in absurd (omega (arith, e))
-      by (inr (inr (inr (inr (inr w))))) = let e : 1 ≡ 5 = one_kind a.3 w.asked in absurd (omega (arith, e))
+      by : WasDone c → RunTells c
+      by (done_ran w) = let e : 1 ≡ 0 = one_kind a.3 w.read.asked in absurd (omega (arith, e))
+      by (done_shown read none written) = let e : 1 ≡ 2 = one_kind a.3 read.asked in absurd (omega (arith, e))
+      by (done_stored recording read bytes whole is_run kept others written) = record {
+        name = read.name;
+        recording = recording;
+        options = read.options;
+        run = run_by read.bytes read.program read.options c.schedule;
+        known = known_of read.program read.options c.schedule;
+        stored = bytes;
+        asked = read.asked;
+        loaded = read.loaded;
+        policy_is = refl;
+        budget_is = refl;
+        taken = refl;
+        headline = holds (run_by read.bytes read.program read.options c.schedule) read.accepted whole;
+        is = is_run;
+        kept = kept;
+        written = written;
+      }
+      by (done_answered w) = let e : 1 ≡ 3 = one_kind a.3 w.recalled.asked in absurd (omega (arith, e))
+      by (done_drilled number program asks read whole out is_out status_is written agreeing) = let e : 1 ≡ 4 = one_kind a.3 asks in absurd (omega (arith, e))
+      by (done_queried w) = let e : 1 ≡ 5 = one_kind a.3 w.recalled.asked in absurd (omega (arith, e))
 
   debug : AsksLines c → HasAnswered c → DebugTells c
-  debug a (inl is) = by (o.run is)
+  debug a (inl is) = by (o.done is)
     where
-      by : RanWhole c ⊎ (WasShown c ⊎ (WasStored c ⊎ (WasAnswered c ⊎ (WasDrilled c ⊎ WasQueried c)))) → DebugTells c
-      by (inl w) = let e : 3 ≡ 0 = one_kind a.1 w.read.asked in absurd (omega (arith, e))
-      by (inr (inl w)) = let e : 3 ≡ 2 = one_kind a.1 w.read.asked in absurd (omega (arith, e))
-      by (inr (inr (inl w))) = let e : 3 ≡ 1 = one_kind a.1 w.read.asked in absurd (omega (arith, e))
-      by (inr (inr (inr (inl w)))) = answered w
-      by (inr (inr (inr (inr (inl w))))) = let e : 3 ≡ 4 = one_kind a.1 w.asked in absurd (omega (arith, e))
-      by (inr (inr (inr (inr (inr w))))) = let e : 3 ≡ 5 = one_kind a.1 w.asked in absurd (omega (arith, e))
+      by : WasDone c → DebugTells c
+      by (done_ran w) = let e : 3 ≡ 0 = one_kind a.1 w.read.asked in absurd (omega (arith, e))
+      by (done_shown read none written) = let e : 3 ≡ 2 = one_kind a.1 read.asked in absurd (omega (arith, e))
+      by (done_stored recording read bytes whole is_run kept others written) = let e : 3 ≡ 1 = one_kind a.1 read.asked in absurd (omega (arith, e))
+      by (done_answered w) = answered w
+      by (done_drilled number program asks read whole out is_out status_is written agreeing) = let e : 3 ≡ 4 = one_kind a.1 asks in absurd (omega (arith, e))
+      by (done_queried w) = let e : 3 ≡ 5 = one_kind a.1 w.recalled.asked in absurd (omega (arith, e))
   debug a (inr s) = by (o.lines s)
     where
       by : RanWhole c ⊎ WasAnswered c → DebugTells c
@@ -154,10 +153,10 @@ module _ (holds : RunsHaveTheHeadline) (c : Call) (o : IsOutcome c) where
   -- ---- what is promised
 
   -- the loaded source's program is the promised one
-  one_program : HaveOneProgram → (p : IsPromised c) (name bytes : List ℕ) (program : Program) → name ≡ p.name → Loads c.before.held name most_bytes bytes → IsRead bytes program → program ≡ p.program
+  one_program : HaveOneProgram → (p : IsPromised c) (name bytes : List ℕ) (program : Program) → name ≡ p.name → Loads c.before.held name MOST_BYTES bytes → IsRead bytes program → program ≡ p.program
   one_program unique p name bytes program same loaded read =
-      let as_told = loaded_as c.before.held p.at p.name name p.all bytes most_bytes p.told p.there same loaded in
-      unique (take most_bytes p.all) program p.program (subst (λ b. IsRead b program) as_told read) p.accepted
+      let as_told = loaded_as c.before.held p.at p.name name p.all bytes MOST_BYTES p.told p.there same loaded in
+      unique (take MOST_BYTES p.all) program p.program (subst (λ b. IsRead b program) as_told read) p.accepted
 
   programs : HaveOneProgram → (p : IsPromised c) → AsksFlow c → (c.status ≡ 5) ⊎ ((t : FlowTells c) × (t.run.program ≡ p.program))
   programs unique p a = by (o.complete p)
@@ -193,11 +192,11 @@ pub sources_recorded : RunsHaveTheHeadline → HaveOneProgram → SourcesAreReco
 sources_recorded holds unique c o p a = sources holds c o unique p a
 
 pub runs_told : RunsHaveTheHeadline → RecordedRunsAreTold
-runs_told holds c o p = by (o.answers p)
+runs_told holds c o p a = by (o.answers p)
   where
     by : (c.status ≡ 0) ⊎ (c.status ≡ 5) → (c.status ≡ 5) ⊎ ((t : DebugTells c) × Headline (promised_run c p) t.known)
     by (inl is) =
-        let t = debug_tells holds c o (p.name, p.asked) (inl is) in
-        let as_told = loaded_as c.before.held p.at p.name t.name p.all t.bytes most_recording p.told p.there (one_name t.asked p.asked) t.loaded in
+        let t = debug_tells holds c o a (inl is) in
+        let as_told = loaded_as c.before.held p.at p.name t.name p.all t.bytes MOST_RECORDING p.told p.there (one_asked_name c.words t.name p.name (inl t.asked) p.asked) t.loaded in
         inr (t, t.headline (promised_run c p) (subst (IsRecorded (promised_run c p)) (sym as_told) p.of_run))
     by (inr five) = inl five

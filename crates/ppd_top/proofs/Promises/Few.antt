@@ -1,10 +1,9 @@
 -- What is replayed for the edges of an item and for a last value of a run without a race.
-use Rattle.std.specs.Prelude.{◌*◌, None, Some, length, option_map, slice_get, sum_by}
+use Rattle.std.specs.Prelude.{◌*◌, None, Some, length, option_map, slice_get, sum_by, get_or}
 use Rattle.std.proofs.Common.{◌≡◌, ℕ, ◌+◌, ◌<◌, ◌≤◌, ℤ, List, [], ◌∷◌, Option, Result, Ok, arith, refl, ap, ap₂, sym, subst, ◌∙◌}
 use Rattle.std.proofs.lemmas.List.Sums.{sum_by-cons}
 use Rattle.std.proofs.lemmas.Option.{none-some}
 use Rattle.ppd_ast.specs.Valid.{IsValid}
-use Rattle.ppd_entry.specs.Entries.{entries_at}
 use Rattle.law_replay.specs.Theorem.Laws.{ReplaysGiveIntervals, modelled_in, modelled_of}
 use Rattle.law_flow_own.specs.Loops.AllOwnParts.{AllOwnPartsAreFound}
 use Rattle.law_flow_shared.specs.Costs.Bounds.{EdgesCostLittle, LastCostsLittle, steps_in, steps_of_all}
@@ -71,7 +70,7 @@ IsBy x ms answer before after found =
     × (after
     ≡ before
     + sum_by
-    (λ (m : ℕ × ℕ). unless_kept (items_kept x.kept m.0 m.1) (own_steps_of x.program x.plan x.budget (entries_at x.cut m.0) m.1))
+    (λ (m : ℕ × ℕ). unless_kept (items_kept x.kept m.0 m.1) (own_steps_of x.program x.plan x.budget (get_or x.cut.lists m.0 []) m.1))
     ms)
 
 abbrev HasAnswered : (p k j before after : ℕ) → List FlowEdge → Kept → Type 0
@@ -90,16 +89,16 @@ module _ (r : Run) (valid : IsValid r.program) (whole : IsWhole r.program (plan_
   seen_there = sym (all_there r.program r.policy r.budget r.schedule valid whole free)
 
   module _ (gives : ReplaysGiveIntervals) where
-    never : (p k : ℕ) → failed_at r.program (plan_in r) r.budget (entries_at (logs_in r) p) k ≡ None
+    never : (p k : ℕ) → failed_at r.program (plan_in r) r.budget (get_or (logs_in r).lists p []) k ≡ None
     never p k = ap failure_of (gives r.program r.policy r.budget r.schedule p k valid whole free) ∙ fails_nowhere k (slice_get xs p)
 
-    own_steps : (p k : ℕ) → own_steps_of r.program (plan_in r) r.budget (entries_at (logs_in r) p) k ≡ steps_in (slice_get xs p) k
+    own_steps : (p k : ℕ) → own_steps_of r.program (plan_in r) r.budget (get_or (logs_in r).lists p []) k ≡ steps_in (slice_get xs p) k
     own_steps p k = ap steps_of (gives r.program r.policy r.budget r.schedule p k valid whole free) ∙ steps_there k (slice_get xs p)
 
-    cost : (ms : List (ℕ × ℕ)) → sum_by (λ (m : ℕ × ℕ). own_steps_of r.program (plan_in r) r.budget (entries_at (logs_in r) m.0) m.1) ms ≡ steps_of_all xs ms
+    cost : (ms : List (ℕ × ℕ)) → sum_by (λ (m : ℕ × ℕ). own_steps_of r.program (plan_in r) r.budget (get_or (logs_in r).lists m.0 []) m.1) ms ≡ steps_of_all xs ms
     cost [] = refl
     cost (m ∷ ms) =
-        sum_by-cons (λ (n : ℕ × ℕ). own_steps_of r.program (plan_in r) r.budget (entries_at (logs_in r) n.0) n.1) m ms
+        sum_by-cons (λ (n : ℕ × ℕ). own_steps_of r.program (plan_in r) r.budget (get_or (logs_in r).lists n.0 []) n.1) m ms
         ∙ ap₂ (λ a b. a + b) (own_steps m.0 m.1) (cost ms)
         ∙ sym (sum_by-cons (λ (n : ℕ × ℕ). steps_in (slice_get xs n.0) n.1) m ms)
 

@@ -1,4 +1,7 @@
 -- The races of a schedule are exactly the conflicts that its record leaves unordered.
+use Rattle.ppd_model.specs.Synchronizations.{sync_of}
+use Rattle.std.specs.Prelude.{filter_map}
+use Rattle.std.specs.Bool.{beq}
 use Rattle.std.proofs.Common.{◌≡◌, ℕ, zero, suc, ◌+◌, ◌-◌, ◌<◌, ◌≤◌, Bool, true, false, Some, List, [], ◌∷◌, arith, get_or, inl, inr, length, map, nat_eq, not, refl, ap, slice_get, sym, subst, ◌&&◌, ◌||◌, true≢false, eq-eqb, eqb-true}
 use Rattle.std.proofs.lemmas.Bool.{and_from, cases_lt, or_cases, or_left, or_right}
 use Rattle.std.proofs.lemmas.Option.{none-some}
@@ -11,13 +14,12 @@ use Rattle.ppd_model.specs.declared.graph.Race.{Race}
 use Rattle.ppd_model.specs.declared.graph.RaceKind.{RaceKind}
 use Rattle.ppd_model.specs.declared.graph.RaceKind.TheVariants.{ReadWrite, WriteRead, WriteWrite}
 use Rattle.ppd_model.specs.HappenedBefore.{edge, is_edge_before}
-use Rattle.ppd_model.specs.Races.{Edges, candidates, edges_of_story, first_writes, has_access, is_race, kinds, race, races, races_of, second_writes, writes_or_not}
+use Rattle.ppd_model.specs.Races.{Edges, candidates, edges_of_story, first_writes, has_access, is_race, kinds, race, races, second_writes, races_among}
 use Rattle.ppd_model.proofs.OrderWords.{are_apart, own_edges}
 use Rattle.ppd_model.specs.Record.{SharedAccess, accesses, accesses_from, record_of}
 use Rattle.ppd_model.specs.declared.tracing.Story.{Story}
 use Rattle.ppd_model.specs.declared.tracing.Taken.{Taken}
-use Rattle.ppd_model.specs.Story.{own_steps, story}
-use Rattle.ppd_model.specs.Synchronizations.{syncs_of}
+use Rattle.ppd_model.specs.Story.{story}
 use Rattle.ppd_model.specs.Laws.{IsTestOfEdges}
 use Rattle.ppd_model.specs.Prefixes.{ObjectsStay}
 use Rattle.ppd_model.specs.RecordedSets.{AccessesAreOfCells}
@@ -44,41 +46,42 @@ not_false false f = refl
 
 -- ---- accesses
 
-writes_so : (a : SharedAccess) (w : Bool) → writes_or_not a w ≡ true → a.writes ≡ w
-writes_so a true e = e
-writes_so a false e = by a.writes e
+writes_so : (a : SharedAccess) (w : Bool) → beq a.writes w ≡ true → a.writes ≡ w
+writes_so a w e = by a.writes w e
   where
-    by : (b : Bool) → not b ≡ true → b ≡ false
-    by true f = sym f
-    by false f = refl
+    by : (b c : Bool) → beq b c ≡ true → b ≡ c
+    by true true f = refl
+    by true false f = sym f
+    by false true f = f
+    by false false f = refl
 
-does_so : (w : Bool) (i c : ℕ) → writes_or_not (record { edge = i; cell = c; writes = w }) w ≡ true
-does_so true i c = refl
-does_so false i c = refl
+does_so : (w : Bool) → beq w w ≡ true
+does_so true = refl
+does_so false = refl
 
 is_access : (a : SharedAccess) (i c : ℕ) (w : Bool) → a.edge ≡ i → a.cell ≡ c → a.writes ≡ w → record { edge = i; cell = c; writes = w } ≡ a
 is_access a i c w e f g = λ k. record { edge = sym e k; cell = sym f k; writes = sym g k }
 
 module _ (s : Story) (p i c : ℕ) (w : Bool) where
   abbrev passes : SharedAccess → Bool
-  passes a = nat_eq a.edge i && nat_eq a.cell c && writes_or_not a w
+  passes a = nat_eq a.edge i && nat_eq a.cell c && beq a.writes w
 
   access_of : has_access s p i c w ≡ true → HasAccess s p i c w
   access_of e =
       let found = of_any passes (accesses s p) e in
       let a : SharedAccess = found.0 in
-      let both = left_true (nat_eq a.edge i && nat_eq a.cell c) (writes_or_not a w) found.2 in
+      let both = left_true (nat_eq a.edge i && nat_eq a.cell c) (beq a.writes w) found.2 in
       let same = is_access a i c w
       (eqb-true a.edge i (left_true (nat_eq a.edge i) (nat_eq a.cell c) both))
       (eqb-true a.cell c (right_true (nat_eq a.edge i) (nat_eq a.cell c) both))
-      (writes_so a w (right_true (nat_eq a.edge i && nat_eq a.cell c) (writes_or_not a w) found.2)) in
+      (writes_so a w (right_true (nat_eq a.edge i && nat_eq a.cell c) (beq a.writes w) found.2)) in
       in_contains (accesses s p) (record { edge = i; cell = c; writes = w }) (subst (λ z. Member z (accesses s p)) (sym same) found.1)
 
   access_is : HasAccess s p i c w → has_access s p i c w ≡ true
   access_is h =
       in_any passes (record { edge = i; cell = c; writes = w }) (accesses s p) (of_contains (accesses s p) (record { edge = i; cell = c; writes = w }) h)
-      (and_from (nat_eq i i && nat_eq c c) (writes_or_not (record { edge = i; cell = c; writes = w }) w)
-      (and_from (nat_eq i i) (nat_eq c c) (eq-eqb i i refl) (eq-eqb c c refl)) (does_so w i c))
+      (and_from (nat_eq i i && nat_eq c c) (beq w w)
+      (and_from (nat_eq i i) (nat_eq c c) (eq-eqb i i refl) (eq-eqb c c refl)) (does_so w))
 
   -- of a process and an edge that are there
   access_at : HasAccess s p i c w → (m : ℕ) × (slice_get (accesses s p) m ≡ Some (record { edge = i; cell = c; writes = w }))
@@ -95,9 +98,9 @@ module _ (s : Story) (p i c : ℕ) (w : Bool) where
       past (xs ∷ rest) zero le = absurd (omega (arith, le))
       past (xs ∷ rest) (suc q) le = past rest q (omega (arith, le))
 
-  edge_there : HasAccess s p i c w → i < length (syncs_of (own_steps s p)) + 1
+  edge_there : HasAccess s p i c w → i < length (filter_map sync_of (get_or s.steps p [])) + 1
   edge_there h =
-      let below = edge_below (own_steps s p) 0 (access_at h).0 (record { edge = i; cell = c; writes = w }) (access_at h).1 in
+      let below = edge_below (get_or s.steps p []) 0 (access_at h).0 (record { edge = i; cell = c; writes = w }) (access_at h).1 in
       omega (arith, below)
 
 -- ---- order
@@ -172,7 +175,7 @@ module _ (tests_edges : IsTestOfEdges) (program : Program) (s : Story) (r : Race
   abbrev apart : Bool
   apart = are_apart edges (edge r.p r.i) (edge r.q r.j)
 
-  of_listed : Member r (races_of program s) → IsUnorderedConflict program s r
+  of_listed : Member r (races_among (edges_of_story program s)) → IsUnorderedConflict program s r
   of_listed m =
       let f = of_filter (is_race edges) r (candidates edges) m in
       let accesses = left_true (first_has && second_has) apart f.1 in
@@ -183,7 +186,7 @@ module _ (tests_edges : IsTestOfEdges) (program : Program) (s : Story) (r : Race
         unordered = unordered_of tests_edges program s (edge r.p r.i) (edge r.q r.j) (right_true (first_has && second_has) apart f.1);
       }
 
-  in_listed : r.cell < length s.cells → IsUnorderedConflict program s r → Member r (races_of program s)
+  in_listed : r.cell < length s.cells → IsUnorderedConflict program s r → Member r (races_among (edges_of_story program s))
   in_listed there c =
       in_filter (is_race edges) r (candidates edges)
       (candidate_in edges r.p r.i r.q r.j r.cell r.kind c.two_processes (process_there s r.q r.j r.cell (second_writes r.kind) c.second)

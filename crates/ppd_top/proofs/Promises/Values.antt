@@ -1,4 +1,5 @@
 -- What is told of a run by a schedule without a race are the values of that schedule.
+use Rattle.ppd_model.specs.Races.{races_among, edges_of_story}
 use Rattle.std.specs.Prelude.{None, Some, slice_get}
 use Rattle.std.proofs.Common.{◌≡◌, ℕ, zero, suc, ◌+◌, ◌<◌, List, [], ◌∷◌, Option, Ok, arith, get_or, length, map, refl, ap, ap₂, ◌∙◌}
 use Rattle.ppd_ast.specs.declared.plan.Plan.{Plan}
@@ -11,7 +12,6 @@ use Rattle.ppd_model.specs.declared.tracing.Tracing.{Tracing}
 use Rattle.ppd_model.proofs.TraceWords.{events_from}
 use Rattle.ppd_model.specs.Intervals.{Span, Split, items_of}
 use Rattle.ppd_model.proofs.IntervalWords.{items_at as items_at_span, items_in, splits_from}
-use Rattle.ppd_model.specs.Races.{races_of}
 use Rattle.ppd_model.specs.declared.tracing.Story.{Story}
 use Rattle.ppd_model.specs.Story.{story}
 use Rattle.ppd_model.specs.Laws.{ProcessesFollowTheirSteps}
@@ -66,7 +66,7 @@ pub told_as : (k : ℕ) (o : Option Split) → told_in k o ≡ told_if (items_in
 told_as k None = refl
 told_as k (Some y) = if_there y k (slice_get y.spans k)
 
-module _ (r : Run) (valid : IsValid r.program) (h : List ℕ) (free : races_of r.program (story_in r h) ≡ []) where
+module _ (r : Run) (valid : IsValid r.program) (h : List ℕ) (free : races_among (edges_of_story r.program (story_in r h)) ≡ []) where
   abbrev known : Known
   known = known_of_run r.program (plan_in r) r.budget h
 

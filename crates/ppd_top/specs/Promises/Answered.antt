@@ -1,5 +1,6 @@
 -- What is answered of a run, beside what a schedule of it does.
 use Rattle.std.specs.Prelude.{◌≡◌, ℕ, ◌<◌, List, [], ◌∷◌, codes, map, get_or, length, slice_get, Option, Some, None, Ok, Err}
+use Rattle.ppd_model.specs.Story.{story}
 use Rattle.ppd_ast.specs.Digits.{number_in}
 use Rattle.ppd_model.specs.declared.flow.FlowEdge.{FlowEdge}
 use Rattle.ppd_model.specs.declared.flow.Item.{Item}
@@ -36,7 +37,8 @@ told_if (Some items) = Some (Ok items)
 -- the values answered are those of this schedule: all events that are told, with what each read and wrote, are the
 -- events of its full trace; interval by interval; and the last values with the writes that they are from
 pub record AreValuesOf (r : Run) (h : List ℕ) (x : Known) : Type 0 where
-  pub events : map events_told x.items ≡ map bare (full_trace r.program (plan_in r) r.budget h).events
+  pub events : map events_told x.items
+      ≡ map bare (full_trace r.program (plan_in r) r.budget (story r.program (plan_in r) r.budget h)).events
   pub intervals : (p k : ℕ) → told_at x p k ≡ told_if (items r.program (plan_in r) r.budget (story_in r h) p k)
   pub lasts : (c : ℕ) → c < length r.program.starts
       → slice_get x.lasts c ≡ Some (Ok (last r.program (plan_in r) r.budget (story_in r h) c))
@@ -81,7 +83,9 @@ pub record HasItsEdges (r : Run) (h : List ℕ) (x : Known) (p n : ℕ) (e : Tra
 pub record MissesNoEdge (r : Run) (h : List ℕ) (x : Known) : Type 0 where
   pub lines : (line : List ℕ) → failure_of x line ≡ None
   pub events : (p n : ℕ) (e : TracedEvent)
-      → slice_get (get_or (full_trace r.program (plan_in r) r.budget h).events p []) n ≡ Some e
+      → slice_get
+      (get_or (full_trace r.program (plan_in r) r.budget (story r.program (plan_in r) r.budget h)).events p []) n
+      ≡ Some e
       → HasItsEdges r h x p n e
   pub items : (p k j : ℕ) (es : List FlowEdge) → HasEdges r h p k j es → flow_at x p k j ≡ Ok es
   pub requested : (line : List ℕ) (p k j : ℕ) (item : Item) (es : List FlowEdge)

@@ -1,4 +1,5 @@
 -- What calls of the program tell of runs: of each of them the headline holds.
+use Rattle.ppd_top.specs.declared.loads.TheConstants.{MOST_BYTES, MOST_RECORDING}
 use Rattle.std.specs.Prelude.{◌≡◌, ◌⊎◌, ℕ, List, ◌++◌}
 use Rattle.ppd_top_query.specs.Recordings.{IsRunRecorded}
 use Rattle.ppd_io.specs.Content.{Loads, Stores}
@@ -9,7 +10,6 @@ use Rattle.ppd_top.specs.Call.{Call, Wrote}
 use Rattle.ppd_top.specs.Clauses.{IsOutcome, IsPromised, IsPromisedAnswers}
 use Rattle.ppd_top.specs.Output.{AreCommands, answers}
 use Rattle.ppd_top.specs.Summary.{summary_of}
-use Rattle.ppd_top.specs.Top.{most_bytes, most_recording}
 use Rattle.ppd_top.specs.Words.{Asks}
 use Rattle.ppd_top.specs.Words.Request.{on_source, on_recording}
 use Rattle.ppd_top.specs.Words.Command.{Flow, Run as RunTo}
@@ -42,7 +42,7 @@ pub record FlowTells (c : Call) : Type 0 where
   pub known : Known
   pub commands : List ℕ
   pub asked : Asks c.words (on_source Flow name options)
-  pub loaded : Loads c.before.held name most_bytes run.source
+  pub loaded : Loads c.before.held name MOST_BYTES run.source
   pub policy_is : run.policy ≡ options.policy
   pub budget_is : run.budget ≡ options.budget
   pub taken : run.schedule ≡ c.schedule
@@ -75,7 +75,7 @@ pub record RunTells (c : Call) : Type 0 where
   pub known : Known
   pub stored : List ℕ
   pub asked : Asks c.words (on_source (RunTo recording) name options)
-  pub loaded : Loads c.before.held name most_bytes run.source
+  pub loaded : Loads c.before.held name MOST_BYTES run.source
   pub policy_is : run.policy ≡ options.policy
   pub budget_is : run.budget ≡ options.budget
   pub taken : run.schedule ≡ c.schedule
@@ -105,7 +105,7 @@ pub record DebugTells (c : Call) : Type 0 where
   pub known : Known
   pub commands : List ℕ
   pub asked : Asks c.words (on_recording name)
-  pub loaded : Loads c.before.held name most_recording bytes
+  pub loaded : Loads c.before.held name MOST_RECORDING bytes
   pub headline : (run : Run) → IsRecorded run bytes → Headline run known
   pub told : AreCommands c.before.io.left c.after.io.left commands
   pub written : Wrote c (answers known commands).text
@@ -127,5 +127,5 @@ promised_run c p = record {
 -- no recording of a run is refused: but for want of memory the run is told of, where no device fails
 abbrev pub RecordedRunsAreTold : Type 0
 RecordedRunsAreTold =
-    (c : Call) → IsOutcome c → (p : IsPromisedAnswers c)
+    (c : Call) → IsOutcome c → (p : IsPromisedAnswers c) → AsksLines c
     → (c.status ≡ 5) ⊎ ((t : DebugTells c) × Headline (promised_run c p) t.known)

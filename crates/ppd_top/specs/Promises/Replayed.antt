@@ -1,10 +1,9 @@
 -- That all is answered of a run by replays of single e-blocks, each from its own log, and what they cost.
-use Rattle.std.specs.Prelude.{◌≡◌, ℕ, ◌+◌, ◌*◌, ◌<◌, ◌≤◌, ℤ, List, [], length, slice_get, Option, Some, None, Ok}
+use Rattle.std.specs.Prelude.{◌≡◌, ℕ, ◌+◌, ◌*◌, ◌<◌, ◌≤◌, ℤ, List, [], length, slice_get, Option, Some, None, Ok, get_or}
 use Rattle.ppd_ast.specs.declared.plan.Plan.{Plan}
 use Rattle.ppd_ast.specs.declared.program.Program.{Program}
 use Rattle.ppd_emul_model.specs.Replay.{replay}
 use Rattle.ppd_entry.specs.declared.entry.Logs.{Logs}
-use Rattle.ppd_entry.specs.Entries.{entries_at}
 use Rattle.ppd_entry.specs.IntervalLogs.{IntervalLog, interval_log}
 use Rattle.ppd_session.specs.Answers.{IsEdges}
 use Rattle.ppd_flow_past.specs.declared.past.Past.{Past}
@@ -16,7 +15,6 @@ use Rattle.ppd_model.specs.declared.flow.Origin.{Origin}
 use Rattle.ppd_model.specs.FlowbackEdges.{last}
 use Rattle.ppd_model.specs.NearIntervals.{last_steps, near_steps}
 use Rattle.ppd_session.specs.Known.{Known, Told, flow_by, last_by, told_by}
-use Rattle.ppd_session.specs.Sessions.{IsItemThere}
 use Rattle.ppd_session.specs.Texts.{flow_at, told_at}
 use Rattle.law_flow_shared.specs.Costs.Bounds.{steps_in}
 use Rattle.ppd_top.specs.Promises.Answered.{HasEdges}
@@ -33,8 +31,8 @@ told_by_replay r (Some log) = Some (told_by (replay r.program (plan_in r) log r.
 -- the replays of the intervals that the search for them names
 pub record AreByReplays (r : Run) (x : Known) : Type 0 where
   pub intervals : (p k : ℕ)
-      → told_at x p k ≡ told_by_replay r (interval_log (plan_in r) (entries_at (logs_in r) p) k)
-  pub edges : (p k j : ℕ) → IsItemThere x p k j
+      → told_at x p k ≡ told_by_replay r (interval_log (plan_in r) (get_or (logs_in r).lists p []) k)
+  pub edges : (p k j : ℕ) (items : List Item) → told_at x p k ≡ Some (Ok items) → j < length items
       → flow_at x p k j ≡ flow_by r.program (plan_in r) r.budget (logs_in r) p k j
   pub lasts : (c : ℕ) → c < length r.program.starts
       → slice_get x.lasts c ≡ Some (last_by r.program (plan_in r) r.budget (logs_in r) c)
@@ -77,9 +75,9 @@ kept_of r = record {
 -- the replays that the clause lists, and for n edges by at most 2 (n + 1) times the own steps of the intervals near to
 -- the item. So of `last`, by at most those of the intervals that are open where the last write is
 pub record ReplaysAreFew (r : Run) : Type 0 where
-  pub none_fails : (p k : ℕ) → failed_at r.program (plan_in r) r.budget (entries_at (logs_in r) p) k ≡ None
+  pub none_fails : (p k : ℕ) → failed_at r.program (plan_in r) r.budget (get_or (logs_in r).lists p []) k ≡ None
   pub own_steps : (p k : ℕ)
-      → own_steps_of r.program (plan_in r) r.budget (entries_at (logs_in r) p) k
+      → own_steps_of r.program (plan_in r) r.budget (get_or (logs_in r).lists p []) k
       ≡ steps_in (slice_get (splits_in r r.schedule) p) k
   pub edges : (past : Past) (p k j before after : ℕ) (es found : List FlowEdge) → kept_in past ≡ kept_of r
       → HasEdges r r.schedule p k j es → IsEdges past p k j before after (Ok found)

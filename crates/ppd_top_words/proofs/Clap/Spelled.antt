@@ -1,7 +1,7 @@
 -- A word is spelled alike by its beginnings and by the parts into which clap cuts it.
 use Rattle.std.proofs.Common.{◌≡◌, ◌∙◌, ◌&&◌, ◌||◌, ◌==◌, ℕ, zero, suc, Bool, cond, true, false, true≢false, refl, sym, ap, ap₂, subst, arith, List, [], ◌∷◌, ◌++◌, length, take, drop, Option, Some, None, append_assoc, inl, inr}
-use Rattle.std.specs.Prelude.{◌⊎◌, if◌then◌else◌, option_and_then}
-use Rattle.std.specs.List.{before_first}
+use Rattle.std.specs.Prelude.{◌⊎◌, if◌then◌else◌, nat_eq, option_and_then}
+use Rattle.std.specs.List.{before_first, starts_with}
 use Rattle.std.specs.Str.{bytes_eq}
 use Rattle.std.proofs.lemmas.Bool.Decides.{nat_tests}
 use Rattle.std.proofs.lemmas.List.{drop_at, take-append-drop, take_at}
@@ -56,20 +56,20 @@ abbrev search_in : List Text → Text → Kind
 search_in [] r = other
 search_in (l ∷ ls) r =
     if bytes_eq r l then waits l
-    else if bytes_eq (take (length (l ++ 61 ∷ [])) r) (l ++ 61 ∷ []) then sets l (drop (length (l ++ 61 ∷ [])) r)
+    else if starts_with nat_eq r (l ++ 61 ∷ []) then sets l (drop (length (l ++ 61 ∷ [])) r)
     else search_in ls r
 
 by_is : (ls : List Text) (r : Text) → by_beginning ls (45 ∷ 45 ∷ r) ≡ search_in ls r
 by_is [] r = refl
-by_is (l ∷ ls) r = ap (λ (k : Kind). if bytes_eq r l then waits l else if bytes_eq (take (length (l ++ 61 ∷ [])) r) (l ++ 61 ∷ []) then sets l (drop (length (l ++ 61 ∷ [])) r) else k) (by_is ls r)
+by_is (l ∷ ls) r = ap (λ (k : Kind). if bytes_eq r l then waits l else if starts_with nat_eq r (l ++ 61 ∷ []) then sets l (drop (length (l ++ 61 ∷ [])) r) else k) (by_is ls r)
 
 back : (n : ℕ) (r : Text) → take n r ++ drop n r ≡ r
 back n r = take-append-drop n r
 
-begins_not : (l r : Text) → has_byte 61 r ≡ false → bytes_eq (take (length (l ++ 61 ∷ [])) r) (l ++ 61 ∷ []) ≡ false
+begins_not : (l r : Text) → has_byte 61 r ≡ false → starts_with nat_eq r (l ++ 61 ∷ []) ≡ false
 begins_not l r none = is_false _ (λ hit.
     let n : ℕ = length (l ++ 61 ∷ []) in
-    let front : take n r ≡ l ++ 61 ∷ [] = same-equal _ _ hit in
+    let front : take n r ≡ l ++ 61 ∷ [] = sym (same-equal _ _ hit) in
     let whole : r ≡ l ++ 61 ∷ drop n r = sym (back n r) ∙ ap (λ (f : Text). f ++ drop n r) front ∙ append_assoc l (61 ∷ []) (drop n r) in
     clash (has_byte 61 r) (ap (has_byte 61) whole ∙ list_any-at 61 l (drop n r)) none)
 
@@ -78,7 +78,7 @@ no_value [] r none = refl
 no_value (l ∷ ls) r none = go (bytes_eq r l) refl (no_value ls r none)
   where
     go : (t : Bool) → bytes_eq r l ≡ t → cond (is_among ls r) (waits r) other ≡ search_in ls r
-        → cond (is_among (l ∷ ls) r) (waits r) other ≡ (if t then waits l else if bytes_eq (take (length (l ++ 61 ∷ [])) r) (l ++ 61 ∷ []) then sets l (drop (length (l ++ 61 ∷ [])) r) else search_in ls r)
+        → cond (is_among (l ∷ ls) r) (waits r) other ≡ (if t then waits l else if starts_with nat_eq r (l ++ 61 ∷ []) then sets l (drop (length (l ++ 61 ∷ [])) r) else search_in ls r)
     go true e rest =
         let same : r ≡ l = same-equal r l e in
         ap (λ (b : Bool). cond (b || is_among ls r) (waits r) other) (ap (λ (x : Text). bytes_eq l x) same ∙ same-refl l) ∙ ap waits same
@@ -90,18 +90,18 @@ no_value (l ∷ ls) r none = go (bytes_eq r l) refl (no_value ls r none)
 whole_not : (l a b : Text) → has_byte 61 l ≡ false → bytes_eq (a ++ 61 ∷ b) l ≡ false
 whole_not l a b none = is_false _ (λ hit. clash (has_byte 61 l) (ap (has_byte 61) (sym (same-equal (a ++ 61 ∷ b) l hit)) ∙ list_any-at 61 a b) none)
 
-front_hit : (a b : Text) → bytes_eq (take (length (a ++ 61 ∷ [])) (a ++ 61 ∷ b)) (a ++ 61 ∷ []) ≡ true
+front_hit : (a b : Text) → starts_with nat_eq (a ++ 61 ∷ b) (a ++ 61 ∷ []) ≡ true
 front_hit a b =
-    ap (λ (t : Text). bytes_eq t (a ++ 61 ∷ [])) (ap (take (length (a ++ 61 ∷ []))) (sym (append_assoc a (61 ∷ []) b)) ∙ take_at (a ++ 61 ∷ []) b (length (a ++ 61 ∷ [])) refl) ∙ same-refl (a ++ 61 ∷ [])
+    ap (λ (t : Text). bytes_eq (a ++ 61 ∷ []) t) (ap (take (length (a ++ 61 ∷ []))) (sym (append_assoc a (61 ∷ []) b)) ∙ take_at (a ++ 61 ∷ []) b (length (a ++ 61 ∷ [])) refl) ∙ same-refl (a ++ 61 ∷ [])
 
 rest_hit : (a b : Text) → drop (length (a ++ 61 ∷ [])) (a ++ 61 ∷ b) ≡ b
 rest_hit a b = ap (drop (length (a ++ 61 ∷ []))) (sym (append_assoc a (61 ∷ []) b)) ∙ drop_at (a ++ 61 ∷ []) b (length (a ++ 61 ∷ [])) refl
 
-front_miss : (l a b : Text) → has_byte 61 l ≡ false → has_byte 61 a ≡ false → bytes_eq l a ≡ false → bytes_eq (take (length (l ++ 61 ∷ [])) (a ++ 61 ∷ b)) (l ++ 61 ∷ []) ≡ false
+front_miss : (l a b : Text) → has_byte 61 l ≡ false → has_byte 61 a ≡ false → bytes_eq l a ≡ false → starts_with nat_eq (a ++ 61 ∷ b) (l ++ 61 ∷ []) ≡ false
 front_miss l a b l_lacks a_lacks e = is_false _ (λ hit.
     let n : ℕ = length (l ++ 61 ∷ []) in
     let r : Text = a ++ 61 ∷ b in
-    let front : take n r ≡ l ++ 61 ∷ [] = same-equal _ _ hit in
+    let front : take n r ≡ l ++ 61 ∷ [] = sym (same-equal _ _ hit) in
     let whole : r ≡ l ++ 61 ∷ drop n r = sym (back n r) ∙ ap (λ (f : Text). f ++ drop n r) front ∙ append_assoc l (61 ∷ []) (drop n r) in
     let same : l ≡ a = sym (before_first-at 61 l (drop n r) (lacks_from l l_lacks)) ∙ ap (before_first (λ x. x == 61)) (sym whole) ∙ before_first-at 61 a b (lacks_from a a_lacks) in
     clash (bytes_eq l a) (ap (bytes_eq l) (sym same) ∙ same-refl l) e)
@@ -110,14 +110,14 @@ some_value : (ls : List Text) (a b : Text) → HaveNoEquals ls → has_byte 61 a
 some_value [] a b all none = refl
 some_value (l ∷ ls) a b all none =
     go (bytes_eq l a) refl (some_value ls a b all.1 none)
-    ∙ sym (ap (λ (t : Bool). if t then waits l else if bytes_eq (take (length (l ++ 61 ∷ [])) (a ++ 61 ∷ b)) (l ++ 61 ∷ []) then sets l (drop (length (l ++ 61 ∷ [])) (a ++ 61 ∷ b)) else search_in ls (a ++ 61 ∷ b)) (whole_not l a b all.0))
+    ∙ sym (ap (λ (t : Bool). if t then waits l else if starts_with nat_eq (a ++ 61 ∷ b) (l ++ 61 ∷ []) then sets l (drop (length (l ++ 61 ∷ [])) (a ++ 61 ∷ b)) else search_in ls (a ++ 61 ∷ b)) (whole_not l a b all.0))
   where
     go : (t : Bool) → bytes_eq l a ≡ t → cond (is_among ls a) (sets a b) other ≡ search_in ls (a ++ 61 ∷ b)
-        → cond (is_among (l ∷ ls) a) (sets a b) other ≡ (if bytes_eq (take (length (l ++ 61 ∷ [])) (a ++ 61 ∷ b)) (l ++ 61 ∷ []) then sets l (drop (length (l ++ 61 ∷ [])) (a ++ 61 ∷ b)) else search_in ls (a ++ 61 ∷ b))
+        → cond (is_among (l ∷ ls) a) (sets a b) other ≡ (if starts_with nat_eq (a ++ 61 ∷ b) (l ++ 61 ∷ []) then sets l (drop (length (l ++ 61 ∷ [])) (a ++ 61 ∷ b)) else search_in ls (a ++ 61 ∷ b))
     go true e rest =
         let same : l ≡ a = same-equal l a e in
         ap (λ (t : Bool). cond (t || is_among ls a) (sets a b) other) e
-        ∙ sym (ap (λ (x : Text). if bytes_eq (take (length (x ++ 61 ∷ [])) (a ++ 61 ∷ b)) (x ++ 61 ∷ []) then sets x (drop (length (x ++ 61 ∷ [])) (a ++ 61 ∷ b)) else search_in ls (a ++ 61 ∷ b)) same
+        ∙ sym (ap (λ (x : Text). if starts_with nat_eq (a ++ 61 ∷ b) (x ++ 61 ∷ []) then sets x (drop (length (x ++ 61 ∷ [])) (a ++ 61 ∷ b)) else search_in ls (a ++ 61 ∷ b)) same
         ∙ ap (λ (t : Bool). if t then sets a (drop (length (a ++ 61 ∷ [])) (a ++ 61 ∷ b)) else search_in ls (a ++ 61 ∷ b)) (front_hit a b)
         ∙ ap (sets a) (rest_hit a b))
     go false e rest =
@@ -136,7 +136,10 @@ after_hyphens ls r f all = go (cut r)
 
 -- ---- other words
 
-not_long : (ls : List Text) (w : Text) → ((x : Text) → bytes_eq w (45 ∷ 45 ∷ x) ≡ false) → ((n : ℕ) (x : Text) → bytes_eq (take (suc (suc n)) w) (45 ∷ 45 ∷ x) ≡ false) → by_beginning ls w ≡ (if is_dashed w then other else name)
+turned : (c : ℕ) → (c == 45) ≡ false → (45 == c) ≡ false
+turned c e = grind (arith, nat_tests)
+
+not_long : (ls : List Text) (w : Text) → ((x : Text) → bytes_eq w (45 ∷ 45 ∷ x) ≡ false) → ((n : ℕ) (x : Text) → bytes_eq (45 ∷ 45 ∷ x) (take (suc (suc n)) w) ≡ false) → by_beginning ls w ≡ (if is_dashed w then other else name)
 not_long [] w whole front = refl
 not_long (l ∷ ls) w whole front =
     ap₂ (λ (a b : Bool). if a then waits l else if b then sets l (drop (length (45 ∷ 45 ∷ (l ++ 61 ∷ []))) w) else by_beginning ls w) (whole l) (front (length (l ++ 61 ∷ [])) (l ++ 61 ∷ []))
@@ -154,12 +157,12 @@ one_hyphen longs c bs all = go (c == 45) refl
         let same : c ≡ 45 = grind (arith, nat_tests) in
         subst (λ (n : ℕ). clap_spelled longs (45 ∷ n ∷ bs) ≡ spelled longs (45 ∷ n ∷ bs)) (sym same) (two_hyphens longs bs all)
     go false e =
-        let beginning : by_beginning longs (45 ∷ c ∷ bs) ≡ other = not_long longs (45 ∷ c ∷ bs) (λ x. ap (λ (t : Bool). t && bytes_eq bs x) e) (λ n x. ap (λ (t : Bool). t && bytes_eq (take n bs) x) e) in
+        let beginning : by_beginning longs (45 ∷ c ∷ bs) ≡ other = not_long longs (45 ∷ c ∷ bs) (λ x. ap (λ (t : Bool). t && bytes_eq bs x) e) (λ n x. ap (λ (t : Bool). t && bytes_eq x (take n bs)) (turned c e)) in
         rw (e, beginning) refl
 
 pub spelled_alike : (longs : List Text) (w : Text) → HaveNoEquals longs → clap_spelled longs w ≡ spelled longs w
 spelled_alike longs [] all = sym (not_long longs [] (λ x. refl) (λ n x. refl))
-spelled_alike longs (b ∷ []) all = go (b == 45) (not_long longs (b ∷ []) (λ x. and-false (b == 45)) (λ n x. and-false (b == 45)))
+spelled_alike longs (b ∷ []) all = go (b == 45) (not_long longs (b ∷ []) (λ x. and-false (b == 45)) (λ n x. and-false (45 == b)))
   where
     go : (t : Bool) → by_beginning longs (b ∷ []) ≡ name
         → (if t && false then ends else long_kind longs (option_and_then long_of_rest (option_and_then (strip_byte 45) (if t then Some [] else None))) (option_and_then short_of_rest (if t then Some [] else None)))
@@ -173,7 +176,7 @@ spelled_alike longs (b ∷ c ∷ bs) all = go (b == 45) refl
         let same : b ≡ 45 = grind (arith, nat_tests) in
         subst (λ (n : ℕ). clap_spelled longs (n ∷ c ∷ bs) ≡ spelled longs (n ∷ c ∷ bs)) (sym same) (one_hyphen longs c bs all)
     go false e =
-        let beginning : by_beginning longs (b ∷ c ∷ bs) ≡ (if is_dashed (b ∷ c ∷ bs) then other else name) = not_long longs (b ∷ c ∷ bs) (λ x. ap (λ (t : Bool). t && bytes_eq (c ∷ bs) (45 ∷ x)) e) (λ n x. ap (λ (t : Bool). t && bytes_eq (take (suc n) (c ∷ bs)) (45 ∷ x)) e) in
+        let beginning : by_beginning longs (b ∷ c ∷ bs) ≡ (if is_dashed (b ∷ c ∷ bs) then other else name) = not_long longs (b ∷ c ∷ bs) (λ x. ap (λ (t : Bool). t && bytes_eq (c ∷ bs) (45 ∷ x)) e) (λ n x. ap (λ (t : Bool). t && bytes_eq (45 ∷ x) (take (suc n) (c ∷ bs))) (turned b e)) in
         rw (beginning, e) refl
 
 given_alike_from : (longs ids : List Text) (g : Given) (words : List Text) → HaveNoEquals longs → given_from (clap_spelled longs) ids g words ≡ given_from (spelled longs) ids g words

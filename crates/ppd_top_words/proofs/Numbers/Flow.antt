@@ -13,9 +13,8 @@ use Rattle.ppd_top_words.proofs.Numbers.Choices.{among_back, asks_after, ended_a
 use Rattle.ppd_top_words.proofs.Uses.{has_push, value_new, value_other}
 use Rattle.ppd_top_words.proofs.Numbers.Words.{flow_longs, spelled_is, word_of}
 use Rattle.ppd_top_words.specs.Numbers.{Asked, Choice, NumbersGiven, Word, after_one, after_wait, all_given, allows, and_more, asked_for, asked_of, budget, choice_of, given_in, good, leaf, loops, named_of, no_numbers, numbers_from, with_number, with_option, with_source, with_spelled}
-use Rattle.ppd_top_words.specs.Reads.{texts_in}
+use Rattle.ppd_top_words.specs.Words.{Given, Kind, Text, Uses, after_word, ends, name, nothing_given, other, sets, texts, value_of, waits, was_used, with_name, with_use, with_word}
 use Rattle.ppd_top_words.specs.Tested.{are_good, if_good, only_good, tested_from}
-use Rattle.ppd_top_words.specs.Words.{Given, Kind, Text, Uses, after_word, ends, was_used, name, nothing_given, other, sets, value_of, waits, with_name, with_use, with_word}
 
 abbrev asked_with : Option ℕ → Option ℕ → Option ℕ → Text → Asked
 asked_with b f o s = record { budget_is = b; leaf_is = f; loops_is = o; source = s }
@@ -199,12 +198,12 @@ module _ (allowed : Choice → ℕ → Bool) where
           ap (λ (o : Option Choice). if is_some o then None else asked_for l l.source) is
           ∙ sym (ap (λ (o : Option Choice). asked_of (if is_none (option_map id_of o) && (was_used source_id g.uses && true) then Some g.uses else None)) is)
 
-  along_all : (ws : List (Bor Text)) (l : NumbersGiven) (g : Given) → Full l g → numbers_from allowed l ws ≡ asked_of (tested_from (good allowed) (clap_spelled flow_longs) (source_id ∷ []) g (texts_in ws))
+  along_all : (ws : List (Bor Text)) (l : NumbersGiven) (g : Given) → Full l g → numbers_from allowed l ws ≡ asked_of (tested_from (good allowed) (clap_spelled flow_longs) (source_id ∷ []) g (texts ws))
   along_all [] l g full = at_end l g full
   along_all (w ∷ ws) l g full = go (after_one allowed l w) (if_good (good allowed) (after_word (clap_spelled flow_longs) (source_id ∷ []) g w.now)) (on_after w l g full) (along_all ws)
     where
-      go : (o : Option NumbersGiven) (p : Option Given) → Both o p → ((l : NumbersGiven) (g : Given) → Full l g → numbers_from allowed l ws ≡ asked_of (tested_from (good allowed) (clap_spelled flow_longs) (source_id ∷ []) g (texts_in ws)))
-          → and_more o (λ h. numbers_from allowed h ws) ≡ asked_of (option_and_then (λ h. tested_from (good allowed) (clap_spelled flow_longs) (source_id ∷ []) h (texts_in ws)) p)
+      go : (o : Option NumbersGiven) (p : Option Given) → Both o p → ((l : NumbersGiven) (g : Given) → Full l g → numbers_from allowed l ws ≡ asked_of (tested_from (good allowed) (clap_spelled flow_longs) (source_id ∷ []) g (texts ws)))
+          → and_more o (λ h. numbers_from allowed h ws) ≡ asked_of (option_and_then (λ h. tested_from (good allowed) (clap_spelled flow_longs) (source_id ∷ []) h (texts ws)) p)
       go None None both next = refl
       go None (Some x) both next = absurd both
       go (Some x) None both next = absurd both
@@ -224,5 +223,5 @@ module _ (allowed : Choice → ℕ → Bool) where
       none_used loops = refl
 
   -- what is read by hand is what the words give, with the numbers tested at the end
-  pub flow_is_given : (ws : List (Bor Text)) → numbers_from allowed no_numbers ws ≡ asked_of (only_good (good allowed) (clap_gives flow_longs (codes "source" ∷ []) (texts_in ws)))
-  flow_is_given ws = along_all ws no_numbers nothing_given nothing ∙ ap asked_of (tested_is (good allowed) (clap_spelled flow_longs) (codes "source" ∷ []) (texts_in ws) nothing_given refl)
+  pub flow_is_given : (ws : List (Bor Text)) → numbers_from allowed no_numbers ws ≡ asked_of (only_good (good allowed) (clap_gives flow_longs (codes "source" ∷ []) (texts ws)))
+  flow_is_given ws = along_all ws no_numbers nothing_given nothing ∙ ap asked_of (tested_is (good allowed) (clap_spelled flow_longs) (codes "source" ∷ []) (texts ws) nothing_given refl)

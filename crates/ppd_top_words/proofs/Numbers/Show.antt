@@ -11,9 +11,8 @@ use Rattle.ppd_top_words.proofs.Numbers.Flow.{flow_is_given}
 use Rattle.ppd_top_words.proofs.Numbers.Words.{flow_longs}
 use Rattle.ppd_top_words.proofs.Uses.{value_none}
 use Rattle.ppd_top_words.specs.Numbers.{Asked, Choice, NumbersGiven, after_one, all_given, all_shown, and_more, asked_for, asked_of, budget, good, named_of, no_numbers, numbers_from, shown_from}
-use Rattle.ppd_top_words.specs.Reads.{texts_in}
+use Rattle.ppd_top_words.specs.Words.{Text, Uses, texts, value_of, was_used}
 use Rattle.ppd_top_words.specs.Tested.{are_good, only_good}
-use Rattle.ppd_top_words.specs.Words.{Text, Uses, was_used, value_of}
 
 abbrev show_only : Option Asked → Option Asked
 show_only None = None
@@ -97,7 +96,7 @@ module _ (allowed : Choice → ℕ → Bool) where
   other_name (suc k) id e = cc
 
   -- what is read by hand for `show` is what the words give to two options, with the numbers tested at the end
-  pub show_is_given : (ws : List (Bor Text)) → shown_from allowed no_numbers ws ≡ asked_of (only_good (good allowed) (clap_gives (codes "leaf" ∷ codes "loops" ∷ []) (codes "source" ∷ []) (texts_in ws)))
+  pub show_is_given : (ws : List (Bor Text)) → shown_from allowed no_numbers ws ≡ asked_of (only_good (good allowed) (clap_gives (codes "leaf" ∷ codes "loops" ∷ []) (codes "source" ∷ []) (texts ws)))
   show_is_given ws =
-      shown ws no_numbers ∙ ap show_only (flow_is_given allowed ws) ∙ tested_late (clap_gives flow_longs (codes "source" ∷ []) (texts_in ws))
-      ∙ ap (λ (g : Option Uses). asked_of (only_good (good allowed) g)) (sym (given_fewer (codes "budget") (codes "leaf" ∷ codes "loops" ∷ []) (codes "source" ∷ []) refl other_name (texts_in ws)))
+      shown ws no_numbers ∙ ap show_only (flow_is_given allowed ws) ∙ tested_late (clap_gives flow_longs (codes "source" ∷ []) (texts ws))
+      ∙ ap (λ (g : Option Uses). asked_of (only_good (good allowed) g)) (sym (given_fewer (codes "budget") (codes "leaf" ∷ codes "loops" ∷ []) (codes "source" ∷ []) refl other_name (texts ws)))

@@ -7,9 +7,8 @@ use Rattle.ppd_top_words.proofs.Numbers.Words.{flow_have_no_equals}
 use Rattle.ppd_top_words.specs.Commands.{longs_of, names_of}
 use Rattle.ppd_top_words.specs.Laws.{FlowTestsNumbersLast, ShowTestsNumbersLast}
 use Rattle.ppd_top_words.specs.Numbers.{Asked, Choice, asked_of, good}
-use Rattle.ppd_top_words.specs.Reads.{texts_in}
+use Rattle.ppd_top_words.specs.Words.{Uses, texts}
 use Rattle.ppd_top_words.specs.Tested.{only_good}
-use Rattle.ppd_top_words.specs.Words.{Uses}
 use Rattle.ppd_top_words.specs.declared.commands.Command.TheVariants.{Flow, Show}
 
 abbrev tested_of : (Choice → ℕ → Bool) → Option Uses → Option Asked
@@ -18,9 +17,9 @@ tested_of allowed g = asked_of (only_good (good allowed) g)
 pub flow_last : FlowTestsNumbersLast
 flow_last allowed ws =
     flow_is_given allowed ws
-    ∙ ap (tested_of allowed) (given_alike (longs_of Flow) (names_of Flow) (texts_in ws) flow_have_no_equals)
+    ∙ ap (tested_of allowed) (given_alike (longs_of Flow) (names_of Flow) (texts ws) flow_have_no_equals)
 
 pub show_last : ShowTestsNumbersLast
 show_last allowed ws =
     show_is_given allowed ws
-    ∙ ap (tested_of allowed) (given_alike (longs_of Show) (names_of Show) (texts_in ws) (refl, (refl, tt)))
+    ∙ ap (tested_of allowed) (given_alike (longs_of Show) (names_of Show) (texts ws) (refl, (refl, tt)))

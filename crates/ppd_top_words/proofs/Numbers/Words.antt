@@ -1,6 +1,7 @@
 -- A word read by hand is the word by its spelling, with the value as a number.
 use Rattle.std.proofs.Common.{◌≡◌, ◌∙◌, Bool, true, false, refl, sym, ap, drop, subst, List, codes}
-use Rattle.std.specs.Prelude.{if◌then◌else◌}
+use Rattle.std.specs.Prelude.{if◌then◌else◌, nat_eq}
+use Rattle.std.specs.List.{starts_with}
 use Rattle.std.specs.Str.{bytes_eq}
 use Rattle.ppd_ast.specs.Digits.{number_in}
 use Rattle.ppd_top_words.proofs.Clap.Kinds.{clap_spelled}
@@ -9,7 +10,7 @@ use Rattle.ppd_top_words.proofs.Clap.Spelled.{spelled_alike}
 use Rattle.ppd_top_words.specs.Commands.{longs_of}
 use Rattle.ppd_top_words.specs.declared.commands.Command.TheVariants.{Flow}
 use Rattle.ppd_top_words.specs.Numbers.{Ends, Name, Other, Sets, Waits, Word, budget, choice_of, leaf, loops, spelled_word}
-use Rattle.ppd_top_words.specs.Spelling.{HaveNoEquals, begins, is_dashed, spelled}
+use Rattle.ppd_top_words.specs.Spelling.{HaveNoEquals, is_dashed, spelled}
 use Rattle.ppd_top_words.specs.Words.{Kind, Text, ends, name, other, sets, waits}
 
 abbrev pub flow_longs : List Text
@@ -44,4 +45,4 @@ spelled_is w = by_parts (bytes_eq w (codes "--leaf")) refl (bytes_eq w (codes "-
     by_parts : (s : Bool) → bytes_eq w (codes "--leaf") ≡ s → (t : Bool) → bytes_eq w (codes "--loops") ≡ t → spelled_word w ≡ word_of (spelled flow_longs w)
     by_parts true e t f = at (codes "--leaf") (same-equal w (codes "--leaf") e) refl
     by_parts false e true f = at (codes "--loops") (same-equal w (codes "--loops") f) refl
-    by_parts false e false f = rw (e, f) (push (bytes_eq w (codes "--")) (bytes_eq w (codes "--budget")) (begins (codes "--budget=") w) (begins (codes "--leaf=") w) (begins (codes "--loops=") w) (is_dashed w) (drop 9 w) (drop 7 w) (drop 8 w))
+    by_parts false e false f = rw (e, f) (push (bytes_eq w (codes "--")) (bytes_eq w (codes "--budget")) (starts_with nat_eq w (codes "--budget=")) (starts_with nat_eq w (codes "--leaf=")) (starts_with nat_eq w (codes "--loops=")) (is_dashed w) (drop 9 w) (drop 7 w) (drop 8 w))

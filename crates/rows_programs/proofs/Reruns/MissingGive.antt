@@ -1,4 +1,6 @@
 -- shared int x; sem s; process a { if (x) { V(s); } } process b { x = 1; }, recorded with b first: no for the record
+use Rattle.ppd_rerun_model.specs.Guided.{guided}
+use Rattle.ppd_model.specs.RecordedSets.{record_in}
 use Rattle.std.proofs.Common.{◌≡◌, refl, ap, arith}
 use Rattle.std.specs.Prelude.{ℕ, pos, List, [], ◌∷◌, Some, None, get_or, length}
 use Rattle.ppd_ast.specs.Term.{terms}
@@ -14,7 +16,7 @@ use Rattle.ppd_model.specs.Logs.{closed_logs}
 use Rattle.ppd_model.specs.Synchronizations.{Sync}
 use Rattle.ppd_rerun_model.specs.declared.verdict.No.TheVariants.{Record}
 use Rattle.ppd_rerun_model.specs.declared.verdict.Verdict.TheVariants as verdict
-use Rattle.ppd_rerun_model.specs.Verdicts.{HasRecordOf, IsVerdict, guided_by}
+use Rattle.ppd_rerun_model.specs.Verdicts.{HasRecordOf, IsVerdict}
 use Rattle.rows_programs.proofs.Reruns.Tables.{block_of, clash, process, scalar, stmt, unit_of}
 
 abbrev pub program : Program
@@ -44,7 +46,7 @@ plan = record {
 abbrev pub logs : Logs
 logs = closed_logs program plan 100000 (1 ∷ 1 ∷ 0 ∷ 0 ∷ 0 ∷ 0 ∷ [])
 
-pub guided_is : guided_by program plan 100000 logs ≡ 0 ∷ 0 ∷ 0 ∷ 1 ∷ 1 ∷ []
+pub guided_is : guided program plan 100000 (record_in logs) ≡ 0 ∷ 0 ∷ 0 ∷ 1 ∷ 1 ∷ []
 unfolding terms
 guided_is = refl
 
@@ -52,7 +54,7 @@ guided_is = refl
 abbrev first_count : List (List Sync) → ℕ
 first_count syncs = length (get_or syncs 0 [])
 
-other : HasRecordOf program plan 100000 logs (guided_by program plan 100000 logs) → ⊥
+other : HasRecordOf program plan 100000 logs (guided program plan 100000 (record_in logs)) → ⊥
 unfolding terms
 other f = clash 0 1 (ap first_count f.record_is) refl
 

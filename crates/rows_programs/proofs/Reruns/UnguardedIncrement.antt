@@ -1,4 +1,6 @@
 -- shared int x; process a { x = x + 1; } process b { x = x + 1; }: no for b's interval, whoever ran first
+use Rattle.ppd_rerun_model.specs.Guided.{guided}
+use Rattle.ppd_model.specs.RecordedSets.{record_in}
 use Rattle.std.proofs.Common.{◌≡◌, refl, ap, arith}
 use Rattle.std.specs.Prelude.{ℕ, zero, suc, ◌<◌, pos, nat_abs, false, List, [], ◌∷◌, None, Result, Ok, Err}
 use Rattle.ppd_ast.specs.Term.{terms}
@@ -22,7 +24,7 @@ use Rattle.ppd_model.specs.Story.{told}
 use Rattle.ppd_model.specs.World.{enabled}
 use Rattle.ppd_rerun_model.specs.declared.verdict.No.TheVariants.{Interval}
 use Rattle.ppd_rerun_model.specs.declared.verdict.Verdict.TheVariants as verdict
-use Rattle.ppd_rerun_model.specs.Verdicts.{HasRecordOf, IsSame, IsVerdict, guided_by}
+use Rattle.ppd_rerun_model.specs.Verdicts.{HasRecordOf, IsSame, IsVerdict}
 use Rattle.rows_programs.proofs.Reruns.Tables.{block_of, clash, process, scalar, stmt, unit_of}
 
 abbrev pub program : Program
@@ -60,7 +62,7 @@ first_a = 0 ∷ 0 ∷ 0 ∷ 1 ∷ 1 ∷ 1 ∷ []
 abbrev pub first_b : List ℕ
 first_b = 1 ∷ 1 ∷ 1 ∷ 0 ∷ 0 ∷ 0 ∷ []
 
-pub guided_is : guided_by program plan 100000 (logs in_turns) ≡ first_a
+pub guided_is : guided program plan 100000 (record_in (logs in_turns)) ≡ first_a
 unfolding terms
 guided_is = refl
 
@@ -103,7 +105,9 @@ pub verdict_turns : IsVerdict program plan 100000 (logs in_turns) (verdict.No (I
 unfolding terms
 verdict_turns = (
   record { whole = whole; record_is = refl },
-  record { other = other_turns; processes = same_turns; intervals = λ m lt. absurd (omega (arith, lt)) },
+  other_turns,
+  same_turns,
+  λ m lt. absurd (omega (arith, lt)),
 )
 
 -- recorded with b first
@@ -121,5 +125,7 @@ pub verdict_b : IsVerdict program plan 100000 (logs first_b) (verdict.No (Interv
 unfolding terms
 verdict_b = (
   record { whole = whole; record_is = refl },
-  record { other = other_b; processes = same_b; intervals = λ m lt. absurd (omega (arith, lt)) },
+  other_b,
+  same_b,
+  λ m lt. absurd (omega (arith, lt)),
 )

@@ -1,4 +1,6 @@
 -- shared int x, y; sem s = 1; process p { P(s); if (y) { print(x); } } process q { x = 5; }, recorded with q first: yes
+use Rattle.ppd_rerun_model.specs.Guided.{guided}
+use Rattle.ppd_model.specs.RecordedSets.{record_in}
 use Rattle.std.proofs.Common.{◌≡◌, refl}
 use Rattle.std.specs.Prelude.{ℕ, zero, suc, pos, false, List, [], ◌∷◌, Some, None, fold}
 use Rattle.ppd_ast.specs.Term.{terms}
@@ -15,7 +17,7 @@ use Rattle.ppd_model.specs.Schedule.{IsWhole}
 use Rattle.ppd_model.specs.Story.{told}
 use Rattle.ppd_model.specs.World.{enabled}
 use Rattle.ppd_rerun_model.specs.declared.verdict.Verdict.TheVariants as verdict
-use Rattle.ppd_rerun_model.specs.Verdicts.{HasRecordOf, IsSame, IsVerdict, guided_by}
+use Rattle.ppd_rerun_model.specs.Verdicts.{HasRecordOf, IsSame, IsVerdict}
 use Rattle.rows_programs.proofs.Reruns.Tables.{block_of, process, scalar, stmt, unit_of}
 
 abbrev pub program : Program
@@ -49,7 +51,7 @@ logs = closed_logs program plan 100000 (1 ∷ 1 ∷ 0 ∷ 0 ∷ 0 ∷ 0 ∷ [])
 abbrev pub again : List ℕ
 again = 0 ∷ 0 ∷ 0 ∷ 0 ∷ 1 ∷ 1 ∷ []
 
-pub guided_is : guided_by program plan 100000 logs ≡ again
+pub guided_is : guided program plan 100000 (record_in logs) ≡ again
 unfolding terms
 guided_is = refl
 

@@ -82,7 +82,7 @@ events_q =
     traced (event 2 [] (access (Shared 1) (pos 2) ∷ []) None None None) [] None None
     ∷ traced (quiet 3) [] None None ∷ []
 
-pub trace : full_trace program plan 100000 schedule ≡ record { events = events_p ∷ events_q ∷ [] }
+pub trace : full_trace program plan 100000 (story program plan 100000 schedule) ≡ record { events = events_p ∷ events_q ∷ [] }
 unfolding terms
 trace = refl
 

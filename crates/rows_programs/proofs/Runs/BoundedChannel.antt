@@ -93,7 +93,7 @@ events_b =
     ∷ traced (event 7 [] (access (Local 0 0) (pos 8) ∷ []) None (Some 2) None) [] None (Some (id 0 1))
     ∷ traced (quiet 8) [] None None ∷ []
 
-pub trace : full_trace program plan 100000 schedule ≡ record { events = events_a ∷ events_b ∷ [] }
+pub trace : full_trace program plan 100000 (story program plan 100000 schedule) ≡ record { events = events_a ∷ events_b ∷ [] }
 unfolding terms
 trace = refl
 

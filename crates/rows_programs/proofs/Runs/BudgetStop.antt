@@ -78,7 +78,7 @@ events_a =
     ∷ traced (event 1 [] [] (Some (pos 1)) None None) [] (Some (id 0 1)) None
     ∷ traced (event 2 (access (Local 0 0) (pos 1) ∷ []) (access (Local 0 0) (pos 2) ∷ []) None None None) (Some (id 0 2) ∷ []) (Some (id 0 3)) None ∷ []
 
-pub trace : full_trace program plan 5 schedule ≡ record { events = events_a ∷ [] }
+pub trace : full_trace program plan 5 (story program plan 5 schedule) ≡ record { events = events_a ∷ [] }
 unfolding terms
 trace = refl
 

@@ -81,7 +81,7 @@ events_a =
     ∷ traced (event 4 (access (Shared 0) (pos 4) ∷ []) [] (Some (pos 4)) None None) (Some (id 0 2) ∷ []) None None
     ∷ traced (quiet 5) [] None None ∷ []
 
-pub trace : full_trace program plan 100000 schedule ≡ record { events = events_a ∷ [] }
+pub trace : full_trace program plan 100000 (story program plan 100000 schedule) ≡ record { events = events_a ∷ [] }
 unfolding terms
 trace = refl
 

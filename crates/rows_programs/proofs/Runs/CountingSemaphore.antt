@@ -93,7 +93,7 @@ events_b_first_a =
     ∷ traced (event 6 [] [] None (Some 4) None) [] None None
     ∷ traced (quiet 7) [] None None ∷ []
 
-pub trace_first_a : full_trace program plan 100000 first_a ≡ record { events = events_a_first_a ∷ events_b_first_a ∷ [] }
+pub trace_first_a : full_trace program plan 100000 (story program plan 100000 first_a) ≡ record { events = events_a_first_a ∷ events_b_first_a ∷ [] }
 unfolding terms
 trace_first_a = refl
 
@@ -210,7 +210,7 @@ events_b_first_b =
     ∷ traced (event 6 [] [] None (Some 3) None) [] None None
     ∷ traced (quiet 7) [] None None ∷ []
 
-pub trace_first_b : full_trace program plan 100000 first_b ≡ record { events = events_a_first_b ∷ events_b_first_b ∷ [] }
+pub trace_first_b : full_trace program plan 100000 (story program plan 100000 first_b) ≡ record { events = events_a_first_b ∷ events_b_first_b ∷ [] }
 unfolding terms
 trace_first_b = refl
 
@@ -326,7 +326,7 @@ events_b_in_turns =
     ∷ traced (event 6 [] [] None (Some 4) None) [] None None
     ∷ traced (quiet 7) [] None None ∷ []
 
-pub trace_in_turns : full_trace program plan 100000 in_turns ≡ record { events = events_a_in_turns ∷ events_b_in_turns ∷ [] }
+pub trace_in_turns : full_trace program plan 100000 (story program plan 100000 in_turns) ≡ record { events = events_a_in_turns ∷ events_b_in_turns ∷ [] }
 unfolding terms
 trace_in_turns = refl
 

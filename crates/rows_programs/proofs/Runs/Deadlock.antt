@@ -78,7 +78,7 @@ abbrev pub events_b : List TracedEvent
 events_b =
     traced (event 3 [] [] None (Some 1) None) [] None None ∷ []
 
-pub trace : full_trace program plan 100000 schedule ≡ record { events = events_a ∷ events_b ∷ [] }
+pub trace : full_trace program plan 100000 (story program plan 100000 schedule) ≡ record { events = events_a ∷ events_b ∷ [] }
 unfolding terms
 trace = refl
 

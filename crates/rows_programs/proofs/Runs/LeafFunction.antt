@@ -87,7 +87,7 @@ events_a_leaf =
     ∷ traced (event 3 (access (Shared 0) (pos 9) ∷ []) [] (Some (pos 9)) None None) (Some (id 0 1) ∷ []) None None
     ∷ traced (quiet 4) [] None None ∷ []
 
-pub trace_leaf : full_trace program leaf_plan 100000 schedule ≡ record { events = events_a_leaf ∷ [] }
+pub trace_leaf : full_trace program leaf_plan 100000 (story program leaf_plan 100000 schedule) ≡ record { events = events_a_leaf ∷ [] }
 unfolding terms
 trace_leaf = refl
 
@@ -164,7 +164,7 @@ events_a =
     ∷ traced (event 3 (access (Shared 0) (pos 9) ∷ []) [] (Some (pos 9)) None None) (Some (id 0 1) ∷ []) None None
     ∷ traced (quiet 4) [] None None ∷ []
 
-pub trace : full_trace program plan 100000 schedule ≡ record { events = events_a ∷ [] }
+pub trace : full_trace program plan 100000 (story program plan 100000 schedule) ≡ record { events = events_a ∷ [] }
 unfolding terms
 trace = refl
 

@@ -97,7 +97,7 @@ events_a =
     ∷ traced (event 8 (access (Shared 0) (pos 0) ∷ []) [] (Some (pos 0)) None None) (Some (id 0 11) ∷ []) None None
     ∷ traced (quiet 9) [] None None ∷ []
 
-pub trace : full_trace program plan 100000 schedule ≡ record { events = events_a ∷ [] }
+pub trace : full_trace program plan 100000 (story program plan 100000 schedule) ≡ record { events = events_a ∷ [] }
 unfolding terms
 trace = refl
 

@@ -94,7 +94,7 @@ events_b_first =
     ∷ traced (event 6 [] [] None (Some 3) None) [] None None
     ∷ traced (quiet 7) [] None None ∷ []
 
-pub trace_first : full_trace program plan 100000 first ≡ record { events = events_a_first ∷ events_b_first ∷ [] }
+pub trace_first : full_trace program plan 100000 (story program plan 100000 first) ≡ record { events = events_a_first ∷ events_b_first ∷ [] }
 unfolding terms
 trace_first = refl
 
@@ -210,7 +210,7 @@ events_b_second =
     ∷ traced (event 6 [] [] None (Some 2) None) [] None None
     ∷ traced (quiet 7) [] None None ∷ []
 
-pub trace_second : full_trace program plan 100000 second ≡ record { events = events_a_second ∷ events_b_second ∷ [] }
+pub trace_second : full_trace program plan 100000 (story program plan 100000 second) ≡ record { events = events_a_second ∷ events_b_second ∷ [] }
 unfolding terms
 trace_second = refl
 

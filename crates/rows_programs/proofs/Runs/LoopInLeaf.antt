@@ -86,7 +86,7 @@ events_a =
     ∷ traced (event 4 (access (Shared 0) (pos 2) ∷ []) [] (Some (pos 2)) None None) (Some (id 0 4) ∷ []) None None
     ∷ traced (quiet 5) [] None None ∷ []
 
-pub trace : full_trace program plan 100000 schedule ≡ record { events = events_a ∷ [] }
+pub trace : full_trace program plan 100000 (story program plan 100000 schedule) ≡ record { events = events_a ∷ [] }
 unfolding terms
 trace = refl
 

@@ -84,7 +84,7 @@ events_a =
     ∷ traced (event 5 (access (Shared 0) (pos 4) ∷ []) [] (Some (pos 4)) None None) (Some (id 0 1) ∷ []) None None
     ∷ traced (quiet 6) [] None None ∷ []
 
-pub trace : full_trace program plan 100000 schedule ≡ record { events = events_a ∷ [] }
+pub trace : full_trace program plan 100000 (story program plan 100000 schedule) ≡ record { events = events_a ∷ [] }
 unfolding terms
 trace = refl
 

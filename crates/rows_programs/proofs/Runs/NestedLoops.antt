@@ -94,7 +94,7 @@ events_a =
     ∷ traced (event 2 (access (Local 0 0) (pos 2) ∷ []) [] (Some (pos 0)) None None) (Some (id 0 13) ∷ []) (Some (id 0 8)) None
     ∷ traced (quiet 7) [] None None ∷ []
 
-pub trace : full_trace program plan 100000 schedule ≡ record { events = events_a ∷ [] }
+pub trace : full_trace program plan 100000 (story program plan 100000 schedule) ≡ record { events = events_a ∷ [] }
 unfolding terms
 trace = refl
 

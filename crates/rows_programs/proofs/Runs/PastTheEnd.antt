@@ -86,7 +86,7 @@ events_p =
     ∷ traced (event 4 (access (Local 0 0) (pos 1) ∷ []) (access (Local 0 0) (pos 2) ∷ []) None None None) (Some (id 0 4) ∷ []) (Some (id 0 5)) None
     ∷ traced (event 3 (access (Local 0 0) (pos 2) ∷ []) [] None None (Some trap.Index)) (Some (id 0 6) ∷ []) (Some (id 0 5)) None ∷ []
 
-pub trace : full_trace program plan 100000 schedule ≡ record { events = events_p ∷ [] }
+pub trace : full_trace program plan 100000 (story program plan 100000 schedule) ≡ record { events = events_p ∷ [] }
 unfolding terms
 trace = refl
 

@@ -91,7 +91,7 @@ events_a =
     ∷ traced (event 5 (access (Local 0 0) (pos 3) ∷ []) [] (Some (pos 3)) None None) (Some (id 0 11) ∷ []) None None
     ∷ traced (quiet 6) [] None None ∷ []
 
-pub trace : full_trace program plan 100000 schedule ≡ record { events = events_a ∷ [] }
+pub trace : full_trace program plan 100000 (story program plan 100000 schedule) ≡ record { events = events_a ∷ [] }
 unfolding terms
 trace = refl
 

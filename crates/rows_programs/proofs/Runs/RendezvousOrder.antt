@@ -94,7 +94,7 @@ events_b =
     ∷ traced (event 5 [] (access (Local 0 0) (pos 7) ∷ []) None (Some 1) None) [] None (Some (id 0 0))
     ∷ traced (quiet 6) [] None None ∷ []
 
-pub trace : full_trace program plan 100000 schedule ≡ record { events = events_a ∷ events_b ∷ [] }
+pub trace : full_trace program plan 100000 (story program plan 100000 schedule) ≡ record { events = events_a ∷ events_b ∷ [] }
 unfolding terms
 trace = refl
 

@@ -87,7 +87,7 @@ events_p =
     ∷ traced (event 5 (access (Local 0 0) (pos 2) ∷ []) [] (Some (pos 2)) None None) (Some (id 0 6) ∷ []) None None
     ∷ traced (quiet 6) [] None None ∷ []
 
-pub trace : full_trace program plan 100000 schedule ≡ record { events = events_p ∷ [] }
+pub trace : full_trace program plan 100000 (story program plan 100000 schedule) ≡ record { events = events_p ∷ [] }
 unfolding terms
 trace = refl
 

@@ -76,7 +76,7 @@ events_a =
     ∷ traced (event 1 (access (Shared 0) (pos 2) ∷ []) [] (Some (pos 5)) None None) (Some (id 0 0) ∷ []) None None
     ∷ traced (quiet 2) [] None None ∷ []
 
-pub trace : full_trace program plan 100000 schedule ≡ record { events = events_a ∷ [] }
+pub trace : full_trace program plan 100000 (story program plan 100000 schedule) ≡ record { events = events_a ∷ [] }
 unfolding terms
 trace = refl
 

@@ -89,7 +89,7 @@ events_a =
     ∷ traced (event 2 (access (Local 0 1) (pos 1) ∷ []) (access (Local 0 1) (pos 2) ∷ []) None None None) (Some (id 0 3) ∷ []) (Some (id 0 5)) None
     ∷ traced (event 3 (access (Local 0 1) (pos 2) ∷ []) [] None None (Some trap.Zero)) (Some (id 0 6) ∷ []) (Some (id 0 5)) None ∷ []
 
-pub trace : full_trace program plan 100000 schedule ≡ record { events = events_a ∷ [] }
+pub trace : full_trace program plan 100000 (story program plan 100000 schedule) ≡ record { events = events_a ∷ [] }
 unfolding terms
 trace = refl
 

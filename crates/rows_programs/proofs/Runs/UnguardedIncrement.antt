@@ -84,7 +84,7 @@ events_b_first_a =
     traced (event 2 (access (Shared 0) (pos 1) ∷ []) (access (Shared 0) (pos 2) ∷ []) None None None) (Some (id 0 0) ∷ []) None None
     ∷ traced (quiet 3) [] None None ∷ []
 
-pub trace_first_a : full_trace program plan 100000 first_a ≡ record { events = events_a_first_a ∷ events_b_first_a ∷ [] }
+pub trace_first_a : full_trace program plan 100000 (story program plan 100000 first_a) ≡ record { events = events_a_first_a ∷ events_b_first_a ∷ [] }
 unfolding terms
 trace_first_a = refl
 
@@ -188,7 +188,7 @@ events_b_first_b =
     traced (event 2 (access (Shared 0) (pos 0) ∷ []) (access (Shared 0) (pos 1) ∷ []) None None None) (None ∷ []) None None
     ∷ traced (quiet 3) [] None None ∷ []
 
-pub trace_first_b : full_trace program plan 100000 first_b ≡ record { events = events_a_first_b ∷ events_b_first_b ∷ [] }
+pub trace_first_b : full_trace program plan 100000 (story program plan 100000 first_b) ≡ record { events = events_a_first_b ∷ events_b_first_b ∷ [] }
 unfolding terms
 trace_first_b = refl
 
@@ -292,7 +292,7 @@ events_b_in_turns =
     traced (event 2 (access (Shared 0) (pos 0) ∷ []) (access (Shared 0) (pos 1) ∷ []) None None None) (None ∷ []) None None
     ∷ traced (quiet 3) [] None None ∷ []
 
-pub trace_in_turns : full_trace program plan 100000 in_turns ≡ record { events = events_a_in_turns ∷ events_b_in_turns ∷ [] }
+pub trace_in_turns : full_trace program plan 100000 (story program plan 100000 in_turns) ≡ record { events = events_a_in_turns ∷ events_b_in_turns ∷ [] }
 unfolding terms
 trace_in_turns = refl
 

@@ -87,7 +87,7 @@ events_q_first =
     traced (event 4 [] (access (Shared 0) (pos 5) ∷ []) None None None) [] None None
     ∷ traced (quiet 5) [] None None ∷ []
 
-pub trace_first : full_trace program plan 100000 first ≡ record { events = events_p_first ∷ events_q_first ∷ [] }
+pub trace_first : full_trace program plan 100000 (story program plan 100000 first) ≡ record { events = events_p_first ∷ events_q_first ∷ [] }
 unfolding terms
 trace_first = refl
 
@@ -198,7 +198,7 @@ events_q_second =
     traced (event 4 [] (access (Shared 0) (pos 5) ∷ []) None None None) [] None None
     ∷ traced (quiet 5) [] None None ∷ []
 
-pub trace_second : full_trace program plan 100000 second ≡ record { events = events_p_second ∷ events_q_second ∷ [] }
+pub trace_second : full_trace program plan 100000 (story program plan 100000 second) ≡ record { events = events_p_second ∷ events_q_second ∷ [] }
 unfolding terms
 trace_second = refl
 

@@ -1,5 +1,6 @@
 -- The whole traces of small runs, by computation: the text of the trace.
 use Rattle.std.proofs.Common.{◌≡◌, refl}
+use Rattle.ppd_model.specs.Story.{story}
 use Rattle.std.specs.Prelude.{ℕ, List, ◌++◌, codes}
 use Rattle.std.specs.Fmt.{digits}
 use Rattle.ppd_ast.specs.Term.{terms}
@@ -13,7 +14,7 @@ use Rattle.rows_programs.proofs.Runs.LockOrder as locks
 
 -- the text of a schedule's trace
 abbrev text : Program → Plan → List ℕ → List ℕ
-text program plan h = whole_text program (full_trace program plan 100000 h)
+text program plan h = whole_text program (full_trace program plan 100000 (story program plan 100000 h))
 
 pub smallest_text : text smallest.program smallest.plan smallest.schedule ≡
     codes "event a 0 stmt 0 1:27 set write x=2 parent entry\n"

@@ -1,6 +1,6 @@
 -- What is found of a cell among a level's items after an interval more.
 use Rattle.std.proofs.Common.{◌≡◌, ℕ, ◌+◌, ℤ, Bool, true, false, ◌&&◌, List, [], ◌∷◌, Option, Some, None, refl, ap, ap₂, sym, subst, ◌∙◌, if◌then◌else◌}
-use Rattle.std.specs.Prelude.{nat_eq, slice_get}
+use Rattle.std.specs.Prelude.{nat_eq, slice_get, is_some, get_or}
 use Rattle.ppd_ast.specs.declared.plan.BlockKind.TheVariants as block
 use Rattle.ppd_ast.specs.declared.plan.Plan.{Plan}
 use Rattle.ppd_ast.specs.declared.program.Program.{Program}
@@ -8,13 +8,13 @@ use Rattle.ppd_ast.specs.Lookups.{kind_of}
 use Rattle.ppd_sem.specs.Blocks.{block_kind, postlog_cells}
 use Rattle.ppd_model.specs.FullTrace.{Tag}
 use Rattle.std.specs.Option.{option_or}
-use Rattle.ppd_model.specs.Intervals.{nested, Span, Split, is_closed}
+use Rattle.ppd_model.specs.Intervals.{nested, Span, Split}
 use Rattle.ppd_model.specs.NearIntervals.{is_in}
 use Rattle.ppd_model.specs.declared.flow.Item.TheVariants as item
 use Rattle.ppd_model.specs.declared.flow.Origin.{Origin}
 use Rattle.ppd_flow_model.specs.declared.writer.Writer.TheVariants.{Of}
 use Rattle.ppd_flow_model.specs.Locals.{Scan, frame_in, in_loops, scan, scan_interval, scan_item, writer_at, written_by}
-use Rattle.ppd_flow_model.specs.Seen.{items_at, last_item, seen_of}
+use Rattle.ppd_flow_model.specs.Seen.{last_item, seen_of}
 use Rattle.law_flow_own.specs.Places.Levels.{Level}
 use Rattle.law_flow_own.proofs.Vocabulary.Levels.{put}
 use Rattle.law_flow_own.specs.Places.Leaves.{items_so_far, leaf_of}
@@ -50,7 +50,7 @@ module _ (program : Program) (plan : Plan) (p : ℕ) (y : Split) where
   interval_is f c m g cells [] s = refl
   interval_is f c m g cells (v ∷ vs) s = refl
 
-  module _ (m : ℕ) (l : Level) (i : Span) (there : slice_get y.spans m ≡ Some i) (is_left : is_closed i
+  module _ (m : ℕ) (l : Level) (i : Span) (there : slice_get y.spans m ≡ Some i) (is_left : is_some i.closed
       ≡ true) (f c : ℕ) where
     abbrev scanned : Scan
     scanned = scan program plan f c (items_so_far y l)
@@ -59,9 +59,9 @@ module _ (program : Program) (plan : Plan) (p : ℕ) (y : Split) where
         ≡ record (scan_interval program plan f c m (block_kind plan i.block) (postlog_cells plan i.block) i.values
         scanned) { next = scanned.next + 1 }
     scan_past =
-        ap (scan program plan f c) (items_more y l.parts (nested m) (item.Nested m i.block i.values (is_closed i))
+        ap (scan program plan f c) (items_more y l.parts (nested m) (item.Nested m i.block i.values (is_some i.closed))
         (nested_item y m i there))
-        ∙ scan_more program plan f c (items_so_far y l) (item.Nested m i.block i.values (is_closed i))
+        ∙ scan_more program plan f c (items_so_far y l) (item.Nested m i.block i.values (is_some i.closed))
         ∙ ap (λ b. scan_item program plan f c scanned (item.Nested m i.block i.values b)) is_left
 
     module _ (g : ℕ) (kind : block_kind plan i.block ≡ block.Function g) where
@@ -136,12 +136,12 @@ module _ (program : Program) (plan : Plan) (p : ℕ) (y : Split) where
       loops_past h = ap (λ (s : Scan). s.loops) (scan_loop false h)
 
       -- what is found in the loop, or before it
-      pub here_loop : (inner : Level) → inner.interval ≡ m → items_at (seen_of y) m ≡ items_so_far y inner
+      pub here_loop : (inner : Level) → inner.interval ≡ m → get_or (seen_of y).items m [] ≡ items_so_far y inner
           → (scan program plan 0 c (items_so_far y inner)).loops ≡ [] → is_of ≡ true
           → here program plan p y (put (nested m) l) f c
           ≡ option_or (here program plan p y inner 0 c) (here program plan p y l f c)
       here_loop inner number items none h =
-          let found : writer_at (seen_of y) p m (scan program plan 0 c (items_at (seen_of y) m)).writer
+          let found : writer_at (seen_of y) p m (scan program plan 0 c (get_or (seen_of y).items m [])).writer
           ≡ here program plan p y inner 0 c =
           ap₂ (λ k xs. writer_at (seen_of y) p k (scan program plan 0 c xs).writer) (sym number) items
           ∙ ap (λ ms. option_or (in_loops program plan (seen_of y) p c ms)

@@ -2,13 +2,13 @@
 use Rattle.std.proofs.Common.{◌≡◌, ℕ, ◌+◌, ◌<◌, ℤ, Bool, true, false, ◌&&◌, ◌||◌, List, [], ◌∷◌, refl, ap, ap₂, sym, ◌∙◌, arith, length, true≢false, eq-eqb, eqb-true}
 use Rattle.std.specs.List.{list_any, range_with_len}
 use Rattle.std.specs.Prelude.{nat_eq}
-use Rattle.ppd_sem.specs.Described.{parameters}
 use Rattle.ppd_sem.specs.declared.event.Access.{Access}
 use Rattle.ppd_sem.specs.declared.event.Spot.{Spot}
 use Rattle.ppd_sem.specs.declared.event.Spot.TheVariants.{Local, Shared}
 use Rattle.ppd_model.specs.LocalTags.{is_cell}
 use Rattle.ppd_model.specs.NearIntervals.{is_in}
 use Rattle.ppd_flow_model.specs.Locals.{is_local}
+use Rattle.ppd_sem.specs.Reads.{local_accesses}
 
 pub not_eq : (a b : ℕ) → (a ≡ b → ⊥) → nat_eq a b ≡ false
 not_eq a b h = by (nat_eq a b) refl
@@ -46,7 +46,7 @@ any_none f [] h = refl
 any_none f (x ∷ xs) h = ap₂ (λ a b. a || b) (h x) (any_none f xs h)
 
 -- a parameter is a cell that the call writes
-pub passed_is : (b c : ℕ) (vs : List ℤ) → list_any (λ (a : Access). is_local 1 c a.spot) (parameters 1 b vs)
+pub passed_is : (b c : ℕ) (vs : List ℤ) → list_any (λ (a : Access). is_local 1 c a.spot) (local_accesses 1 b vs)
     ≡ is_in c (range_with_len b (length vs))
 passed_is b c [] = refl
 passed_is b c (v ∷ vs) = ap (λ x. nat_eq c b || x) (passed_is (b + 1) c vs)

@@ -1,7 +1,7 @@
 -- What an event writes in the activation in which it is, by the statement's kind.
 use Rattle.std.proofs.Common.{◌≡◌, ℕ, zero, suc, ◌+◌, ◌<◌, ℤ, Bool, true, false, ◌||◌, ◌⊎◌, List, [], ◌∷◌, ◌++◌, Option, Some, None, Ok, Err, refl, ap, sym, subst, ◌∙◌, inl, inr, arith, true≢false, eq-eqb, eqb-true}
 use Rattle.std.specs.List.{list_any}
-use Rattle.std.specs.Prelude.{nat_eq}
+use Rattle.std.specs.Prelude.{nat_eq, replicate, pos}
 use Rattle.std.proofs.lemmas.Bool.{or_cases, or_left, or_right}
 use Rattle.ppd_ast.specs.declared.plan.Plan.{Plan}
 use Rattle.ppd_ast.specs.declared.program.Program.{Program}
@@ -10,9 +10,9 @@ use Rattle.law_replay.proofs.Vocabulary.Held.{Among, IsWriting, MayWrite}
 use Rattle.law_replay.proofs.Beside.Writes.{writes_at_most}
 use Rattle.ppd_sem.specs.Asked.{Asked}
 use Rattle.ppd_sem.specs.Deed.{Deed, set_local, set_shared, clear, branch, turn, leave, invoke, back, take, give, send, receive, print, pass, finish}
-use Rattle.ppd_sem.specs.Described.{cleared, frame_of, parameters, trap_of, writes_by, writes_of_deed}
+use Rattle.ppd_sem.specs.Described.{frame_of, trap_of, writes_by, writes_of_deed}
 use Rattle.ppd_sem.proofs.EventWords.{writes_of_asked}
-use Rattle.ppd_sem.specs.Process.{head_deed, need_of, top_cells}
+use Rattle.ppd_sem.specs.Process.{head_deed, need_of, top_frame}
 use Rattle.ppd_ast.specs.declared.status.Trap.{Trap as TrapOf}
 use Rattle.ppd_ast.specs.Lookups.{kind_of}
 use Rattle.ppd_sem.specs.declared.event.Access.{Access}
@@ -23,6 +23,8 @@ use Rattle.ppd_model.specs.FullTrace.{event_of}
 use Rattle.ppd_model.specs.NearIntervals.{is_in}
 use Rattle.ppd_model.specs.declared.tracing.Taken.{Taken}
 use Rattle.ppd_flow_model.specs.Locals.{is_local}
+use Rattle.ppd_sem.specs.Reads.{local_accesses}
+use Rattle.ppd_sem.proofs.Zeros.{zeros_accessed}
 
 abbrev pub any_own : ℕ → List Access → Bool
 any_own c xs = list_any (λ (a : Access). is_local 0 c a.spot) xs
@@ -52,14 +54,15 @@ module _ (written : ℕ → Type 0) (c : ℕ) where
   one_cell : (d : ℕ) → (nat_eq c d || false) ≡ true → written d → written c
   one_cell d h w = subst written (sym (eqb-true c d (or_none (nat_eq c d) h))) w
 
-  cleared_cell : (base n : ℕ) → ((k : ℕ) → k < n → written (base + k)) → any_own c (cleared 0 base n) ≡ true → written c
+  cleared_cell : (base n : ℕ) → ((k : ℕ) → k < n → written (base + k)) → any_own c (local_accesses 0 base (replicate n (pos 0))) ≡ true → written c
   cleared_cell base zero w h = absurd (true≢false (sym h))
-  cleared_cell base (suc n) w h = elim (any_split c (cleared 0 base n) _ h) [
-    | inl first ↦ cleared_cell base n (λ k lt. w k (omega (arith, lt))) first
-    | inr last ↦ one_cell (base + n) last (w n (omega arith))
-  ]
+  cleared_cell base (suc n) w h = elim (any_split c (local_accesses 0 base (replicate n (pos 0))) _
+      (subst (λ ws. any_own c ws ≡ true) (zeros_accessed 0 base n) h)) [
+        | inl first ↦ cleared_cell base n (λ k lt. w k (omega (arith, lt))) first
+        | inr last ↦ one_cell (base + n) last (w n (omega arith))
+      ]
 
-  passed_cell : (b : ℕ) (values : List ℤ) → any_own c (parameters 1 b values) ≡ false
+  passed_cell : (b : ℕ) (values : List ℤ) → any_own c (local_accesses 1 b values) ≡ false
   passed_cell b [] = refl
   passed_cell b (v ∷ vs) = passed_cell (b + 1) vs
 
@@ -96,28 +99,18 @@ module _ (written : ℕ → Type 0) (c : ℕ) where
       → any_own c (event_of program plan s taken s.todo).writes ≡ true → written c
   event_cell program plan s taken h hs is frame w any =
       by_cell (trap_of (need_of program plan s)) taken.answer (head_deed program h s)
-      (writes_at_most written program.exprs (kind_of program h.stmt) (top_cells s.frames) s.answers w)
+      (writes_at_most written program.exprs (kind_of program h.stmt) (top_frame s.frames).cells s.answers w)
       (ap (λ f. any_own c (writes_by (trap_of (need_of program plan s)) f taken.answer (head_deed program h s)))
       (sym frame)
       ∙ ap (λ todo. any_own c (event_of program plan s taken todo).writes) (sym is) ∙ any)
 
 -- ---- an event of another activation writes none of the interval's own
 
-not_own : (c : ℕ) (xs ys : List Access) → any_own c xs ≡ false → any_own c ys ≡ false → any_own c (xs ++ ys) ≡ false
-not_own c [] ys h g = g
-not_own c (x ∷ xs) ys h g = by (is_local 0 c x.spot) h (not_own c xs ys)
-  where
-    by : (b : Bool) → (b || any_own c xs) ≡ false
-        → (any_own c xs ≡ false → any_own c ys ≡ false → any_own c (xs ++ ys) ≡ false)
-        → (b || any_own c (xs ++ ys)) ≡ false
-    by true e rest = e
-    by false e rest = rest e g
-
-cleared_other : (c base n : ℕ) → any_own c (cleared 1 base n) ≡ false
+cleared_other : (c base n : ℕ) → any_own c (local_accesses 1 base (replicate n (pos 0))) ≡ false
 cleared_other c base zero = refl
-cleared_other c base (suc n) = not_own c (cleared 1 base n) _ (cleared_other c base n) refl
+cleared_other c base (suc n) = cleared_other c (base + 1) n
 
-passed_other : (c b : ℕ) (values : List ℤ) → any_own c (parameters 2 b values) ≡ false
+passed_other : (c b : ℕ) (values : List ℤ) → any_own c (local_accesses 2 b values) ≡ false
 passed_other c b [] = refl
 passed_other c b (v ∷ vs) = passed_other c (b + 1) vs
 

@@ -15,7 +15,7 @@ use Rattle.ppd_blocks.specs.Blocks.{plan_of}
 use Rattle.law_steps.specs.OpenBlocks.Stack.{process_block}
 use Rattle.law_steps.proofs.OpenBlocks.Planned.{kind_is, prelog_cells_are}
 use Rattle.ppd_sem.specs.Blocks.{block_kind, prelog_cells}
-use Rattle.ppd_sem.specs.Described.{frame_of, parameters, trap_of, writes_by, is_event}
+use Rattle.ppd_sem.specs.Described.{frame_of, trap_of, writes_by, is_event}
 use Rattle.ppd_sem.specs.Process.{head_deed, need_of}
 use Rattle.ppd_sem.specs.Runs.{returns}
 use Rattle.ppd_sem.specs.declared.event.Access.{Access}
@@ -50,6 +50,7 @@ use Rattle.law_flow_own.proofs.Locals.Stepping.Others.{call_takes, leaf_put, loo
 use Rattle.law_flow_own.proofs.Locals.Tells.New.{level_new}
 use Rattle.law_flow_own.proofs.Locals.Tells.Put.{leaf_starts, put_told}
 use Rattle.law_flow_own.proofs.Locals.Tells.Tags.{TellsOf}
+use Rattle.ppd_sem.specs.Reads.{local_accesses}
 
 module _ (program : Program) (policy : Policy) (v : IsValid program) {story : Story} {p : ℕ} {y x : Split} {taken : Taken}
     {l : Level} {ls : List Level} {h : Todo} (m : IsFirst program (plan_of program policy) story p y x taken l ls h)
@@ -147,7 +148,7 @@ module _ (program : Program) (policy : Policy) (v : IsValid program) {story : St
       kind : block_kind plan b ≡ block.Function call.function
       kind = kind_is program policy (block.Function call.function) b (sym call.block)
 
-      writes_are : e.event.writes ≡ parameters 1 0 call.values
+      writes_are : e.event.writes ≡ local_accesses 1 0 call.values
       writes_are =
           ap (λ todo. (event_of program plan x.trace.proc taken todo).writes) m.todo_is
           ∙ ap (λ o. writes_by o (frame_of program plan x.trace.proc) taken.answer (head_deed program h x.trace.proc))

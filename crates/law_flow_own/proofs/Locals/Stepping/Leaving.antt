@@ -1,51 +1,4 @@
 -- What is told of the tags after the step that leaves an interval for the one outside.
-use Rattle.std.proofs.Common.{◌≡◌, ℕ, suc, ◌+◌, ◌-◌, ◌<◌, true, not, ◌&&◌, List, [], ◌∷◌, ◌++◌, Option, Some, None, ap, ap₂, sym, subst, ◌∙◌, arith, length, eq-eqb, ℤ, false, true≢false}
-use Rattle.std.specs.List.{flat_map}
-use Rattle.std.specs.Prelude.{slice_get}
-use Rattle.std.proofs.lemmas.List.{length_push}
-use Rattle.ppd_ast.specs.Valid.{IsValid}
-use Rattle.ppd_ast.specs.declared.plan.BlockKind.TheVariants as block
-use Rattle.ppd_ast.specs.declared.plan.Plan.{Plan}
-use Rattle.ppd_ast.specs.declared.plan.Policy.{Policy}
-use Rattle.ppd_ast.specs.declared.program.Program.{Program}
-use Rattle.ppd_blocks.specs.Blocks.{plan_of}
-use Rattle.law_steps.specs.OpenBlocks.Stack.{process_block}
-use Rattle.law_steps.proofs.OpenBlocks.DeedKinds.{while_stays}
-use Rattle.law_flow_own.proofs.Places.Calling.{while_no_call}
-use Rattle.law_steps.proofs.OpenBlocks.Planned.{kind_is}
-use Rattle.ppd_sem.specs.Blocks.{block_kind, postlog_cells}
-use Rattle.ppd_sem.specs.Passed.{result_at}
-use Rattle.ppd_sem.specs.Process.{into_of, top_body, top_call}
-use Rattle.ppd_sem.specs.declared.proc.Need.TheVariants as need
-use Rattle.ppd_sem.specs.declared.proc.Todo.{Todo}
-use Rattle.ppd_model.specs.FullTrace.{into_at}
-use Rattle.ppd_model.specs.Intervals.{Part, own, nested, Span, Split, is_closed, item_of, items_of, split_step}
-use Rattle.ppd_model.specs.LocalTags.{cells_in, is_into, local_tag}
-use Rattle.ppd_model.specs.Marks.{closed, mark, values_at}
-use Rattle.ppd_model.specs.NearIntervals.{is_loop, is_in}
-use Rattle.ppd_model.specs.declared.flow.Item.TheVariants as item
-use Rattle.ppd_model.specs.declared.flow.Origin.TheVariants as origin
-use Rattle.ppd_model.specs.declared.trace.TracedEvent.{TracedEvent}
-use Rattle.ppd_model.specs.declared.tracing.Story.{Story}
-use Rattle.ppd_model.specs.declared.tracing.Taken.{Taken}
-use Rattle.ppd_model.proofs.Changes.{some}
-use Rattle.ppd_model.proofs.Lists.{get_mapped}
-use Rattle.ppd_flow_model.specs.Locals.{Scan, frame_in, scan}
-use Rattle.ppd_flow_model.specs.Seen.{items_at, last_item, seen_of}
-use Rattle.law_flow_own.specs.Places.Closing.{closing}
-use Rattle.law_flow_own.specs.Places.Levels.{Level}
-use Rattle.law_flow_own.proofs.Vocabulary.Levels.{put}
-use Rattle.law_flow_own.specs.Places.Leaves.{AreBegun, IsBegunOutside, begun_by, items_so_far, leaf_of, open_at}
-use Rattle.law_flow_own.proofs.Places.Moves.{IsLeft, IsOther, IsReturning}
-use Rattle.law_flow_own.proofs.Places.Opening.{begun_own, first_block, leaf_interval}
-use Rattle.law_flow_own.proofs.Places.Scans.{items_more, leaf_stays, own_item, scan_more}
-use Rattle.ppd_ast.specs.Numbered.{is_call}
-use Rattle.ppd_ast.specs.Lookups.{kind_of}
-use Rattle.ppd_sem.specs.Runs.{returns}
-use Rattle.ppd_sem.specs.Described.{is_event}
-use Rattle.law_flow_own.proofs.Places.Whole.{AreWhole}
-use Rattle.law_flow_own.proofs.Vocabulary.Says.{activations, with_own}
-use Rattle.law_flow_own.proofs.Vocabulary.LoopTells.{IsCalledIn, LoopTells, Takes, own_number}
 use Rattle.law_flow_own.proofs.Locals.Cells.Intervals.{returned_to}
 use Rattle.law_flow_own.proofs.Locals.Cells.Spots.{not_eq}
 use Rattle.law_flow_own.proofs.Locals.Closes.{IsLeftNow, left_now}
@@ -57,6 +10,52 @@ use Rattle.law_flow_own.proofs.Locals.Stepping.Others.{leaf_put, other}
 use Rattle.law_flow_own.proofs.Locals.Tells.Back.{back_told}
 use Rattle.law_flow_own.proofs.Locals.Tells.Left.{joined_told}
 use Rattle.law_flow_own.proofs.Locals.Tells.Tags.{TellsOf}
+use Rattle.law_flow_own.proofs.Places.Calling.{while_no_call}
+use Rattle.law_flow_own.proofs.Places.Moves.{IsLeft, IsOther, IsReturning}
+use Rattle.law_flow_own.proofs.Places.Opening.{begun_own, first_block, leaf_interval}
+use Rattle.law_flow_own.proofs.Places.Scans.{items_more, leaf_stays, own_item, scan_more}
+use Rattle.law_flow_own.proofs.Places.Whole.{AreWhole}
+use Rattle.law_flow_own.proofs.Vocabulary.Levels.{put}
+use Rattle.law_flow_own.proofs.Vocabulary.LoopTells.{IsCalledIn, LoopTells, Takes, own_number}
+use Rattle.law_flow_own.proofs.Vocabulary.Says.{activations, with_own}
+use Rattle.law_flow_own.specs.Places.Closing.{closing}
+use Rattle.law_flow_own.specs.Places.Leaves.{AreBegun, IsBegunOutside, begun_by, items_so_far, leaf_of, open_at}
+use Rattle.law_flow_own.specs.Places.Levels.{Level}
+use Rattle.law_steps.proofs.OpenBlocks.DeedKinds.{while_stays}
+use Rattle.law_steps.proofs.OpenBlocks.Planned.{kind_is}
+use Rattle.law_steps.specs.OpenBlocks.Stack.{process_block}
+use Rattle.ppd_ast.specs.Lookups.{kind_of}
+use Rattle.ppd_ast.specs.Numbered.{is_call}
+use Rattle.ppd_ast.specs.Valid.{IsValid}
+use Rattle.ppd_ast.specs.declared.plan.BlockKind.TheVariants as block
+use Rattle.ppd_ast.specs.declared.plan.Plan.{Plan}
+use Rattle.ppd_ast.specs.declared.plan.Policy.{Policy}
+use Rattle.ppd_ast.specs.declared.program.Program.{Program}
+use Rattle.ppd_blocks.specs.Blocks.{plan_of}
+use Rattle.ppd_flow_model.specs.Locals.{Scan, frame_in, scan}
+use Rattle.ppd_flow_model.specs.Seen.{last_item, seen_of}
+use Rattle.ppd_model.proofs.Changes.{some}
+use Rattle.ppd_model.proofs.Lists.{get_mapped}
+use Rattle.ppd_model.specs.Intervals.{Part, Span, Split, item_of, items_of, nested, own, split_step}
+use Rattle.ppd_model.specs.LocalTags.{cells_in, is_into, local_tag}
+use Rattle.ppd_model.specs.Marks.{closed, values_at}
+use Rattle.ppd_model.specs.NearIntervals.{is_in, is_loop}
+use Rattle.ppd_model.specs.declared.flow.Item.TheVariants as item
+use Rattle.ppd_model.specs.declared.flow.Origin.TheVariants as origin
+use Rattle.ppd_model.specs.declared.trace.TracedEvent.{TracedEvent}
+use Rattle.ppd_model.specs.declared.tracing.Story.{Story}
+use Rattle.ppd_model.specs.declared.tracing.Taken.{Taken}
+use Rattle.ppd_sem.specs.Blocks.{block_kind, postlog_cells}
+use Rattle.ppd_sem.specs.Described.{is_event}
+use Rattle.ppd_sem.specs.Passed.{result_at}
+use Rattle.ppd_sem.specs.Process.{into_at, into_of, top_frame}
+use Rattle.ppd_sem.specs.Runs.{returns}
+use Rattle.ppd_sem.specs.declared.proc.Need.TheVariants as need
+use Rattle.ppd_sem.specs.declared.proc.Todo.{Todo}
+use Rattle.std.proofs.Common.{List, None, Option, Some, [], ap, ap₂, arith, eq-eqb, false, length, not, subst, suc, sym, true, true≢false, ℕ, ℤ, ◌&&◌, ◌++◌, ◌+◌, ◌-◌, ◌<◌, ◌∙◌, ◌∷◌, ◌≡◌}
+use Rattle.std.proofs.lemmas.List.{length_push}
+use Rattle.std.specs.List.{flat_map}
+use Rattle.std.specs.Prelude.{get_or, is_some, slice_get}
 
 module _ (program : Program) (policy : Policy) (v : IsValid program) {story : Story} {p : ℕ} {y x : Split} {taken : Taken}
     {l o : Level} {os : List Level} {h : Todo}
@@ -87,7 +86,7 @@ module _ (program : Program) (policy : Policy) (v : IsValid program) {story : St
       let left : IsLeftNow l (values_at x.trace.proc (postlog_cells plan b))
       (l.parts ++ own (length x.trace.events) ∷ []) (split_step program plan story p x taken).spans =
       left_now program plan story p x taken l (o ∷ os) m.stands
-      (mark b (values_at x.trace.proc (postlog_cells plan b))) (ap (closed program plan x.trace.proc) need_is) in
+      (record { block = b; values = values_at x.trace.proc (postlog_cells plan b) }) (ap (closed program plan x.trace.proc) need_is) in
       let end = m.later.spans l.interval left.span left.there in
       let same : end.0 ≡ left.span = end.2.stays left.left in
       let outer : leaf_of program plan y (put (nested l.interval) o) ≡ leaf_of program plan y o =
@@ -117,7 +116,7 @@ module _ (program : Program) (policy : Policy) (v : IsValid program) {story : St
       ∙ sym (ap (λ z. frame_in z + with_own (block_kind plan l.block) (activations program plan y (o ∷ os))) lf) in
       joined_told program plan p y (cells_in (split_step program plan story p x taken).trace.proc.frames)
       (local_tag (split_step program plan story p x taken).trace.activations)
-      (put (own (length x.trace.events)) l) o os h.stmt kind end.0 end.1 (ap is_closed same ∙ left.left)
+      (put (own (length x.trace.events)) l) o os h.stmt kind end.0 end.1 (ap (λ (i : Span). is_some i.closed) same ∙ left.left)
       (ap (λ (i : Span). i.block) same ∙ left.block_is)
       (get_mapped (items_of y) y.spans l.interval [] end.0 end.1
       ∙ ap (λ (i : Span). flat_map (item_of y) i.parts) same ∙ ap (flat_map (item_of y)) left.parts_are)
@@ -134,24 +133,24 @@ module _ (program : Program) (policy : Policy) (v : IsValid program) {story : St
   block_left b w need_is ret moves counted t =
       let first = first_block (leaf_of program plan y l) l.block b (open_at program plan y (o ∷ os))
       (then_todo ++ pb ∷ []) (m.open_is ∙ ap (λ c. c ++ pb ∷ []) moves) in
-      let kind : block_kind plan l.block ≡ block.Function (top_body x.trace.proc.frames) =
+      let kind : block_kind plan l.block ≡ block.Function (top_frame x.trace.proc.frames).body =
       ap (block_kind plan) first.1
-      ∙ kind_is program policy (block.Function (top_body x.trace.proc.frames)) b (sym ret.block) in
+      ∙ kind_is program policy (block.Function (top_frame x.trace.proc.frames).body) b (sym ret.block) in
       let left : IsLeftNow l (result_at program x.trace.proc) (l.parts ++ own (length x.trace.events) ∷ [])
       (split_step program plan story p x taken).spans =
-      left_now program plan story p x taken l (o ∷ os) m.stands (mark b (result_at program x.trace.proc))
+      left_now program plan story p x taken l (o ∷ os) m.stands (record { block = b; values = result_at program x.trace.proc })
       (ap (closed program plan x.trace.proc) need_is) in
       let end = m.later.spans l.interval left.span left.there in
       let same : end.0 ≡ left.span = end.2.stays left.left in
       let own_l = begun_own program plan p y l (o ∷ os) (begun_by x.trace.proc.frames x.trace.activations)
-      (block.Function (top_body x.trace.proc.frames)) first.0 kind m.begun in
+      (block.Function (top_frame x.trace.proc.frames).body) first.0 kind m.begun in
       let began = first_begun x.trace.proc.frames x.trace.activations (IsBegunOutside program plan p y (o ∷ os))
       (AreBegun program plan p y (o ∷ os)) own_l in
       let least_o : 0 < with_own (block_kind plan o.block) (activations program plan y os) = t.1.0.counted in
       let n : ℕ = with_own (block_kind plan o.block) (activations program plan y os) - 1 in
       let base_o : with_own (block_kind plan o.block) (activations program plan y os) ≡ suc n =
       omega (arith, least_o) in
-      let top : top_call x.trace.proc.frames ≡ Some began.1.traced.event.stmt = began.2 ∙ began.1.stmt_is in
+      let top : (top_frame x.trace.proc.frames).call ≡ Some began.1.traced.event.stmt = began.2 ∙ began.1.stmt_is in
       let none_left : leaf_of program plan y (put (nested l.interval) o) ≡ None =
       leaf_interval program plan p y l.interval o end.0 end.1 ∙ began.1.no_leaf in
       let zero_o : frame_in (leaf_of program plan y o) ≡ 0 = ap frame_in began.1.no_leaf in
@@ -165,7 +164,7 @@ module _ (program : Program) (policy : Policy) (v : IsValid program) {story : St
       let two : n + 2 ≡ length x.trace.proc.frames =
       omega (arith, m.counted, one_more, m.base, base_o, zero_o, zero_frame) in
       let r_is = received_back program plan x.trace.proc h m.rest m.todo_is ret.value ret.left ret.deed in
-      back_told (m.event_at event) end.0 end.1 (ap is_closed same ∙ left.left) (top_body x.trace.proc.frames)
+      back_told (m.event_at event) end.0 end.1 (ap (λ (i : Span). is_some i.closed) same ∙ left.left) (top_frame x.trace.proc.frames).body
       (ap (λ (i : Span). block_kind plan i.block) same ∙ ap (block_kind plan) left.block_is ∙ kind)
       (last_is end.0 end.1 left) began.1.traced.event.stmt
       (λ i c. call_is began.1.before began.1.event began.1.traced began.1.parts_are began.1.traced_is i c)
@@ -182,7 +181,7 @@ module _ (program : Program) (policy : Policy) (v : IsValid program) {story : St
       (call_is began.1.before began.1.event began.1.traced began.1.parts_are began.1.traced_is 0 0)
       (subst (λ q. IsCalledIn program plan y q (o ∷ os)) kind t.0.called loop) c end.0.values got)
       (λ i c small. r_is i c
-      ∙ ap (λ z. z && is_into (into_at program (top_call x.trace.proc.frames)) ret.value c)
+      ∙ ap (λ z. z && is_into (into_at program (top_frame x.trace.proc.frames).call) ret.value c)
       (not_eq (i + 2) (length x.trace.proc.frames) (λ j. omega (arith, j, small, two))))
       frames
       (subst (λ z. LoopTells program plan p y (cells_in x.trace.proc.frames) (local_tag x.trace.activations)
@@ -211,9 +210,9 @@ module _ (program : Program) (policy : Policy) (v : IsValid program) {story : St
       last_is i at left =
           let end = m.later.spans l.interval left.span left.there in
           let same : i ≡ left.span = some (sym at ∙ end.1) ∙ end.2.stays left.left in
-          let items : length (items_at (seen_of y) l.interval) ≡ length l.parts + 1 =
+          let items : length (get_or (seen_of y).items l.interval []) ≡ length l.parts + 1 =
           ap length (get_mapped (items_of y) y.spans l.interval [] i at) ∙ whole l.interval i at
           ∙ ap (λ (j : Span). length j.parts) same ∙ ap length left.parts_are
           ∙ length_push l.parts (own (length x.trace.events)) in
-          let last : length (items_at (seen_of y) l.interval) - 1 ≡ length l.parts = omega (arith, items) in
+          let last : length (get_or (seen_of y).items l.interval []) - 1 ≡ length l.parts = omega (arith, items) in
           ap (λ j. origin.Item p l.interval j) last

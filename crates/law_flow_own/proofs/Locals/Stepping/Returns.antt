@@ -12,10 +12,9 @@ use Rattle.ppd_ast.specs.Lookups.{kind_of}
 use Rattle.ppd_blocks.specs.Blocks.{plan_of}
 use Rattle.law_steps.specs.OpenBlocks.Stack.{process_block}
 use Rattle.ppd_sem.specs.Described.{evaluates, trap_of, is_event}
-use Rattle.ppd_sem.specs.Process.{into_of, need_of, top_call}
+use Rattle.ppd_sem.specs.Process.{into_of, need_of, top_frame, into_at}
 use Rattle.ppd_sem.specs.Runs.{returns}
 use Rattle.ppd_sem.specs.declared.proc.Todo.{Todo}
-use Rattle.ppd_model.specs.FullTrace.{into_at}
 use Rattle.ppd_model.specs.Intervals.{own, Split, split_step}
 use Rattle.ppd_model.specs.LocalTags.{is_into, is_received}
 use Rattle.ppd_model.specs.Synchronizations.{is_number}
@@ -94,14 +93,14 @@ module _ (program : Program) (policy : Policy) (v : IsValid program) {story : St
 
       r_is : (i c : ℕ) → is_received program x.trace.proc i c x.trace.proc.todo
           ≡ (nat_eq (i + 2) (length x.trace.proc.frames)
-          && is_into (into_at program (top_call x.trace.proc.frames)) ret.value c)
+          && is_into (into_at program (top_frame x.trace.proc.frames).call) ret.value c)
       r_is = received_back program plan x.trace.proc h m.rest m.todo_is ret.value ret.left ret.deed
 
       r_low : (call : LeafCall) → leaf_of program plan y l ≡ Some call → (i c : ℕ) → i < a
           → is_received program x.trace.proc i c x.trace.proc.todo ≡ false
       r_low call some_call i c less =
           let one : frame_in (leaf_of program plan y l) ≡ 1 = ap frame_in some_call in
-          r_is i c ∙ ap (λ b. b && is_into (into_at program (top_call x.trace.proc.frames)) ret.value c)
+          r_is i c ∙ ap (λ b. b && is_into (into_at program (top_frame x.trace.proc.frames).call) ret.value c)
           (not_eq (i + 2) (length x.trace.proc.frames) (λ q. omega (arith, q, less, m.counted, one)))
 
       rec_leaf : (call : LeafCall) → leaf_of program plan y l ≡ Some call → (c : ℕ)
@@ -113,7 +112,7 @@ module _ (program : Program) (policy : Policy) (v : IsValid program) {story : St
           let began = first_begun x.trace.proc.frames x.trace.activations (IsBegunAt p l.parts call.item call.stmt) _
           (begun_leaf program plan p y l ls
           (begun_by x.trace.proc.frames x.trace.activations) call some_call m.begun) in
-          let top : top_call x.trace.proc.frames ≡ Some call.stmt = began.2 ∙ began.1.stmt_is in
+          let top : (top_frame x.trace.proc.frames).call ≡ Some call.stmt = began.2 ∙ began.1.stmt_is in
           let value : e.event.value ≡ ret.value =
           value_now program plan x.trace.proc h m.rest m.todo_is taken ret.value ret.left ret.deed ret.goes ev in
           ap (receives program 0 c e.event) some_call

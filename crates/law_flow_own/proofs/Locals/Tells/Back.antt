@@ -1,12 +1,12 @@
 -- What is told of the tags where an event leaves a function's level.
 use Rattle.std.proofs.Common.{◌≡◌, ℕ, suc, ◌+◌, ◌<◌, true, false, not, List, ◌∷◌, Some, None, refl, sym, subst, ◌∙◌, arith, length}
-use Rattle.std.specs.Prelude.{slice_get}
+use Rattle.std.specs.Prelude.{slice_get, is_some}
 use Rattle.std.proofs.lemmas.Option.{none-some}
 use Rattle.ppd_ast.specs.declared.plan.BlockKind.TheVariants as block
 use Rattle.ppd_ast.specs.declared.plan.Plan.{Plan}
 use Rattle.ppd_ast.specs.declared.program.Program.{Program}
 use Rattle.ppd_sem.specs.Blocks.{block_kind, postlog_cells}
-use Rattle.ppd_model.specs.Intervals.{nested, Span, Split, is_closed}
+use Rattle.ppd_model.specs.Intervals.{nested, Span, Split}
 use Rattle.ppd_model.specs.NearIntervals.{is_in, is_loop}
 use Rattle.ppd_model.specs.declared.flow.Origin.TheVariants as origin
 use Rattle.ppd_model.specs.declared.trace.TracedEvent.{TracedEvent}
@@ -25,7 +25,7 @@ use Rattle.law_flow_own.proofs.Locals.Tells.Tags.{Change, IsEventAt}
 
 module _ {program : Program} {plan : Plan} {p : ℕ} {y : Split} {l o : Level} {os : List Level} {n : ℕ} {e : TracedEvent}
     {k : Change} {a : ℕ} (g : IsEventAt program plan p y l (o ∷ os) n e k a) where
-  pub back_told : (i : Span) → slice_get y.spans l.interval ≡ Some i → is_closed i ≡ true → (f : ℕ)
+  pub back_told : (i : Span) → slice_get y.spans l.interval ≡ Some i → is_some i.closed ≡ true → (f : ℕ)
       → block_kind plan i.block ≡ block.Function f
       → last_item (seen_of y) p l.interval ≡ origin.Item p l.interval (length l.parts)
       → (call : ℕ) → ((j c : ℕ) → (scan program plan j c (items_so_far y o)).call ≡ call)

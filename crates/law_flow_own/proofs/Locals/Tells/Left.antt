@@ -1,17 +1,17 @@
 -- What is told of the tags where a loop is left: the two levels become one.
 use Rattle.std.proofs.Common.{◌≡◌, ℕ, ◌+◌, ◌-◌, ◌<◌, Bool, true, false, not, ◌&&◌, List, ◌∷◌, Option, Some, None, refl, ap, sym, subst, ◌∙◌, arith, true≢false}
-use Rattle.std.specs.Prelude.{is_some, nat_eq, slice_get}
+use Rattle.std.specs.Prelude.{is_some, nat_eq, slice_get, get_or, []}
 use Rattle.ppd_ast.specs.declared.plan.BlockKind.{BlockKind}
 use Rattle.ppd_ast.specs.declared.plan.BlockKind.TheVariants as block
 use Rattle.ppd_ast.specs.declared.plan.Plan.{Plan}
 use Rattle.ppd_ast.specs.declared.program.Program.{Program}
 use Rattle.ppd_sem.specs.Blocks.{block_kind, postlog_cells}
 use Rattle.ppd_model.specs.FullTrace.{Tag}
-use Rattle.ppd_model.specs.Intervals.{nested, Span, Split, is_closed}
+use Rattle.ppd_model.specs.Intervals.{nested, Span, Split}
 use Rattle.ppd_model.specs.NearIntervals.{is_in, is_loop}
 use Rattle.ppd_flow_model.specs.declared.leaf_call.LeafCall.{LeafCall}
 use Rattle.ppd_flow_model.specs.Locals.{frame_in}
-use Rattle.ppd_flow_model.specs.Seen.{items_at, seen_of}
+use Rattle.ppd_flow_model.specs.Seen.{seen_of}
 use Rattle.law_flow_own.specs.Places.Levels.{Level}
 use Rattle.law_flow_own.proofs.Vocabulary.Levels.{put}
 use Rattle.law_flow_own.specs.Places.Leaves.{items_so_far, leaf_of}
@@ -30,8 +30,8 @@ module _ (program : Program) (plan : Plan) (p : ℕ) (y : Split) where
 
   module _ (Z : ℕ → ℕ) (T : ℕ → ℕ → Tag) (l o : Level) (os : List Level) (q : ℕ)
       (kind : block_kind plan l.block ≡ block.Loop q) (i : Span) (at : slice_get y.spans l.interval ≡ Some i)
-      (is_so : is_closed i ≡ true) (block_is : i.block ≡ l.block)
-      (items : items_at (seen_of y) l.interval ≡ items_so_far y l)
+      (is_so : is_some i.closed ≡ true) (block_is : i.block ≡ l.block)
+      (items : get_or (seen_of y).items l.interval [] ≡ items_so_far y l)
       (h : LoopTells program plan p y Z T true (l ∷ o ∷ os)) where
     abbrev joint : Level
     joint = put (nested l.interval) o

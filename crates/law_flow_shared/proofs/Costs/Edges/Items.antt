@@ -1,46 +1,45 @@
 -- The replays for the reads of an event, for a synchronization, for control, and for an interval.
-use Rattle.std.proofs.Common.{◌≡◌, ℕ, suc, ◌+◌, ◌*◌, ◌≤◌, ℤ, List, [], ◌∷◌, ◌++◌, Option, Some, None, refl, ap, sym, ◌∙◌, subst, arith, length, length-append, Result, Ok, Err, ap₂}
-use Rattle.std.specs.Prelude.{slice_get, ◌-◌}
+use Rattle.law_flow_shared.proofs.Costs.Edges.Answers.{in_left, not_ok, ok_is}
+use Rattle.law_flow_shared.proofs.Costs.Edges.Shared.{origin_little, shared_little}
+use Rattle.law_flow_shared.proofs.Costs.Own.Near.{both_steps, parts_steps}
+use Rattle.law_flow_shared.proofs.Costs.Own.Outer.{AllStand}
+use Rattle.law_flow_shared.proofs.Costs.Own.Parts.{both_times, one_times}
+use Rattle.law_flow_shared.proofs.Costs.Own.Reads.{control_little, local_little}
+use Rattle.law_flow_shared.proofs.Costs.Words.{Words, words_of}
+use Rattle.law_flow_shared.proofs.Edges.Near.Tree.{HasTree, has_tree}
+use Rattle.law_flow_shared.proofs.Edges.Spans.Facts.{Logged}
+use Rattle.law_flow_shared.proofs.Edges.StepEvents.Processes.{Facts, closed_told, facts}
+use Rattle.law_flow_shared.specs.Edges.SharedEdges.{all_seen}
 use Rattle.ppd_ast.specs.Valid.{IsValid}
 use Rattle.ppd_ast.specs.declared.plan.BlockKind.{BlockKind}
 use Rattle.ppd_ast.specs.declared.plan.BlockKind.TheVariants as block
 use Rattle.ppd_ast.specs.declared.plan.Plan.{Plan}
 use Rattle.ppd_ast.specs.declared.program.Program.{Program}
-use Rattle.ppd_entry.specs.Entries.{entries_at}
-use Rattle.ppd_flow_model.specs.Paired.{Paired}
-use Rattle.ppd_flow_model.specs.Paired.TheVariants.{Nothing, Initial, Node}
-use Rattle.ppd_sem.specs.Blocks.{postlog_cells}
-use Rattle.ppd_sem.specs.declared.event.Spot.TheVariants.{Local, Shared}
-use Rattle.ppd_model.specs.declared.flow.EdgeKind.TheVariants.{Left, Returned, Sync, Control}
-use Rattle.ppd_model.specs.declared.flow.FlowEdge.{FlowEdge}
-use Rattle.ppd_model.specs.declared.flow.Origin.TheVariants as origin
-use Rattle.ppd_model.specs.FlowbackEdges.{bare_edge, edges, part_at}
-use Rattle.ppd_model.specs.Intervals.{Span, Split, splits, own}
-use Rattle.ppd_model.specs.Logs.{closed_logs}
-use Rattle.ppd_model.specs.Story.{own_moments, steps_of, story, told}
-use Rattle.ppd_model.proofs.Tested.{In, here as first_in, there as later_in}
 use Rattle.ppd_flow_model.specs.Control.{control_origin, control_replays}
-use Rattle.ppd_flow_model.specs.Found.{sync_edges, sync_replays, pair_edges, before_others, if_found, read_edge, read_edges, read_if, read_replays, reads_replays}
 use Rattle.ppd_flow_model.specs.Ends.{end_interval, end_item}
+use Rattle.ppd_flow_model.specs.Found.{before_others, if_found, pair_edges, read_edge, read_edges, read_if, read_replays, reads_replays, sync_edges, sync_replays}
 use Rattle.ppd_flow_model.specs.Locals.{local_origin, local_replays}
 use Rattle.ppd_flow_model.specs.Own.{edges_of_nested, frame_at, left_edges, left_replays, nested_replays, returned_edges, returned_replays}
-use Rattle.ppd_flow_model.specs.Seen.{Seen, items_at, last_item, seen_of}
-use Rattle.ppd_flow_model.specs.Shared.{of_process, pair_of, pair_place, place_replays, seen_at, Missing, shared_origin, shared_replays}
-use Rattle.law_flow_shared.specs.Edges.SharedEdges.{all_seen}
-use Rattle.law_flow_shared.proofs.Edges.Near.Tree.{HasTree, has_tree}
-use Rattle.law_flow_shared.proofs.Edges.Spans.Facts.{Logged}
-use Rattle.law_flow_shared.proofs.Edges.StepEvents.Processes.{Facts, closed_told, facts}
-use Rattle.law_flow_shared.proofs.Costs.Own.Near.{parts_steps, both_steps}
-use Rattle.law_flow_shared.proofs.Costs.Own.Parts.{both_times, one_times}
-use Rattle.law_flow_shared.proofs.Costs.Own.Outer.{AllStand}
-use Rattle.law_flow_shared.proofs.Costs.Own.Reads.{control_little, local_little}
-use Rattle.law_flow_shared.proofs.Costs.Edges.Answers.{in_left, not_ok, ok_is}
-use Rattle.law_flow_shared.proofs.Costs.Edges.Shared.{origin_little, shared_little}
+use Rattle.ppd_flow_model.specs.Paired.{Paired}
+use Rattle.ppd_flow_model.specs.Paired.TheVariants.{Initial, Node, Nothing}
+use Rattle.ppd_flow_model.specs.Seen.{Seen, last_item, seen_of}
+use Rattle.ppd_flow_model.specs.Shared.{Missing, of_process, pair_of, pair_place, place_replays, seen_at, shared_origin, shared_replays}
+use Rattle.ppd_model.proofs.Tested.{In, here as first_in, there as later_in}
+use Rattle.ppd_model.specs.FlowbackEdges.{bare_edge, edges, part_at}
+use Rattle.ppd_model.specs.Intervals.{Span, Split, own, splits}
+use Rattle.ppd_model.specs.Logs.{closed_logs}
+use Rattle.ppd_model.specs.Story.{steps_of, story, told}
+use Rattle.ppd_model.specs.declared.flow.EdgeKind.TheVariants.{Control, Left, Returned, Sync}
+use Rattle.ppd_model.specs.declared.flow.FlowEdge.{FlowEdge}
+use Rattle.ppd_model.specs.declared.flow.Origin.{Origin}
+use Rattle.ppd_model.specs.declared.flow.Origin.TheVariants as origin
+use Rattle.ppd_model.specs.declared.trace.TracedEvent.{TracedEvent}
+use Rattle.ppd_sem.specs.Blocks.{postlog_cells}
 use Rattle.ppd_sem.specs.declared.event.Access.{Access}
 use Rattle.ppd_sem.specs.declared.event.Spot.{Spot}
-use Rattle.ppd_model.specs.declared.flow.Origin.{Origin}
-use Rattle.ppd_model.specs.declared.trace.TracedEvent.{TracedEvent}
-use Rattle.law_flow_shared.proofs.Costs.Words.{Words, words_of}
+use Rattle.ppd_sem.specs.declared.event.Spot.TheVariants.{Local, Shared}
+use Rattle.std.proofs.Common.{Err, List, None, Ok, Option, Result, Some, [], ap, ap₂, arith, length, length-append, refl, subst, suc, sym, ℕ, ℤ, ◌*◌, ◌++◌, ◌+◌, ◌∙◌, ◌∷◌, ◌≡◌, ◌≤◌}
+use Rattle.std.specs.Prelude.{get_or, slice_get, ◌-◌}
 
 module _ (program : Program) (plan : Plan) (budget : ℕ) (h : List ℕ) (v : IsValid program) (p k j : ℕ) (x : Split)
     (there : slice_get (splits program plan budget (story program plan budget h)) p ≡ Some x) (es : List FlowEdge) (edges_are : edges program plan budget (story program plan budget h) p k j ≡ Some es) where
@@ -55,12 +54,12 @@ module _ (program : Program) (plan : Plan) (budget : ℕ) (h : List ℕ) (v : Is
   tree : HasTree x
   tree =
       let t = closed_told program plan budget h v p x there in
-      subst (λ y. HasTree y) t.0 (has_tree program plan (story program plan budget h) p budget (steps_of (own_moments (told program plan budget h) p)))
+      subst (λ y. HasTree y) t.0 (has_tree program plan (story program plan budget h) p budget (steps_of (get_or (told program plan budget h).moments p [])))
 
   abbrev F : ℕ → ℕ → ℕ → Type 0
-  F = Logged (entries_at (closed_logs program plan budget h) p) x.trace.events
+  F = Logged (get_or (closed_logs program plan budget h).lists p []) x.trace.events
 
-  stands : AllStand (Logged (entries_at (closed_logs program plan budget h) p) x.trace.events) x
+  stands : AllStand (Logged (get_or (closed_logs program plan budget h).lists p []) x.trace.events) x
   stands m i g = let q = f.told_by.placed m i g in (q.first, q.stands)
 
   seen_is : seen_at (all_seen program plan budget h) p ≡ seen_of x
@@ -116,8 +115,8 @@ module _ (program : Program) (plan : Plan) (budget : ℕ) (h : List ℕ) (v : Is
       by Nothing all' = omega arith
       by Initial all' = omega arith
       by (Node a) all' =
-          let m : ℕ = end_interval (entries_at logs a.process) a.sync in
-          let n : ℕ = end_item (entries_at logs a.process) (seen_at seens a.process) a.sync in
+          let m : ℕ = end_interval (get_or logs.lists a.process []) a.sync in
+          let n : ℕ = end_item (get_or logs.lists a.process []) (seen_at seens a.process) a.sync in
           let e : FlowEdge = bare_edge Sync (origin.Item a.process m n) in
           alone (steps (of_process a.process (m ∷ []))) (origin_little program plan budget h v p k j x there es edges_are a.process m n e (all' e first_in) refl)
 
@@ -155,7 +154,7 @@ module _ (program : Program) (plan : Plan) (budget : ℕ) (h : List ℕ) (v : Is
 
     returned : (m : ℕ) (u : ℤ) (vs : List ℤ) → returned_edges (seen_at seens p) p m (u ∷ vs) ++ bare_edge Control (origin.Item p k (j - 1)) ∷ [] ≡ es → steps (of_process p (returned_replays m (u ∷ vs))) ≤ length es * (N + N)
     returned m u vs are =
-        let a = origin_little program plan budget h v p k j x there es edges_are p m (length (items_at (seen_at seens p) m) - 1) (brought m u) (subst (λ z. In (brought m u) z) are first_in) refl in
+        let a = origin_little program plan budget h v p k j x there es edges_are p m (length (get_or (seen_at seens p).items m []) - 1) (brought m u) (subst (λ z. In (brought m u) z) are first_in) refl in
         let one = and_one (steps (of_process p (m ∷ []))) 0 1 (alone (steps (of_process p (m ∷ []))) a) (omega arith) in
         subst (λ l. steps (of_process p (m ∷ [])) ≤ length l * (N + N)) are (omega (arith, one))
 

@@ -1,11 +1,11 @@
 -- The intervals among the items of an interval, each once.
 use Rattle.std.proofs.Common.{◌≡◌, ℕ, zero, suc, ℤ, Bool, true, false, List, [], ◌∷◌, ◌++◌, Option, Some, None, refl, ap, sym, ◌∙◌, subst, arith, true≢false, inl, inr}
-use Rattle.std.specs.Prelude.{slice_get, take}
+use Rattle.std.specs.Prelude.{slice_get, take, is_some}
 use Rattle.std.specs.List.{flat_map}
 use Rattle.ppd_model.specs.declared.flow.Item.{Item}
 use Rattle.ppd_model.specs.declared.flow.Item.TheVariants as item
 use Rattle.ppd_model.specs.declared.trace.TracedEvent.{TracedEvent}
-use Rattle.ppd_model.specs.Intervals.{Part, own, nested, Span, Split, is_closed, item_of}
+use Rattle.ppd_model.specs.Intervals.{Part, own, nested, Span, Split, item_of}
 use Rattle.ppd_model.proofs.IntervalWords.{item_of_event, item_of_span}
 use Rattle.ppd_model.proofs.Tested.{In, here as first_in, there as later_in}
 use Rattle.law_flow_shared.specs.Edges.Within.{AreDistinct}
@@ -71,7 +71,7 @@ module _ (x : Split) where
       by_span : (k : ℕ) (o : Option Span) → slice_get x.spans k ≡ o → In (item.Nested m b vs c) (item_of_span k o)
           → (s : Span) × (slice_get x.spans m ≡ Some s) × (b ≡ s.block) × (j : ℕ) × (slice_get (nested k ∷ ps) j ≡ Some (nested m))
       by_span k None g j = absurd (no_member j)
-      by_span k (Some s) g j = elim (in_cases (item.Nested m b vs c) (item.Nested k s.block s.values (is_closed s)) [] j) [
+      by_span k (Some s) g j = elim (in_cases (item.Nested m b vs c) (item.Nested k s.block s.values (is_some s.closed)) [] j) [
         | inl same ↦
             let number : m ≡ k = ap number_of same in
             (s, ap (λ z. slice_get x.spans z) number ∙ g, ap block_of same, 0, ap (λ z. Some (nested z)) (sym number))

@@ -1,6 +1,6 @@
 -- The intervals that are replayed to find the last write of a local cell.
 use Rattle.std.proofs.Common.{◌≡◌, ℕ, ◌<◌, List, [], ◌∷◌, ◌++◌, Option, Some, None, refl, ap, sym, ◌∙◌, subst, arith, true≢false, inl, inr, ◌⊎◌}
-use Rattle.std.specs.Prelude.{slice_get, take}
+use Rattle.std.specs.Prelude.{slice_get, take, get_or}
 use Rattle.std.proofs.lemmas.Option.{none-some}
 use Rattle.ppd_ast.specs.declared.plan.Plan.{Plan}
 use Rattle.ppd_ast.specs.declared.program.Program.{Program}
@@ -14,7 +14,7 @@ use Rattle.ppd_model.proofs.Tested.{In, here as first_in, there as later_in}
 use Rattle.ppd_flow_model.specs.declared.writer.Writer.{Writer}
 use Rattle.ppd_flow_model.specs.declared.writer.Writer.TheVariants.{Before, Fresh, At, Of}
 use Rattle.ppd_flow_model.specs.Locals.{Scan, in_loops, local_in, local_in_replays, loop_replays, scan, writer_at, writer_replays}
-use Rattle.ppd_flow_model.specs.Seen.{Seen, items_at, last_item, seen_of, unless}
+use Rattle.ppd_flow_model.specs.Seen.{Seen, last_item, seen_of, unless}
 use Rattle.law_flow_shared.specs.Edges.Within.{AreDistinct}
 use Rattle.law_flow_shared.proofs.Edges.Near.Distinct.{not_in_list, distinct_both, out_of_list}
 use Rattle.law_flow_shared.proofs.Edges.Near.Tree.{HasTree}
@@ -47,18 +47,18 @@ module _ (program : Program) (plan : Plan) (x : Split) (tree : HasTree x) (p c :
 
   loops_are : (k : ℕ) (ms : List ℕ) → AreDistinct ms → ((z : ℕ) → In z ms → IsLoopIn plan x k z) → AreOf k (in_loops program plan seen p c ms) ms (loop_replays program plan seen p c ms)
   loops_are k [] once loops = record { each = λ z i. absurd (no_member i); once = tt }
-  loops_are k (m ∷ ms) once loops = by (loops_are k ms once.1 (λ z i. loops z (later_in i))) (scan program plan 0 c (items_at seen m)).writer refl
+  loops_are k (m ∷ ms) once loops = by (loops_are k ms once.1 (λ z i. loops z (later_in i))) (scan program plan 0 c (get_or seen.items m [])).writer refl
     where
       l : IsLoopIn plan x k m
       l = loops m first_in
 
-      inner : (z : ℕ) → (scan program plan 0 c (items_at seen m)).writer ≡ Of z → IsOtherIn plan x m z
+      inner : (z : ℕ) → (scan program plan 0 c (get_or seen.items m [])).writer ≡ Of z → IsOtherIn plan x m z
       inner = (scanned_whole program plan x tree 0 c m l.span l.there).writer
 
       alone : (found : Option Origin) → AreOf k found (m ∷ ms) (m ∷ [])
       alone found = record { each = λ z i. inl (subst (λ y. In y (m ∷ ms)) (sym (in_one z m i)) first_in); once = distinct_one m }
 
-      by : AreOf k (in_loops program plan seen p c ms) ms (loop_replays program plan seen p c ms) → (w : Writer) → (scan program plan 0 c (items_at seen m)).writer ≡ w
+      by : AreOf k (in_loops program plan seen p c ms) ms (loop_replays program plan seen p c ms) → (w : Writer) → (scan program plan 0 c (get_or seen.items m [])).writer ≡ w
           → AreOf k (option_or (writer_at seen p m w) (in_loops program plan seen p c ms)) (m ∷ ms) (m ∷ writer_replays w ++ unless (writer_at seen p m w) (loop_replays program plan seen p c ms))
       by rest Before e = record {
         each = λ z i. elim (in_cases z m (loop_replays program plan seen p c ms) i) [
@@ -91,9 +91,9 @@ module _ (program : Program) (plan : Plan) (x : Split) (tree : HasTree x) (p c :
 
   module _ (k j frame : ℕ) (i : Span) (at : slice_get x.spans k ≡ Some i) where
     abbrev s : Scan
-    s = scan program plan frame c (take j (items_at (seen_of x) k))
+    s = scan program plan frame c (take j (get_or (seen_of x).items k []))
 
-    sc : IsScanned program plan frame c (IsLoopIn plan x k) (IsOtherIn plan x k) (scan program plan frame c (take j (items_at (seen_of x) k)))
+    sc : IsScanned program plan frame c (IsLoopIn plan x k) (IsOtherIn plan x k) (scan program plan frame c (take j (get_or (seen_of x).items k [])))
     sc = scanned_at program plan x tree frame c k i j at
 
     lo : AreOf k (in_loops program plan seen p c s.loops) s.loops (loop_replays program plan seen p c s.loops)

@@ -17,7 +17,7 @@ use Rattle.ppd_model.proofs.Changes.{some}
 use Rattle.ppd_model.proofs.Tested.{In, here as first_in}
 use Rattle.ppd_flow_model.specs.Control.{call_replays, control_above_replays, control_in, control_replays}
 use Rattle.ppd_flow_model.specs.Locals.{above_replays, local_above, local_in, local_in_replays, local_origin, local_replays, outer_frame, parameter, parameter_replays}
-use Rattle.ppd_flow_model.specs.Seen.{Seen, items_at, kind_at, last_item, outer_of, outer_place, seen_of, unless}
+use Rattle.ppd_flow_model.specs.Seen.{Seen, kind_at, last_item, outer_of, outer_place, seen_of, unless}
 use Rattle.ppd_flow_model.specs.Shared.{of_process}
 use Rattle.law_flow_shared.proofs.Edges.Near.Tree.{HasTree}
 use Rattle.law_flow_shared.proofs.Edges.Sources.Members.{in_either}
@@ -62,7 +62,7 @@ module _ (program : Program) (plan : Plan) (budget : ℕ) (h : List ℕ) (p k j 
   good_near c b found from near (inr same) e g is z s (inr r) at' =
       let item : e.from ≡ last_item seen p z = is ∙ some (sym same ∙ r.1) in
       near_edge program plan budget h p k j x there es edges_are e g p x z s
-      (ap (is_near_origin p x z s) item ∙ ap₂ (λ a b'. a && (b' || is_open_at x (part_at x z (length (items_at seen z) - 1)) s)) (eq-eqb p p refl) (eq-eqb z z refl))
+      (ap (is_near_origin p x z s) item ∙ ap₂ (λ a b'. a && (b' || is_open_at x (part_at x z (length (get_or seen.items z []) - 1)) s)) (eq-eqb p p refl) (eq-eqb z z refl))
 
   -- lists of intervals in k or round k, and one more that is round it with a smaller number
   with_one : (c b m : ℕ) (found : Option Origin) (from : Origin) (rs : List ℕ) → In b (surroundings x k) → In m (surroundings x k) → m ≤ b → (found ≡ None) ⊎ (found ≡ Some from) → (e : FlowEdge) → In e es → e.from ≡ from

@@ -1,6 +1,6 @@
 -- What the scan of the items of an interval names: loops directly inside it, each once, and another interval inside it.
 use Rattle.std.proofs.Common.{◌≡◌, ℕ, ◌+◌, ◌<◌, ℤ, Bool, true, false, List, [], ◌∷◌, Option, Some, None, refl, ap, sym, ◌∙◌, subst, true≢false, inl, inr, if◌then◌else◌}
-use Rattle.std.specs.Prelude.{fold, nat_eq, slice_get, take, ◌&&◌}
+use Rattle.std.specs.Prelude.{fold, nat_eq, slice_get, take, ◌&&◌, get_or}
 use Rattle.std.specs.List.{list_any}
 use Rattle.ppd_ast.specs.declared.plan.BlockKind.{BlockKind}
 use Rattle.ppd_ast.specs.declared.plan.BlockKind.TheVariants as block
@@ -16,7 +16,7 @@ use Rattle.ppd_model.proofs.Tested.{In, here as first_in, there as later_in}
 use Rattle.ppd_flow_model.specs.declared.writer.Writer.{Writer}
 use Rattle.ppd_flow_model.specs.declared.writer.Writer.TheVariants.{Before, Fresh, At, Of}
 use Rattle.ppd_flow_model.specs.Locals.{Scan, begins_leaf, begun_scan, frame_in, is_local, receives, scan, scan_event, scan_interval, scan_item, written_by}
-use Rattle.ppd_flow_model.specs.Seen.{items_at, seen_of}
+use Rattle.ppd_flow_model.specs.Seen.{seen_of}
 use Rattle.law_flow_shared.specs.Edges.Within.{AreDistinct}
 use Rattle.law_flow_shared.proofs.Edges.Back.Walks.{map_at}
 use Rattle.law_flow_shared.proofs.Edges.Near.Distinct.{not_in_list, out_of_list}
@@ -165,7 +165,7 @@ module _ (program : Program) (plan : Plan) (x : Split) (tree : HasTree x) (frame
       same_round s e s' e' g = ap (λ (o : Option Span). elim o [ None ↦ s.round | Some w ↦ w.round ]) (sym e ∙ e') ∙ g
 
   -- the first items of an interval
-  pub scanned_at : (k : ℕ) (i : Span) (j : ℕ) → slice_get x.spans k ≡ Some i → IsScanned program plan frame c (IsLoopIn plan x k) (IsOtherIn plan x k) (scan program plan frame c (take j (items_at (seen_of x) k)))
+  pub scanned_at : (k : ℕ) (i : Span) (j : ℕ) → slice_get x.spans k ≡ Some i → IsScanned program plan frame c (IsLoopIn plan x k) (IsOtherIn plan x k) (scan program plan frame c (take j (get_or (seen_of x).items k [])))
   scanned_at k i j at =
       subst (λ items. IsScanned program plan frame c (IsLoopIn plan x k) (IsOtherIn plan x k) (scan program plan frame c (take j items))) (sym (map_at (items_of x) x.spans k i [] at))
       (all_scanned program plan frame c (IsLoopIn plan x k) (IsOtherIn plan x k) (take j (items_of x i))
@@ -173,7 +173,7 @@ module _ (program : Program) (plan : Plan) (x : Split) (tree : HasTree x) (frame
       (distinct_taken j (items_of x i) (distinct_numbers x i.parts (λ a b m e f. tree.once k a b m i at e f))))
 
   -- all items of an interval
-  pub scanned_whole : (k : ℕ) (i : Span) → slice_get x.spans k ≡ Some i → IsScanned program plan frame c (IsLoopIn plan x k) (IsOtherIn plan x k) (scan program plan frame c (items_at (seen_of x) k))
+  pub scanned_whole : (k : ℕ) (i : Span) → slice_get x.spans k ≡ Some i → IsScanned program plan frame c (IsLoopIn plan x k) (IsOtherIn plan x k) (scan program plan frame c (get_or (seen_of x).items k []))
   scanned_whole k i at =
       subst (λ items. IsScanned program plan frame c (IsLoopIn plan x k) (IsOtherIn plan x k) (scan program plan frame c items)) (sym (map_at (items_of x) x.spans k i [] at))
       (all_scanned program plan frame c (IsLoopIn plan x k) (IsOtherIn plan x k) (items_of x i) (fitting k i at)

@@ -4,12 +4,11 @@ use Rattle.std.specs.Prelude.{slice_get}
 use Rattle.std.proofs.lemmas.Option.{none-some}
 use Rattle.ppd_ast.specs.declared.plan.Plan.{Plan}
 use Rattle.ppd_ast.specs.declared.program.Program.{Program}
-use Rattle.ppd_entry.specs.Entries.{entries_at}
 use Rattle.ppd_model.specs.Intervals.{Split, splits}
 use Rattle.ppd_model.proofs.IntervalWords.{splits_from}
 use Rattle.ppd_model.specs.Logs.{closed_log, closed_logs, log_of}
 use Rattle.ppd_model.proofs.LogWords.{logs_from}
-use Rattle.ppd_model.specs.Story.{Moment, own_moments, steps_of, story, told}
+use Rattle.ppd_model.specs.Story.{Moment, steps_of, story, told}
 use Rattle.ppd_model.specs.declared.tracing.Story.{Story}
 
 -- ---- the log of a process
@@ -23,7 +22,7 @@ module _ (program : Program) (plan : Plan) (budget : ℕ) where
       log_from s (k + 1) ms p x e ∙ ap (λ j. closed_log (log_of program plan budget j (get_or ms p []))) (let z : k + 1 + p ≡ k + suc p = omega arith in z)
 
   pub entries_are : (h : List ℕ) (p : ℕ) (x : Split) → slice_get (splits program plan budget (story program plan budget h)) p ≡ Some x
-      → entries_at (closed_logs program plan budget h) p ≡ closed_log (log_of program plan budget p (own_moments (told program plan budget h) p))
+      → get_or (closed_logs program plan budget h).lists p [] ≡ closed_log (log_of program plan budget p (get_or (told program plan budget h).moments p []))
   entries_are h p x e =
       log_from (story program plan budget h) 0 (told program plan budget h).moments p x e
-      ∙ ap (λ j. closed_log (log_of program plan budget j (own_moments (told program plan budget h) p))) (let z : 0 + p ≡ p = omega arith in z)
+      ∙ ap (λ j. closed_log (log_of program plan budget j (get_or (told program plan budget h).moments p []))) (let z : 0 + p ≡ p = omega arith in z)

@@ -1,13 +1,13 @@
 -- Lists of steps, their moments, and the edges that they are in.
 use Rattle.std.proofs.Common.{◌≡◌, ℕ, ◌+◌, ◌<◌, Bool, true, false, List, [], ◌∷◌, ◌++◌, refl, ap, arith, length, length-append, if◌then◌else◌, zero, suc}
-use Rattle.std.specs.Prelude.{fold, is_some}
+use Rattle.std.specs.Prelude.{fold, is_some, filter_map}
 use Rattle.ppd_ast.specs.declared.plan.Plan.{Plan}
 use Rattle.ppd_ast.specs.declared.program.Program.{Program}
 use Rattle.ppd_ast.specs.Counting.{one_if}
 use Rattle.ppd_model.specs.Intervals.{Split, split_step}
 use Rattle.ppd_model.specs.Record.{edge_after}
 use Rattle.ppd_model.specs.Story.{Moment, steps_of}
-use Rattle.ppd_model.specs.Synchronizations.{sync_of, syncs_of}
+use Rattle.ppd_model.specs.Synchronizations.{sync_of}
 use Rattle.ppd_model.specs.declared.tracing.Story.{Story}
 use Rattle.ppd_model.specs.declared.tracing.Taken.{Taken}
 use Rattle.ppd_model.proofs.OneHistory.{bare_moment}
@@ -43,16 +43,16 @@ module _ (program : Program) (plan : Plan) (story' : Story) (p : ℕ) where
       let more : length (z.edges ++ z.edge ∷ []) ≡ length z.edges + 1 = length-append z.edges (z.edge ∷ []) in
       omega (arith, r, more)
 
-  pub edge_counts : (z : Split) (ts : List Taken) → (fold (split_step program plan story' p) z ts).edge ≡ z.edge + length (syncs_of ts)
+  pub edge_counts : (z : Split) (ts : List Taken) → (fold (split_step program plan story' p) z ts).edge ≡ z.edge + length (filter_map sync_of ts)
   edge_counts z [] = omega arith
   edge_counts z (t ∷ ts) =
-      let r : (fold (split_step program plan story' p) (split_step program plan story' p z t) ts).edge ≡ edge_after z.edge t + length (syncs_of ts) = edge_counts (split_step program plan story' p z t) ts in
+      let r : (fold (split_step program plan story' p) (split_step program plan story' p z t) ts).edge ≡ edge_after z.edge t + length (filter_map sync_of ts) = edge_counts (split_step program plan story' p z t) ts in
       let both = syncs_length t ts in
       by (is_some (sync_of t)) refl r both
     where
-      by : (b : Bool) → is_some (sync_of t) ≡ b → (fold (split_step program plan story' p) (split_step program plan story' p z t) ts).edge ≡ edge_after z.edge t + length (syncs_of ts)
-          → length (syncs_of (t ∷ ts)) ≡ one_if (is_some (sync_of t)) + length (syncs_of ts)
-          → (fold (split_step program plan story' p) (split_step program plan story' p z t) ts).edge ≡ z.edge + length (syncs_of (t ∷ ts))
+      by : (b : Bool) → is_some (sync_of t) ≡ b → (fold (split_step program plan story' p) (split_step program plan story' p z t) ts).edge ≡ edge_after z.edge t + length (filter_map sync_of ts)
+          → length (filter_map sync_of (t ∷ ts)) ≡ one_if (is_some (sync_of t)) + length (filter_map sync_of ts)
+          → (fold (split_step program plan story' p) (split_step program plan story' p z t) ts).edge ≡ z.edge + length (filter_map sync_of (t ∷ ts))
       by true e r both =
           let one : edge_after z.edge t ≡ z.edge + 1 = ap (λ c. if c then z.edge + 1 else z.edge) e in
           let k : one_if (is_some (sync_of t)) ≡ 1 = ap one_if e in

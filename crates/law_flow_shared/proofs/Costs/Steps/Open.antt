@@ -4,7 +4,7 @@ use Rattle.std.specs.Prelude.{drop, is_some, nat_eq, slice_get, take}
 use Rattle.std.specs.List.{list_any}
 use Rattle.std.proofs.lemmas.Option.{none-some}
 use Rattle.ppd_entry.specs.declared.entry.Entry.{Entry}
-use Rattle.ppd_model.specs.Intervals.{Span, is_closed}
+use Rattle.ppd_model.specs.Intervals.{Span}
 use Rattle.ppd_model.specs.NearIntervals.{through_step}
 use Rattle.ppd_model.specs.declared.trace.TracedEvent.{TracedEvent}
 use Rattle.ppd_model.proofs.Changes.{some}
@@ -47,7 +47,7 @@ open_if edges i t e from to at = by i.closed refl
 -- ---- intervals that run
 
 abbrev pub IsUnleft : Span → Type 0
-IsUnleft i = is_closed i ≡ false
+IsUnleft i = is_some i.closed ≡ false
 
 module _ (entries : List Entry) (events : List TracedEvent) (spans : List Span) where
   around_unleft : (m : ℕ) (rest : List ℕ) (lo : ℕ) → Around entries events spans m rest lo → (z : ℕ) → In z rest → Holds IsUnleft spans z

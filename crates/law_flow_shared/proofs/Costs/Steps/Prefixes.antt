@@ -1,6 +1,7 @@
 -- A process after some of its steps: the intervals that run then are open in the edge of the next step.
+use Rattle.ppd_model.specs.Synchronizations.{sync_of}
 use Rattle.std.proofs.Common.{◌≡◌, ℕ, ◌+◌, ◌<◌, ◌≤◌, Bool, true, false, List, [], ◌∷◌, ◌++◌, Option, Some, None, refl, ap, ap₂, sym, ◌∙◌, subst, arith, length, true≢false, inl, inr, if◌then◌else◌}
-use Rattle.std.specs.Prelude.{fold, option_map, slice_get}
+use Rattle.std.specs.Prelude.{fold, option_map, slice_get, filter_map}
 use Rattle.std.proofs.lemmas.List.Sums.{fold-append}
 use Rattle.ppd_ast.specs.Valid.{IsValid}
 use Rattle.ppd_ast.specs.declared.plan.Plan.{Plan}
@@ -16,7 +17,6 @@ use Rattle.ppd_model.specs.Intervals.{own, Span, Split, begun_split, change_firs
 use Rattle.ppd_model.specs.LocalTags.{AreOwn}
 use Rattle.ppd_model.specs.Logs.{log_of}
 use Rattle.ppd_model.specs.Story.{story, told}
-use Rattle.ppd_model.specs.Synchronizations.{syncs_of}
 use Rattle.ppd_model.specs.declared.tracing.Taken.{Taken}
 use Rattle.ppd_model.specs.declared.tracing.Tracing.{Tracing}
 use Rattle.ppd_model.proofs.Changes.{change-at, some}
@@ -56,11 +56,11 @@ module _ (program : Program) (plan : Plan) (budget : ℕ) (h : List ℕ) (v : Is
   upto_long done = edges_long program plan (story program plan budget h) q (begun_split program plan q (started program plan q budget)) done ∙ (let z : 0 + length done ≡ length done = omega arith in z)
 
   -- the edge of the step after these
-  pub edge_of_step : (done : List Taken) (y : Taken) (rest : List Taken) → did (told program plan budget h) q ≡ done ++ y ∷ rest → slice_get x.edges (length done) ≡ Some (length (syncs_of done))
+  pub edge_of_step : (done : List Taken) (y : Taken) (rest : List Taken) → did (told program plan budget h) q ≡ done ++ y ∷ rest → slice_get x.edges (length done) ≡ Some (length (filter_map sync_of done))
   edge_of_step done y rest e =
       let begun : Split = begun_split program plan q (started program plan q budget) in
       let z : length done ≡ 0 + length done = omega arith in
-      let w : 0 + length (syncs_of done) ≡ length (syncs_of done) = omega arith in
+      let w : 0 + length (filter_map sync_of done) ≡ length (filter_map sync_of done) = omega arith in
       ap₂ (λ (t : Split) k. slice_get t.edges k) (sym (ap (λ ts. split_of program plan budget (story program plan budget h) q ts) (sym e) ∙ all_is)) z
       ∙ edge_at program plan (story program plan budget h) q begun done rest y
       ∙ ap (λ k. Some k) (edge_counts program plan (story program plan budget h) q begun done ∙ w)
@@ -88,7 +88,7 @@ module _ (program : Program) (plan : Plan) (budget : ℕ) (h : List ℕ) (v : Is
 
   -- an interval that runs before a step is open in the step's edge
   pub runs_open : (done : List Taken) (y : Taken) (rest : List Taken) → did (told program plan budget h) q ≡ done ++ y ∷ rest → (z : ℕ) → In z (split_of program plan budget (story program plan budget h) q done).running
-      → IsOpenAt x (length (syncs_of done)) z
+      → IsOpenAt x (length (filter_map sync_of done)) z
   runs_open done y rest e z i =
       let k = kept_then done (y ∷ rest) e in
       let w : Split = split_of program plan budget (story program plan budget h) q done in
@@ -101,7 +101,7 @@ module _ (program : Program) (plan : Plan) (budget : ℕ) (h : List ℕ) (v : Is
       record {
         span = last.0;
         is_there = last.1;
-        is_open = open_if x.edges last.0 (length done) (length (syncs_of done)) last.2.0 last.2.1 (edge_of_step done y rest e);
+        is_open = open_if x.edges last.0 (length done) (length (filter_map sync_of done)) last.2.0 last.2.1 (edge_of_step done y rest e);
       }
 
   -- ---- the innermost interval at a step that is an event

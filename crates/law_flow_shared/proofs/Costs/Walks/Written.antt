@@ -1,13 +1,12 @@
 -- The walk back from where an edge that writes a cell ends: it replays each interval once, and each is open in the edge.
 use Rattle.std.proofs.Common.{◌≡◌, ℕ, suc, ◌+◌, ◌<◌, ◌≤◌, ℤ, true, false, List, ◌∷◌, ◌++◌, Some, None, Result, Ok, Err, refl, ap, sym, ◌∙◌, subst, arith, length, true≢false, inl, inr}
-use Rattle.std.specs.Prelude.{drop, nat_eq, slice_get, take}
+use Rattle.std.specs.Prelude.{drop, nat_eq, slice_get, take, get_or, [], filter_map}
 use Rattle.std.specs.List.{list_any}
 use Rattle.std.proofs.lemmas.List.{append_assoc}
 use Rattle.ppd_ast.specs.Valid.{IsValid}
 use Rattle.ppd_ast.specs.declared.plan.Plan.{Plan}
 use Rattle.ppd_ast.specs.declared.program.Program.{Program}
 use Rattle.ppd_entry.specs.declared.entry.Entry.{Entry}
-use Rattle.ppd_entry.specs.Entries.{entries_at}
 use Rattle.ppd_sem.specs.declared.proc.Need.{Need}
 use Rattle.ppd_sem.specs.declared.proc.Need.TheVariants as n
 use Rattle.ppd_sem.specs.Described.{is_event}
@@ -20,8 +19,8 @@ use Rattle.ppd_model.specs.Intervals.{Split, own, splits}
 use Rattle.ppd_model.specs.Logs.{closed_log, closed_logs, log_of}
 use Rattle.ppd_model.specs.NearIntervals.{edge_of_event, through_step}
 use Rattle.ppd_model.specs.SharedReads.{IsAccess, IsWriteStep, WritesIn, need_after}
-use Rattle.ppd_model.specs.Story.{own_moments, story, told}
-use Rattle.ppd_model.specs.Synchronizations.{kind_of_sync, numbered, sync_of, syncs_of}
+use Rattle.ppd_model.specs.Story.{story, told}
+use Rattle.ppd_model.specs.Synchronizations.{kind_of_sync, numbered, sync_of}
 use Rattle.ppd_model.proofs.SharedReads.{writes_step}
 use Rattle.ppd_model.proofs.Tested.{In, here as first_in, there as later_in}
 use Rattle.ppd_flow_model.specs.declared.walked.Walked.{Walked}
@@ -61,10 +60,10 @@ origin_or o (Err m) = o
 module _ (program : Program) (plan : Plan) (budget : ℕ) (h : List ℕ) (v : IsValid program) where
   module _ (q : ℕ) (x : Split) (f : Facts program plan budget h v q x) where
     abbrev entries : List Entry
-    entries = entries_at (closed_logs program plan budget h) q
+    entries = get_or (closed_logs program plan budget h).lists q []
 
     abbrev F : ℕ → ℕ → ℕ → Type 0
-    F = Logged (entries_at (closed_logs program plan budget h) q) x.trace.events
+    F = Logged (get_or (closed_logs program plan budget h).lists q []) x.trace.events
 
     tree : HasTree x
     tree =
@@ -72,13 +71,13 @@ module _ (program : Program) (plan : Plan) (budget : ℕ) (h : List ℕ) (v : Is
         subst (λ y. HasTree y) t.0 (has_tree program plan (story program plan budget h) q budget (did (told program plan budget h) q))
 
     -- an interval that was left in the edge is open in it
-    left_open : (k m : ℕ) → k ≤ length x.trace.events → IsTouched x (Logged (entries_at (closed_logs program plan budget h) q) x.trace.events) k m → IsOpenAt x (count_to x.trace.events k) m
+    left_open : (k m : ℕ) → k ≤ length x.trace.events → IsTouched x (Logged (get_or (closed_logs program plan budget h).lists q []) x.trace.events) k m → IsOpenAt x (count_to x.trace.events k) m
     left_open k m le t =
         let c = closed_told program plan budget h v q x f.there in
-        let logged : Logged (closed_log (log_of program plan budget q (own_moments (told program plan budget h) q))) x.trace.events m t.lo t.mid =
+        let logged : Logged (closed_log (log_of program plan budget q (get_or (told program plan budget h).moments q []))) x.trace.events m t.lo t.mid =
         subst (λ es. Logged es x.trace.events m t.lo t.mid) (entries_are program plan budget h q x f.there) t.logged in
         let l : IsLeftBy x t.span (count_to x.trace.events t.mid) =
-        left_by_step program plan budget q (own_moments (told program plan budget h) q) (story program plan budget h) x c.0 c.1 x.trace.events m t.lo t.mid t.span t.is_there t.closed logged in
+        left_by_step program plan budget q (get_or (told program plan budget h).moments q []) (story program plan budget h) x c.0 c.1 x.trace.events m t.lo t.mid t.span t.is_there t.closed logged in
         let same : count_to x.trace.events t.mid ≡ count_to x.trace.events k = plain_count x.trace.events t.mid k t.before le t.since in
         let z : l.step + 1 ≡ suc l.step = omega arith in
         record {
@@ -148,17 +147,17 @@ module _ (program : Program) (plan : Plan) (budget : ℕ) (h : List ℕ) (v : Is
       let lt : a.process < length (told program plan budget h).moments = below_moments (told program plan budget h).moments a.process done y s.mid here in
       let x = split_there program plan budget (story program plan budget h) 0 (told program plan budget h).moments a.process lt in
       let f : Facts program plan budget h v a.process x.0 = facts program plan budget h v a.process x.0 x.1 in
-      let edge_is : a.edge ≡ length (syncs_of done) = sym wr.edge_is ∙ st.edge_is ∙ edge_is_count program plan budget st.before a.process in
+      let edge_is : a.edge ≡ length (filter_map sync_of done) = sym wr.edge_is ∙ st.edge_is ∙ edge_is_count program plan budget st.before a.process in
       let is : y.need ≡ n.Write wr.access.cell st.writes.0 = st.writes.1 in
       let plain : sync_of y ≡ None = ap (λ k. numbered (kind_of_sync k) y.number) is in
-      let ends : IsEnd program plan budget h a.process x.0 (length (syncs_of done)) = elim (first_sync s.mid) [
+      let ends : IsEnd program plan budget h a.process x.0 (length (filter_map sync_of done)) = elim (first_sync s.mid) [
         | inl still ↦ last_end program plan budget h v a.process x.0 f done y s.mid here plain still (ap is_event is)
         | inr has ↦
             let upto : did (told program plan budget h) a.process ≡ (done ++ y ∷ has.front) ++ has.step ∷ has.back =
             here ∙ ap (λ l. done ++ y ∷ l) has.are ∙ sym (append_assoc done (y ∷ has.front) (has.step ∷ has.back)) in
-            let none : length (syncs_of (y ∷ has.front)) ≡ 0 = syncs_none (y ∷ has.front) (plain, has.none) in
-            let sum : length (syncs_of (done ++ y ∷ has.front)) ≡ length (syncs_of done) + length (syncs_of (y ∷ has.front)) = syncs_both done (y ∷ has.front) in
-            subst (λ i. IsEnd program plan budget h a.process x.0 i) (let z : length (syncs_of (done ++ y ∷ has.front)) ≡ length (syncs_of done) = omega (arith, none, sum) in z)
+            let none : length (filter_map sync_of (y ∷ has.front)) ≡ 0 = syncs_none (y ∷ has.front) (plain, has.none) in
+            let sum : length (filter_map sync_of (done ++ y ∷ has.front)) ≡ length (filter_map sync_of done) + length (filter_map sync_of (y ∷ has.front)) = syncs_both done (y ∷ has.front) in
+            subst (λ i. IsEnd program plan budget h a.process x.0 i) (let z : length (filter_map sync_of (done ++ y ∷ has.front)) ≡ length (filter_map sync_of done) = omega (arith, none, sum) in z)
             (sync_end program plan budget h v a.process x.0 f (done ++ y ∷ has.front) has.step has.back upto has.is_sync)
       ] in
       record { split = x.0; there = x.1; ends = subst (λ i. IsEnd program plan budget h a.process x.0 i) (sym edge_is) ends }
@@ -175,9 +174,9 @@ module _ (program : Program) (plan : Plan) (budget : ℕ) (h : List ℕ) (v : Is
     pub event : ℕ
     pub part : part_at split interval item ≡ Some (own event)
     pub replays : List ℕ
-    pub replays_are : replays ≡ end_interval (entries_at (closed_logs program plan budget h) a.process) a.edge
-        ∷ walk_replays (seen_at (all_seen program plan budget h) a.process) c (end_interval (entries_at (closed_logs program plan budget h) a.process) a.edge)
-        (end_item (entries_at (closed_logs program plan budget h) a.process) (seen_at (all_seen program plan budget h) a.process) a.edge)
+    pub replays_are : replays ≡ end_interval (get_or (closed_logs program plan budget h).lists a.process []) a.edge
+        ∷ walk_replays (seen_at (all_seen program plan budget h) a.process) c (end_interval (get_or (closed_logs program plan budget h).lists a.process []) a.edge)
+        (end_item (get_or (closed_logs program plan budget h).lists a.process []) (seen_at (all_seen program plan budget h) a.process) a.edge)
     pub once : AreDistinct replays
     pub opens : (z : ℕ) → In z replays → IsOpenAt split (edge_of_event split event) z
 
@@ -189,7 +188,7 @@ module _ (program : Program) (plan : Plan) (budget : ℕ) (h : List ℕ) (v : Is
       d = writing_ended c a m
 
       entries' : List Entry
-      entries' = entries_at (closed_logs program plan budget h) a.process
+      entries' = get_or (closed_logs program plan budget h).lists a.process []
 
       f : Facts program plan budget h v a.process d.split
       f = facts program plan budget h v a.process d.split d.there

@@ -10,12 +10,12 @@ use Rattle.ppd_model.specs.declared.flow.Item.TheVariants as item
 use Rattle.ppd_model.specs.declared.trace.TracedEvent.{TracedEvent}
 use Rattle.ppd_model.specs.FlowbackEdges.{part_at}
 use Rattle.ppd_model.proofs.EdgeWords.{part_in}
-use Rattle.ppd_model.specs.Intervals.{Part, own, nested, Span, Split, is_closed, item_of, items_of}
+use Rattle.ppd_model.specs.Intervals.{Part, own, nested, Span, Split, item_of, items_of}
 use Rattle.ppd_model.proofs.IntervalWords.{item_of_event, item_of_span}
 use Rattle.ppd_model.proofs.CountedOn.{kept_at}
 use Rattle.ppd_flow_model.specs.declared.walked.Walked.{Walked}
 use Rattle.ppd_flow_model.specs.declared.walked.Walked.TheVariants.{Stopped, Passed, Found}
-use Rattle.ppd_flow_model.specs.Seen.{Seen, is_item_of, items_at, place_of, seen_of}
+use Rattle.ppd_flow_model.specs.Seen.{Seen, is_item_of, place_of, seen_of}
 use Rattle.ppd_flow_model.specs.Walk.{back, back_from, back_over, backwards, found_or, inside as inside_of, onward, over_event, value_to, walk, walk_out}
 use Rattle.law_flow_shared.proofs.Vocabulary.Events.{AreQuiet, IsLastSync, IsLastWriter, IsQuiet, IsWalk, synchronizes, written_by}
 use Rattle.law_flow_shared.proofs.Edges.Spans.Tiles.{Stands, Tiles, ends, event, inside, outermost, within, IsNowhere, rises}
@@ -101,7 +101,7 @@ module _ (x : Split) (c : ℕ) where
         let one : IsWalk x c from mid (onward (inner m) (back_over inner c k before)) =
         both from lo mid (back_over inner c k before) (inner m) fl up h (right m lo mid i lt at t (omega (arith, up', le))) in
         subst (λ l. IsWalk x c from hi (back_over inner c k (backwards a (l ++ items_in ps) before))) (sym (ap (item_of_span m) at))
-        (over k from (a + 1) mid ps hi ((a, item.Nested m i.block i.values (is_closed i)) ∷ before) right (λ j q g. ap (λ z. part_at x k z) (let z : a + 1 + j ≡ a + suc j = omega arith in z) ∙ place (suc j) q g) u le (omega (arith, fl, up)) one)
+        (over k from (a + 1) mid ps hi ((a, item.Nested m i.block i.values (is_some i.closed)) ∷ before) right (λ j q g. ap (λ z. part_at x k z) (let z : a + 1 + j ≡ a + suc j = omega arith in z) ∙ place (suc j) q g) u le (omega (arith, fl, up)) one)
 
   -- ---- intervals and the intervals inside them
 
@@ -109,7 +109,7 @@ module _ (x : Split) (c : ℕ) where
     abbrev seen : Seen
     seen = seen_of x
 
-    pub items_are : (k : ℕ) (i : Span) → slice_get x.spans k ≡ Some i → items_at seen k ≡ items_in i.parts
+    pub items_are : (k : ℕ) (i : Span) → slice_get x.spans k ≡ Some i → get_or seen.items k [] ≡ items_in i.parts
     items_are k i at = map_at (items_of x) x.spans k i [] at
 
     pub whole : (fuel m lo hi : ℕ) (i : Span) → slice_get x.spans m ≡ Some i → length x.spans ≤ fuel + m → Tiles F x.spans m lo i.parts hi → hi ≤ length events → IsWalk x c lo hi (back fuel seen c m)
@@ -130,7 +130,7 @@ module _ (x : Split) (c : ℕ) where
         (ap (λ l. item.Own there.0.event ∷ l) (taken k (lo + 1) ps qs hi t le))
     taken k lo (nested m ∷ ps) qs hi (inside i mid lt at closed f t u) le =
         subst (λ l. take (suc (length ps)) (l ++ items_in (ps ++ qs)) ≡ l ++ items_in ps) (sym (ap (item_of_span m) at))
-        (ap (λ l. item.Nested m i.block i.values (is_closed i) ∷ l) (taken k mid ps qs hi u le))
+        (ap (λ l. item.Nested m i.block i.values (is_some i.closed) ∷ l) (taken k mid ps qs hi u le))
 
     -- the place of an interval among the parts
     found_at : (k lo m a : ℕ) (ps qs : List Part) (hi : ℕ) (i : Span) → slice_get x.spans m ≡ Some i → IsNowhere m ps → Tiles F x.spans k lo ps hi → hi ≤ length events
@@ -160,7 +160,7 @@ module _ (x : Split) (c : ℕ) where
 
     -- from after these parts of interval k
     pub here : (k first : ℕ) (ps qs : List Part) (n : ℕ) (i : Span) → slice_get x.spans k ≡ Some i → i.parts ≡ ps ++ qs → Tiles F x.spans k first ps n → n ≤ length events
-        → IsWalk x c first n (back_over (inside_of seen c) c k (back_from (length ps) (items_at seen k)))
+        → IsWalk x c first n (back_over (inside_of seen c) c k (back_from (length ps) (get_or seen.items k [])))
     here k first ps qs n i at parts t le =
         subst (λ l. IsWalk x c first n (back_over (inside_of seen c) c k (backwards 0 l [])))
         (sym (ap (λ l. take (length ps) l) (items_are k i at ∙ ap (λ l. items_in l) parts) ∙ taken k first ps qs n t le))
@@ -170,13 +170,13 @@ module _ (x : Split) (c : ℕ) where
     pub out : (k first : ℕ) (rest : List ℕ) (ps qs : List Part) (n : ℕ) (i : Span) → slice_get x.spans k ≡ Some i → i.parts ≡ ps ++ qs → Tiles F x.spans k first ps n → n ≤ length events → Stands F x.spans k rest first
         → IsWalk x c 0 n (walk_out (inside_of seen c) seen c k (length ps) rest)
     out k first [] ps qs n i at parts t le (outermost e z) =
-        subst (λ l. IsWalk x c l n (back_over (inside_of seen c) c k (back_from (length ps) (items_at seen k)))) z (here k first ps qs n i at parts t le)
+        subst (λ l. IsWalk x c l n (back_over (inside_of seen c) c k (back_from (length ps) (get_or seen.items k [])))) z (here k first ps qs n i at parts t le)
     out k first (m ∷ rest) ps qs n i at parts t le (within o before after low there r lt place apart s u) =
         let up : first ≤ n = rises F x.spans k first ps n t in
         let outer : IsWalk x c 0 first (walk_out (inside_of seen c) seen c m (length before) rest) = out m low rest before (nested k ∷ after) first o there place u (omega (arith, up, le)) s in
-        let at_place : place_of k (items_at seen m) ≡ length before =
+        let at_place : place_of k (get_or seen.items m []) ≡ length before =
         ap (λ l. place_of k l) (items_are m o there ∙ ap (λ l. items_in l) place) ∙ place_is m low k before after first i at apart u (omega (arith, up, le)) in
-        both 0 first n (walk_out (inside_of seen c) seen c m (place_of k (items_at seen m)) rest) (back_over (inside_of seen c) c k (back_from (length ps) (items_at seen k))) (omega arith) up
+        both 0 first n (walk_out (inside_of seen c) seen c m (place_of k (get_or seen.items m [])) rest) (back_over (inside_of seen c) c k (back_from (length ps) (get_or seen.items k []))) (omega arith) up
         (subst (λ j. IsWalk x c 0 first (walk_out (inside_of seen c) seen c m j rest)) (sym at_place) outer) (here k first ps qs n i at parts t le)
 
     -- the walk from after these parts

@@ -1,31 +1,31 @@
 -- Of a whole log: the edge of an event's place, where an edge ends, and what the walks from there come to.
-use Rattle.std.proofs.Common.{◌≡◌, ℕ, zero, suc, ◌+◌, ◌<◌, Bool, true, false, List, [], ◌∷◌, ◌++◌, Option, Some, None, refl, ap, ap₂, sym, subst, ◌∙◌, arith, length, true≢false, if◌then◌else◌, ◌||◌}
-use Rattle.std.specs.Prelude.{is_some, slice_get}
-use Rattle.std.specs.List.{flat_map, list_any}
-use Rattle.std.proofs.lemmas.List.{append-nil, append_assoc}
-use Rattle.std.proofs.lemmas.Option.{none-some}
-use Rattle.ppd_ast.specs.declared.status.Status.{Status}
-use Rattle.ppd_ast.proofs.ValidLaws.{slice_get_there}
-use Rattle.ppd_entry.specs.declared.entry.Entry.{Entry}
-use Rattle.ppd_entry.specs.declared.entry.Entry.TheVariants as entry
-use Rattle.ppd_entry.specs.Entries.{is_end}
-use Rattle.ppd_model.specs.declared.trace.TracedEvent.{TracedEvent}
-use Rattle.ppd_model.specs.Extents.{Extending}
-use Rattle.ppd_model.specs.FlowbackEdges.{part_at}
-use Rattle.ppd_model.proofs.EdgeWords.{part_in}
-use Rattle.ppd_model.specs.Intervals.{Part, own, Span, Split, item_of}
-use Rattle.ppd_model.specs.RecordedSets.{sync_in}
-use Rattle.ppd_flow_model.specs.Ends.{edge_at, end_interval, end_item, ending, ends_edge, first_edge, innermost_at, sync_item}
-use Rattle.ppd_flow_model.proofs.Vocabulary.{is_sync}
-use Rattle.ppd_flow_model.specs.Seen.{items_at, seen_of}
-use Rattle.ppd_flow_model.specs.Walk.{walk}
-use Rattle.law_flow_shared.proofs.Vocabulary.Events.{IsWalk, synchronizes}
+use Rattle.law_flow_shared.proofs.Edges.Back.Walks.{items_are, walk_is}
 use Rattle.law_flow_shared.proofs.Edges.LogPlaces.EdgePlaces.{cut, edge_is, first_edge_is, none_is, sync_is}
-use Rattle.law_flow_shared.proofs.Edges.Spans.Facts.{Logged, OpensAt, SyncsAt, at, count_to, syncs}
 use Rattle.law_flow_shared.proofs.Edges.LogPlaces.Innermost.{innermost_is, innermost_none}
+use Rattle.law_flow_shared.proofs.Edges.Spans.Facts.{Logged, OpensAt, SyncsAt, at, count_to, syncs}
 use Rattle.law_flow_shared.proofs.Edges.Spans.Tiles.{Covers, Stands, Tiles, outermost, up_to}
 use Rattle.law_flow_shared.proofs.Edges.Spans.Told.{AreTiled, IsPlaced, IsTold, at_last, stands_of, syncs_last}
-use Rattle.law_flow_shared.proofs.Edges.Back.Walks.{items_are, walk_is}
+use Rattle.law_flow_shared.proofs.Vocabulary.Events.{IsWalk, synchronizes}
+use Rattle.ppd_ast.proofs.ValidLaws.{slice_get_there}
+use Rattle.ppd_ast.specs.declared.status.Status.{Status}
+use Rattle.ppd_entry.specs.Entries.{is_end}
+use Rattle.ppd_entry.specs.declared.entry.Entry.{Entry}
+use Rattle.ppd_entry.specs.declared.entry.Entry.TheVariants as entry
+use Rattle.ppd_flow_model.proofs.Vocabulary.{is_sync}
+use Rattle.ppd_flow_model.specs.Ends.{edge_at, end_interval, end_item, ending, ends_edge, first_edge, innermost_from, sync_item}
+use Rattle.ppd_flow_model.specs.Seen.{seen_of}
+use Rattle.ppd_flow_model.specs.Walk.{walk}
+use Rattle.ppd_model.proofs.EdgeWords.{part_in}
+use Rattle.ppd_model.specs.Extents.{Extent, Indexing, extents}
+use Rattle.ppd_model.specs.FlowbackEdges.{part_at}
+use Rattle.ppd_model.specs.Intervals.{Part, Span, Split, item_of, own}
+use Rattle.ppd_model.specs.RecordedSets.{sync_in}
+use Rattle.ppd_model.specs.declared.trace.TracedEvent.{TracedEvent}
+use Rattle.std.proofs.Common.{Bool, List, None, Option, Some, [], ap, ap₂, arith, false, if◌then◌else◌, length, refl, subst, suc, sym, true, true≢false, zero, ℕ, ◌++◌, ◌+◌, ◌<◌, ◌||◌, ◌∙◌, ◌∷◌, ◌≡◌}
+use Rattle.std.proofs.lemmas.List.{append-nil, append_assoc}
+use Rattle.std.proofs.lemmas.Option.{none-some}
+use Rattle.std.specs.List.{flat_map, list_any}
+use Rattle.std.specs.Prelude.{get_or, is_some, slice_get}
 
 -- ---- lists
 
@@ -150,12 +150,12 @@ module _ (x : Split) (entries : List Entry) (h : IsTold entries x.trace.events x
         ap₂ (λ a es. ending a es) (sym s.count) s.entries_are ∙ ending_is s.before s.sync s.after (sync_ends s.sync s.is_sync) none in
         let in_mid : entries ≡ s.before ++ ((s.sync ∷ mid.0) ++ entry.End st r reads writes ∷ []) = s.entries_are ∙ ap (λ l. s.before ++ s.sync ∷ l) mid.1 in
         let interval : end_interval entries (count_to events n) ≡ s.interval =
-        ap (innermost_at entries) ends ∙ ap (λ es. innermost_at es (length s.before)) in_mid ∙ innermost_is s.before (s.sync ∷ mid.0) st r reads writes s.interval s.rest s.runs in
+        ap (λ n. innermost_from n 0 0 (extents entries)) ends ∙ ap (λ es. innermost_from (length s.before) 0 0 (extents es)) in_mid ∙ innermost_is s.before (s.sync ∷ mid.0) st r reads writes s.interval s.rest s.runs in
         let q = place_of_event s.interval s.part.place n s.part.span s.part.there s.part.at_place s.within in
         let e = slice_get_there events n s.within in
         let numbered : is_some e.0.event.number ≡ true = sym (ap synchronizes e.1) ∙ is in
         let item : end_item entries (seen_of x) (count_to events n) ≡ length q.1 =
-        ap (λ k. sync_item entries (count_to events n) (first_edge entries k) (items_at (seen_of x) k)) interval
+        ap (λ k. sync_item entries (count_to events n) (first_edge entries k) (get_or (seen_of x).items k [])) interval
         ∙ ap₂ (λ a l. sync_item entries (count_to events n) a l) (first_edge_is entries events s.interval q.0.first q.0.opened) (items_are x 0 F s.interval s.part.span s.part.there ∙ ap (λ l. flat_map (item_of x) l) q.3)
         ∙ sync_is x entries s.interval q.0.first q.1 q.2 n e.0 q.5 e.1 numbered in
         let lt = s.within in
@@ -175,13 +175,13 @@ module _ (x : Split) (entries : List Entry) (h : IsTold entries x.trace.events x
     last_ending = ap₂ (λ a es. ending a es) (sym last_count) are ∙ ending_is before (entry.End st r reads writes) [] refl no_end
 
     last_running : (at before).running ≡ x.running
-    last_running = sym (ap (λ (y : Extending). y.running) (ap at are ∙ at_last before (entry.End st r reads writes))) ∙ h.same
+    last_running = sym (ap (λ (y : Indexing Extent). y.running) (ap at are ∙ at_last before (entry.End st r reads writes))) ∙ h.same
 
     last_by : (k first : ℕ) (i : Span) → end_interval entries (count_to events (length events)) ≡ k → slice_get x.spans k ≡ Some i → OpensAt entries events k first → Stands F x.spans k i.round first → Tiles F x.spans k first i.parts (length events)
         → EndsBy x entries (count_to events (length events)) (length events)
     last_by k first i interval there opened stands tiles =
         let item : end_item entries (seen_of x) (count_to events (length events)) ≡ length i.parts =
-        ap (λ z. sync_item entries (count_to events (length events)) (first_edge entries z) (items_at (seen_of x) z)) interval
+        ap (λ z. sync_item entries (count_to events (length events)) (first_edge entries z) (get_or (seen_of x).items z [])) interval
         ∙ ap₂ (λ a l. sync_item entries (count_to events (length events)) a l) (first_edge_is entries events k first opened) (items_are x 0 F k i there)
         ∙ none_is x entries k first i.parts (length events) tiles (omega arith) in
         record {
@@ -194,8 +194,8 @@ module _ (x : Split) (entries : List Entry) (h : IsTold entries x.trace.events x
     pub at_last_edge : EndsBy x entries (count_to events (length events)) (length events)
     at_last_edge = cases x.running refl h.tiled
       where
-        interval_is : (k : ℕ) → innermost_at (before ++ ([] ++ entry.End st r reads writes ∷ [])) (length before) ≡ k → end_interval entries (count_to events (length events)) ≡ k
-        interval_is k e = ap (innermost_at entries) last_ending ∙ ap (λ es. innermost_at es (length before)) are ∙ e
+        interval_is : (k : ℕ) → innermost_from (length before) 0 0 (extents (before ++ ([] ++ entry.End st r reads writes ∷ []))) ≡ k → end_interval entries (count_to events (length events)) ≡ k
+        interval_is k e = ap (λ n. innermost_from n 0 0 (extents entries)) last_ending ∙ ap (λ es. innermost_from (length before) 0 0 (extents es)) are ∙ e
 
         outer_first : (i : Span) (p : IsPlaced entries events x.spans 0 i) → i.round ≡ [] → p.first ≡ 0
         outer_first i p e = by (subst (λ l. Stands F x.spans 0 l p.first) e p.stands)

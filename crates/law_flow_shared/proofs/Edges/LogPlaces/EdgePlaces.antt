@@ -1,33 +1,33 @@
 -- The edge of a place and the place at which an edge ends, of a whole log that tells of a process's intervals and events.
-use Rattle.std.proofs.Common.{◌≡◌, ℕ, zero, suc, ◌+◌, ◌<◌, ◌≤◌, Bool, true, false, cond, List, [], ◌∷◌, ◌++◌, Some, refl, ap, ap₂, sym, subst, ◌∙◌, arith, length, if◌then◌else◌, ne_eqb, eq-eqb}
-use Rattle.std.specs.Prelude.{◌-◌, drop, filter_map, fold, is_some, nat_eq, option_map, slice_get, sum_by, take, ◌&&◌}
-use Rattle.std.specs.List.{flat_map}
-use Rattle.std.proofs.lemmas.List.{append_assoc}
-use Rattle.std.proofs.lemmas.List.Sums.{fold-append, sum_by-append}
-use Rattle.std.proofs.lemmas.Option.{none-some}
+use Rattle.law_flow_shared.proofs.Edges.Back.Walks.{items_are, taken}
+use Rattle.law_flow_shared.proofs.Edges.LogPlaces.Extended.{is_log, stays, still_one}
+use Rattle.law_flow_shared.proofs.Edges.LogPlaces.Innermost.{not_in}
+use Rattle.law_flow_shared.proofs.Edges.Spans.Facts.{LeavesAt, Logged, OpensAt, at, count_to, syncs}
+use Rattle.law_flow_shared.proofs.Edges.Spans.Tiles.{Tiles, ends, event, inside, rises}
+use Rattle.ppd_ast.proofs.ValidLaws.{slice_get_below, slice_get_there}
+use Rattle.ppd_ast.specs.Counting.{one_if}
 use Rattle.ppd_entry.specs.declared.entry.Entry.{Entry}
 use Rattle.ppd_entry.specs.declared.entry.Entry.TheVariants as entry
+use Rattle.ppd_flow_model.proofs.Vocabulary.{begins_in}
+use Rattle.ppd_flow_model.specs.Ends.{edge_at, first_edge, is_sync_item, sync_item, syncs_before, syncs_inside, syncs_of_item}
+use Rattle.ppd_flow_model.specs.Seen.{seen_of}
+use Rattle.ppd_model.proofs.Changes.{change-at, some}
+use Rattle.ppd_model.proofs.CountedOn.{last_at}
+use Rattle.ppd_model.proofs.ExtentWords.{begun_extents, left_by as extents_left}
+use Rattle.ppd_model.proofs.Extents.{Fall, IsIn, entry_number}
+use Rattle.ppd_model.proofs.IntervalWords.{item_of_event, item_of_span}
+use Rattle.ppd_model.specs.Extents.{Extent, Indexing, extend, extents}
+use Rattle.ppd_model.specs.Intervals.{Part, Span, Split, item_of, nested, own}
+use Rattle.ppd_model.specs.RecordedSets.{sync_in}
 use Rattle.ppd_model.specs.declared.flow.Item.{Item}
 use Rattle.ppd_model.specs.declared.flow.Item.TheVariants as item
 use Rattle.ppd_model.specs.declared.trace.TracedEvent.{TracedEvent}
-use Rattle.ppd_model.specs.Extents.{Extending, Extent, extend, extents}
-use Rattle.ppd_model.proofs.ExtentWords.{begun_extents, left_by as extents_left}
-use Rattle.ppd_model.specs.Intervals.{Part, own, nested, Span, Split, is_closed, item_of}
-use Rattle.ppd_model.proofs.IntervalWords.{item_of_event, item_of_span}
-use Rattle.ppd_model.specs.RecordedSets.{sync_in}
-use Rattle.ppd_model.proofs.Changes.{change-at, some}
-use Rattle.ppd_model.proofs.CountedOn.{last_at}
-use Rattle.ppd_model.proofs.Extents.{IsIn, entry_number, Fall}
-use Rattle.ppd_flow_model.specs.Ends.{edge_at, first_edge, is_sync_item, sync_item, syncs_before, syncs_inside, syncs_of_item}
-use Rattle.ppd_flow_model.proofs.Vocabulary.{begins_in}
-use Rattle.ppd_flow_model.specs.Seen.{seen_of}
-use Rattle.law_flow_shared.proofs.Edges.LogPlaces.Extended.{is_log, stays, still_one}
-use Rattle.law_flow_shared.proofs.Edges.Spans.Facts.{LeavesAt, Logged, OpensAt, at, count_to, syncs}
-use Rattle.law_flow_shared.proofs.Edges.LogPlaces.Innermost.{not_in}
-use Rattle.law_flow_shared.proofs.Edges.Spans.Tiles.{Tiles, ends, event, inside, rises}
-use Rattle.law_flow_shared.proofs.Edges.Back.Walks.{items_are, taken}
-use Rattle.ppd_ast.proofs.ValidLaws.{slice_get_there, slice_get_below}
-use Rattle.ppd_ast.specs.Counting.{one_if}
+use Rattle.std.proofs.Common.{Bool, List, Some, [], ap, ap₂, arith, cond, eq-eqb, false, if◌then◌else◌, length, ne_eqb, refl, subst, suc, sym, true, zero, ℕ, ◌++◌, ◌+◌, ◌<◌, ◌∙◌, ◌∷◌, ◌≡◌, ◌≤◌}
+use Rattle.std.proofs.lemmas.List.{append_assoc}
+use Rattle.std.proofs.lemmas.List.Sums.{fold-append, sum_by-append}
+use Rattle.std.proofs.lemmas.Option.{none-some}
+use Rattle.std.specs.List.{flat_map}
+use Rattle.std.specs.Prelude.{drop, filter_map, fold, is_some, nat_eq, option_map, slice_get, sum_by, take, ◌&&◌, ◌-◌}
 
 -- ---- lists
 
@@ -75,7 +75,7 @@ count_below es m n e f is lt =
 
 -- ---- entries
 
-kept_prelog : (y : Extending) (es : List Entry) (m : ℕ) (x : Extent) → slice_get y.extents m ≡ Some x → (z : Extent) × (slice_get (fold extend y es).extents m ≡ Some z) × (z.prelog ≡ x.prelog)
+kept_prelog : (y : Indexing Extent) (es : List Entry) (m : ℕ) (x : Extent) → slice_get y.intervals m ≡ Some x → (z : Extent) × (slice_get (fold extend y es).intervals m ≡ Some z) × (z.prelog ≡ x.prelog)
 kept_prelog y [] m x e = (x, e, refl)
 kept_prelog y (a ∷ es) m x e =
     let one = stays y a m x e in
@@ -86,10 +86,10 @@ kept_prelog y (a ∷ es) m x e =
 opened_at : (entries : List Entry) (events : List TracedEvent) (k first : ℕ) (o : OpensAt entries events k first) → (z : Extent) × (slice_get (extents entries) k ≡ Some z) × (z.prelog ≡ length o.before)
 opened_at entries events k first o =
     let new = extend (at o.before) (entry.Prelog o.block o.values) in
-    let here : slice_get new.extents k ≡ Some _ = ap (λ j. slice_get new.extents j) o.number ∙ last_at (at o.before).extents _ in
+    let here : slice_get new.intervals k ≡ Some _ = ap (λ j. slice_get new.intervals j) o.number ∙ last_at (at o.before).intervals _ in
     let final : at entries ≡ fold extend new o.after = ap (λ es. at es) o.entries_are ∙ fold-append extend begun_extents o.before (entry.Prelog o.block o.values ∷ o.after) in
     let kept = kept_prelog new o.after k _ here in
-    (kept.0, ap (λ (y : Extending). slice_get y.extents k) final ∙ kept.1, kept.2 ∙ entry_number o.before)
+    (kept.0, ap (λ (y : Indexing Extent). slice_get y.intervals k) final ∙ kept.1, kept.2 ∙ entry_number o.before)
 
 before_it : (entries before after : List Entry) → entries ≡ before ++ after → syncs_before entries (length before) ≡ syncs before
 before_it entries before after e = ap (λ l. length (filter_map sync_in (take (length before) l))) e ∙ ap (λ l. length (filter_map sync_in l)) (take_front before after)
@@ -104,22 +104,22 @@ inside_is entries events m lo mid h =
     let o : OpensAt entries events m lo = h.0 in
     let l : LeavesAt entries events m mid = h.1 in
     let begins = opened_at entries events m lo o in
-    let y : Extending = at l.before in
-    let falls : Fall (length y.extents) (m ∷ l.rest) = subst (λ ks. Fall (length y.extents) ks) l.runs (is_log l.before).falls in
-    let there = slice_get_there y.extents m falls.0 in
-    let left : Extending = extend y (entry.Postlog l.block l.values) in
-    let here : slice_get left.extents m ≡ Some (record there.0 { last = Some y.entry; closed = true }) =
-    ap (λ ks. slice_get (extents_left y.entry ks y.extents) m) l.runs ∙ change-at (λ (z : Extent). record z { last = Some y.entry; closed = true }) m y.extents ∙ ap (option_map (λ (z : Extent). record z { last = Some y.entry; closed = true })) there.1 in
+    let y : Indexing Extent = at l.before in
+    let falls : Fall (length y.intervals) (m ∷ l.rest) = subst (λ ks. Fall (length y.intervals) ks) l.runs (is_log l.before).falls in
+    let there = slice_get_there y.intervals m falls.0 in
+    let left : Indexing Extent = extend y (entry.Postlog l.block l.values) in
+    let here : slice_get left.intervals m ≡ Some (record there.0 { last = Some y.entry; closed = true }) =
+    ap (λ ks. slice_get (extents_left y.entry ks y.intervals) m) l.runs ∙ change-at (λ (z : Extent). record z { last = Some y.entry; closed = true }) m y.intervals ∙ ap (option_map (λ (z : Extent). record z { last = Some y.entry; closed = true })) there.1 in
     let out : IsIn m left.running → ⊥ = λ i. not_rest m l.rest falls (subst (λ ks. IsIn m (drop 1 ks)) l.runs i) in
     let final : at entries ≡ fold extend left l.after = ap (λ es. at es) l.entries_are ∙ fold-append extend begun_extents l.before (entry.Postlog l.block l.values ∷ l.after) in
-    let at_last : slice_get (extents entries) m ≡ Some (record there.0 { last = Some y.entry; closed = true }) = ap (λ (z : Extending). slice_get z.extents m) final ∙ still_one left l.after m _ here out in
+    let at_last : slice_get (extents entries) m ≡ Some (record there.0 { last = Some y.entry; closed = true }) = ap (λ (z : Indexing Extent). slice_get z.intervals m) final ∙ still_one left l.after m _ here out in
     let same : record there.0 { last = Some y.entry; closed = true } ≡ begins.0 = some (sym at_last ∙ begins.1) in
     ap (syncs_inside entries) at_last
     ∙ ap₂ (λ a b. a - b)
     (ap (syncs_before entries) (entry_number l.before) ∙ before_it entries l.before (entry.Postlog l.block l.values ∷ l.after) l.entries_are ∙ l.count)
     (ap (syncs_before entries) (ap (λ (z : Extent). z.prelog) same ∙ begins.2) ∙ before_it entries o.before (entry.Prelog o.block o.values ∷ o.after) o.entries_are ∙ o.count)
   where
-    not_rest : (m : ℕ) (ks : List ℕ) → (m < length (at h.1.before).extents) × Fall m ks → IsIn m ks → ⊥
+    not_rest : (m : ℕ) (ks : List ℕ) → (m < length (at h.1.before).intervals) × Fall m ks → IsIn m ks → ⊥
     not_rest m ks f i = above_all m ks f.1 i
       where
         above_all : (n : ℕ) (js : List ℕ) → Fall n js → IsIn n js → ⊥
@@ -154,7 +154,7 @@ module _ (x : Split) (entries : List Entry) where
       let up : mid ≤ hi = rises F x.spans k mid ps hi u in
       let up' : lo ≤ mid = rises F x.spans m lo i.parts mid t in
       let more : count_to events lo ≤ count_to events mid = count_rises events lo mid up' in
-      let it : Item = item.Nested m i.block i.values (is_closed i) in
+      let it : Item = item.Nested m i.block i.values (is_some i.closed) in
       let rest : count_to events mid + sum_by (syncs_of_item entries) (items_in ps) ≡ count_to events hi = sums k mid ps hi u le in
       let split : sum_by (syncs_of_item entries) (it ∷ items_in ps) ≡ sum_by (syncs_of_item entries) (it ∷ []) + sum_by (syncs_of_item entries) (items_in ps) = sum_by-append (syncs_of_item entries) (it ∷ []) (items_in ps) in
       let single : sum_by (syncs_of_item entries) (it ∷ []) ≡ 0 + (count_to events mid - count_to events lo) = ap (λ n. 0 + n) (inside_is entries events m lo mid f) in

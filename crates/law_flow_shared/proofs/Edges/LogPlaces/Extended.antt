@@ -5,7 +5,7 @@ use Rattle.std.proofs.lemmas.Bool.{cases_eq}
 use Rattle.std.proofs.lemmas.Option.{none-some}
 use Rattle.ppd_entry.specs.declared.entry.Entry.{Entry}
 use Rattle.ppd_entry.specs.declared.entry.Entry.TheVariants as entry
-use Rattle.ppd_model.specs.Extents.{Extending, Extent, extend, first_of}
+use Rattle.ppd_model.specs.Extents.{Extent, extend, Indexing}
 use Rattle.ppd_model.proofs.ExtentWords.{begun_extents, ended_by, left_by}
 use Rattle.ppd_model.specs.World.{change}
 use Rattle.ppd_model.proofs.Changes.{change-at, change-else, length-change, some}
@@ -76,10 +76,10 @@ left_one j m [] xs x e = (x, e, became_same j x)
 left_one j m (k ∷ ks) xs x e = changed_one j (close_by j) (λ z. record { prelog = refl; last = inr refl }) k m xs x e
 
 -- an entry keeps each interval, in this way
-pub stays : (y : Extending) (e : Entry) (m : ℕ) (x : Extent) → slice_get y.extents m ≡ Some x → (z : Extent) × (slice_get (extend y e).extents m ≡ Some z) × Became y.entry x z
-stays y (entry.Prelog b vs) m x at' = (x, kept_at y.extents _ m x at', became_same y.entry x)
-stays y (entry.Postlog b vs) m x at' = left_one y.entry m y.running y.extents x at'
-stays y (entry.End st rest reads writes) m x at' = ended_one y.entry m y.running y.extents x at'
+pub stays : (y : Indexing Extent) (e : Entry) (m : ℕ) (x : Extent) → slice_get y.intervals m ≡ Some x → (z : Extent) × (slice_get (extend y e).intervals m ≡ Some z) × Became y.entry x z
+stays y (entry.Prelog b vs) m x at' = (x, kept_at y.intervals _ m x at', became_same y.entry x)
+stays y (entry.Postlog b vs) m x at' = left_one y.entry m y.running y.intervals x at'
+stays y (entry.End st rest reads writes) m x at' = ended_one y.entry m y.running y.intervals x at'
 stays y e m x at' = (x, at', became_same y.entry x)
 
 -- ---- one that is not running
@@ -96,14 +96,14 @@ left_else : (j m : ℕ) (ks : List ℕ) (xs : List Extent) → (IsIn m ks → �
 left_else j m [] xs out = refl
 left_else j m (k ∷ ks) xs out = change-else (close_by j) k m xs (λ e. out (inl e))
 
-pub still_one : (y : Extending) (es : List Entry) (m : ℕ) (x : Extent) → slice_get y.extents m ≡ Some x → (IsIn m y.running → ⊥) → slice_get (fold extend y es).extents m ≡ Some x
+pub still_one : (y : Indexing Extent) (es : List Entry) (m : ℕ) (x : Extent) → slice_get y.intervals m ≡ Some x → (IsIn m y.running → ⊥) → slice_get (fold extend y es).intervals m ≡ Some x
 still_one y [] m x e out = e
 still_one y (entry.Prelog b vs ∷ es) m x e out =
-    still_one (extend y (entry.Prelog b vs)) es m x (kept_at y.extents _ m x e) (λ i. elim i [ inl f ↦ (let lt : m < length y.extents = slice_get_below y.extents m x e in omega (arith, lt, f)) | inr i' ↦ out i' ])
+    still_one (extend y (entry.Prelog b vs)) es m x (kept_at y.intervals _ m x e) (λ i. elim i [ inl f ↦ (let lt : m < length y.intervals = slice_get_below y.intervals m x e in omega (arith, lt, f)) | inr i' ↦ out i' ])
 still_one y (entry.Postlog b vs ∷ es) m x e out =
-    still_one (extend y (entry.Postlog b vs)) es m x (left_else y.entry m y.running y.extents out ∙ e) (out_rest m y.running out)
+    still_one (extend y (entry.Postlog b vs)) es m x (left_else y.entry m y.running y.intervals out ∙ e) (out_rest m y.running out)
 still_one y (entry.End st rest reads writes ∷ es) m x e out =
-    still_one (extend y (entry.End st rest reads writes)) es m x (ended_else y.entry m y.running y.extents out ∙ e) out
+    still_one (extend y (entry.End st rest reads writes)) es m x (ended_else y.entry m y.running y.intervals out ∙ e) out
 still_one y (entry.Unit u vs ∷ es) m x e out = still_one (extend y (entry.Unit u vs)) es m x e out
 still_one y (entry.Sync kind object number value reads writes ∷ es) m x e out = still_one (extend y (entry.Sync kind object number value reads writes)) es m x e out
 
@@ -111,10 +111,10 @@ still_one y (entry.Sync kind object number value reads writes ∷ es) m x e out 
 
 -- running numbers fall and are of intervals; an interval stands after its prelog, and one that is not running has a
 -- last entry
-pub record IsLog (y : Extending) : Type 0 where
-  pub falls : Fall (length y.extents) y.running
-  pub prelogs : (m : ℕ) (x : Extent) → slice_get y.extents m ≡ Some x → x.prelog < y.entry
-  pub left : (m : ℕ) (x : Extent) → slice_get y.extents m ≡ Some x → IsIn m y.running ⊎ ((l : ℕ) × (x.last ≡ Some l) × (l < y.entry))
+pub record IsLog (y : Indexing Extent) : Type 0 where
+  pub falls : Fall (length y.intervals) y.running
+  pub prelogs : (m : ℕ) (x : Extent) → slice_get y.intervals m ≡ Some x → x.prelog < y.entry
+  pub left : (m : ℕ) (x : Extent) → slice_get y.intervals m ≡ Some x → IsIn m y.running ⊎ ((l : ℕ) × (x.last ≡ Some l) × (l < y.entry))
 
 pub new_cases : (xs : List Extent) (y : Extent) (k : ℕ) (j : Extent) → slice_get (xs ++ y ∷ []) k ≡ Some j → (slice_get xs k ≡ Some j) ⊎ ((k ≡ length xs) × (y ≡ j))
 new_cases [] y zero j e = inr (refl, some e)
@@ -123,11 +123,11 @@ new_cases (x ∷ xs) y zero j e = inl e
 new_cases (x ∷ xs) y (suc k) j e = elim (new_cases xs y k j e) [ inl a ↦ inl a | inr b ↦ inr (ap (λ n. suc n) b.0, b.1) ]
 
 -- what stood at a place before
-pub came : (y : Extending) (xs : List Extent) → length xs ≡ length y.extents → ((m : ℕ) (x : Extent) → slice_get y.extents m ≡ Some x → (z : Extent) × (slice_get xs m ≡ Some z) × Became y.entry x z)
-    → (m : ℕ) (z : Extent) → slice_get xs m ≡ Some z → (x : Extent) × (slice_get y.extents m ≡ Some x) × Became y.entry x z
+pub came : (y : Indexing Extent) (xs : List Extent) → length xs ≡ length y.intervals → ((m : ℕ) (x : Extent) → slice_get y.intervals m ≡ Some x → (z : Extent) × (slice_get xs m ≡ Some z) × Became y.entry x z)
+    → (m : ℕ) (z : Extent) → slice_get xs m ≡ Some z → (x : Extent) × (slice_get y.intervals m ≡ Some x) × Became y.entry x z
 came y xs same stay m z e =
     let lt : m < length xs = slice_get_below xs m z e in
-    let old = slice_get_there y.extents m (omega (arith, lt, same)) in
+    let old = slice_get_there y.intervals m (omega (arith, lt, same)) in
     let now = stay m old.0 old.1 in
     (old.0, old.1, subst (λ w. Became y.entry old.0 w) (some (sym now.1 ∙ e)) now.2)
 
@@ -137,54 +137,54 @@ later_last j x z b h = elim b.last [
   | inr e ↦ (j, e, omega arith)
 ]
 
-log_one : (y : Extending) (e : Entry) → IsLog y → IsLog (extend y e)
+log_one : (y : Indexing Extent) (e : Entry) → IsLog y → IsLog (extend y e)
 log_one y (entry.Prelog b vs) h = record {
-  falls = (let z = length-append y.extents ((record { block = b; parent = first_of y.running; prelog = y.entry; last = None; closed = false }) ∷ []) in omega (arith, z), h.falls);
-  prelogs = λ m x f. elim (new_cases y.extents _ m x f) [
+  falls = (let z = length-append y.intervals ((record { block = b; parent = slice_get y.running 0; prelog = y.entry; last = None; closed = false }) ∷ []) in omega (arith, z), h.falls);
+  prelogs = λ m x f. elim (new_cases y.intervals _ m x f) [
     | inl old ↦ (let lt = h.prelogs m x old in omega (arith, lt))
     | inr new ↦ (let z : y.entry ≡ x.prelog = ap (λ (w : Extent). w.prelog) new.1 in omega (arith, z))
   ];
-  left = λ m x f. elim (new_cases y.extents _ m x f) [
+  left = λ m x f. elim (new_cases y.intervals _ m x f) [
     | inl old ↦ elim (h.left m x old) [ inl i ↦ inl (inr i) | inr l ↦ inr (l.0, l.1, (let lt = l.2 in omega (arith, lt))) ]
     | inr new ↦ inl (inl new.0)
   ];
 }
 log_one y (entry.Postlog b vs) h =
-    let stay = λ (m : ℕ) (x : Extent) (e : slice_get y.extents m ≡ Some x). left_one y.entry m y.running y.extents x e in
+    let stay = λ (m : ℕ) (x : Extent) (e : slice_get y.intervals m ≡ Some x). left_one y.entry m y.running y.intervals x e in
     record {
-      falls = subst (λ k. Fall k (drop 1 y.running)) (sym (left_length y.entry y.running y.extents)) (falls_rest (length y.extents) y.running h.falls);
+      falls = subst (λ k. Fall k (drop 1 y.running)) (sym (left_length y.entry y.running y.intervals)) (falls_rest (length y.intervals) y.running h.falls);
       prelogs = λ m z f.
-          let c = came y (left_by y.entry y.running y.extents) (left_length y.entry y.running y.extents) stay m z f in
+          let c = came y (left_by y.entry y.running y.intervals) (left_length y.entry y.running y.intervals) stay m z f in
           let lt = h.prelogs m c.0 c.1 in
           let same = c.2.prelog in
           omega (arith, lt, same);
       left = λ m z f.
-          let c = came y (left_by y.entry y.running y.extents) (left_length y.entry y.running y.extents) stay m z f in
+          let c = came y (left_by y.entry y.running y.intervals) (left_length y.entry y.running y.intervals) stay m z f in
           elim (h.left m c.0 c.1) [
             | inl i ↦ by m z c.0 y.running f c.1 i
             | inr l ↦ inr (later_last y.entry c.0 z c.2 l)
           ];
     }
   where
-    by : (m : ℕ) (z x : Extent) (ks : List ℕ) → slice_get (left_by y.entry ks y.extents) m ≡ Some z → slice_get y.extents m ≡ Some x → IsIn m ks → IsIn m (drop 1 ks) ⊎ ((l : ℕ) × (z.last ≡ Some l) × (l < y.entry + 1))
+    by : (m : ℕ) (z x : Extent) (ks : List ℕ) → slice_get (left_by y.entry ks y.intervals) m ≡ Some z → slice_get y.intervals m ≡ Some x → IsIn m ks → IsIn m (drop 1 ks) ⊎ ((l : ℕ) × (z.last ≡ Some l) × (l < y.entry + 1))
     by m z x [] f g i = absurd i
     by m z x (k ∷ ks) f g (inl same) =
-        let here : slice_get (change (close_by y.entry) k y.extents) m ≡ Some (record x { last = Some y.entry; closed = true }) =
-        ap (λ w. slice_get (change (close_by y.entry) k y.extents) w) same ∙ change-at (close_by y.entry) k y.extents
-        ∙ ap (option_map (close_by y.entry)) (ap (λ w. slice_get y.extents w) (sym same) ∙ g) in
+        let here : slice_get (change (close_by y.entry) k y.intervals) m ≡ Some (record x { last = Some y.entry; closed = true }) =
+        ap (λ w. slice_get (change (close_by y.entry) k y.intervals) w) same ∙ change-at (close_by y.entry) k y.intervals
+        ∙ ap (option_map (close_by y.entry)) (ap (λ w. slice_get y.intervals w) (sym same) ∙ g) in
         inr (y.entry, ap (λ (w : Extent). w.last) (some (sym f ∙ here)), omega arith)
     by m z x (k ∷ ks) f g (inr i) = inl i
 log_one y (entry.End st rest reads writes) h =
-    let stay = λ (m : ℕ) (x : Extent) (e : slice_get y.extents m ≡ Some x). ended_one y.entry m y.running y.extents x e in
+    let stay = λ (m : ℕ) (x : Extent) (e : slice_get y.intervals m ≡ Some x). ended_one y.entry m y.running y.intervals x e in
     record {
-      falls = subst (λ k. Fall k y.running) (sym (ended_length y.entry y.running y.extents)) h.falls;
+      falls = subst (λ k. Fall k y.running) (sym (ended_length y.entry y.running y.intervals)) h.falls;
       prelogs = λ m z f.
-          let c = came y (ended_by y.entry y.running y.extents) (ended_length y.entry y.running y.extents) stay m z f in
+          let c = came y (ended_by y.entry y.running y.intervals) (ended_length y.entry y.running y.intervals) stay m z f in
           let lt = h.prelogs m c.0 c.1 in
           let same = c.2.prelog in
           omega (arith, lt, same);
       left = λ m z f.
-          let c = came y (ended_by y.entry y.running y.extents) (ended_length y.entry y.running y.extents) stay m z f in
+          let c = came y (ended_by y.entry y.running y.intervals) (ended_length y.entry y.running y.intervals) stay m z f in
           elim (h.left m c.0 c.1) [
             | inl i ↦ inl i
             | inr l ↦ inr (later_last y.entry c.0 z c.2 l)
@@ -201,7 +201,7 @@ log_one y (entry.Sync kind object number value reads writes) h = record {
   left = λ m x f. elim (h.left m x f) [ inl i ↦ inl i | inr l ↦ inr (l.0, l.1, (let lt = l.2 in omega (arith, lt))) ];
 }
 
-log_all : (y : Extending) (es : List Entry) → IsLog y → IsLog (fold extend y es)
+log_all : (y : Indexing Extent) (es : List Entry) → IsLog y → IsLog (fold extend y es)
 log_all y [] h = h
 log_all y (e ∷ es) h = log_all (extend y e) es (log_one y e h)
 

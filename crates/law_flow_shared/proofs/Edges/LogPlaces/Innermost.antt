@@ -1,24 +1,24 @@
 -- The innermost interval at an entry of a whole log is the one that ran innermost before it.
-use Rattle.std.proofs.Common.{◌≡◌, ℕ, zero, suc, ◌+◌, ◌<◌, ◌≤◌, Bool, true, false, List, [], ◌∷◌, ◌++◌, Some, refl, ap, sym, subst, ◌∙◌, arith, length, inl, inr, ◌⊎◌, if◌then◌else◌}
-use Rattle.std.specs.Prelude.{drop, fold, nat_le, nat_lt, option_map, slice_get, unwrap_or, ◌&&◌}
+use Rattle.law_flow_shared.proofs.Edges.LogPlaces.Extended.{Became, came, ended_in, ended_one, is_log, left_length, left_one, new_cases, still_one}
+use Rattle.law_flow_shared.proofs.Edges.Spans.Facts.{at}
+use Rattle.ppd_ast.proofs.ValidLaws.{slice_get_below, slice_get_there}
+use Rattle.ppd_ast.specs.declared.status.Status.{Status}
+use Rattle.ppd_entry.specs.declared.entry.Entry.{Entry}
+use Rattle.ppd_entry.specs.declared.entry.Entry.TheVariants as entry
+use Rattle.ppd_flow_model.proofs.Vocabulary.{is_in_extent}
+use Rattle.ppd_flow_model.specs.Ends.{innermost_from}
+use Rattle.ppd_model.proofs.Changes.{change-at, some}
+use Rattle.ppd_model.proofs.CountedOn.{kept_at}
+use Rattle.ppd_model.proofs.ExtentWords.{begun_extents, ended_by, left_by}
+use Rattle.ppd_model.proofs.Extents.{Fall, IsIn, close_by, ended_length, entry_number, in_below}
+use Rattle.ppd_model.specs.Extents.{Extent, Indexing, extend, extents}
+use Rattle.ppd_model.specs.World.{change}
+use Rattle.std.proofs.Common.{Bool, List, Some, [], ap, arith, false, if◌then◌else◌, inl, inr, length, refl, subst, suc, sym, true, zero, ℕ, ◌++◌, ◌+◌, ◌<◌, ◌∙◌, ◌∷◌, ◌≡◌, ◌≤◌, ◌⊎◌}
 use Rattle.std.proofs.lemmas.Bool.{cases_lt}
 use Rattle.std.proofs.lemmas.Bool.Decides.{nat_tests}
 use Rattle.std.proofs.lemmas.List.Sums.{fold-append}
 use Rattle.std.proofs.lemmas.Option.{none-some}
-use Rattle.ppd_ast.specs.declared.status.Status.{Status}
-use Rattle.ppd_ast.proofs.ValidLaws.{slice_get_there, slice_get_below}
-use Rattle.ppd_entry.specs.declared.entry.Entry.{Entry}
-use Rattle.ppd_entry.specs.declared.entry.Entry.TheVariants as entry
-use Rattle.ppd_model.specs.Extents.{Extending, Extent, extend, extents}
-use Rattle.ppd_model.proofs.ExtentWords.{begun_extents, ended_by, left_by}
-use Rattle.ppd_model.specs.World.{change}
-use Rattle.ppd_model.proofs.Changes.{change-at, some}
-use Rattle.ppd_model.proofs.CountedOn.{kept_at}
-use Rattle.ppd_model.proofs.Extents.{IsIn, entry_number, Fall, in_below, ended_length, close_by}
-use Rattle.ppd_flow_model.specs.Ends.{innermost_at, innermost_from}
-use Rattle.ppd_flow_model.proofs.Vocabulary.{is_in_extent}
-use Rattle.law_flow_shared.proofs.Edges.Spans.Facts.{at}
-use Rattle.law_flow_shared.proofs.Edges.LogPlaces.Extended.{Became, came, ended_in, ended_one, is_log, left_length, left_one, new_cases, still_one}
+use Rattle.std.specs.Prelude.{drop, fold, nat_le, nat_lt, option_map, slice_get, unwrap_or, ◌&&◌}
 
 -- ---- the last one in which an entry stands
 
@@ -39,43 +39,43 @@ last_one n m k (z ∷ xs) (suc j) x e is after =
 
 module _ (n k p : ℕ) where
   -- interval k, with this prelog, runs, or its last entry is not before entry n
-  record Goes (y : Extending) : Type 0 where
+  record Goes (y : Indexing Extent) : Type 0 where
     extent : Extent
-    there : slice_get y.extents k ≡ Some extent
+    there : slice_get y.intervals k ≡ Some extent
     prelog : extent.prelog ≡ p
     goes : IsIn k y.running ⊎ ((l : ℕ) × (extent.last ≡ Some l) × (n ≤ l))
 
   later : (j : ℕ) (x z : Extent) → n ≤ j → Became j x z → ((l : ℕ) × (x.last ≡ Some l) × (n ≤ l)) → (l : ℕ) × (z.last ≡ Some l) × (n ≤ l)
   later j x z le b h = elim b.last [ inl e ↦ (h.0, e ∙ h.1, h.2) | inr e ↦ (j, e, le) ]
 
-  goes_one : (y : Extending) (e : Entry) → n ≤ y.entry → Goes y → Goes (extend y e)
+  goes_one : (y : Indexing Extent) (e : Entry) → n ≤ y.entry → Goes y → Goes (extend y e)
   goes_one y (entry.Prelog b vs) le h = record {
     extent = h.extent;
-    there = kept_at y.extents _ k h.extent h.there;
+    there = kept_at y.intervals _ k h.extent h.there;
     prelog = h.prelog;
     goes = elim h.goes [ inl i ↦ inl (inr i) | inr l ↦ inr l ];
   }
   goes_one y (entry.Postlog b vs) le h = elim h.goes [
     | inl i ↦ by y.running i
     | inr l ↦
-        let s = left_one y.entry k y.running y.extents h.extent h.there in
+        let s = left_one y.entry k y.running y.intervals h.extent h.there in
         record { extent = s.0; there = s.1; prelog = s.2.prelog ∙ h.prelog; goes = inr (later y.entry h.extent s.0 le s.2 l) }
   ]
     where
-      by : (ks : List ℕ) → IsIn k ks → Goes (record { extents = left_by y.entry ks y.extents; running = drop 1 ks; entry = y.entry + 1 })
+      by : (ks : List ℕ) → IsIn k ks → Goes (record { intervals = left_by y.entry ks y.intervals; running = drop 1 ks; entry = y.entry + 1 })
       by [] i = absurd i
       by (m ∷ ms) (inl same) = record {
         extent = record h.extent { last = Some y.entry; closed = true };
-        there = ap (λ w. slice_get (change (close_by y.entry) m y.extents) w) same ∙ change-at (close_by y.entry) m y.extents
-            ∙ ap (option_map (close_by y.entry)) (ap (λ w. slice_get y.extents w) (sym same) ∙ h.there);
+        there = ap (λ w. slice_get (change (close_by y.entry) m y.intervals) w) same ∙ change-at (close_by y.entry) m y.intervals
+            ∙ ap (option_map (close_by y.entry)) (ap (λ w. slice_get y.intervals w) (sym same) ∙ h.there);
         prelog = h.prelog;
         goes = inr (y.entry, refl, le);
       }
       by (m ∷ ms) (inr i) =
-          let s = left_one y.entry k (m ∷ ms) y.extents h.extent h.there in
+          let s = left_one y.entry k (m ∷ ms) y.intervals h.extent h.there in
           record { extent = s.0; there = s.1; prelog = s.2.prelog ∙ h.prelog; goes = inl i }
   goes_one y (entry.End st rest reads writes) le h =
-      let s = ended_one y.entry k y.running y.extents h.extent h.there in
+      let s = ended_one y.entry k y.running y.intervals h.extent h.there in
       record {
         extent = s.0;
         there = s.1;
@@ -85,50 +85,50 @@ module _ (n k p : ℕ) where
   goes_one y (entry.Unit u vs) le h = record { extent = h.extent; there = h.there; prelog = h.prelog; goes = h.goes }
   goes_one y (entry.Sync kind object number value reads writes) le h = record { extent = h.extent; there = h.there; prelog = h.prelog; goes = h.goes }
 
-  goes_all : (y : Extending) (es : List Entry) → n ≤ y.entry → Goes y → Goes (fold extend y es)
+  goes_all : (y : Indexing Extent) (es : List Entry) → n ≤ y.entry → Goes y → Goes (fold extend y es)
   goes_all y [] le h = h
   goes_all y (e ∷ es) le h = goes_all (extend y e) es (omega (arith, le)) (goes_one y e le h)
 
-  entry_on : (y : Extending) (es : List Entry) → n ≤ y.entry → n ≤ (fold extend y es).entry
+  entry_on : (y : Indexing Extent) (es : List Entry) → n ≤ y.entry → n ≤ (fold extend y es).entry
   entry_on y [] le = le
   entry_on y (e ∷ es) le = entry_on (extend y e) es (omega (arith, le))
 
   -- and at the end
-  at_end : (y : Extending) (st : Status) (rest : ℕ) (reads writes : List ℕ) → n ≤ y.entry → Goes y → (x : Extent) × (slice_get (extend y (entry.End st rest reads writes)).extents k ≡ Some x) × (x.prelog ≡ p) × (n ≤ unwrap_or x.last 0)
+  at_end : (y : Indexing Extent) (st : Status) (rest : ℕ) (reads writes : List ℕ) → n ≤ y.entry → Goes y → (x : Extent) × (slice_get (extend y (entry.End st rest reads writes)).intervals k ≡ Some x) × (x.prelog ≡ p) × (n ≤ unwrap_or x.last 0)
   at_end y st rest reads writes le h = elim h.goes [
     | inl i ↦
-        let s = ended_in y.entry k y.running y.extents h.extent h.there i in
+        let s = ended_in y.entry k y.running y.intervals h.extent h.there i in
         (s.0, s.1, s.2 ∙ h.prelog, subst (λ o. n ≤ unwrap_or o 0) (sym s.3) le)
     | inr l ↦
-        let s = ended_one y.entry k y.running y.extents h.extent h.there in
+        let s = ended_one y.entry k y.running y.intervals h.extent h.there in
         let m = later y.entry h.extent s.0 le s.2 l in
         (s.0, s.1, s.2.prelog ∙ h.prelog, subst (λ o. n ≤ unwrap_or o 0) (sym m.1) m.2)
   ]
 
 -- intervals from number low on begin at entry n or later
 module _ (n low : ℕ) where
-  abbrev AreLater : Extending → Type 0
-  AreLater y = (j : ℕ) (x : Extent) → low ≤ j → slice_get y.extents j ≡ Some x → n ≤ x.prelog
+  abbrev AreLater : Indexing Extent → Type 0
+  AreLater y = (j : ℕ) (x : Extent) → low ≤ j → slice_get y.intervals j ≡ Some x → n ≤ x.prelog
 
-  later_one : (y : Extending) (e : Entry) → n ≤ y.entry → AreLater y → AreLater (extend y e)
-  later_one y (entry.Prelog b vs) le h j x ge f = elim (new_cases y.extents _ j x f) [
+  later_one : (y : Indexing Extent) (e : Entry) → n ≤ y.entry → AreLater y → AreLater (extend y e)
+  later_one y (entry.Prelog b vs) le h j x ge f = elim (new_cases y.intervals _ j x f) [
     | inl old ↦ h j x ge old
     | inr new ↦ (let z : y.entry ≡ x.prelog = ap (λ (w : Extent). w.prelog) new.1 in omega (arith, z, le))
   ]
   later_one y (entry.Postlog b vs) le h j x ge f =
-      let c = came y (left_by y.entry y.running y.extents) (left_length y.entry y.running y.extents) (λ m w e. left_one y.entry m y.running y.extents w e) j x f in
+      let c = came y (left_by y.entry y.running y.intervals) (left_length y.entry y.running y.intervals) (λ m w e. left_one y.entry m y.running y.intervals w e) j x f in
       let old = h j c.0 ge c.1 in
       let same = c.2.prelog in
       omega (arith, old, same)
   later_one y (entry.End st rest reads writes) le h j x ge f =
-      let c = came y (ended_by y.entry y.running y.extents) (ended_length y.entry y.running y.extents) (λ m w e. ended_one y.entry m y.running y.extents w e) j x f in
+      let c = came y (ended_by y.entry y.running y.intervals) (ended_length y.entry y.running y.intervals) (λ m w e. ended_one y.entry m y.running y.intervals w e) j x f in
       let old = h j c.0 ge c.1 in
       let same = c.2.prelog in
       omega (arith, old, same)
   later_one y (entry.Unit u vs) le h j x ge f = h j x ge f
   later_one y (entry.Sync kind object number value reads writes) le h j x ge f = h j x ge f
 
-  later_all : (y : Extending) (es : List Entry) → n ≤ y.entry → AreLater y → AreLater (fold extend y es)
+  later_all : (y : Indexing Extent) (es : List Entry) → n ≤ y.entry → AreLater y → AreLater (fold extend y es)
   later_all y [] le h = h
   later_all y (e ∷ es) le h = later_all (extend y e) es (omega (arith, le)) (later_one y e le h)
 
@@ -180,10 +180,10 @@ module _ (before mid : List Entry) (st : Status) (rest : ℕ) (reads writes : Li
   final_end = final ∙ fold-append extend (at before) mid (stop ∷ [])
 
   -- one that is there and does not run
-  past_is : (j : ℕ) (y : Extent) → j < length (at before).extents → (IsIn j (at before).running → ⊥) → slice_get (extents all) j ≡ Some y → is_in_extent n y ≡ false
+  past_is : (j : ℕ) (y : Extent) → j < length (at before).intervals → (IsIn j (at before).running → ⊥) → slice_get (extents all) j ≡ Some y → is_in_extent n y ≡ false
   past_is j y lt out e =
-      let old = slice_get_there (at before).extents j lt in
-      let still : slice_get (extents all) j ≡ Some old.0 = ap (λ (z : Extending). slice_get z.extents j) final ∙ still_one (at before) (mid ++ stop ∷ []) j old.0 old.1 out in
+      let old = slice_get_there (at before).intervals j lt in
+      let still : slice_get (extents all) j ≡ Some old.0 = ap (λ (z : Indexing Extent). slice_get z.intervals j) final ∙ still_one (at before) (mid ++ stop ∷ []) j old.0 old.1 out in
       let same : old.0 ≡ y = some (sym still ∙ e) in
       elim ((is_log before).left j old.0 old.1) [
         | inl i ↦ absurd (out i)
@@ -193,28 +193,28 @@ module _ (before mid : List Entry) (st : Status) (rest : ℕ) (reads writes : Li
             subst (λ z. is_in_extent n z ≡ false) same (stands_past n old.0 l.0 l.1 (omega (arith, less, number)))
       ]
 
-  later_is : (j : ℕ) (y : Extent) → length (at before).extents ≤ j → slice_get (extents all) j ≡ Some y → is_in_extent n y ≡ false
+  later_is : (j : ℕ) (y : Extent) → length (at before).intervals ≤ j → slice_get (extents all) j ≡ Some y → is_in_extent n y ≡ false
   later_is j y ge e =
-      let none : AreLater n (length (at before).extents) (at before) = λ i x le f. absurd (let lt : i < length (at before).extents = slice_get_below (at before).extents i x f in omega (arith, lt, le)) in
-      stands_before n y (later_all n (length (at before).extents) (at before) (mid ++ stop ∷ []) entry_is none j y ge (ap (λ (z : Extending). slice_get z.extents j) (sym final) ∙ e))
+      let none : AreLater n (length (at before).intervals) (at before) = λ i x le f. absurd (let lt : i < length (at before).intervals = slice_get_below (at before).intervals i x f in omega (arith, lt, le)) in
+      stands_before n y (later_all n (length (at before).intervals) (at before) (mid ++ stop ∷ []) entry_is none j y ge (ap (λ (z : Indexing Extent). slice_get z.intervals j) (sym final) ∙ e))
 
-  pub innermost_is : (k : ℕ) (ks : List ℕ) → (at before).running ≡ k ∷ ks → innermost_at all n ≡ k
+  pub innermost_is : (k : ℕ) (ks : List ℕ) → (at before).running ≡ k ∷ ks → innermost_from n 0 0 (extents all) ≡ k
   innermost_is k ks runs =
-      let falls : Fall (length (at before).extents) (k ∷ ks) = subst (λ l. Fall (length (at before).extents) l) runs (is_log before).falls in
-      let there = slice_get_there (at before).extents k falls.0 in
+      let falls : Fall (length (at before).intervals) (k ∷ ks) = subst (λ l. Fall (length (at before).intervals) l) runs (is_log before).falls in
+      let there = slice_get_there (at before).intervals k falls.0 in
       let number : (at before).entry ≡ length before = entry_number before in
       let less : there.0.prelog < (at before).entry = (is_log before).prelogs k there.0 there.1 in
       let begins : Goes n k there.0.prelog (at before) = record { extent = there.0; there = there.1; prelog = refl; goes = inl (subst (λ l. IsIn k l) (sym runs) (inl refl)) } in
       let now = at_end n k there.0.prelog (fold extend (at before) mid) st rest reads writes (entry_on n k there.0.prelog (at before) mid entry_is) (goes_all n k there.0.prelog (at before) mid entry_is begins) in
       let prelog = now.2 in
-      let at_all : slice_get (extents all) k ≡ Some now.0 = ap (λ (z : Extending). slice_get z.extents k) final_end ∙ now.1 in
-      last_one n 0 0 (extents all) k now.0 at_all (stands_yes n now.0 (omega (arith, prelog, less, number)) now.3) (λ j y lt e. elim (cases_lt j (length (at before).extents)) [
-        | inl there' ↦ past_is j y there' (λ i. above_first (length (at before).extents) k ks j falls lt (subst (λ l. IsIn j l) runs i)) e
+      let at_all : slice_get (extents all) k ≡ Some now.0 = ap (λ (z : Indexing Extent). slice_get z.intervals k) final_end ∙ now.1 in
+      last_one n 0 0 (extents all) k now.0 at_all (stands_yes n now.0 (omega (arith, prelog, less, number)) now.3) (λ j y lt e. elim (cases_lt j (length (at before).intervals)) [
+        | inl there' ↦ past_is j y there' (λ i. above_first (length (at before).intervals) k ks j falls lt (subst (λ l. IsIn j l) runs i)) e
         | inr more ↦ later_is j y more e
       ]) ∙ (let z : 0 + k ≡ k = omega arith in z)
 
-  pub innermost_none : (at before).running ≡ [] → innermost_at all n ≡ 0
-  innermost_none runs = no_more n 0 0 (extents all) (λ j y e. elim (cases_lt j (length (at before).extents)) [
+  pub innermost_none : (at before).running ≡ [] → innermost_from n 0 0 (extents all) ≡ 0
+  innermost_none runs = no_more n 0 0 (extents all) (λ j y e. elim (cases_lt j (length (at before).intervals)) [
     | inl there ↦ past_is j y there (λ i. subst (λ l. IsIn j l) runs i) e
     | inr more ↦ later_is j y more e
   ])

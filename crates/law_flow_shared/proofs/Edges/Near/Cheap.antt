@@ -1,6 +1,6 @@
 -- The walk from an event costs no more than all near intervals.
 use Rattle.std.proofs.Common.{◌≡◌, ℕ, Bool, true, false, List, ◌∷◌, Option, Some, None, refl, ap, sym, subst, ◌∙◌, arith, true≢false, inl, inr, eq-eqb}
-use Rattle.std.specs.Prelude.{nat_eq, slice_get, ◌&&◌, ◌||◌}
+use Rattle.std.specs.Prelude.{nat_eq, slice_get, ◌&&◌, ◌||◌, get_or, []}
 use Rattle.std.specs.List.{list_any}
 use Rattle.std.proofs.lemmas.Option.{none-some}
 use Rattle.ppd_ast.specs.Valid.{IsValid}
@@ -14,7 +14,7 @@ use Rattle.ppd_model.proofs.EdgeWords.{part_in}
 use Rattle.ppd_model.specs.Intervals.{own, Span, Split, splits}
 use Rattle.ppd_model.specs.Logs.{closed_log, log_of}
 use Rattle.ppd_model.specs.NearIntervals.{edge_of_event, edges_or_none, is_in, is_inside, is_loop, is_near, is_near_origin, is_open_at, is_open_in, is_round, surroundings}
-use Rattle.ppd_model.specs.Story.{own_moments, steps_of, story, told}
+use Rattle.ppd_model.specs.Story.{steps_of, story, told}
 use Rattle.ppd_model.proofs.Changes.{some}
 use Rattle.ppd_model.proofs.Tested.{In}
 use Rattle.ppd_flow_model.specs.Seen.{seen_of}
@@ -42,7 +42,7 @@ module _ (program : Program) (plan : Plan) (budget : ℕ) (h : List ℕ) (v : Is
   tree : HasTree x
   tree =
       let t = closed_told program plan budget h v p x there in
-      subst (λ y. HasTree y) t.0 (has_tree program plan (story program plan budget h) p budget (steps_of (own_moments (told program plan budget h) p)))
+      subst (λ y. HasTree y) t.0 (has_tree program plan (story program plan budget h) p budget (steps_of (get_or (told program plan budget h).moments p [])))
 
   distinct : AreDistinct (k ∷ walk_replays (seen_of x) c k j)
   distinct = by (slice_get x.spans k) refl place
@@ -51,9 +51,9 @@ module _ (program : Program) (plan : Plan) (budget : ℕ) (h : List ℕ) (v : Is
       by None g f = absurd (none-some (own n) f)
       by (Some s) g f =
           let lt = slice_get_below x.trace.events n e at in
-          let q = place_of_event x (closed_log (log_of program plan budget p (own_moments (told program plan budget h) p))) (closed_told program plan budget h v p x there).2 k j n s g f lt in
+          let q = place_of_event x (closed_log (log_of program plan budget p (get_or (told program plan budget h).moments p []))) (closed_told program plan budget h v p x there).2 k j n s g f lt in
           subst (λ z. AreDistinct (k ∷ walk_replays (seen_of x) c k z)) q.4
-          (walk_distinct x tree c (Logged (closed_log (log_of program plan budget p (own_moments (told program plan budget h) p))) x.trace.events) k q.0.first q.1 (own n ∷ q.2) n s g q.3 q.5 (omega (arith, lt)) q.0.stands)
+          (walk_distinct x tree c (Logged (closed_log (log_of program plan budget p (get_or (told program plan budget h).moments p []))) x.trace.events) k q.0.first q.1 (own n ∷ q.2) n s g q.3 q.5 (omega (arith, lt)) q.0.stands)
 
   near_if : (m : ℕ) (i : Span) → (is_round plan (surroundings x k) m i || is_open_at x (part_at x k j) i) ≡ true → is_near program plan budget (story program plan budget h) p k j p x m i ≡ true
   near_if m i f =

@@ -1,18 +1,18 @@
 -- A walk back replays each interval at most once.
 use Rattle.std.proofs.Common.{◌≡◌, ℕ, zero, suc, ◌+◌, ◌<◌, ◌≤◌, List, [], ◌∷◌, ◌++◌, Some, refl, ap, sym, subst, ◌∙◌, arith, length, inl, inr, ◌⊎◌}
-use Rattle.std.specs.Prelude.{slice_get, take}
+use Rattle.std.specs.Prelude.{slice_get, take, is_some, get_or}
 use Rattle.std.specs.List.{flat_map}
 use Rattle.ppd_model.specs.declared.flow.Item.{Item}
 use Rattle.ppd_model.specs.declared.flow.Item.TheVariants as item
 use Rattle.ppd_model.specs.declared.trace.TracedEvent.{TracedEvent}
-use Rattle.ppd_model.specs.Intervals.{Part, own, nested, Span, Split, is_closed, item_of}
+use Rattle.ppd_model.specs.Intervals.{Part, own, nested, Span, Split, item_of}
 use Rattle.ppd_model.proofs.IntervalWords.{item_of_event, item_of_span}
 use Rattle.ppd_model.proofs.Changes.{some}
 use Rattle.ppd_model.proofs.CountedOn.{kept_at}
 use Rattle.ppd_model.proofs.Tested.{In, here as first_in, there as later_in}
 use Rattle.ppd_flow_model.specs.declared.walked.Walked.{Walked}
 use Rattle.ppd_flow_model.specs.declared.walked.Walked.TheVariants.{Stopped, Passed, Found}
-use Rattle.ppd_flow_model.specs.Seen.{Seen, items_at, place_of, seen_of}
+use Rattle.ppd_flow_model.specs.Seen.{Seen, place_of, seen_of}
 use Rattle.ppd_flow_model.specs.Walk.{back, back_from, back_over, back_replays, backwards, if_passed, inside as inside_of, inside_replays, out_replays, over_event, over_replays, walk_replays}
 use Rattle.law_flow_shared.specs.Edges.Within.{AreDistinct, IsNotIn}
 use Rattle.law_flow_shared.proofs.Edges.Spans.Tiles.{Stands, Tiles, ends, event, inside, outermost, within, rises}
@@ -153,8 +153,8 @@ module _ (x : Split) (h : HasTree x) where
           let up' : mid ≤ hi = rises F x.spans k mid ps hi v in
           let at_a : slice_get i.parts a ≡ Some (nested m) = ap (λ z. slice_get i.parts z) (let z : a ≡ a + 0 = omega arith in z) ∙ place 0 (nested m) refl in
           subst (λ l. AreUnder k (a + suc (length ps)) (over_replays inner touched c k (backwards a (l ++ items_in ps) before))) (sym (ap (item_of_span m) at))
-          (subst (λ z. AreUnder k z (over_replays inner touched c k (backwards (a + 1) (items_in ps) ((a, item.Nested m s.block s.values (is_closed s)) ∷ before)))) (let z : a + 1 + length ps ≡ a + suc (length ps) = omega arith in z)
-          (over k (a + 1) mid i ps hi ((a, item.Nested m s.block s.values (is_closed s)) ∷ before) here right (λ j q g. ap (λ z. slice_get i.parts z) (let z : a + 1 + j ≡ a + suc j = omega arith in z) ∙ place (suc j) q g) v le
+          (subst (λ z. AreUnder k z (over_replays inner touched c k (backwards (a + 1) (items_in ps) ((a, item.Nested m s.block s.values (is_some s.closed)) ∷ before)))) (let z : a + 1 + length ps ≡ a + suc (length ps) = omega arith in z)
+          (over k (a + 1) mid i ps hi ((a, item.Nested m s.block s.values (is_some s.closed)) ∷ before) here right (λ j q g. ap (λ z. slice_get i.parts z) (let z : a + 1 + j ≡ a + suc j = omega arith in z) ∙ place (suc j) q g) v le
           (both_under k a m i here at_a (touched m) (over_replays inner touched c k before) (inner m) (right m lo mid s lt at t (omega (arith, up', le))) u)))
 
     abbrev seen : Seen
@@ -163,22 +163,22 @@ module _ (x : Split) (h : HasTree x) where
     whole : (fuel m lo hi : ℕ) (i : Span) → slice_get x.spans m ≡ Some i → Tiles F x.spans m lo i.parts hi → hi ≤ length events → AreInside m (back_replays fuel seen c m)
     whole zero m lo hi i at t le = record { each = λ z j. absurd (no_member j); distinct = tt }
     whole (suc fuel) m lo hi i at t le =
-        let ours : AreUnder m (0 + length i.parts) (over_replays (back fuel seen c) (back_replays fuel seen c) c m (backwards 0 (items_at seen m) [])) =
+        let ours : AreUnder m (0 + length i.parts) (over_replays (back fuel seen c) (back_replays fuel seen c) c m (backwards 0 (get_or seen.items m []) [])) =
         subst (λ l. AreUnder m (0 + length i.parts) (over_replays (back fuel seen c) (back_replays fuel seen c) c m (backwards 0 l []))) (sym (items_are x c F m i at))
         (over (back fuel seen c) (back_replays fuel seen c) m 0 lo i i.parts hi [] at (λ l low mid s lt at' u le'. whole fuel l low mid s at' u le')
         (λ j q f. ap (λ z. slice_get i.parts z) (let z : 0 + j ≡ j = omega arith in z) ∙ f) t le (none_under m 0)) in
         record {
-          each = λ z q. elim (in_cases z m (over_replays (back fuel seen c) (back_replays fuel seen c) c m (backwards 0 (items_at seen m) [])) q) [
+          each = λ z q. elim (in_cases z m (over_replays (back fuel seen c) (back_replays fuel seen c) c m (backwards 0 (get_or seen.items m []) [])) q) [
             | inl e ↦ inl e
             | inr p ↦ let u = ours.each z p in inr (u.0, u.2)
           ];
-          distinct = (not_in_list m (over_replays (back fuel seen c) (back_replays fuel seen c) c m (backwards 0 (items_at seen m) [])) (λ p. let u = ours.each m p in let lt : m < m = above m u.0 m u.2 in omega (arith, lt)), ours.distinct);
+          distinct = (not_in_list m (over_replays (back fuel seen c) (back_replays fuel seen c) c m (backwards 0 (get_or seen.items m []) [])) (λ p. let u = ours.each m p in let lt : m < m = above m u.0 m u.2 in omega (arith, lt)), ours.distinct);
         }
 
     here : (k first : ℕ) (ps qs : List Part) (n : ℕ) (i : Span) → slice_get x.spans k ≡ Some i → i.parts ≡ ps ++ qs → Tiles F x.spans k first ps n → n ≤ length events
-        → AreUnder k (length ps) (over_replays (inside_of seen c) (inside_replays seen c) c k (back_from (length ps) (items_at seen k)))
+        → AreUnder k (length ps) (over_replays (inside_of seen c) (inside_replays seen c) c k (back_from (length ps) (get_or seen.items k [])))
     here k first ps qs n i at parts t le =
-        subst (λ z. AreUnder k z (over_replays (inside_of seen c) (inside_replays seen c) c k (back_from (length ps) (items_at seen k)))) (let z : 0 + length ps ≡ length ps = omega arith in z)
+        subst (λ z. AreUnder k z (over_replays (inside_of seen c) (inside_replays seen c) c k (back_from (length ps) (get_or seen.items k [])))) (let z : 0 + length ps ≡ length ps = omega arith in z)
         (subst (λ l. AreUnder k (0 + length ps) (over_replays (inside_of seen c) (inside_replays seen c) c k (backwards 0 l [])))
         (sym (ap (λ l. take (length ps) l) (items_are x c F k i at ∙ ap (λ l. items_in l) parts) ∙ taken x c F k first ps qs n t le))
         (over (inside_of seen c) (inside_replays seen c) k 0 first i ps n [] at (λ l low mid s lt at' u le'. whole (length seen.items) l low mid s at' u le')
@@ -236,17 +236,17 @@ module _ (x : Split) (h : HasTree x) where
         record { each = λ y q. inl (u.each y q); distinct = u.distinct }
     out k first (o ∷ rest) ps qs n i at parts t le (within s before after low at_o r lt place apart st u) =
         let up : first ≤ n = rises F x.spans k first ps n t in
-        let at_place : place_of k (items_at seen o) ≡ length before =
+        let at_place : place_of k (get_or seen.items o []) ≡ length before =
         ap (λ l. place_of k l) (items_are x c F o s at_o ∙ ap (λ l. items_in l) place) ∙ place_is x c F o low k before after first i at apart u (omega (arith, up, le)) in
-        let farther : AreAround o (length before) (out_replays (inside_of seen c) (inside_replays seen c) seen c o (place_of k (items_at seen o)) rest) =
+        let farther : AreAround o (length before) (out_replays (inside_of seen c) (inside_replays seen c) seen c o (place_of k (get_or seen.items o [])) rest) =
         subst (λ j. AreAround o (length before) (out_replays (inside_of seen c) (inside_replays seen c) seen c o j rest)) (sym at_place) (out o low rest before (nested k ∷ after) first s at_o place u (omega (arith, up, le)) st) in
         let part : slice_get s.parts (length before) ≡ Some (nested k) = ap (λ l. slice_get l (length before)) place ∙ middle_at before (nested k) after in
-        onward k (length ps) (back_over (inside_of seen c) c k (back_from (length ps) (items_at seen k)))
-        (over_replays (inside_of seen c) (inside_replays seen c) c k (back_from (length ps) (items_at seen k)))
-        (o ∷ out_replays (inside_of seen c) (inside_replays seen c) seen c o (place_of k (items_at seen o)) rest)
+        onward k (length ps) (back_over (inside_of seen c) c k (back_from (length ps) (get_or seen.items k [])))
+        (over_replays (inside_of seen c) (inside_replays seen c) c k (back_from (length ps) (get_or seen.items k [])))
+        (o ∷ out_replays (inside_of seen c) (inside_replays seen c) seen c o (place_of k (get_or seen.items o [])) rest)
         (here k first ps qs n i at parts t le)
-        (not_in_list o (out_replays (inside_of seen c) (inside_replays seen c) seen c o (place_of k (items_at seen o)) rest) (own_not_in o k (length before) (out_replays (inside_of seen c) (inside_replays seen c) seen c o (place_of k (items_at seen o)) rest) farther), farther.distinct)
-        (outward o k (length before) s at_o part (out_replays (inside_of seen c) (inside_replays seen c) seen c o (place_of k (items_at seen o)) rest) farther)
+        (not_in_list o (out_replays (inside_of seen c) (inside_replays seen c) seen c o (place_of k (get_or seen.items o [])) rest) (own_not_in o k (length before) (out_replays (inside_of seen c) (inside_replays seen c) seen c o (place_of k (get_or seen.items o [])) rest) farther), farther.distinct)
+        (outward o k (length before) s at_o part (out_replays (inside_of seen c) (inside_replays seen c) seen c o (place_of k (get_or seen.items o [])) rest) farther)
 
     -- a walk's replays, and the interval where it begins is none of them
     pub walk_distinct : (k first : ℕ) (ps qs : List Part) (n : ℕ) (i : Span) → slice_get x.spans k ≡ Some i → i.parts ≡ ps ++ qs → Tiles F x.spans k first ps n → n ≤ length events → Stands F x.spans k i.round first

@@ -1,34 +1,34 @@
 -- An interval that was left was left by a step of the edge that goes on after its events.
-use Rattle.std.proofs.Common.{◌≡◌, ℕ, zero, suc, ◌+◌, ◌<◌, ◌≤◌, Bool, true, false, List, [], ◌∷◌, ◌++◌, Option, Some, None, refl, ap, ap₂, sym, subst, ◌∙◌, arith, length, length-append, true≢false, inl, inr, eq-eqb}
-use Rattle.std.specs.Prelude.{drop, fold, is_some, nat_eq, option_map, slice_get, take, ◌||◌}
-use Rattle.std.specs.List.{list_any}
-use Rattle.std.proofs.lemmas.Bool.{cases_lt}
-use Rattle.std.proofs.lemmas.List.{append-nil, append_assoc}
-use Rattle.std.proofs.lemmas.List.Sums.{fold-append}
-use Rattle.std.proofs.lemmas.Option.{none-some}
+use Rattle.law_flow_shared.proofs.Edges.LogPlaces.Extended.{is_log, still_one}
+use Rattle.law_flow_shared.proofs.Edges.LogPlaces.Innermost.{not_in}
+use Rattle.law_flow_shared.proofs.Edges.Near.Timed.{before_postlog, edge_at, edge_is, in_middle, size_both}
+use Rattle.law_flow_shared.proofs.Edges.Spans.Facts.{LeavesAt, Logged, at, count_to, syncs}
+use Rattle.ppd_ast.proofs.ValidLaws.{slice_get_there}
 use Rattle.ppd_ast.specs.declared.plan.Plan.{Plan}
 use Rattle.ppd_ast.specs.declared.program.Program.{Program}
-use Rattle.ppd_ast.proofs.ValidLaws.{slice_get_there}
 use Rattle.ppd_entry.specs.declared.entry.Entry.{Entry}
 use Rattle.ppd_entry.specs.declared.entry.Entry.TheVariants as entry
-use Rattle.ppd_sem.specs.Process.{started}
-use Rattle.ppd_model.specs.declared.state.Logging.{Logging}
-use Rattle.ppd_model.specs.declared.tracing.Story.{Story}
-use Rattle.ppd_model.specs.declared.trace.TracedEvent.{TracedEvent}
-use Rattle.ppd_model.specs.Bounds.{AreEach}
-use Rattle.ppd_model.specs.Extents.{Extending, Extent, extend, extents}
+use Rattle.ppd_model.proofs.Changes.{change-at, some}
 use Rattle.ppd_model.proofs.ExtentWords.{begun_extents, left_by as extents_left}
-use Rattle.ppd_model.specs.Intervals.{Span, Split, begun_split, is_closed, split_of}
+use Rattle.ppd_model.proofs.Extents.{Fall, IsIn, entry_number}
+use Rattle.ppd_model.specs.Bounds.{AreEach}
+use Rattle.ppd_model.specs.Extents.{Extent, Indexing, extend, extents}
+use Rattle.ppd_model.specs.Intervals.{Span, Split, begun_split, split_of}
 use Rattle.ppd_model.specs.Logs.{begun_log, closed_log, entries_of, log_of, log_step}
 use Rattle.ppd_model.specs.RecordedSets.{sync_in}
 use Rattle.ppd_model.specs.Story.{Moment, steps_of}
 use Rattle.ppd_model.specs.Written.{AreOfSteps, IsOfSteps, IsWrittenBy}
-use Rattle.ppd_model.proofs.Changes.{change-at, some}
-use Rattle.ppd_model.proofs.Extents.{IsIn, entry_number, Fall}
-use Rattle.law_flow_shared.proofs.Edges.LogPlaces.Extended.{is_log, still_one}
-use Rattle.law_flow_shared.proofs.Edges.LogPlaces.Innermost.{not_in}
-use Rattle.law_flow_shared.proofs.Edges.Spans.Facts.{LeavesAt, Logged, at, count_to, syncs}
-use Rattle.law_flow_shared.proofs.Edges.Near.Timed.{before_postlog, edge_at, edge_is, in_middle, size_both}
+use Rattle.ppd_model.specs.declared.state.Logging.{Logging}
+use Rattle.ppd_model.specs.declared.trace.TracedEvent.{TracedEvent}
+use Rattle.ppd_model.specs.declared.tracing.Story.{Story}
+use Rattle.ppd_sem.specs.Process.{started}
+use Rattle.std.proofs.Common.{Bool, List, None, Option, Some, [], ap, ap₂, arith, eq-eqb, false, inl, inr, length, length-append, refl, subst, suc, sym, true, true≢false, zero, ℕ, ◌++◌, ◌+◌, ◌<◌, ◌∙◌, ◌∷◌, ◌≡◌, ◌≤◌}
+use Rattle.std.proofs.lemmas.Bool.{cases_lt}
+use Rattle.std.proofs.lemmas.List.{append-nil, append_assoc}
+use Rattle.std.proofs.lemmas.List.Sums.{fold-append}
+use Rattle.std.proofs.lemmas.Option.{none-some}
+use Rattle.std.specs.List.{list_any}
+use Rattle.std.specs.Prelude.{drop, fold, is_some, nat_eq, option_map, slice_get, take, ◌||◌}
 
 each_at : {A B : Type 0} (R : A → B → Type 0) (xs : List A) (ys : List B) → AreEach R xs ys → (m : ℕ) (x : A) (y : B) → slice_get xs m ≡ Some x → slice_get ys m ≡ Some y → R x y
 each_at R [] ys h m x y e f = absurd (none-some x e)
@@ -54,19 +54,19 @@ record IsLeft (entries : List Entry) (m place : ℕ) : Type 0 where
 
 left_at : (entries : List Entry) (events : List TracedEvent) (m mid : ℕ) (l : LeavesAt entries events m mid) → IsLeft entries m (length l.before)
 left_at entries events m mid l =
-    let y : Extending = at l.before in
-    let falls : Fall (length y.extents) (m ∷ l.rest) = subst (λ ks. Fall (length y.extents) ks) l.runs (is_log l.before).falls in
-    let there = slice_get_there y.extents m falls.0 in
+    let y : Indexing Extent = at l.before in
+    let falls : Fall (length y.intervals) (m ∷ l.rest) = subst (λ ks. Fall (length y.intervals) ks) l.runs (is_log l.before).falls in
+    let there = slice_get_there y.intervals m falls.0 in
     let number : y.entry ≡ length l.before = entry_number l.before in
     let low : there.0.prelog < y.entry = (is_log l.before).prelogs m there.0 there.1 in
-    let left : Extending = extend y (entry.Postlog l.block l.values) in
-    let here : slice_get left.extents m ≡ Some (record there.0 { last = Some y.entry; closed = true }) =
-    ap (λ ks. slice_get (extents_left y.entry ks y.extents) m) l.runs ∙ change-at (λ (z : Extent). record z { last = Some y.entry; closed = true }) m y.extents ∙ ap (option_map (λ (z : Extent). record z { last = Some y.entry; closed = true })) there.1 in
+    let left : Indexing Extent = extend y (entry.Postlog l.block l.values) in
+    let here : slice_get left.intervals m ≡ Some (record there.0 { last = Some y.entry; closed = true }) =
+    ap (λ ks. slice_get (extents_left y.entry ks y.intervals) m) l.runs ∙ change-at (λ (z : Extent). record z { last = Some y.entry; closed = true }) m y.intervals ∙ ap (option_map (λ (z : Extent). record z { last = Some y.entry; closed = true })) there.1 in
     let out : IsIn m left.running → ⊥ = λ i. not_in m l.rest m falls.1 (omega arith) (subst (λ ks. IsIn m (drop 1 ks)) l.runs i) in
     let final : at entries ≡ fold extend left l.after = ap (λ es. at es) l.entries_are ∙ fold-append extend begun_extents l.before (entry.Postlog l.block l.values ∷ l.after) in
     record {
       extent = record there.0 { last = Some y.entry; closed = true };
-      is_there = ap (λ (z : Extending). slice_get z.extents m) final ∙ still_one left l.after m _ here out;
+      is_there = ap (λ (z : Indexing Extent). slice_get z.intervals m) final ∙ still_one left l.after m _ here out;
       last = ap (λ k. Some k) number;
       after = omega (arith, low, number);
     }
@@ -166,7 +166,7 @@ module _ (program : Program) (plan : Plan) (budget : ℕ) (p : ℕ) (ms : List M
         let number : (split_of program plan budget story' p (steps_of w.before)).edge ≡ count_to events mid = (let c = l.count in omega (arith, edge, none, total, c)) in
         ap₂ (λ (z : Split) k. slice_get z.edges k) (sym x_is) (sym place) ∙ at_step ∙ ap (λ k. Some k) number
 
-    pub left_by_step : (events : List TracedEvent) (m lo mid : ℕ) (i : Span) → slice_get x.spans m ≡ Some i → is_closed i ≡ true → Logged entries events m lo mid → IsLeftBy x i (count_to events mid)
+    pub left_by_step : (events : List TracedEvent) (m lo mid : ℕ) (i : Span) → slice_get x.spans m ≡ Some i → is_some i.closed ≡ true → Logged entries events m lo mid → IsLeftBy x i (count_to events mid)
     left_by_step events m lo mid i there is h = by i.closed refl
       where
         by : (o : Option ℕ) → i.closed ≡ o → IsLeftBy x i (count_to events mid)

@@ -1,6 +1,6 @@
 -- What the walk from an event replays is round it or open in its edge.
 use Rattle.std.proofs.Common.{◌≡◌, ℕ, zero, suc, ◌+◌, ◌<◌, ◌≤◌, Bool, true, false, cond, List, [], ◌∷◌, Option, Some, None, refl, ap, sym, subst, ◌∙◌, arith, length, true≢false, inl, inr, ◌⊎◌, eq-eqb, ne_eqb}
-use Rattle.std.specs.Prelude.{count_by, drop, is_some, nat_eq, slice_get, take, ◌||◌}
+use Rattle.std.specs.Prelude.{count_by, drop, is_some, nat_eq, slice_get, take, ◌||◌, get_or}
 use Rattle.std.specs.List.{list_any}
 use Rattle.std.proofs.lemmas.Bool.{cases_eq}
 use Rattle.std.proofs.lemmas.List.Sums.{sum_by-append}
@@ -16,7 +16,7 @@ use Rattle.ppd_model.proofs.EdgeWords.{part_in}
 use Rattle.ppd_model.specs.Intervals.{own, Span, Split, splits}
 use Rattle.ppd_model.specs.Logs.{closed_log, log_of}
 use Rattle.ppd_model.specs.NearIntervals.{edge_of_event, is_in, round_of, surroundings, through_step}
-use Rattle.ppd_model.specs.Story.{Moment, own_moments, story, told}
+use Rattle.ppd_model.specs.Story.{Moment, story, told}
 use Rattle.ppd_model.proofs.Tested.{In, here as first_in, there as later_in}
 use Rattle.ppd_flow_model.specs.Seen.{seen_of}
 use Rattle.ppd_flow_model.specs.Walk.{walk_replays}
@@ -82,10 +82,10 @@ plain_count events lo (suc hi) le end' q = elim (cases_eq lo (suc hi)) [
 
 module _ (program : Program) (plan : Plan) (budget : ℕ) (h : List ℕ) (v : IsValid program) (p : ℕ) (x : Split) (there : slice_get (splits program plan budget (story program plan budget h)) p ≡ Some x) where
   abbrev ms : List Moment
-  ms = own_moments (told program plan budget h) p
+  ms = get_or (told program plan budget h).moments p []
 
   -- an interval that was left in the edge is open in it
-  left_open : (n m : ℕ) → n ≤ length x.trace.events → IsTouched x (Logged (closed_log (log_of program plan budget p (own_moments (told program plan budget h) p))) x.trace.events) n m → IsOpenAt x (count_to x.trace.events n) m
+  left_open : (n m : ℕ) → n ≤ length x.trace.events → IsTouched x (Logged (closed_log (log_of program plan budget p (get_or (told program plan budget h).moments p []))) x.trace.events) n m → IsOpenAt x (count_to x.trace.events n) m
   left_open n m le t =
       let k = closed_told program plan budget h v p x there in
       let l : IsLeftBy x t.span (count_to x.trace.events t.mid) = left_by_step program plan budget p ms (story program plan budget h) x k.0 k.1 x.trace.events m t.lo t.mid t.span t.is_there t.closed t.logged in
@@ -106,15 +106,15 @@ module _ (program : Program) (plan : Plan) (budget : ℕ) (h : List ℕ) (v : Is
       lt : n < length x.trace.events
       lt = slice_get_below x.trace.events n e at
 
-      told_by : IsTold (closed_log (log_of program plan budget p (own_moments (told program plan budget h) p))) x.trace.events x.spans x.running
+      told_by : IsTold (closed_log (log_of program plan budget p (get_or (told program plan budget h).moments p []))) x.trace.events x.spans x.running
       told_by = (closed_told program plan budget h v p x there).2
 
       by : (o : Option Span) → slice_get x.spans k ≡ o → part_in o j ≡ Some (own n) → (is_in m (surroundings x k) ≡ true) ⊎ IsOpenAt x (edge_of_event x n) m
       by None g f = absurd (none-some (own n) f)
       by (Some s) g f =
-          let q = place_of_event x (closed_log (log_of program plan budget p (own_moments (told program plan budget h) p))) told_by k j n s g f lt in
+          let q = place_of_event x (closed_log (log_of program plan budget p (get_or (told program plan budget h).moments p []))) told_by k j n s g f lt in
           let le : n ≤ length x.trace.events = (let l = lt in omega (arith, l)) in
-          elim (all_walked x c (Logged (closed_log (log_of program plan budget p (own_moments (told program plan budget h) p))) x.trace.events) k q.0.first q.1 (own n ∷ q.2) n s g q.3 q.5 le q.0.stands m
+          elim (all_walked x c (Logged (closed_log (log_of program plan budget p (get_or (told program plan budget h).moments p []))) x.trace.events) k q.0.first q.1 (own n ∷ q.2) n s g q.3 q.5 le q.0.stands m
           (subst (λ z. In m (walk_replays (seen_of x) c k z)) (sym q.4) (is_member m (walk_replays (seen_of x) c k j) i))) [
             | inl t ↦ inr (subst (λ z. IsOpenAt x z m) (sym (counted x.trace.events n)) (left_open n m le t))
             | inr r ↦ inl (member_is m (surroundings x k) (later_in (subst (λ l. In m (round_of l)) (sym g) r)))

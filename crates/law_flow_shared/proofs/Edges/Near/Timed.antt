@@ -17,7 +17,7 @@ use Rattle.ppd_model.specs.declared.state.Logging.{Logging}
 use Rattle.ppd_model.specs.declared.tracing.Story.{Story}
 use Rattle.ppd_model.specs.declared.tracing.Taken.{Taken}
 use Rattle.ppd_model.specs.Intervals.{Split, split_step}
-use Rattle.ppd_model.specs.Logs.{ends, entries_of, log_step, postlogs, prelogs, status_of, syncs as sync_entries, units}
+use Rattle.ppd_model.specs.Logs.{ends, entries_of, log_step, status_of, syncs as sync_entries, units, block_entries}
 use Rattle.ppd_model.specs.Marks.{Mark, closed, opened}
 use Rattle.ppd_model.specs.Record.{edge_after}
 use Rattle.ppd_model.specs.RecordedSets.{sync_in}
@@ -68,7 +68,7 @@ abbrev is_postlog : Entry → Option ⊤
 is_postlog (entry.Postlog b vs) = Some tt
 is_postlog e = None
 
-syncs_of_prelogs : (o : Option Mark) → size sync_in (prelogs o) ≡ 0
+syncs_of_prelogs : (o : Option Mark) → size sync_in (block_entries entry.Prelog o) ≡ 0
 syncs_of_prelogs None = refl
 syncs_of_prelogs (Some m) = refl
 
@@ -76,7 +76,7 @@ syncs_of_syncs : (l : Logging) (t : Taken) (o : Option Sync) → size sync_in (s
 syncs_of_syncs l t None = refl
 syncs_of_syncs l t (Some s) = refl
 
-syncs_of_postlogs : (o : Option Mark) → size sync_in (postlogs o) ≡ 0
+syncs_of_postlogs : (o : Option Mark) → size sync_in (block_entries entry.Postlog o) ≡ 0
 syncs_of_postlogs None = refl
 syncs_of_postlogs (Some m) = refl
 
@@ -88,7 +88,7 @@ syncs_of_ends : (l : Logging) (o : Option Status) → size sync_in (ends l o) �
 syncs_of_ends l None = refl
 syncs_of_ends l (Some s) = refl
 
-posts_of_prelogs : (o : Option Mark) → size is_postlog (prelogs o) ≡ 0
+posts_of_prelogs : (o : Option Mark) → size is_postlog (block_entries entry.Prelog o) ≡ 0
 posts_of_prelogs None = refl
 posts_of_prelogs (Some m) = refl
 
@@ -96,7 +96,7 @@ posts_of_syncs : (l : Logging) (t : Taken) (o : Option Sync) → size is_postlog
 posts_of_syncs l t None = refl
 posts_of_syncs l t (Some s) = refl
 
-posts_of_postlogs : (o : Option Mark) → size is_postlog (postlogs o) ≡ one_if (is_some o)
+posts_of_postlogs : (o : Option Mark) → size is_postlog (block_entries entry.Postlog o) ≡ one_if (is_some o)
 posts_of_postlogs None = refl
 posts_of_postlogs (Some m) = refl
 
@@ -124,7 +124,7 @@ module _ (program : Program) (plan : Plan) where
       let c = syncs_of_postlogs (closed program plan l.proc need) in
       let d = syncs_of_units (unit_started need) m.unit_values in
       let e = syncs_of_ends l (status_of need) in
-      let all = size_parts sync_in (prelogs (opened program plan l.proc need)) (sync_entries l m.taken (sync_of m.taken)) (postlogs (closed program plan l.proc need)) (units (unit_started need) m.unit_values) (ends l (status_of need)) in
+      let all = size_parts sync_in (block_entries entry.Prelog (opened program plan l.proc need)) (sync_entries l m.taken (sync_of m.taken)) (block_entries entry.Postlog (closed program plan l.proc need)) (units (unit_started need) m.unit_values) (ends l (status_of need)) in
       omega (arith, all, a, b, c, d, e)
 
   step_posts : (l : Logging) (m : Moment) → size is_postlog (entries_of program plan l m) ≡ one_if (is_some (closed program plan l.proc m.taken.need))
@@ -135,7 +135,7 @@ module _ (program : Program) (plan : Plan) where
       let c = posts_of_postlogs (closed program plan l.proc need) in
       let d = posts_of_units (unit_started need) m.unit_values in
       let e = posts_of_ends l (status_of need) in
-      let all = size_parts is_postlog (prelogs (opened program plan l.proc need)) (sync_entries l m.taken (sync_of m.taken)) (postlogs (closed program plan l.proc need)) (units (unit_started need) m.unit_values) (ends l (status_of need)) in
+      let all = size_parts is_postlog (block_entries entry.Prelog (opened program plan l.proc need)) (sync_entries l m.taken (sync_of m.taken)) (block_entries entry.Postlog (closed program plan l.proc need)) (units (unit_started need) m.unit_values) (ends l (status_of need)) in
       omega (arith, all, a, b, c, d, e)
 
   -- no synchronization stands beside a postlog

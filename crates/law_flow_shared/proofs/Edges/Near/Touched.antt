@@ -1,17 +1,17 @@
 -- The intervals that a walk back replays: each was left after the last synchronization, or is round the place.
 use Rattle.std.proofs.Common.{◌≡◌, ℕ, zero, suc, ◌+◌, ◌<◌, ◌≤◌, ℤ, Bool, true, false, List, [], ◌∷◌, ◌++◌, Option, Some, None, refl, ap, sym, subst, ◌∙◌, arith, length, inl, inr, ◌⊎◌}
-use Rattle.std.specs.Prelude.{is_some, slice_get, take, if◌then◌else◌}
+use Rattle.std.specs.Prelude.{is_some, slice_get, take, if◌then◌else◌, get_or}
 use Rattle.std.specs.List.{flat_map}
 use Rattle.std.proofs.lemmas.Bool.{cases_lt}
 use Rattle.ppd_model.specs.declared.flow.Item.{Item}
 use Rattle.ppd_model.specs.declared.flow.Item.TheVariants as item
 use Rattle.ppd_model.specs.declared.trace.TracedEvent.{TracedEvent}
-use Rattle.ppd_model.specs.Intervals.{Part, own, nested, Span, Split, is_closed, item_of}
+use Rattle.ppd_model.specs.Intervals.{Part, own, nested, Span, Split, item_of}
 use Rattle.ppd_model.proofs.IntervalWords.{item_of_event, item_of_span}
 use Rattle.ppd_model.proofs.Tested.{In, here as first_in, there as later_in}
 use Rattle.ppd_flow_model.specs.declared.walked.Walked.{Walked}
 use Rattle.ppd_flow_model.specs.declared.walked.Walked.TheVariants.{Stopped, Passed, Found}
-use Rattle.ppd_flow_model.specs.Seen.{Seen, items_at, place_of, seen_of}
+use Rattle.ppd_flow_model.specs.Seen.{Seen, place_of, seen_of}
 use Rattle.ppd_flow_model.specs.Walk.{back, back_from, back_over, back_replays, backwards, found_or, if_passed, inside as inside_of, inside_replays, out_replays, over_event, over_replays, value_to, walk_replays}
 use Rattle.law_flow_shared.proofs.Vocabulary.Events.{IsWalk, synchronizes}
 use Rattle.law_flow_shared.proofs.Edges.Spans.Tiles.{Stands, Tiles, ends, event, inside, outermost, within, rises}
@@ -28,7 +28,7 @@ ArePlain events lo hi = (n : ℕ) → lo ≤ n → n < hi → synchronizes (slic
 pub record IsTouched (x : Split) (F : ℕ → ℕ → ℕ → Type 0) (n m : ℕ) : Type 0 where
   pub span : Span
   pub is_there : slice_get x.spans m ≡ Some span
-  pub closed : is_closed span ≡ true
+  pub closed : is_some span.closed ≡ true
   pub lo : ℕ
   pub mid : ℕ
   pub before : mid ≤ n
@@ -81,7 +81,7 @@ module _ (x : Split) (c : ℕ) (F : ℕ → ℕ → ℕ → Type 0) where
 
   module _ (inner : ℕ → Walked) (touched : ℕ → List ℕ) where
     abbrev AreInside : ℕ → Type 0
-    AreInside k = (m lo mid : ℕ) (i : Span) → k < m → slice_get x.spans m ≡ Some i → is_closed i ≡ true → F m lo mid → Tiles F x.spans m lo i.parts mid → mid ≤ length events
+    AreInside k = (m lo mid : ℕ) (i : Span) → k < m → slice_get x.spans m ≡ Some i → is_some i.closed ≡ true → F m lo mid → Tiles F x.spans m lo i.parts mid → mid ≤ length events
         → IsWalk x c lo mid (inner m) × AreTouched x F mid (touched m)
 
     -- over these parts of interval k
@@ -99,13 +99,13 @@ module _ (x : Split) (c : ℕ) (F : ℕ → ℕ → ℕ → Type 0) where
         let up' : mid ≤ hi = rises F x.spans k mid ps hi u in
         let r = right m lo mid i lt at closed f t (omega (arith, up', le)) in
         subst (λ l. AreTouched x F hi (over_replays inner touched c k (backwards a (l ++ items_in ps) before))) (sym (ap (item_of_span m) at))
-        (over k (a + 1) mid ps hi ((a, item.Nested m i.block i.values (is_closed i)) ∷ before) right u le
+        (over k (a + 1) mid ps hi ((a, item.Nested m i.block i.values (is_some i.closed)) ∷ before) right u le
         (both mid (touched m) (if_passed (inner m) (over_replays inner touched c k before)) r.1 (past_walk lo mid (inner m) (over_replays inner touched c k before) up r.0 h)))
 
   abbrev seen : Seen
   seen = seen_of x
 
-  all_whole : (fuel m lo hi : ℕ) (i : Span) → slice_get x.spans m ≡ Some i → is_closed i ≡ true → F m lo hi → length x.spans ≤ fuel + m → Tiles F x.spans m lo i.parts hi → hi ≤ length events
+  all_whole : (fuel m lo hi : ℕ) (i : Span) → slice_get x.spans m ≡ Some i → is_some i.closed ≡ true → F m lo hi → length x.spans ≤ fuel + m → Tiles F x.spans m lo i.parts hi → hi ≤ length events
       → AreTouched x F hi (back_replays fuel seen c m)
   all_whole zero m lo hi i at closed f enough t le = nothing hi
   all_whole (suc fuel) m lo hi i at closed f enough t le =
@@ -113,9 +113,9 @@ module _ (x : Split) (c : ℕ) (F : ℕ → ℕ → ℕ → Type 0) where
       over (back fuel seen c) (back_replays fuel seen c) m 0 lo i.parts hi []
       (λ k low mid j lt at' closed' f' u le'. (whole x c F fuel k low mid j at' (omega (arith, lt, enough)) u le', all_whole fuel k low mid j at' closed' f' (omega (arith, lt, enough)) u le'))
       t le (nothing lo) in
-      let others' : AreTouched x F hi (over_replays (back fuel seen c) (back_replays fuel seen c) c m (backwards 0 (items_at seen m) [])) =
+      let others' : AreTouched x F hi (over_replays (back fuel seen c) (back_replays fuel seen c) c m (backwards 0 (get_or seen.items m []) [])) =
       subst (λ l. AreTouched x F hi (over_replays (back fuel seen c) (back_replays fuel seen c) c m (backwards 0 l []))) (sym (items_are x c F m i at)) others in
-      λ z q. elim (in_cases z m (over_replays (back fuel seen c) (back_replays fuel seen c) c m (backwards 0 (items_at seen m) [])) q) [
+      λ z q. elim (in_cases z m (over_replays (back fuel seen c) (back_replays fuel seen c) c m (backwards 0 (get_or seen.items m []) [])) q) [
         | inl e ↦ subst (λ y. IsTouched x F hi y) (sym e) (record { span = i; is_there = at; closed = closed; lo = lo; mid = hi; before = omega arith; logged = f; since = λ n ge lt. absurd (omega (arith, ge, lt)) })
         | inr p ↦ others' z p
       ]
@@ -126,7 +126,7 @@ module _ (x : Split) (c : ℕ) (F : ℕ → ℕ → ℕ → Type 0) where
       (right_inside x c F k m lo mid i lt at t le, all_whole (length seen.items) m lo mid i at closed f (omega (arith, long)) t le)
 
   all_here : (k first : ℕ) (ps qs : List Part) (n : ℕ) (i : Span) → slice_get x.spans k ≡ Some i → i.parts ≡ ps ++ qs → Tiles F x.spans k first ps n → n ≤ length events
-      → AreTouched x F n (over_replays (inside_of seen c) (inside_replays seen c) c k (back_from (length ps) (items_at seen k)))
+      → AreTouched x F n (over_replays (inside_of seen c) (inside_replays seen c) c k (back_from (length ps) (get_or seen.items k [])))
   all_here k first ps qs n i at parts t le =
       subst (λ l. AreTouched x F n (over_replays (inside_of seen c) (inside_replays seen c) c k (backwards 0 l [])))
       (sym (ap (λ l. take (length ps) l) (items_are x c F k i at ∙ ap (λ l. items_in l) parts) ∙ taken x c F k first ps qs n t le))
@@ -137,25 +137,25 @@ module _ (x : Split) (c : ℕ) (F : ℕ → ℕ → ℕ → Type 0) where
       → (m : ℕ) → In m (out_replays (inside_of seen c) (inside_replays seen c) seen c k (length ps) rest) → IsTouched x F n m ⊎ In m rest
   all_out k first [] ps qs n i at parts t le (outermost e z) m q = inl (all_here k first ps qs n i at parts t le m q)
   all_out k first (o ∷ rest) ps qs n i at parts t le (within s before after low at_o r lt place apart st u) m q =
-      elim (in_either m (over_replays (inside_of seen c) (inside_replays seen c) c k (back_from (length ps) (items_at seen k))) (if_passed (back_over (inside_of seen c) c k (back_from (length ps) (items_at seen k))) outer) q) [
+      elim (in_either m (over_replays (inside_of seen c) (inside_replays seen c) c k (back_from (length ps) (get_or seen.items k []))) (if_passed (back_over (inside_of seen c) c k (back_from (length ps) (get_or seen.items k []))) outer) q) [
         | inl p ↦ inl (all_here k first ps qs n i at parts t le m p)
         | inr p ↦ by (λ p'. all_out o low rest before (nested k ∷ after) first s at_o place u (let a = up in omega (arith, a, le)) st m (subst (λ j. In m (out_replays (inside_of seen c) (inside_replays seen c) seen c o j rest)) at_place p'))
-            (back_over (inside_of seen c) c k (back_from (length ps) (items_at seen k))) (here x c F k first ps qs n i at parts t le) p
+            (back_over (inside_of seen c) c k (back_from (length ps) (get_or seen.items k []))) (here x c F k first ps qs n i at parts t le) p
       ]
     where
       up : first ≤ n
       up = rises F x.spans k first ps n t
 
       outer : List ℕ
-      outer = o ∷ out_replays (inside_of seen c) (inside_replays seen c) seen c o (place_of k (items_at seen o)) rest
+      outer = o ∷ out_replays (inside_of seen c) (inside_replays seen c) seen c o (place_of k (get_or seen.items o [])) rest
 
-      at_place : place_of k (items_at seen o) ≡ length before
+      at_place : place_of k (get_or seen.items o []) ≡ length before
       at_place = ap (λ l. place_of k l) (items_are x c F o s at_o ∙ ap (λ l. items_in l) place) ∙ place_is x c F o low k before after first i at apart u (let a = up in omega (arith, a, le))
 
-      by : (In m (out_replays (inside_of seen c) (inside_replays seen c) seen c o (place_of k (items_at seen o)) rest) → IsTouched x F first m ⊎ In m rest) → (w : Walked) → IsWalk x c first n w → In m (if_passed w outer) → IsTouched x F n m ⊎ In m (o ∷ rest)
+      by : (In m (out_replays (inside_of seen c) (inside_replays seen c) seen c o (place_of k (get_or seen.items o [])) rest) → IsTouched x F first m ⊎ In m rest) → (w : Walked) → IsWalk x c first n w → In m (if_passed w outer) → IsTouched x F n m ⊎ In m (o ∷ rest)
       by farther Stopped h p = absurd (no_member p)
       by farther (Found a b v) h p = absurd (no_member p)
-      by farther Passed h p = elim (in_cases m o (out_replays (inside_of seen c) (inside_replays seen c) seen c o (place_of k (items_at seen o)) rest) p) [
+      by farther Passed h p = elim (in_cases m o (out_replays (inside_of seen c) (inside_replays seen c) seen c o (place_of k (get_or seen.items o [])) rest) p) [
         | inl e ↦ inr (subst (λ z. In z (o ∷ rest)) (sym e) first_in)
         | inr p' ↦ elim (farther p') [
           | inl a ↦ inl (longer first n m up (λ z ge lt'. (h z ge lt').plain) a)

@@ -1,6 +1,6 @@
 -- Which step leads to a synchronization, and where it stands among those of its process.
 use Rattle.std.proofs.Common.{◌≡◌, ℕ, zero, suc, ◌+◌, Bool, true, false, List, [], ◌∷◌, ◌++◌, Option, Some, None, refl, ap, sym, ◌∙◌, arith, length, get_or, inl, inr, ◌⊎◌, if◌then◌else◌}
-use Rattle.std.specs.Prelude.{slice_get}
+use Rattle.std.specs.Prelude.{slice_get, filter_map}
 use Rattle.std.specs.List.{cons_option}
 use Rattle.std.proofs.lemmas.Option.{none-some}
 use Rattle.ppd_sem.specs.Described.{is_event}
@@ -8,7 +8,7 @@ use Rattle.ppd_ast.specs.declared.program.Program.{Program}
 use Rattle.ppd_ast.specs.Counting.{one_if}
 use Rattle.ppd_model.specs.declared.trace.EventId.{EventId}
 use Rattle.ppd_model.specs.declared.tracing.Taken.{Taken}
-use Rattle.ppd_model.specs.Synchronizations.{Sync, leading_from, leading_in, leads_at, sync_of, syncs_of}
+use Rattle.ppd_model.specs.Synchronizations.{Sync, leading_from, leading_in, leads_at, sync_of}
 use Rattle.ppd_model.proofs.OrderWords.{event_or}
 use Rattle.ppd_model.proofs.Changes.{some}
 use Rattle.law_steps.proofs.StaticEdges.SharedCells.Writers.{events_in}
@@ -16,11 +16,11 @@ use Rattle.law_steps.proofs.StaticEdges.SharedCells.Writers.{events_in}
 -- ---- synchronizations among steps
 
 -- the synchronization of a step, among all of its process
-pub sync_there : (before : List Taken) (y : Taken) (after : List Taken) (s : Sync) → sync_of y ≡ Some s → slice_get (syncs_of (before ++ y ∷ after)) (length (syncs_of before)) ≡ Some s
-sync_there [] y after s e = ap (λ o. slice_get (cons_option o (syncs_of after)) 0) e
+pub sync_there : (before : List Taken) (y : Taken) (after : List Taken) (s : Sync) → sync_of y ≡ Some s → slice_get (filter_map sync_of (before ++ y ∷ after)) (length (filter_map sync_of before)) ≡ Some s
+sync_there [] y after s e = ap (λ o. slice_get (cons_option o (filter_map sync_of after)) 0) e
 sync_there (x ∷ before) y after s e = by (sync_of x) (sync_there before y after s e)
   where
-    by : (o : Option Sync) → slice_get (syncs_of (before ++ y ∷ after)) (length (syncs_of before)) ≡ Some s → slice_get (cons_option o (syncs_of (before ++ y ∷ after))) (length (cons_option o (syncs_of before))) ≡ Some s
+    by : (o : Option Sync) → slice_get (filter_map sync_of (before ++ y ∷ after)) (length (filter_map sync_of before)) ≡ Some s → slice_get (cons_option o (filter_map sync_of (before ++ y ∷ after))) (length (cons_option o (filter_map sync_of before))) ≡ Some s
     by None rest = rest
     by (Some z) rest = rest
 
@@ -40,9 +40,9 @@ pub record IsSyncStep (xs : List Taken) (i : ℕ) (s : Sync) : Type 0 where
   pub after : List Taken
   pub are : xs ≡ before ++ step ∷ after
   pub is : sync_of step ≡ Some s
-  pub place : length (syncs_of before) ≡ i
+  pub place : length (filter_map sync_of before) ≡ i
 
-pub sync_step : (xs : List Taken) (i : ℕ) (s : Sync) → slice_get (syncs_of xs) i ≡ Some s → IsSyncStep xs i s
+pub sync_step : (xs : List Taken) (i : ℕ) (s : Sync) → slice_get (filter_map sync_of xs) i ≡ Some s → IsSyncStep xs i s
 sync_step [] i s e = absurd (none-some s e)
 sync_step (x ∷ xs) i s e = by (sync_of x) refl i e (sync_step xs)
   where
@@ -53,10 +53,10 @@ sync_step (x ∷ xs) i s e = by (sync_of x) refl i e (sync_step xs)
       after = t.after;
       are = ap (λ l. x ∷ l) t.are;
       is = t.is;
-      place = ap (λ q. length (cons_option q (syncs_of t.before))) f ∙ one_longer o (syncs_of t.before) ∙ ap (λ q. one_more o + q) t.place ∙ z;
+      place = ap (λ q. length (cons_option q (filter_map sync_of t.before))) f ∙ one_longer o (filter_map sync_of t.before) ∙ ap (λ q. one_more o + q) t.place ∙ z;
     }
 
-    by : (o : Option Sync) → sync_of x ≡ o → (m : ℕ) → slice_get (cons_option o (syncs_of xs)) m ≡ Some s → ((k : ℕ) (z : Sync) → slice_get (syncs_of xs) k ≡ Some z → IsSyncStep xs k z) → IsSyncStep (x ∷ xs) m s
+    by : (o : Option Sync) → sync_of x ≡ o → (m : ℕ) → slice_get (cons_option o (filter_map sync_of xs)) m ≡ Some s → ((k : ℕ) (z : Sync) → slice_get (filter_map sync_of xs) k ≡ Some z → IsSyncStep xs k z) → IsSyncStep (x ∷ xs) m s
     by None f m g rest = more m m None f (let z : 0 + m ≡ m = omega arith in z) (rest m s g)
     by (Some y) f zero g rest = record { before = []; step = x; after = xs; are = refl; is = f ∙ ap (λ z. Some z) (some g); place = refl }
     by (Some y) f (suc m) g rest = more m (suc m) (Some y) f (let z : 1 + m ≡ suc m = omega arith in z) (rest m s g)

@@ -19,7 +19,7 @@ use Rattle.ppd_sem.specs.declared.proc.Proc.{Proc}
 use Rattle.ppd_sem.specs.declared.proc.Todo.{Todo}
 use Rattle.ppd_sem.specs.Asked.{Asked}
 use Rattle.ppd_sem.specs.Deed.{Deed, set_shared, leave, invoke, take, send, ask_deed}
-use Rattle.ppd_sem.specs.Process.{chan_of, cost, entry_of, head_deed, need_of, need_of_call, need_of_deed, need_of_head, need_of_leaving, need_of_send, offer_of, top_cells}
+use Rattle.ppd_sem.specs.Process.{chan_of, cost, entry_of, head_deed, need_of, need_of_deed, need_of_head, need_of_leaving, need_of_send, offer_of, top_frame}
 use Rattle.ppd_sem.proofs.NeedWords.{need_by_entry, need_by_offer, need_by_status, need_of_running}
 use Rattle.ppd_sem.specs.Tables.{block_of, capacity_of, unit_of}
 use Rattle.ppd_sem.specs.Described.{is_event}
@@ -74,8 +74,8 @@ leaving : (plan : Plan) (t : ℕ) (o : Option ℕ) → takes (need_of_leaving pl
 leaving plan t None = refl
 leaving plan t (Some b) = refl
 
-calling : (plan : Plan) (f : ℕ) (s : Proc) → takes (need_of_call plan f s) ≡ false
-calling plan f s = by (nat_lt MOST_CALLS (s.below + length s.frames))
+calling : (p : Program) (plan : Plan) (t f : ℕ) (s : Proc) (values : List ℤ) (into : Option ℕ) → takes (need_of_deed p plan t s (invoke f values into)) ≡ false
+calling p plan t f s values into = by (nat_lt MOST_CALLS (s.below + length s.frames))
   where
     by : (b : Bool) → takes (if b then need.Trap trap.Depth else need.Invoke (block_of plan (block.Function f)) (unit_of plan (start.Entry f))) ≡ false
     by true = refl
@@ -88,7 +88,7 @@ sending plan t (suc n) c x = refl
 deed_takes : (p : Program) (plan : Plan) (t : ℕ) (s : Proc) (d : Deed) → takes (need_of_deed p plan t s d) ≡ taking d
 deed_takes p plan t s (set_shared c x) = refl
 deed_takes p plan t s leave = leaving plan t (block_of plan (block.Loop t))
-deed_takes p plan t s (invoke f values into) = calling plan f s
+deed_takes p plan t s (invoke f values into) = calling p plan t f s values into
 deed_takes p plan t s (send chan x) = sending plan t (capacity_of p chan) chan x
 deed_takes p plan t s (take x) = refl
 deed_takes p plan t s d = refl
@@ -119,7 +119,7 @@ status_fits p plan s None t ts is =
     subst (λ todo. Fits (kind_of p t.stmt) (need_of_running p plan todo s)) (sym is)
     (budget_fits (kind_of p t.stmt) (nat_lt s.budget (s.spent + cost plan (need_of_head p plan t s))) (need_of_head p plan t s)
     (offer_fits p plan t (offer_of p t) refl (need_by_entry p plan t.stmt s (entry_of p plan t) (head_deed p t s))
-    (asked_fits p plan t.stmt s (kind_of p t.stmt) (entry_of p plan t) (head_deed p t s) (others p.exprs (kind_of p t.stmt) (top_cells s.frames) s.answers))))
+    (asked_fits p plan t.stmt s (kind_of p t.stmt) (entry_of p plan t) (head_deed p t s) (others p.exprs (kind_of p t.stmt) (top_frame s.frames).cells s.answers))))
 
 pub takes_is : (p : Program) (plan : Plan) (s : Proc) (t : Todo) (ts : List Todo) → s.todo ≡ t ∷ ts → is_event (need_of p plan s) ≡ true → takes (need_of p plan s) ≡ is_take (kind_of p t.stmt)
 takes_is p plan s t ts is e = status_fits p plan s s.status t ts is e

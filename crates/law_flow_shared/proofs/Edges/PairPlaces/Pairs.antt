@@ -1,6 +1,6 @@
 -- The pair of a synchronization is where the model has it.
 use Rattle.std.proofs.Common.{◌≡◌, ℕ, ◌+◌, ◌<◌, true, false, List, [], ◌∷◌, ◌++◌, Option, Some, None, refl, ap, ap₂, sym, subst, ◌∙◌, arith, length, get_or, true≢false, inl, inr, ◌⊎◌}
-use Rattle.std.specs.Prelude.{IsTrue, fold, is_some, slice_get}
+use Rattle.std.specs.Prelude.{IsTrue, fold, is_some, slice_get, filter_map}
 use Rattle.std.proofs.lemmas.Option.{none-some}
 use Rattle.ppd_ast.specs.Valid.{IsValid}
 use Rattle.ppd_ast.specs.declared.plan.Plan.{Plan}
@@ -12,7 +12,6 @@ use Rattle.ppd_ast.specs.declared.status.SyncKind.TheVariants as sync_kind
 use Rattle.ppd_ast.specs.Lookups.{kind_of}
 use Rattle.ppd_ast.proofs.ValidLaws.{slice_get_below}
 use Rattle.ppd_entry.specs.declared.entry.Logs.{Logs}
-use Rattle.ppd_entry.specs.Entries.{entries_at}
 use Rattle.ppd_flow_model.specs.Paired.{Paired}
 use Rattle.ppd_flow_model.specs.Paired.TheVariants.{Nothing, Initial, Node}
 use Rattle.ppd_flow_model.specs.Partners.{found, paired_by, pairs_of, partner_of, wanted}
@@ -32,14 +31,14 @@ use Rattle.ppd_model.specs.declared.tracing.Taken.{Taken}
 use Rattle.ppd_model.specs.declared.tracing.Tracing.{Tracing}
 use Rattle.ppd_model.specs.FlowbackEdges.{bare_edge, sync_edges as model_sync_edges}
 use Rattle.ppd_model.specs.FullTrace.{begun_tracing, event_of, trace_step}
-use Rattle.ppd_model.specs.HappenedBefore.{node, own_syncs, sync_at}
+use Rattle.ppd_model.specs.HappenedBefore.{node, sync_at}
 use Rattle.ppd_model.specs.Intervals.{Split, ref, splits}
 use Rattle.ppd_model.specs.LocalTags.{AreOwn}
 use Rattle.ppd_model.specs.Logs.{closed_logs}
 use Rattle.ppd_model.specs.Record.{sync_record}
 use Rattle.ppd_model.specs.RecordedSets.{RecordsAccesses, record_in}
-use Rattle.ppd_model.specs.Story.{own_steps, story, told}
-use Rattle.ppd_model.specs.Synchronizations.{Sync, kind_of_sync, leading_from, leads_at, numbered, paired_of, sync_of, syncs_of}
+use Rattle.ppd_model.specs.Story.{story, told}
+use Rattle.ppd_model.specs.Synchronizations.{Sync, kind_of_sync, leading_from, leads_at, numbered, sync_of}
 use Rattle.ppd_model.proofs.Accesses.{record_at}
 use Rattle.ppd_model.proofs.Changes.{some}
 use Rattle.ppd_model.proofs.Numbered.{AreNumbered as AreNumberedModel, steps_numbered}
@@ -70,7 +69,7 @@ use Rattle.law_flow_shared.proofs.Edges.PairPlaces.Leading.{LeadsFrom, leading_a
 
 pair_is : (program : Program) (syncs : List (List Sync)) (p i : ℕ) (s : Sync) → sync_at syncs (node p i) ≡ Some s → pair_at (pairs_of program syncs) (node p i) ≡ partner_of program syncs s
 pair_is program syncs p i s e =
-    ap (λ l. get_or l i Nothing) (row_mapped (partner_of program syncs) syncs p) ∙ get_mapped (partner_of program syncs) (own_syncs syncs p) i Nothing s e
+    ap (λ l. get_or l i Nothing) (row_mapped (partner_of program syncs) syncs p) ∙ get_mapped (partner_of program syncs) (get_or syncs p []) i Nothing s e
 
 to_node : (pair : Paired) (a : NodeId) → node_of pair ≡ Some a → pair ≡ Node a
 to_node (Node b) a e = ap (λ z. Node z) (some e)
@@ -127,54 +126,54 @@ module _ (program : Program) (plan : Plan) (budget : ℕ) (h : List ℕ) (v : Is
   partners : ArePartners program Rec (pairs_of program Rec)
   partners = partners_found program Rec (λ a b s e f. (are_counted program plan budget h).once a b s e f)
 
-  syncs_are : (q : ℕ) → own_syncs Rec q ≡ syncs_of (did (told program plan budget h) q)
-  syncs_are q = record_at (story program plan budget h).steps q ∙ ap syncs_of (own_is program plan budget h q)
+  syncs_are : (q : ℕ) → get_or Rec q [] ≡ filter_map sync_of (did (told program plan budget h) q)
+  syncs_are q = record_at (story program plan budget h).steps q ∙ ap (filter_map sync_of) (own_is program plan budget h q)
 
-  sync_of_step : (q : ℕ) (before : List Taken) (y : Taken) (after : List Taken) (s : Sync) → did (told program plan budget h) q ≡ before ++ y ∷ after → sync_of y ≡ Some s → sync_at Rec (node q (length (syncs_of before))) ≡ Some s
-  sync_of_step q before y after s e f = ap (λ l. slice_get l (length (syncs_of before))) (syncs_are q ∙ ap syncs_of e) ∙ sync_there before y after s f
+  sync_of_step : (q : ℕ) (before : List Taken) (y : Taken) (after : List Taken) (s : Sync) → did (told program plan budget h) q ≡ before ++ y ∷ after → sync_of y ≡ Some s → sync_at Rec (node q (length (filter_map sync_of before))) ≡ Some s
+  sync_of_step q before y after s e f = ap (λ l. slice_get l (length (filter_map sync_of before))) (syncs_are q ∙ ap (filter_map sync_of) e) ∙ sync_there before y after s f
 
   -- where a synchronization of a step is an item
   place_is : (q : ℕ) (before : List Taken) (y : Taken) (after : List Taken) (s : Sync) → did (told program plan budget h) q ≡ before ++ y ∷ after → sync_of y ≡ Some s
-      → pair_place logs (all_seen program plan budget h) (Node (node q (length (syncs_of before)))) ≡ Some (ref xs (record { process = q; number = events_in before }))
+      → pair_place logs (all_seen program plan budget h) (Node (node q (length (filter_map sync_of before)))) ≡ Some (ref xs (record { process = q; number = events_in before }))
   place_is q before y after s e f =
       let lt_q : q < length (told program plan budget h).moments = below_moments (told program plan budget h).moments q before y after e in
       let there = split_there program plan budget (story program plan budget h) 0 (told program plan budget h).moments q lt_q in
       let x : Split = there.0 in
       let g : Facts program plan budget h v q x = facts program plan budget h v q x there.1 in
-      let r : RecordsAccesses (story program plan budget h) q (entries_at logs q) = g.records in
+      let r : RecordsAccesses (story program plan budget h) q (get_or logs.lists q []) = g.records in
       let a : HasEvent program plan budget h v q x g before y = ev_at program plan budget h v q x g before y after e (sync_event y (ap is_some f)) in
-      let counted : count_to x.trace.events (events_in before) ≡ length (syncs_of before) = ev_count program plan budget h v q x g before (y ∷ after) e in
-      let ends : EndsAt x (entries_at logs q) (count_to x.trace.events (events_in before)) (events_in before) =
-      at_sync x (entries_at logs q) g.told_by r.before r.status r.rest _ _ r.entries_are r.no_end (events_in before) (a.is_sync ∙ ap is_some f) in
-      ap (λ i. Some (origin.Item q (end_interval (entries_at logs q) i) (end_item (entries_at logs q) (seen_at (all_seen program plan budget h) q) i))) (sym counted)
-      ∙ ap (λ z. Some (origin.Item q (end_interval (entries_at logs q) (count_to x.trace.events (events_in before))) (end_item (entries_at logs q) z (count_to x.trace.events (events_in before))))) g.seen_is
-      ∙ ap (λ o. Some o) (sym (ref_of program plan budget h v q x there.1 (events_in before) (end_interval (entries_at logs q) (count_to x.trace.events (events_in before))) (end_item (entries_at logs q) (seen_of x) (count_to x.trace.events (events_in before))) a.within ends.there))
+      let counted : count_to x.trace.events (events_in before) ≡ length (filter_map sync_of before) = ev_count program plan budget h v q x g before (y ∷ after) e in
+      let ends : EndsAt x (get_or logs.lists q []) (count_to x.trace.events (events_in before)) (events_in before) =
+      at_sync x (get_or logs.lists q []) g.told_by r.before r.status r.rest _ _ r.entries_are r.no_end (events_in before) (a.is_sync ∙ ap is_some f) in
+      ap (λ i. Some (origin.Item q (end_interval (get_or logs.lists q []) i) (end_item (get_or logs.lists q []) (seen_at (all_seen program plan budget h) q) i))) (sym counted)
+      ∙ ap (λ z. Some (origin.Item q (end_interval (get_or logs.lists q []) (count_to x.trace.events (events_in before))) (end_item (get_or logs.lists q []) z (count_to x.trace.events (events_in before))))) g.seen_is
+      ∙ ap (λ o. Some o) (sym (ref_of program plan budget h v q x there.1 (events_in before) (end_interval (get_or logs.lists q []) (count_to x.trace.events (events_in before))) (end_item (get_or logs.lists q []) (seen_of x) (count_to x.trace.events (events_in before))) a.within ends.there))
 
   -- of a step that is a synchronization
   of_sync : (p : ℕ) (before : List Taken) (y : Taken) (after : List Taken) (s : Sync) (k : Kind) → did (told program plan budget h) p ≡ before ++ y ∷ after → sync_of y ≡ Some s → takes y.need ≡ is_take k
-      → pair_edges (pair_place logs (all_seen program plan budget h) (pair_at (pairs_of program (record_in logs)) (node p (length (syncs_of before))))) ≡ model_sync_edges xs k (paired_of program (story program plan budget h) y)
+      → pair_edges (pair_place logs (all_seen program plan budget h) (pair_at (pairs_of program (record_in logs)) (node p (length (filter_map sync_of before))))) ≡ model_sync_edges xs k (leading_from program (sync_of y) 0 (story program plan budget h).steps)
   of_sync p before y after s k e f take =
-      ap (λ rec. pair_edges (pair_place logs (all_seen program plan budget h) (pair_at (pairs_of program rec) (node p (length (syncs_of before)))))) (record_syncs program plan budget h).closed
+      ap (λ rec. pair_edges (pair_place logs (all_seen program plan budget h) (pair_at (pairs_of program rec) (node p (length (filter_map sync_of before)))))) (record_syncs program plan budget h).closed
       ∙ elim (leading_all program (Some s) 0 (story program plan budget h).steps) [
         | inl l ↦ leads l.0 l.1 l.2
         | inr n' ↦ none n'.0 n'.1
       ]
     where
-      at_b : sync_at (sync_record program plan budget h) (node p (length (syncs_of before))) ≡ Some s
+      at_b : sync_at (sync_record program plan budget h) (node p (length (filter_map sync_of before))) ≡ Some s
       at_b = sync_of_step p before y after s e f
 
-      paired_is : paired_of program (story program plan budget h) y ≡ leading_from program (Some s) 0 (story program plan budget h).steps
+      paired_is : leading_from program (sync_of y) 0 (story program plan budget h).steps ≡ leading_from program (Some s) 0 (story program plan budget h).steps
       paired_is = ap (λ o. leading_from program o 0 (story program plan budget h).steps) f
 
       leads : (id : EventId) → leading_from program (Some s) 0 (story program plan budget h).steps ≡ Some id → LeadsFrom program (Some s) 0 (story program plan budget h).steps id
-          → pair_edges (pair_place logs (all_seen program plan budget h) (pair_at (pairs_of program (sync_record program plan budget h)) (node p (length (syncs_of before))))) ≡ model_sync_edges xs k (paired_of program (story program plan budget h) y)
+          → pair_edges (pair_place logs (all_seen program plan budget h) (pair_at (pairs_of program (sync_record program plan budget h)) (node p (length (filter_map sync_of before))))) ≡ model_sync_edges xs k (leading_from program (sync_of y) 0 (story program plan budget h).steps)
       leads id is l =
           let first = leads_some program (sync_of l.leads.step) (Some s) l.leads.leads in
           let steps : did (told program plan budget h) l.row ≡ l.leads.before ++ l.leads.step ∷ l.leads.after = sym (own_is program plan budget h l.row) ∙ l.leads.are in
-          let at_a : sync_at (sync_record program plan budget h) (node l.row (length (syncs_of l.leads.before))) ≡ Some first.0 = sync_of_step l.row l.leads.before l.leads.step l.leads.after first.0 steps first.1 in
-          let test : IsTrue (leads_at program (sync_at (sync_record program plan budget h) (node l.row (length (syncs_of l.leads.before)))) (sync_at (sync_record program plan budget h) (node p (length (syncs_of before))))) =
+          let at_a : sync_at (sync_record program plan budget h) (node l.row (length (filter_map sync_of l.leads.before))) ≡ Some first.0 = sync_of_step l.row l.leads.before l.leads.step l.leads.after first.0 steps first.1 in
+          let test : IsTrue (leads_at program (sync_at (sync_record program plan budget h) (node l.row (length (filter_map sync_of l.leads.before)))) (sync_at (sync_record program plan budget h) (node p (length (filter_map sync_of before))))) =
           ap₂ (λ a b. leads_at program a b) (at_a ∙ sym first.1) at_b ∙ l.leads.leads in
-          let pair = to_node (pair_at (pairs_of program (sync_record program plan budget h)) (node p (length (syncs_of before)))) (node l.row (length (syncs_of l.leads.before))) ((partners.leads (node l.row (length (syncs_of l.leads.before))) (node p (length (syncs_of before)))).0 test) in
+          let pair = to_node (pair_at (pairs_of program (sync_record program plan budget h)) (node p (length (filter_map sync_of before)))) (node l.row (length (filter_map sync_of l.leads.before))) ((partners.leads (node l.row (length (filter_map sync_of l.leads.before))) (node p (length (filter_map sync_of before)))).0 test) in
           let process : l.row ≡ id.process = (let z : 0 + l.row ≡ l.row = omega arith in sym z ∙ sym l.process_is) in
           let number : events_in l.leads.before ≡ id.number = (let z : 0 + events_in l.leads.before ≡ events_in l.leads.before = omega arith in sym z ∙ sym l.leads.number) in
           ap (λ z. pair_edges (pair_place logs (all_seen program plan budget h) z)) pair
@@ -184,11 +183,11 @@ module _ (program : Program) (plan : Plan) (budget : ℕ) (h : List ℕ) (v : Is
 
       none : leading_from program (Some s) 0 (story program plan budget h).steps ≡ None
           → ((q : ℕ) (b : List Taken) (z : Taken) (a : List Taken) → get_or (story program plan budget h).steps q [] ≡ b ++ z ∷ a → leads_at program (sync_of z) (Some s) ≡ false)
-          → pair_edges (pair_place logs (all_seen program plan budget h) (pair_at (pairs_of program (sync_record program plan budget h)) (node p (length (syncs_of before))))) ≡ model_sync_edges xs k (paired_of program (story program plan budget h) y)
+          → pair_edges (pair_place logs (all_seen program plan budget h) (pair_at (pairs_of program (sync_record program plan budget h)) (node p (length (filter_map sync_of before))))) ≡ model_sync_edges xs k (leading_from program (sync_of y) 0 (story program plan budget h).steps)
       none is no_one = by_found (found (sync_record program plan budget h) (wanted program s)) refl
         where
-          pair : pair_at (pairs_of program (sync_record program plan budget h)) (node p (length (syncs_of before))) ≡ partner_of program (sync_record program plan budget h) s
-          pair = pair_is program (sync_record program plan budget h) p (length (syncs_of before)) s at_b
+          pair : pair_at (pairs_of program (sync_record program plan budget h)) (node p (length (filter_map sync_of before))) ≡ partner_of program (sync_record program plan budget h) s
+          pair = pair_is program (sync_record program plan budget h) p (length (filter_map sync_of before)) s at_b
 
           none_at : (a : NodeId) (o : Option Sync) → sync_at (sync_record program plan budget h) a ≡ o → leads_at program o (Some s) ≡ true → ⊥
           none_at a None g t = true≢false (sym t)
@@ -197,21 +196,21 @@ module _ (program : Program) (plan : Plan) (budget : ℕ) (h : List ℕ) (v : Is
               true≢false (sym (ap (λ o. leads_at program o (Some s)) c.is ∙ t) ∙ no_one a.process c.before c.step c.after (own_is program plan budget h a.process ∙ c.are))
 
           by_found : (o : Option NodeId) → found (sync_record program plan budget h) (wanted program s) ≡ o
-              → pair_edges (pair_place logs (all_seen program plan budget h) (pair_at (pairs_of program (sync_record program plan budget h)) (node p (length (syncs_of before))))) ≡ model_sync_edges xs k (paired_of program (story program plan budget h) y)
+              → pair_edges (pair_place logs (all_seen program plan budget h) (pair_at (pairs_of program (sync_record program plan budget h)) (node p (length (filter_map sync_of before))))) ≡ model_sync_edges xs k (leading_from program (sync_of y) 0 (story program plan budget h).steps)
           by_found (Some a) g =
-              let named : pair_at (pairs_of program (sync_record program plan budget h)) (node p (length (syncs_of before))) ≡ Node a = pair ∙ ap (paired_by s.kind) g in
-              let test = (partners.leads a (node p (length (syncs_of before)))).1 (ap node_of named) in
+              let named : pair_at (pairs_of program (sync_record program plan budget h)) (node p (length (filter_map sync_of before))) ≡ Node a = pair ∙ ap (paired_by s.kind) g in
+              let test = (partners.leads a (node p (length (filter_map sync_of before)))).1 (ap node_of named) in
               absurd (none_at a (sync_at (sync_record program plan budget h) a) refl (ap (leads_at program (sync_at (sync_record program plan budget h) a)) (sym at_b) ∙ test))
           by_found None g =
               let m = made_of (kind_of_sync y.need) y.number s f in
-              let named : pair_at (pairs_of program (sync_record program plan budget h)) (node p (length (syncs_of before))) ≡ paired_by m.0.0 None = pair ∙ ap₂ (λ a b. paired_by a b) (sym m.4) g in
+              let named : pair_at (pairs_of program (sync_record program plan budget h)) (node p (length (filter_map sync_of before))) ≡ paired_by m.0.0 None = pair ∙ ap₂ (λ a b. paired_by a b) (sym m.4) g in
               elim (alone y.need m.0 m.2) [
                 | inl t ↦ ap (λ z. pair_edges (pair_place logs (all_seen program plan budget h) z)) (named ∙ t.1) ∙ sym (ap (model_sync_edges xs k) (paired_is ∙ is) ∙ model_start xs k (sym take ∙ t.0))
                 | inr t ↦ ap (λ z. pair_edges (pair_place logs (all_seen program plan budget h) z)) (named ∙ t.1) ∙ sym (ap (model_sync_edges xs k) (paired_is ∙ is) ∙ model_none xs k (sym take ∙ t.0))
               ]
 
   -- of a step that is none
-  of_other : (y : Taken) (k : Kind) → sync_of y ≡ None → kind_of_sync y.need ≡ None → takes y.need ≡ is_take k → [] ≡ model_sync_edges xs k (paired_of program (story program plan budget h) y)
+  of_other : (y : Taken) (k : Kind) → sync_of y ≡ None → kind_of_sync y.need ≡ None → takes y.need ≡ is_take k → [] ≡ model_sync_edges xs k (leading_from program (sync_of y) 0 (story program plan budget h).steps)
   of_other y k f g take = sym (ap (model_sync_edges xs k) (ap (λ o. leading_from program o 0 (story program plan budget h).steps) f ∙ nothing) ∙ model_none xs k (sym take ∙ no_take y.need g))
     where
       nothing : leading_from program None 0 (story program plan budget h).steps ≡ None
@@ -229,15 +228,15 @@ numbered_step ys before y after h e = by before (subst AreNumberedModel e h)
 
 -- by whether the step is a synchronization
 by_sync : (program : Program) (plan : Plan) (budget : ℕ) (h : List ℕ) (v : IsValid program) (p k j : ℕ) (before : List Taken) (y : Taken) (after : List Taken) (kd : Kind) → did (told program plan budget h) p ≡ before ++ y ∷ after → takes y.need ≡ is_take kd
-    → edge_at (entries_at (closed_logs program plan budget h) p) (seen_at (all_seen program plan budget h) p) k j ≡ length (syncs_of before) → (o : Option Sync) → sync_of y ≡ o
-    → sync_edges program (closed_logs program plan budget h) (all_seen program plan budget h) p k j y.number ≡ model_sync_edges (splits program plan budget (story program plan budget h)) kd (paired_of program (story program plan budget h) y)
+    → edge_at (get_or (closed_logs program plan budget h).lists p []) (seen_at (all_seen program plan budget h) p) k j ≡ length (filter_map sync_of before) → (o : Option Sync) → sync_of y ≡ o
+    → sync_edges program (closed_logs program plan budget h) (all_seen program plan budget h) p k j y.number ≡ model_sync_edges (splits program plan budget (story program plan budget h)) kd (leading_from program (sync_of y) 0 (story program plan budget h).steps)
 by_sync program plan budget h v p k j before y after kd are take edge_is (Some s) f =
     let m = made_of (kind_of_sync y.need) y.number s f in
     ap (λ o. sync_edges program (closed_logs program plan budget h) (all_seen program plan budget h) p k j o) m.3
     ∙ ap (λ i. pair_edges (pair_place (closed_logs program plan budget h) (all_seen program plan budget h) (pair_at (pairs_of program (record_in (closed_logs program plan budget h))) (node p i)))) edge_is
     ∙ of_sync program plan budget h v p before y after s kd are f take
 by_sync program plan budget h v p k j before y after kd are take edge_is None f =
-    let g : kind_of_sync y.need ≡ None = numbered_step (own_steps (story program plan budget h) p) before y after (steps_numbered program plan v budget h p) (own_is program plan budget h p ∙ are) f in
+    let g : kind_of_sync y.need ≡ None = numbered_step (get_or (story program plan budget h).steps p []) before y after (steps_numbered program plan v budget h p) (own_is program plan budget h p ∙ are) f in
     ap (λ o. sync_edges program (closed_logs program plan budget h) (all_seen program plan budget h) p k j o) ((numbered_at (did (told program plan budget h) p) before y after (numbered_told program plan budget h p) are) g)
     ∙ of_other program plan budget h v y kd f g take
   where
@@ -260,12 +259,12 @@ pairs_found program plan budget h v p k j x number e there placed event_is =
     ap₂ (λ es i. slice_get es i) f.events_are (sym s.number) ∙ at_event program plan budget told_story p steps f.steps_own f.steps_numbered s.before s.step s.after s.are s.finishes in
     let same : new_event program plan told_story p s.step u ≡ e = some (sym event ∙ event_is) in
     let take : takes s.step.need ≡ is_take (kind_of program head.0.stmt) = ap takes mine ∙ takes_is program plan u.proc head.0 head.1 head.2 finishes in
-    let at : IsAt x (entries_at (closed_logs program plan budget h) p) number k j = at_place x (entries_at (closed_logs program plan budget h) p) f.told_by k j number placed lt in
-    let edge_is : edge_at (entries_at (closed_logs program plan budget h) p) (seen_at (all_seen program plan budget h) p) k j ≡ length (syncs_of s.before) =
-    ap (λ z. edge_at (entries_at (closed_logs program plan budget h) p) z k j) f.seen_is ∙ at.edge ∙ ap (count_to x.trace.events) (sym s.number) ∙ ev_count program plan budget h v p x f s.before (s.step ∷ s.after) s.are in
+    let at : IsAt x (get_or (closed_logs program plan budget h).lists p []) number k j = at_place x (get_or (closed_logs program plan budget h).lists p []) f.told_by k j number placed lt in
+    let edge_is : edge_at (get_or (closed_logs program plan budget h).lists p []) (seen_at (all_seen program plan budget h) p) k j ≡ length (filter_map sync_of s.before) =
+    ap (λ z. edge_at (get_or (closed_logs program plan budget h).lists p []) z k j) f.seen_is ∙ at.edge ∙ ap (count_to x.trace.events) (sym s.number) ∙ ev_count program plan budget h v p x f s.before (s.step ∷ s.after) s.are in
     let number_is : e.event.number ≡ s.step.number = ap (λ (z : TracedEvent). z.event.number) (sym same) ∙ ap (λ todo. (event_of program plan u.proc s.step todo).number) head.2 in
     let stmt_is : e.event.stmt ≡ head.0.stmt = ap (λ (z : TracedEvent). z.event.stmt) (sym same) ∙ ap (λ todo. (event_of program plan u.proc s.step todo).stmt) head.2 in
-    let paired : e.paired ≡ paired_of program told_story s.step = ap (λ (z : TracedEvent). z.paired) (sym same) in
+    let paired : e.paired ≡ leading_from program (sync_of s.step) 0 told_story.steps = ap (λ (z : TracedEvent). z.paired) (sym same) in
     ap (λ o. sync_edges program (closed_logs program plan budget h) (all_seen program plan budget h) p k j o) number_is
     ∙ by_sync program plan budget h v p k j s.before s.step s.after (kind_of program head.0.stmt) s.are take edge_is (sync_of s.step) refl
     ∙ ap₂ (λ i o. model_sync_edges (splits program plan budget told_story) (kind_of program i) o) (sym stmt_is) (sym paired)

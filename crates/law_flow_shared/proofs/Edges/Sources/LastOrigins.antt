@@ -1,50 +1,52 @@
 -- Shared reads and last values: the search finds the writer that the run had.
-use Rattle.std.proofs.Common.{◌≡◌, ◌↔◌, ℕ, zero, suc, ◌+◌, ◌<◌, ℤ, pos, Bool, true, false, List, [], ◌∷◌, ◌++◌, Some, Ok, refl, ap, ap₂, sym, subst, ◌∙◌, arith, length, length-append, map, get_or, true≢false, inl, inr, ◌⊎◌, eq-eqb}
-use Rattle.std.specs.Prelude.{IsTrue, fold, slice_get}
-use Rattle.std.proofs.lemmas.List.{append-nil}
-use Rattle.std.proofs.lemmas.List.Sums.{fold-append}
+use Rattle.law_flow_shared.proofs.Edges.Sources.Greatest.{IsUnder, greatest_is}
+use Rattle.law_flow_shared.proofs.Edges.Sources.InEdges.{in_ended, in_last}
+use Rattle.law_flow_shared.proofs.Edges.Sources.Members.{empty_if}
+use Rattle.law_flow_shared.proofs.Edges.Sources.Writing.{writing_all, writing_only}
+use Rattle.law_flow_shared.proofs.Edges.StepEvents.Processes.{Facts, facts}
+use Rattle.law_flow_shared.proofs.Edges.StepEvents.Timeline.{NoWrites, did, next, own_is}
+use Rattle.law_flow_shared.proofs.Edges.StepEvents.Writers.{IsWrite, as_write, edge_is_count, first_sync, syncs_both}
+use Rattle.law_flow_shared.specs.Edges.SharedEdges.{LastWritesAreFound, all_seen}
+use Rattle.law_steps.proofs.StaticEdges.SharedCells.Writers.{count_is, events_in}
 use Rattle.ppd_ast.specs.Valid.{IsValid}
 use Rattle.ppd_ast.specs.declared.plan.Plan.{Plan}
 use Rattle.ppd_ast.specs.declared.program.Program.{Program}
 use Rattle.ppd_entry.specs.declared.entry.Logs.{Logs}
-use Rattle.ppd_sem.specs.declared.proc.Need.{Need}
-use Rattle.ppd_sem.specs.declared.proc.Need.TheVariants as n
-use Rattle.ppd_model.specs.declared.graph.EdgeId.{EdgeId}
-use Rattle.ppd_model.specs.declared.trace.EventId.{EventId}
-use Rattle.ppd_model.specs.declared.tracing.Story.{Story}
-use Rattle.ppd_model.specs.declared.tracing.Taken.{Taken}
-use Rattle.ppd_model.specs.FlowbackEdges.{from_writer, last}
+use Rattle.ppd_flow_model.specs.Shared.{found_last, greatest, greatest_writing, is_before_in, writing, written_in, written_or_start}
+use Rattle.ppd_model.proofs.Forward.{edges_forward}
+use Rattle.ppd_model.proofs.IntervalWords.{splits_from}
+use Rattle.ppd_model.proofs.LocalDeeds.{no_tag}
+use Rattle.ppd_model.proofs.LogWords.{logs_from}
+use Rattle.ppd_model.proofs.RecordedSyncs.{record_syncs}
+use Rattle.ppd_model.proofs.SharedReads.{last_greatest, steps_access, writes_step}
+use Rattle.ppd_model.proofs.Tags.{tags}
+use Rattle.ppd_model.proofs.Tested.{In, tests_edges}
+use Rattle.ppd_model.specs.FlowbackEdges.{last}
 use Rattle.ppd_model.specs.Forward.{edge_in}
 use Rattle.ppd_model.specs.HappenedBefore.{EdgeBefore, edge, is_edge_before}
 use Rattle.ppd_model.specs.Intervals.{Split, ref, splits}
-use Rattle.ppd_model.proofs.IntervalWords.{splits_from}
 use Rattle.ppd_model.specs.Laws.{IsAtStart, IsUnwritten, begins}
 use Rattle.ppd_model.specs.Logs.{closed_log, closed_logs}
-use Rattle.ppd_model.proofs.LogWords.{logs_from}
 use Rattle.ppd_model.specs.Races.{races}
 use Rattle.ppd_model.specs.Record.{sync_record}
 use Rattle.ppd_model.specs.RecordedSets.{last_edge, record_in}
 use Rattle.ppd_model.specs.Schedule.{run}
 use Rattle.ppd_model.specs.SharedReads.{IsAccess, IsGreatest, IsWriteStep, IsWrittenBy, WritesIn, need_after}
-use Rattle.ppd_model.specs.Story.{Moment, Telling, next_event, own_moments, steps_of, story, tell, told}
-use Rattle.ppd_model.specs.Synchronizations.{Sync, syncs_of}
+use Rattle.ppd_model.specs.Story.{Moment, Telling, next_event, steps_of, story, tell, told}
+use Rattle.ppd_model.specs.Synchronizations.{Sync, sync_of}
 use Rattle.ppd_model.specs.World.{World, need, writes_cell}
-use Rattle.ppd_model.proofs.Forward.{edges_forward}
-use Rattle.ppd_model.proofs.RecordedSyncs.{record_syncs}
-use Rattle.ppd_model.proofs.SharedReads.{last_greatest, steps_access, writes_step}
-use Rattle.ppd_model.proofs.Tags.{tags}
-use Rattle.ppd_model.proofs.Tested.{In, tests_edges}
-use Rattle.ppd_model.proofs.LocalDeeds.{no_tag}
-use Rattle.ppd_flow_model.specs.Shared.{found_last, greatest, greatest_writing, is_before_in, writing, written_in, written_or_start}
-use Rattle.law_steps.proofs.StaticEdges.SharedCells.Writers.{count_is, events_in}
-use Rattle.law_flow_shared.specs.Edges.SharedEdges.{LastWritesAreFound, all_seen}
-use Rattle.law_flow_shared.proofs.Edges.Sources.Greatest.{IsUnder, greatest_is}
-use Rattle.law_flow_shared.proofs.Edges.Sources.InEdges.{in_ended, in_last}
-use Rattle.law_flow_shared.proofs.Edges.Sources.Members.{empty_if}
-use Rattle.law_flow_shared.proofs.Edges.StepEvents.Processes.{Facts, facts}
-use Rattle.law_flow_shared.proofs.Edges.StepEvents.Timeline.{NoWrites, did, next, own_is}
-use Rattle.law_flow_shared.proofs.Edges.StepEvents.Writers.{IsWrite, as_write, edge_is_count, first_sync, syncs_both}
-use Rattle.law_flow_shared.proofs.Edges.Sources.Writing.{writing_all, writing_only}
+use Rattle.ppd_model.specs.declared.flow.Origin.TheVariants as origin
+use Rattle.ppd_model.specs.declared.graph.EdgeId.{EdgeId}
+use Rattle.ppd_model.specs.declared.trace.EventId.{EventId}
+use Rattle.ppd_model.specs.declared.tracing.Story.{Story}
+use Rattle.ppd_model.specs.declared.tracing.Taken.{Taken}
+use Rattle.ppd_sem.specs.declared.proc.Need.{Need}
+use Rattle.ppd_sem.specs.declared.proc.Need.TheVariants as n
+use Rattle.std.proofs.Common.{Bool, List, Ok, Some, [], ap, ap₂, arith, eq-eqb, false, get_or, inl, inr, length, length-append, map, pos, refl, subst, suc, sym, true, true≢false, zero, ℕ, ℤ, ◌++◌, ◌+◌, ◌<◌, ◌↔◌, ◌∙◌, ◌∷◌, ◌≡◌, ◌⊎◌}
+use Rattle.std.proofs.lemmas.List.{append-nil}
+use Rattle.std.proofs.lemmas.List.Sums.{fold-append}
+use Rattle.std.specs.Option.{option_map_or}
+use Rattle.std.specs.Prelude.{IsTrue, filter_map, fold, slice_get}
 
 -- ---- lists
 
@@ -162,10 +164,10 @@ module _ (program : Program) (plan : Plan) (budget : ℕ) where
         let here : steps_at q ≡ did (told program plan budget b) q ++ next program plan (told program plan budget b) q ∷ s.mid = ap (λ l. did (told program plan budget l) q) e ∙ s.steps_are in
         let lt : q < length (told program plan budget h).moments = below_moments (told program plan budget h).moments q (did (told program plan budget b) q) (next program plan (told program plan budget b) q) s.mid here in
         let long : length (closed_logs program plan budget h).lists ≡ length (told program plan budget h).moments = lists_length 0 (told program plan budget h).moments in
-        let edges : edge_in program plan budget b q ≡ length (syncs_of (did (told program plan budget b) q)) = edge_is_count program plan budget b q in
-        let total : last_edge (story program plan budget h) q ≡ length (syncs_of (steps_at q)) = ap (λ l. length (syncs_of l)) (own_is program plan budget h q) in
-        let sum : length (syncs_of (steps_at q)) ≡ length (syncs_of (did (told program plan budget b) q)) + length (syncs_of (next program plan (told program plan budget b) q ∷ s.mid)) =
-        ap (λ l. length (syncs_of l)) here ∙ syncs_both (did (told program plan budget b) q) (next program plan (told program plan budget b) q ∷ s.mid) in
+        let edges : edge_in program plan budget b q ≡ length (filter_map sync_of (did (told program plan budget b) q)) = edge_is_count program plan budget b q in
+        let total : last_edge (story program plan budget h) q ≡ length (filter_map sync_of (steps_at q)) = ap (λ l. length (filter_map sync_of l)) (own_is program plan budget h q) in
+        let sum : length (filter_map sync_of (steps_at q)) ≡ length (filter_map sync_of (did (told program plan budget b) q)) + length (filter_map sync_of (next program plan (told program plan budget b) q ∷ s.mid)) =
+        ap (λ l. length (filter_map sync_of l)) here ∙ syncs_both (did (told program plan budget b) q) (next program plan (told program plan budget b) q ∷ s.mid) in
         writing_all program plan budget h v c q (edge_in program plan budget b q) (writes_in b q after c e a) (omega (arith, lt, long)) (omega (arith, edges, total, sum))
 
     -- nothing writes the cell
@@ -188,7 +190,7 @@ module _ (program : Program) (plan : Plan) (budget : ℕ) where
         let x = split_there (story program plan budget h) 0 (told program plan budget h).moments q lt in
         let f : Facts program plan budget h v q x.0 = facts program plan budget h v q x.0 x.1 in
         let nowhere : NoWrites program plan c s.mid = s.nowhere un in
-        let number : record { process = q; number = events_in (did (told program plan budget b) q) } ≡ next_event (told program plan budget b) q = ap (λ k. record { process = q; number = k }) (sym (count_is (own_moments (told program plan budget b) q))) in
+        let number : record { process = q; number = events_in (did (told program plan budget b) q) } ≡ next_event (told program plan budget b) q = ap (λ k. record { process = q; number = k }) (sym (count_is (get_or (told program plan budget b).moments q []))) in
         ap (λ i. written_in logs (all_seen program plan budget h) c (edge q i)) (edge_is_count program plan budget b q)
         ∙ elim (first_sync s.mid) [
           | inl still ↦ in_last program plan budget h v q c u x.0 f (did (told program plan budget b) q) (next program plan (told program plan budget b) q) s.mid here needs nowhere still
@@ -197,7 +199,7 @@ module _ (program : Program) (plan : Plan) (budget : ℕ) where
         ∙ ap (λ (id : EventId). Ok (u, ref xs id)) number
 
     last_by : races program plan budget h ≡ [] → (c : ℕ) → c < length program.starts → (u : ℤ) → (x : IsWrittenBy program plan budget h c) → need_after program plan budget x.before x.process ≡ n.Write c u
-        → found_last program logs (all_seen program plan budget h) c ≡ Ok (u, from_writer xs (Some (next_event (told program plan budget x.before) x.process)))
+        → found_last program logs (all_seen program plan budget h) c ≡ Ok (u, option_map_or (ref xs) (Some (next_event (told program plan budget x.before) x.process)) origin.Initial)
     last_by free c lt u x needs =
         let top : EdgeId = edge x.process (edge_in program plan budget x.before x.process) in
         let great : IsGreatest program plan budget h c x.process (edge_in program plan budget x.before x.process) = last_greatest program plan budget h w r free c lt x in
@@ -216,7 +218,7 @@ module _ (program : Program) (plan : Plan) (budget : ℕ) where
         let cell : wr.access.cell ≡ c = wr.cell in
         true≢false (sym (value_of_access c (need_after program plan budget st.before a.process) st.writes.0 (st.writes.1 ∙ ap (λ z. n.Write z st.writes.0) cell)) ∙ no_write)) in
         ap (λ l. written_or_start program logs (all_seen program plan budget h) c (greatest (is_before_in program logs) l)) none
-        ∙ ap₂ (λ a b. Ok (a, from_writer xs b)) (sym s.value_is) (sym (s.tag_is ∙ none_tag program.starts c))
+        ∙ ap₂ (λ a b. Ok (a, option_map_or (ref xs) b origin.Initial)) (sym s.value_is) (sym (s.tag_is ∙ none_tag program.starts c))
       where
         none_tag : (cells : List ℤ) (k : ℕ) → get_or (map (λ _. no_tag) cells) k no_tag ≡ no_tag
         none_tag [] k = refl
@@ -237,7 +239,7 @@ module _ (program : Program) (plan : Plan) (budget : ℕ) where
             unwritten = subst (λ z. IsUnwritten program plan c z t.last.after) (sym (fold-append (tell program plan) (begins program plan budget) t.last.before (t.last.process ∷ []))) t.last.unwritten;
           } in
           last_by free c lt (get_or (told program plan budget h).world.shared c (pos 0)) x t.last.writes
-          ∙ ap (λ z. Ok (get_or (told program plan budget h).world.shared c (pos 0), from_writer xs z)) (sym x.tag_is)
+          ∙ ap (λ z. Ok (get_or (told program plan budget h).world.shared c (pos 0), option_map_or (ref xs) z origin.Initial)) (sym x.tag_is)
     ]
 
 pub last_found : LastWritesAreFound

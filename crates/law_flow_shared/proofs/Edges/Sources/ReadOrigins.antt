@@ -1,58 +1,58 @@
 -- Shared reads: the search finds the writer that the tag names.
-use Rattle.std.proofs.Common.{◌≡◌, ℕ, ◌+◌, ◌<◌, ◌≤◌, ℤ, true, false, List, [], ◌∷◌, ◌++◌, Option, Some, None, Ok, refl, ap, ap₂, sym, subst, ◌∙◌, arith, length, get_or, filter, true≢false, inl, inr, eq-eqb}
-use Rattle.std.specs.Prelude.{is_some, slice_get}
-use Rattle.std.proofs.lemmas.List.{append-nil, append_assoc}
-use Rattle.std.proofs.lemmas.List.Sums.{fold-append}
+use Rattle.law_flow_shared.proofs.Edges.Back.Walked.{IsFoundAt, found_is, not_found, same_count}
+use Rattle.law_flow_shared.proofs.Edges.LogPlaces.EdgeEnds.{IsAt, at_place}
+use Rattle.law_flow_shared.proofs.Edges.LogPlaces.EdgePlaces.{count_one}
+use Rattle.law_flow_shared.proofs.Edges.Sources.Greatest.{greatest_is}
+use Rattle.law_flow_shared.proofs.Edges.Sources.InEdges.{in_ended, ref_of}
+use Rattle.law_flow_shared.proofs.Edges.Sources.LastOrigins.{before_is, below_moments, goes, later_not, listed, not_before, split_there, under}
+use Rattle.law_flow_shared.proofs.Edges.Sources.Members.{filter_in, filter_none, in_filter}
+use Rattle.law_flow_shared.proofs.Edges.Sources.Writing.{writing_only}
+use Rattle.law_flow_shared.proofs.Edges.Spans.Facts.{count_to}
+use Rattle.law_flow_shared.proofs.Edges.StepEvents.Processes.{Facts, facts}
+use Rattle.law_flow_shared.proofs.Edges.StepEvents.ReadSteps.{IsStep, ReadsAt, reads_at, step_of}
+use Rattle.law_flow_shared.proofs.Edges.StepEvents.Timeline.{IsTakenAt, NoWrites, did, did_more, next, none_did, taken_at}
+use Rattle.law_flow_shared.proofs.Edges.StepEvents.Writers.{AreNone, HasEvent, HasSync, IsWrite, as_write, edge_is_count, ev_at, ev_count, ev_within, first_sync, last_writer, none_at, none_syncs, syncs_both, syncs_none, write_is}
+use Rattle.law_flow_shared.proofs.Vocabulary.Events.{AreQuiet, IsLastWriter, synchronizes, written_by}
+use Rattle.law_flow_shared.specs.Edges.SharedEdges.{SharedOriginsAreFound, all_seen}
+use Rattle.law_steps.proofs.StaticEdges.SharedCells.Writers.{count_is, events_in}
+use Rattle.ppd_ast.proofs.ValidLaws.{slice_get_below, slice_get_there}
+use Rattle.ppd_ast.specs.Counting.{one_if}
 use Rattle.ppd_ast.specs.Valid.{IsValid}
 use Rattle.ppd_ast.specs.declared.plan.Plan.{Plan}
 use Rattle.ppd_ast.specs.declared.program.Program.{Program}
-use Rattle.ppd_ast.proofs.ValidLaws.{slice_get_there, slice_get_below}
-use Rattle.ppd_ast.specs.Counting.{one_if}
 use Rattle.ppd_entry.specs.declared.entry.Logs.{Logs}
-use Rattle.ppd_entry.specs.Entries.{entries_at}
-use Rattle.ppd_sem.specs.declared.proc.Need.{Need}
-use Rattle.ppd_sem.specs.declared.proc.Need.TheVariants as n
-use Rattle.ppd_model.specs.declared.flow.Origin.TheVariants as origin
-use Rattle.ppd_model.specs.declared.graph.EdgeId.{EdgeId}
-use Rattle.ppd_model.specs.declared.trace.EventId.{EventId}
-use Rattle.ppd_model.specs.declared.tracing.Taken.{Taken}
-use Rattle.ppd_model.specs.FlowbackEdges.{from_writer, part_at}
+use Rattle.ppd_flow_model.specs.Ends.{edge_at}
+use Rattle.ppd_flow_model.specs.Seen.{seen_of}
+use Rattle.ppd_flow_model.specs.Shared.{edge_of_place, greatest, greatest_before, is_before_in, origin_in, own_or, shared_origin, writing, written_in, written_or_start}
+use Rattle.ppd_flow_model.specs.Walk.{walk}
+use Rattle.ppd_flow_model.specs.declared.walked.Walked.{Walked}
+use Rattle.ppd_model.proofs.AccessSets.{accesses_there}
+use Rattle.ppd_model.proofs.SharedReads.{shared_found, steps_access}
+use Rattle.ppd_model.specs.FlowbackEdges.{part_at}
 use Rattle.ppd_model.specs.Forward.{edge_in}
 use Rattle.ppd_model.specs.FullTrace.{Tag}
 use Rattle.ppd_model.specs.HappenedBefore.{EdgeBefore, edge}
-use Rattle.ppd_model.specs.Intervals.{own, Split, ref, splits}
+use Rattle.ppd_model.specs.Intervals.{Split, own, ref, splits}
 use Rattle.ppd_model.specs.Laws.{IsUnwritten, begins}
 use Rattle.ppd_model.specs.Logs.{closed_logs}
 use Rattle.ppd_model.specs.Races.{races}
 use Rattle.ppd_model.specs.Record.{sync_record}
 use Rattle.ppd_model.specs.Schedule.{run}
 use Rattle.ppd_model.specs.SharedReads.{IsAccess, IsAcross, IsFound, IsFromStart, IsWrittenBy, WritesIn, need_after}
-use Rattle.ppd_model.specs.Story.{Telling, next_event, own_moments, story, tell, told}
-use Rattle.ppd_model.specs.Synchronizations.{kind_of_sync, numbered, syncs_of}
+use Rattle.ppd_model.specs.Story.{Telling, next_event, story, tell, told}
+use Rattle.ppd_model.specs.Synchronizations.{kind_of_sync, numbered, sync_of}
 use Rattle.ppd_model.specs.World.{World, writes_cell}
-use Rattle.ppd_model.proofs.AccessSets.{accesses_there}
-use Rattle.ppd_model.proofs.SharedReads.{shared_found, steps_access}
-use Rattle.ppd_flow_model.specs.declared.walked.Walked.{Walked}
-use Rattle.ppd_flow_model.specs.Seen.{seen_of}
-use Rattle.ppd_flow_model.specs.Shared.{edge_of_place, greatest, greatest_before, is_before_in, origin_in, own_or, shared_origin, writing, written_in, written_or_start}
-use Rattle.ppd_flow_model.specs.Ends.{edge_at}
-use Rattle.ppd_flow_model.specs.Walk.{walk}
-use Rattle.law_steps.proofs.StaticEdges.SharedCells.Writers.{count_is, events_in}
-use Rattle.law_flow_shared.proofs.Vocabulary.Events.{AreQuiet, IsLastWriter, synchronizes, written_by}
-use Rattle.law_flow_shared.specs.Edges.SharedEdges.{SharedOriginsAreFound, all_seen}
-use Rattle.law_flow_shared.proofs.Edges.LogPlaces.EdgeEnds.{IsAt, at_place}
-use Rattle.law_flow_shared.proofs.Edges.LogPlaces.EdgePlaces.{count_one}
-use Rattle.law_flow_shared.proofs.Edges.Spans.Facts.{count_to}
-use Rattle.law_flow_shared.proofs.Edges.Sources.Greatest.{greatest_is}
-use Rattle.law_flow_shared.proofs.Edges.Sources.InEdges.{in_ended, ref_of}
-use Rattle.law_flow_shared.proofs.Edges.Sources.Members.{filter_in, filter_none, in_filter}
-use Rattle.law_flow_shared.proofs.Edges.Sources.LastOrigins.{before_is, below_moments, goes, later_not, listed, not_before, split_there, under}
-use Rattle.law_flow_shared.proofs.Edges.StepEvents.Processes.{Facts, facts}
-use Rattle.law_flow_shared.proofs.Edges.StepEvents.ReadSteps.{IsStep, ReadsAt, reads_at, step_of}
-use Rattle.law_flow_shared.proofs.Edges.StepEvents.Timeline.{IsTakenAt, NoWrites, did, did_more, next, none_did, taken_at}
-use Rattle.law_flow_shared.proofs.Edges.Back.Walked.{IsFoundAt, found_is, not_found, same_count}
-use Rattle.law_flow_shared.proofs.Edges.StepEvents.Writers.{AreNone, HasEvent, HasSync, IsWrite, as_write, edge_is_count, ev_at, ev_count, ev_within, first_sync, last_writer, none_at, none_syncs, syncs_both, syncs_none, write_is}
-use Rattle.law_flow_shared.proofs.Edges.Sources.Writing.{writing_only}
+use Rattle.ppd_model.specs.declared.flow.Origin.TheVariants as origin
+use Rattle.ppd_model.specs.declared.graph.EdgeId.{EdgeId}
+use Rattle.ppd_model.specs.declared.trace.EventId.{EventId}
+use Rattle.ppd_model.specs.declared.tracing.Taken.{Taken}
+use Rattle.ppd_sem.specs.declared.proc.Need.{Need}
+use Rattle.ppd_sem.specs.declared.proc.Need.TheVariants as n
+use Rattle.std.proofs.Common.{List, None, Ok, Option, Some, [], ap, ap₂, arith, eq-eqb, false, filter, get_or, inl, inr, length, refl, subst, sym, true, true≢false, ℕ, ℤ, ◌++◌, ◌+◌, ◌<◌, ◌∙◌, ◌∷◌, ◌≡◌, ◌≤◌}
+use Rattle.std.proofs.lemmas.List.{append-nil, append_assoc}
+use Rattle.std.proofs.lemmas.List.Sums.{fold-append}
+use Rattle.std.specs.Option.{option_map_or}
+use Rattle.std.specs.Prelude.{filter_map, is_some, slice_get}
 
 write_yes : (c : ℕ) (m : Need) (u : ℤ) → m ≡ n.Write c u → writes_cell c m ≡ true
 write_yes c m u e = ap (writes_cell c) e ∙ eq-eqb c c refl
@@ -73,8 +73,8 @@ module _ (program : Program) (plan : Plan) (budget : ℕ) (h : List ℕ) (w : Wo
     abbrev here : Walked
     here = walk (seen_of x) c k j
 
-    at : IsAt x (entries_at logs p) number k j
-    at = at_place x (entries_at logs p) f.told_by k j number placed lt
+    at : IsAt x (get_or logs.lists p []) number k j
+    at = at_place x (get_or logs.lists p []) f.told_by k j number placed lt
 
     -- what the process did before
     so_far : (more : List Taken) × (steps_at p ≡ did (told program plan budget g) p ++ more)
@@ -85,7 +85,7 @@ module _ (program : Program) (plan : Plan) (budget : ℕ) (h : List ℕ) (w : Wo
     -- the edge of the place is that of the read
     edge_is : edge_of_place logs (all_seen program plan budget h) p k j ≡ edge p (edge_in program plan budget g p)
     edge_is =
-        ap (λ z. edge p (edge_at (entries_at logs p) z k j)) f.seen_is
+        ap (λ z. edge p (edge_at (get_or logs.lists p []) z k j)) f.seen_is
         ∙ ap (edge p) (at.edge ∙ ap (count_to x.trace.events) (sym events_are) ∙ ev_count program plan budget h v p x f (did (told program plan budget g) p) so_far.0 so_far.1 ∙ sym (edge_is_count program plan budget g p))
 
     -- what the search goes on with
@@ -107,14 +107,14 @@ module _ (program : Program) (plan : Plan) (budget : ℕ) (h : List ℕ) (w : Wo
         let need : s.step.need ≡ n.Write c u = write_is c s.step.need u (sym (e.writes c) ∙ ap (λ z. written_by c (slice_get x.trace.events z)) s.number ∙ l.writes) in
         let t : IsTakenAt program plan (begins program plan budget) g p s.before s.step = taken_at program plan (begins program plan budget) g p s.before s.step s.after s.are
         (let z : length (did (begins program plan budget) p) ≡ 0 = ap length (none_did program plan budget p) in omega (arith, z)) in
-        let counted : count_to x.trace.events m ≡ length (syncs_of s.before) = ap (count_to x.trace.events) (sym s.number) ∙ ev_count program plan budget h v p x f s.before (s.step ∷ (s.after ++ so_far.0)) whole in
-        let counted_g : count_to x.trace.events number ≡ length (syncs_of (did (told program plan budget g) p)) = ap (count_to x.trace.events) (sym events_are) ∙ ev_count program plan budget h v p x f (did (told program plan budget g) p) so_far.0 so_far.1 in
+        let counted : count_to x.trace.events m ≡ length (filter_map sync_of s.before) = ap (count_to x.trace.events) (sym s.number) ∙ ev_count program plan budget h v p x f s.before (s.step ∷ (s.after ++ so_far.0)) whole in
+        let counted_g : count_to x.trace.events number ≡ length (filter_map sync_of (did (told program plan budget g) p)) = ap (count_to x.trace.events) (sym events_are) ∙ ev_count program plan budget h v p x f (did (told program plan budget g) p) so_far.0 so_far.1 in
         let still : count_to x.trace.events m ≡ count_to x.trace.events number = plain_to m number l.plain l.since to (omega (arith, within, events_are)) in (
           t.sooner,
           t.later,
           t.schedule_is,
           (u, ap (λ (z : Taken). z.need) t.step_is ∙ need),
-          edge_is_count program plan budget t.sooner p ∙ ap (λ z. length (syncs_of z)) t.did_before ∙ sym counted ∙ still ∙ counted_g ∙ sym (edge_is_count program plan budget g p),
+          edge_is_count program plan budget t.sooner p ∙ ap (λ z. length (filter_map sync_of z)) t.did_before ∙ sym counted ∙ still ∙ counted_g ∙ sym (edge_is_count program plan budget g p),
           (λ un.
               let d = did_more program plan c p (begins program plan budget) g in
               let all : did (told program plan budget g) p ≡ d.0 = d.1 ∙ ap (λ z. z ++ d.0) (none_did program plan budget p) in
@@ -153,7 +153,7 @@ module _ (program : Program) (plan : Plan) (budget : ℕ) (h : List ℕ) (w : Wo
       before_h = are ∙ ap (λ l. l ++ p ∷ rest) y.schedule_is ∙ append_assoc y.before (y.process ∷ y.after) (p ∷ rest)
 
       number_is : record { process = y.process; number = events_in (did (told program plan budget y.before) y.process) } ≡ next_event (told program plan budget y.before) y.process
-      number_is = ap (λ z. record { process = y.process; number = z }) (sym (count_is (own_moments (told program plan budget y.before) y.process)))
+      number_is = ap (λ z. record { process = y.process; number = z }) (sym (count_is (get_or (told program plan budget y.before).moments y.process [])))
 
       -- what the writer's process did up to the read
       in_g : IsWrite program plan budget y.before y.after y.process c
@@ -175,9 +175,9 @@ module _ (program : Program) (plan : Plan) (budget : ℕ) (h : List ℕ) (w : Wo
       own_edge same edges =
           let steps_p : steps_at p ≡ did (told program plan budget y.before) y.process ++ next program plan (told program plan budget y.before) y.process ∷ (in_g.mid ++ later_h.0) = ap steps_at (sym same) ∙ later_h.1 in
           let done_p : did (told program plan budget g) p ≡ did (told program plan budget y.before) y.process ++ next program plan (told program plan budget y.before) y.process ∷ in_g.mid = ap (did (told program plan budget g)) (sym same) ∙ done_g in
-          let front : edge_in program plan budget y.before y.process ≡ length (syncs_of (did (told program plan budget y.before) y.process)) = edge_is_count program plan budget y.before y.process in
-          let total : edge_in program plan budget g p ≡ length (syncs_of (did (told program plan budget y.before) y.process ++ next program plan (told program plan budget y.before) y.process ∷ in_g.mid)) = edge_is_count program plan budget g p ∙ ap (λ l. length (syncs_of l)) done_p in
-          let sum : length (syncs_of (did (told program plan budget y.before) y.process ++ next program plan (told program plan budget y.before) y.process ∷ in_g.mid)) ≡ length (syncs_of (did (told program plan budget y.before) y.process)) + length (syncs_of (next program plan (told program plan budget y.before) y.process ∷ in_g.mid)) =
+          let front : edge_in program plan budget y.before y.process ≡ length (filter_map sync_of (did (told program plan budget y.before) y.process)) = edge_is_count program plan budget y.before y.process in
+          let total : edge_in program plan budget g p ≡ length (filter_map sync_of (did (told program plan budget y.before) y.process ++ next program plan (told program plan budget y.before) y.process ∷ in_g.mid)) = edge_is_count program plan budget g p ∙ ap (λ l. length (filter_map sync_of l)) done_p in
+          let sum : length (filter_map sync_of (did (told program plan budget y.before) y.process ++ next program plan (told program plan budget y.before) y.process ∷ in_g.mid)) ≡ length (filter_map sync_of (did (told program plan budget y.before) y.process)) + length (filter_map sync_of (next program plan (told program plan budget y.before) y.process ∷ in_g.mid)) =
           syncs_both (did (told program plan budget y.before) y.process) (next program plan (told program plan budget y.before) y.process ∷ in_g.mid) in
           let still = none_syncs (next program plan (told program plan budget y.before) y.process ∷ in_g.mid) (omega (arith, edges, front, total, sum)) in
           let l : IsLastWriter x.trace.events c 0 (events_in (did (told program plan budget y.before) y.process ++ next program plan (told program plan budget y.before) y.process ∷ in_g.mid)) (events_in (did (told program plan budget y.before) y.process)) y.writes.0 =
@@ -217,22 +217,22 @@ module _ (program : Program) (plan : Plan) (budget : ℕ) (h : List ℕ) (w : Wo
           -- the writer's process left that edge before the read
           no_sync : AreNone in_g.mid → ⊥
           no_sync still =
-              let none : length (syncs_of (next program plan (told program plan budget y.before) y.process ∷ in_g.mid)) ≡ 0 =
+              let none : length (filter_map sync_of (next program plan (told program plan budget y.before) y.process ∷ in_g.mid)) ≡ 0 =
               syncs_none (next program plan (told program plan budget y.before) y.process ∷ in_g.mid) (ap (λ m. numbered (kind_of_sync m) (next program plan (told program plan budget y.before) y.process).number) y.writes.1, still) in
-              let sum : length (syncs_of (did (told program plan budget y.before) y.process ++ next program plan (told program plan budget y.before) y.process ∷ in_g.mid)) ≡ length (syncs_of (did (told program plan budget y.before) y.process)) + length (syncs_of (next program plan (told program plan budget y.before) y.process ∷ in_g.mid)) =
+              let sum : length (filter_map sync_of (did (told program plan budget y.before) y.process ++ next program plan (told program plan budget y.before) y.process ∷ in_g.mid)) ≡ length (filter_map sync_of (did (told program plan budget y.before) y.process)) + length (filter_map sync_of (next program plan (told program plan budget y.before) y.process ∷ in_g.mid)) =
               syncs_both (did (told program plan budget y.before) y.process) (next program plan (told program plan budget y.before) y.process ∷ in_g.mid) in
-              let front : edge_in program plan budget y.before y.process ≡ length (syncs_of (did (told program plan budget y.before) y.process)) = edge_is_count program plan budget y.before y.process in
-              let total : edge_in program plan budget g y.process ≡ length (syncs_of (did (told program plan budget y.before) y.process ++ next program plan (told program plan budget y.before) y.process ∷ in_g.mid)) = edge_is_count program plan budget g y.process ∙ ap (λ l. length (syncs_of l)) done_g in
+              let front : edge_in program plan budget y.before y.process ≡ length (filter_map sync_of (did (told program plan budget y.before) y.process)) = edge_is_count program plan budget y.before y.process in
+              let total : edge_in program plan budget g y.process ≡ length (filter_map sync_of (did (told program plan budget y.before) y.process ++ next program plan (told program plan budget y.before) y.process ∷ in_g.mid)) = edge_is_count program plan budget g y.process ∙ ap (λ l. length (filter_map sync_of l)) done_g in
               let same : edge_in program plan budget y.before y.process ≡ edge_in program plan budget g y.process = omega (arith, none, sum, front, total) in
               later_not program plan budget h w v r g [] (p ∷ rest) (are ∙ ap (λ l. l ++ p ∷ rest) (sym (append-nil g))) p y.process
               (subst (λ l. EdgeBefore program (sync_record program plan budget h) (edge y.process (edge_in program plan budget l y.process)) (edge p (edge_in program plan budget g p))) (sym (append-nil g))
               (subst (λ i. EdgeBefore program (sync_record program plan budget h) (edge y.process i) (edge p (edge_in program plan budget g p))) same z.before))
 
     -- by what is known of the read
-    pub by_found : (tag : Tag) → tag ≡ get_or (told program plan budget g).writers c None → IsFound program plan budget g h p c → shared_origin program logs (all_seen program plan budget h) p k j c ≡ Ok (from_writer xs tag)
-    by_found tag is (inl s) = from_start s ∙ ap (λ t. Ok (from_writer xs t)) (sym (is ∙ s.tag_is))
-    by_found tag is (inr (y, inl same)) = own_edge y same.0 same.1 ∙ ap (λ t. Ok (from_writer xs t)) (sym (is ∙ y.tag_is))
-    by_found tag is (inr (y, inr other)) = across y other ∙ ap (λ t. Ok (from_writer xs t)) (sym (is ∙ y.tag_is))
+    pub by_found : (tag : Tag) → tag ≡ get_or (told program plan budget g).writers c None → IsFound program plan budget g h p c → shared_origin program logs (all_seen program plan budget h) p k j c ≡ Ok (option_map_or (ref xs) tag origin.Initial)
+    by_found tag is (inl s) = from_start s ∙ ap (λ t. Ok (option_map_or (ref xs) t origin.Initial)) (sym (is ∙ s.tag_is))
+    by_found tag is (inr (y, inl same)) = own_edge y same.0 same.1 ∙ ap (λ t. Ok (option_map_or (ref xs) t origin.Initial)) (sym (is ∙ y.tag_is))
+    by_found tag is (inr (y, inr other)) = across y other ∙ ap (λ t. Ok (option_map_or (ref xs) t origin.Initial)) (sym (is ∙ y.tag_is))
 
 pub shared_origins : SharedOriginsAreFound
 shared_origins program plan budget h w v r free p k j c tag s =

@@ -1,4 +1,5 @@
 -- The edges whose recorded write set has a cell are those in which the cell is written.
+use Rattle.std.specs.Bool.{beq}
 use Rattle.std.proofs.Common.{◌≡◌, ℕ, zero, suc, ◌+◌, ◌<◌, ◌≤◌, List, [], ◌∷◌, ◌++◌, Some, None, Bool, true, false, refl, ap, ap₂, sym, subst, ◌∙◌, arith, length, length-append, map, get_or, true≢false, eq-eqb, eqb-true, inl, inr, ◌&&◌, ◌||◌, if◌then◌else◌}
 use Rattle.std.specs.Prelude.{nat_eq, slice_get}
 use Rattle.std.specs.List.{list_any, range_with_len}
@@ -15,7 +16,7 @@ use Rattle.ppd_flow_model.proofs.ClosedSets.{row_sets, run_sets}
 use Rattle.ppd_model.specs.declared.graph.EdgeId.{EdgeId}
 use Rattle.ppd_model.specs.HappenedBefore.{edge}
 use Rattle.ppd_model.specs.Logs.{closed_logs}
-use Rattle.ppd_model.specs.Races.{has_access, writes_or_not}
+use Rattle.ppd_model.specs.Races.{has_access}
 use Rattle.ppd_model.specs.Record.{SharedAccess, accesses}
 use Rattle.ppd_model.specs.RecordedSets.{last_edge}
 use Rattle.ppd_model.specs.SharedReads.{WritesIn}
@@ -138,6 +139,10 @@ beyond f [] q le = refl
 beyond f (row ∷ rows) zero le = absurd (omega (arith, le))
 beyond f (row ∷ rows) (suc q) le = beyond f rows q (omega (arith, le))
 
+is_so : (b : Bool) → beq b true ≡ true → b ≡ true
+is_so true e = refl
+is_so false e = e
+
 module _ (program : Program) (plan : Plan) (budget : ℕ) (h : List ℕ) (valid : IsValid program) where
   -- the write set of an edge
   has_is : (p i c : ℕ) → has (run_sets (story program plan budget h) p i).writes c ≡ has_access (story program plan budget h) p i c true
@@ -152,10 +157,10 @@ module _ (program : Program) (plan : Plan) (budget : ℕ) (h : List ℕ) (valid 
         | inl lt ↦
             let sets : r.sets ≡ run_sets (story program plan budget h) r.row a.edge = through_only (run_sets (story program plan budget h) r.row) (last_edge (story program plan budget h) r.row) a.edge r.sets (ap (λ l. slice_get l a.edge) (sym (row_sets program plan budget h valid r.row lt)) ∙ r.there') in
             let access : has_access (story program plan budget h) r.row a.edge c true ≡ true = sym (has_is r.row a.edge c) ∙ ap (λ (q : EdgeSets). has q.writes c) (sym sets) ∙ r.writes in
-            let f = any_found (λ (b : SharedAccess). nat_eq b.edge a.edge && nat_eq b.cell c && writes_or_not b true) (accesses (story program plan budget h) r.row) access in
-            let more = and_parts (nat_eq f.1.edge a.edge && nat_eq f.1.cell c) (writes_or_not f.1 true) f.3 in
+            let f = any_found (λ (b : SharedAccess). nat_eq b.edge a.edge && nat_eq b.cell c && beq b.writes true) (accesses (story program plan budget h) r.row) access in
+            let more = and_parts (nat_eq f.1.edge a.edge && nat_eq f.1.cell c) (beq f.1.writes true) f.3 in
             let parts = and_parts (nat_eq f.1.edge a.edge) (nat_eq f.1.cell c) more.0 in
-            subst (λ q. WritesIn program plan budget h c q a.edge) (sym process) (record { number = f.0; access = f.1; there = f.2; cell = eqb-true f.1.cell c parts.1; edge_is = eqb-true f.1.edge a.edge parts.0; writes = more.1 })
+            subst (λ q. WritesIn program plan budget h c q a.edge) (sym process) (record { number = f.0; access = f.1; there = f.2; cell = eqb-true f.1.cell c parts.1; edge_is = eqb-true f.1.edge a.edge parts.0; writes = is_so f.1.writes more.1 })
         | inr ge ↦ absurd (none-some r.sets (ap (λ l. slice_get l a.edge) (sym (beyond (sets_from None) (closed_logs program plan budget h).lists r.row ge)) ∙ r.there'))
       ]
 
@@ -163,7 +168,7 @@ module _ (program : Program) (plan : Plan) (budget : ℕ) (h : List ℕ) (valid 
   writing_all c q i w lt le =
       let there' : slice_get (get_or (edge_sets_in (closed_logs program plan budget h)) q []) i ≡ Some (run_sets (story program plan budget h) q i) = ap (λ l. slice_get l i) (row_sets program plan budget h valid q lt) ∙ through_at (run_sets (story program plan budget h) q) (last_edge (story program plan budget h) q) i le in
       let access : has_access (story program plan budget h) q i c true ≡ true =
-      any_at (λ (b : SharedAccess). nat_eq b.edge i && nat_eq b.cell c && writes_or_not b true) (accesses (story program plan budget h) q) w.number w.access w.there
-      (ap₂ (λ x y. x && y) (ap₂ (λ x y. x && y) (eq-eqb w.access.edge i w.edge_is) (eq-eqb w.access.cell c w.cell)) w.writes) in
+      any_at (λ (b : SharedAccess). nat_eq b.edge i && nat_eq b.cell c && beq b.writes true) (accesses (story program plan budget h) q) w.number w.access w.there
+      (ap₂ (λ x y. x && y) (ap₂ (λ x y. x && y) (eq-eqb w.access.edge i w.edge_is) (eq-eqb w.access.cell c w.cell)) (ap (λ b. beq b true) w.writes)) in
       let z : 0 + q ≡ q = omega arith in
       subst (λ k. In (edge k i) (writing (closed_logs program plan budget h) c)) z (rows_all c 0 (edge_sets_in (closed_logs program plan budget h)) q i (run_sets (story program plan budget h) q i) there' (has_is q i c ∙ access))

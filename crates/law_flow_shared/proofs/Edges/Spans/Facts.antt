@@ -6,7 +6,7 @@ use Rattle.std.proofs.lemmas.Option.{none-some}
 use Rattle.ppd_entry.specs.declared.entry.Entry.{Entry}
 use Rattle.ppd_entry.specs.declared.entry.Entry.TheVariants as entry
 use Rattle.ppd_model.specs.declared.trace.TracedEvent.{TracedEvent}
-use Rattle.ppd_model.specs.Extents.{Extending, extend}
+use Rattle.ppd_model.specs.Extents.{extend, Indexing, Extent}
 use Rattle.ppd_model.proofs.ExtentWords.{begun_extents}
 use Rattle.ppd_model.specs.Intervals.{Part, own, Span}
 use Rattle.ppd_model.specs.RecordedSets.{sync_in}
@@ -25,7 +25,7 @@ abbrev pub syncs : List Entry → ℕ
 syncs entries = length (filter_map sync_in entries)
 
 -- the intervals after these entries
-abbrev pub at : List Entry → Extending
+abbrev pub at : List Entry → Indexing Extent
 at entries = fold extend begun_extents entries
 
 pub count_front : (es fs : List TracedEvent) (n : ℕ) → n ≤ length es → count_to (es ++ fs) n ≡ count_to es n
@@ -51,7 +51,7 @@ pub record OpensAt (entries : List Entry) (events : List TracedEvent) (k first :
   pub values : List ℤ
   pub after : List Entry
   pub entries_are : entries ≡ before ++ entry.Prelog block values ∷ after
-  pub number : k ≡ length (at before).extents
+  pub number : k ≡ length (at before).intervals
   pub count : syncs before ≡ count_to events first
   pub within : first ≤ length events
 

@@ -1,22 +1,22 @@
 -- An interval begins, and one is left.
-use Rattle.std.proofs.Common.{◌≡◌, ℕ, zero, suc, ◌+◌, ◌<◌, ℤ, true, false, List, [], ◌∷◌, ◌++◌, Some, refl, ap, ap₂, sym, subst, ◌∙◌, arith, length, length-append, inl, inr, ◌⊎◌}
-use Rattle.std.specs.Prelude.{drop, slice_get}
-use Rattle.std.proofs.lemmas.List.{append-nil}
-use Rattle.std.proofs.lemmas.Option.{none-some}
+use Rattle.law_flow_shared.proofs.Edges.Spans.Facts.{Logged, More, OpensAt, at, opens_on, syncs, syncs_on}
+use Rattle.law_flow_shared.proofs.Edges.Spans.Tiles.{Covers, HaveGrown, Stands, Tiles, all_covered, ends, none, nowhere, one_interval, then_runs}
+use Rattle.law_flow_shared.proofs.Edges.Spans.Told.{AreTiled, Around, IsInnermost, IsPlaced, IsTold, around_on, at_last, changed_at, changed_below, changed_cases, grown_by, last_of, none_more, outside, placed_on, stands_of, syncs_last, tiles_on}
+use Rattle.ppd_ast.proofs.ValidLaws.{slice_get_below}
 use Rattle.ppd_entry.specs.declared.entry.Entry.{Entry}
 use Rattle.ppd_entry.specs.declared.entry.Entry.TheVariants as entry
-use Rattle.ppd_model.specs.declared.trace.TracedEvent.{TracedEvent}
-use Rattle.ppd_model.specs.Extents.{Extending, Extent}
-use Rattle.ppd_model.proofs.ExtentWords.{left_by as extents_left}
-use Rattle.ppd_model.specs.FullTrace.{Tag}
-use Rattle.ppd_model.specs.Intervals.{nested, Span, is_closed, with_part}
-use Rattle.ppd_model.specs.World.{change}
 use Rattle.ppd_model.proofs.Changes.{length-change, some}
 use Rattle.ppd_model.proofs.CountedOn.{kept_at, last_at}
-use Rattle.law_flow_shared.proofs.Edges.Spans.Facts.{Logged, More, OpensAt, at, opens_on, syncs, syncs_on}
-use Rattle.law_flow_shared.proofs.Edges.Spans.Tiles.{Covers, none, HaveGrown, Stands, Tiles, all_covered, ends, nowhere, one_interval, then_runs}
-use Rattle.law_flow_shared.proofs.Edges.Spans.Told.{Around, outside, last_of, IsInnermost, IsPlaced, IsTold, AreTiled, around_on, at_last, changed_at, changed_below, changed_cases, grown_by, none_more, placed_on, stands_of, syncs_last, tiles_on}
-use Rattle.ppd_ast.proofs.ValidLaws.{slice_get_below}
+use Rattle.ppd_model.proofs.ExtentWords.{left_by as extents_left}
+use Rattle.ppd_model.specs.Extents.{Extent, Indexing}
+use Rattle.ppd_model.specs.FullTrace.{Tag}
+use Rattle.ppd_model.specs.Intervals.{Span, nested, with_part}
+use Rattle.ppd_model.specs.World.{change}
+use Rattle.ppd_model.specs.declared.trace.TracedEvent.{TracedEvent}
+use Rattle.std.proofs.Common.{List, Some, [], ap, ap₂, arith, false, inl, inr, length, length-append, refl, subst, suc, sym, true, zero, ℕ, ℤ, ◌++◌, ◌+◌, ◌<◌, ◌∙◌, ◌∷◌, ◌≡◌, ◌⊎◌}
+use Rattle.std.proofs.lemmas.List.{append-nil}
+use Rattle.std.proofs.lemmas.Option.{none-some}
+use Rattle.std.specs.Prelude.{drop, is_some, slice_get}
 
 -- ---- an interval begins
 
@@ -109,12 +109,12 @@ module _ (entries : List Entry) (events : List TracedEvent) (spans : List Span) 
       (nowhere (Logged entries events) spans m h.tiled.first h.tiled.span.parts (length events) (length spans) h.tiled.parts (λ i e. let lt : length spans < length spans = slice_get_below spans (length spans) i e in omega (arith, lt)))
       opened around tiles
 
-  pub open_told : new.round ≡ m ∷ rest → new.parts ≡ [] → is_closed new ≡ false → IsTold (entries ++ entry.Prelog b values ∷ []) events (change (with_part (nested (length spans))) m spans ++ new ∷ []) (length spans ∷ m ∷ rest)
+  pub open_told : new.round ≡ m ∷ rest → new.parts ≡ [] → is_some new.closed ≡ false → IsTold (entries ++ entry.Prelog b values ∷ []) events (change (with_part (nested (length spans))) m spans ++ new ∷ []) (length spans ∷ m ∷ rest)
   unfolding later after number changed
   open_told round parts runs =
       record {
-        same = ap (λ (y : Extending). y.running) (at_last entries (entry.Prelog b values)) ∙ ap₂ (λ k ks. k ∷ ks) h.size h.same;
-        size = ap (λ (y : Extending). length y.extents) (at_last entries (entry.Prelog b values)) ∙ length-append (at entries).extents _ ∙ ap (λ k. k + 1) (h.size ∙ sym long) ∙ sym (length-append (change (with_part (nested (length spans))) m spans) (new ∷ []));
+        same = ap (λ (y : Indexing Extent). y.running) (at_last entries (entry.Prelog b values)) ∙ ap₂ (λ k ks. k ∷ ks) h.size h.same;
+        size = ap (λ (y : Indexing Extent). length y.intervals) (at_last entries (entry.Prelog b values)) ∙ length-append (at entries).intervals _ ∙ ap (λ k. k + 1) (h.size ∙ sym long) ∙ sym (length-append (change (with_part (nested (length spans))) m spans) (new ∷ []));
         count = syncs_last entries (entry.Prelog b values) ∙ (let z : syncs entries + 0 ≡ syncs entries = omega arith in z) ∙ h.count;
         tiled = record {
           first = length events;
@@ -212,7 +212,7 @@ module _ (entries : List Entry) (events : List TracedEvent) (spans : List Span) 
       (stands_of done events now m rest t.first (around_on entries done grows' events events (none_more events) spans now grown' m rest t.first (changed_below f [] (λ i. refl) same_parts spans m t.span t.there t.runs) t.around))
 
   drop_running : (at entries).running ≡ m ∷ rest → (at done).running ≡ rest
-  drop_running e = ap (λ (y : Extending). y.running) (at_last entries (entry.Postlog b values)) ∙ ap (λ ks. drop 1 ks) e
+  drop_running e = ap (λ (y : Indexing Extent). y.running) (at_last entries (entry.Postlog b values)) ∙ ap (λ ks. drop 1 ks) e
 
   left_length : (j : ℕ) (ks : List ℕ) (xs : List Extent) → length (extents_left j ks xs) ≡ length xs
   left_length j [] xs = refl
@@ -221,7 +221,7 @@ module _ (entries : List Entry) (events : List TracedEvent) (spans : List Span) 
   pub close_told : IsTold done events now rest
   close_told = record {
     same = drop_running h.same;
-    size = ap (λ (y : Extending). length y.extents) (at_last entries (entry.Postlog b values)) ∙ left_length (at entries).entry (at entries).running (at entries).extents ∙ h.size ∙ sym (length-change f m spans);
+    size = ap (λ (y : Indexing Extent). length y.intervals) (at_last entries (entry.Postlog b values)) ∙ left_length (at entries).entry (at entries).running (at entries).intervals ∙ h.size ∙ sym (length-change f m spans);
     count = syncs_last entries (entry.Postlog b values) ∙ (let z : syncs entries + 0 ≡ syncs entries = omega arith in z) ∙ h.count;
     tiled = after_it rest refl t.around;
     placed = λ k j e. elim (changed_cases f [] (λ i. refl) same_parts spans m t.span t.there t.runs k j e) [

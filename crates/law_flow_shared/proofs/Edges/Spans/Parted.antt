@@ -1,28 +1,28 @@
 -- One more part of the innermost interval, one more entry, and one more event.
-use Rattle.std.proofs.Common.{◌≡◌, ℕ, zero, suc, ◌+◌, ◌<◌, true, false, cond, List, [], ◌∷◌, ◌++◌, refl, ap, ap₂, sym, subst, ◌∙◌, arith, length, length-append, true≢false, inl, inr, ◌⊎◌}
-use Rattle.std.specs.Prelude.{is_some, slice_get}
-use Rattle.std.proofs.lemmas.List.{append-nil}
-use Rattle.ppd_entry.specs.declared.entry.Entry.{Entry}
-use Rattle.ppd_model.specs.declared.trace.TracedEvent.{TracedEvent}
-use Rattle.ppd_model.specs.Extents.{Extending, extend}
-use Rattle.ppd_model.specs.Intervals.{Part, own, Span, change_first, is_closed, with_part}
-use Rattle.ppd_model.specs.RecordedSets.{sync_in}
-use Rattle.ppd_model.specs.World.{change}
-use Rattle.ppd_model.proofs.Changes.{length-change}
-use Rattle.ppd_model.proofs.CountedOn.{last_at}
-use Rattle.law_flow_shared.proofs.Vocabulary.Events.{synchronizes}
 use Rattle.law_flow_shared.proofs.Edges.Spans.Facts.{Logged, More, MoreEvents, OpensAt, SyncsAt, at, count_front, count_last, count_to, opens_on, syncs, syncs_on}
 use Rattle.law_flow_shared.proofs.Edges.Spans.Tiles.{HaveGrown, Stands, Tiles, all_covered, one_event}
-use Rattle.law_flow_shared.proofs.Edges.Spans.Told.{Around, IsInnermost, IsPlaced, IsTold, AreTiled, around_on, at_last, changed_at, changed_below, changed_cases, grown_all, grown_by, none_more, placed_on, stands_of, syncs_last, tiles_on}
+use Rattle.law_flow_shared.proofs.Edges.Spans.Told.{AreTiled, Around, IsInnermost, IsPlaced, IsTold, around_on, at_last, changed_at, changed_below, changed_cases, grown_all, grown_by, none_more, placed_on, stands_of, syncs_last, tiles_on}
+use Rattle.law_flow_shared.proofs.Vocabulary.Events.{synchronizes}
+use Rattle.ppd_entry.specs.declared.entry.Entry.{Entry}
+use Rattle.ppd_model.proofs.Changes.{length-change}
+use Rattle.ppd_model.proofs.CountedOn.{last_at}
+use Rattle.ppd_model.specs.Extents.{Extent, Indexing, extend}
+use Rattle.ppd_model.specs.Intervals.{Part, Span, change_first, own, with_part}
+use Rattle.ppd_model.specs.RecordedSets.{sync_in}
+use Rattle.ppd_model.specs.World.{change}
+use Rattle.ppd_model.specs.declared.trace.TracedEvent.{TracedEvent}
+use Rattle.std.proofs.Common.{List, [], ap, ap₂, arith, cond, false, inl, inr, length, length-append, refl, subst, suc, sym, true, true≢false, zero, ℕ, ◌++◌, ◌+◌, ◌<◌, ◌∙◌, ◌∷◌, ◌≡◌, ◌⊎◌}
+use Rattle.std.proofs.lemmas.List.{append-nil}
+use Rattle.std.specs.Prelude.{is_some, slice_get}
 
 -- ---- the innermost interval with more parts
 
 module _ (entries : List Entry) (events : List TracedEvent) (spans : List Span) (m : ℕ) (rest : List ℕ) where
   -- f adds these parts to it; the entries and events so far are then later and told
-  inner_told : (f : Span → Span) (q : List Part) → ((i : Span) → (f i).round ≡ i.round) → ((i : Span) → (f i).parts ≡ i.parts ++ q) → ((i : Span) → is_closed (f i) ≡ is_closed i)
+  inner_told : (f : Span → Span) (q : List Part) → ((i : Span) → (f i).round ≡ i.round) → ((i : Span) → (f i).parts ≡ i.parts ++ q) → ((i : Span) → is_some (f i).closed ≡ is_some i.closed)
       → (later : List Entry) → More entries later → (told : List TracedEvent) → MoreEvents events told
       → ((lo : ℕ) (ps : List Part) → Tiles (Logged later told) (change f m spans) m lo ps (length events) → Tiles (Logged later told) (change f m spans) m lo (ps ++ q) (length told))
-      → (at later).running ≡ m ∷ rest → length (at later).extents ≡ length spans → syncs later ≡ count_to told (length told)
+      → (at later).running ≡ m ∷ rest → length (at later).intervals ≡ length spans → syncs later ≡ count_to told (length told)
       → ((n : ℕ) → synchronizes (slice_get told n) ≡ true → SyncsAt later told (change f m spans) n)
       → IsTold entries events spans (m ∷ rest) → IsTold later told (change f m spans) (m ∷ rest)
   inner_told f q rounds parts closes later grows told goes more same size count homes h =
@@ -63,14 +63,14 @@ module _ (entries : List Entry) (events : List TracedEvent) (spans : List Span) 
 
 -- ---- one entry more, by which no interval begins or is left
 
-pub entry_told : (entries : List Entry) (events : List TracedEvent) (spans : List Span) (running : List ℕ) (e : Entry) → (extend (at entries) e).running ≡ (at entries).running → length (extend (at entries) e).extents ≡ length (at entries).extents
+pub entry_told : (entries : List Entry) (events : List TracedEvent) (spans : List Span) (running : List ℕ) (e : Entry) → (extend (at entries) e).running ≡ (at entries).running → length (extend (at entries) e).intervals ≡ length (at entries).intervals
     → is_some (sync_in e) ≡ false → IsTold entries events spans running → IsTold (entries ++ e ∷ []) events spans running
 entry_told entries events spans running e same size plain h =
     let later : List Entry = entries ++ e ∷ [] in
     let grows : More entries later = (e ∷ [], refl) in
     record {
-      same = ap (λ (y : Extending). y.running) (at_last entries e) ∙ same ∙ h.same;
-      size = ap (λ (y : Extending). length y.extents) (at_last entries e) ∙ size ∙ h.size;
+      same = ap (λ (y : Indexing Extent). y.running) (at_last entries e) ∙ same ∙ h.same;
+      size = ap (λ (y : Indexing Extent). length y.intervals) (at_last entries e) ∙ size ∙ h.size;
       count = syncs_last entries e ∙ ap (λ b. syncs entries + cond b 1 0) plain ∙ (let z : syncs entries + 0 ≡ syncs entries = omega arith in z) ∙ h.count;
       tiled = by running h.tiled;
       placed = λ k i f. placed_on entries later grows events events (none_more events) spans spans (grown_all spans) k i (h.placed k i f);
@@ -108,7 +108,7 @@ quiet_told entries events spans (m ∷ rest) h =
 abbrev pub Comes : List Entry → TracedEvent → List Entry → Type 0
 Comes entries te more =
     ((more ≡ []) × (is_some te.event.number ≡ false))
-    ⊎ ((e : Entry) × (more ≡ e ∷ []) × (is_some te.event.number ≡ true) × (is_some (sync_in e) ≡ true) × ((extend (at entries) e).running ≡ (at entries).running) × (length (extend (at entries) e).extents ≡ length (at entries).extents))
+    ⊎ ((e : Entry) × (more ≡ e ∷ []) × (is_some te.event.number ≡ true) × (is_some (sync_in e) ≡ true) × ((extend (at entries) e).running ≡ (at entries).running) × (length (extend (at entries) e).intervals ≡ length (at entries).intervals))
 
 -- the event, and the entry of its synchronization where it is one
 pub event_told : (entries : List Entry) (events : List TracedEvent) (spans : List Span) (running : List ℕ) (te : TracedEvent) (more : List Entry) → 0 < length running
@@ -126,11 +126,11 @@ event_told entries events spans (m ∷ rest) te more lt o h =
   where
     same : Comes entries te more → (at (entries ++ more)).running ≡ m ∷ rest
     same (inl p) = ap (λ l. (at l).running) (ap (λ l. entries ++ l) p.0 ∙ append-nil entries) ∙ h.same
-    same (inr p) = ap (λ l. (at (entries ++ l)).running) p.1 ∙ ap (λ (y : Extending). y.running) (at_last entries p.0) ∙ p.4 ∙ h.same
+    same (inr p) = ap (λ l. (at (entries ++ l)).running) p.1 ∙ ap (λ (y : Indexing Extent). y.running) (at_last entries p.0) ∙ p.4 ∙ h.same
 
-    size : Comes entries te more → length (at (entries ++ more)).extents ≡ length spans
-    size (inl p) = ap (λ l. length (at l).extents) (ap (λ l. entries ++ l) p.0 ∙ append-nil entries) ∙ h.size
-    size (inr p) = ap (λ l. length (at (entries ++ l)).extents) p.1 ∙ ap (λ (y : Extending). length y.extents) (at_last entries p.0) ∙ p.5 ∙ h.size
+    size : Comes entries te more → length (at (entries ++ more)).intervals ≡ length spans
+    size (inl p) = ap (λ l. length (at l).intervals) (ap (λ l. entries ++ l) p.0 ∙ append-nil entries) ∙ h.size
+    size (inr p) = ap (λ l. length (at (entries ++ l)).intervals) p.1 ∙ ap (λ (y : Indexing Extent). length y.intervals) (at_last entries p.0) ∙ p.5 ∙ h.size
 
     total : count_to (events ++ te ∷ []) (length (events ++ te ∷ [])) ≡ count_to events (length events) + cond (is_some te.event.number) 1 0
     total = ap (λ k. count_to (events ++ te ∷ []) k) (length-append events (te ∷ [])) ∙ count_last events te

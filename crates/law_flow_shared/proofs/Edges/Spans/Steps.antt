@@ -25,7 +25,7 @@ use Rattle.ppd_model.specs.declared.tracing.Tracing.{Tracing}
 use Rattle.ppd_model.specs.FullTrace.{Tag, event_of, me_in, top_tags, trace_by, traced_by}
 use Rattle.ppd_model.specs.Intervals.{own, nested, Span, Split, change_first, control_by, innermost, left_by, split_step, with_marks, with_own, with_part, with_step}
 use Rattle.ppd_model.proofs.IntervalWords.{begin_if, end_if}
-use Rattle.ppd_model.specs.Logs.{ends, entries_of, passed_value, postlogs, prelogs, status_of, syncs as sync_entries, units}
+use Rattle.ppd_model.specs.Logs.{ends, entries_of, passed_value, status_of, syncs as sync_entries, units, block_entries}
 use Rattle.ppd_model.specs.Marks.{Mark, closed, opened}
 use Rattle.ppd_model.specs.Story.{unit_started}
 use Rattle.ppd_model.specs.Synchronizations.{Sync, kind_of_sync, numbered, sync_of}
@@ -59,7 +59,7 @@ units_told (Some u) values es events spans running h = entry_told es events span
 
 pub end_told : (st : Status) (rest : ℕ) (reads writes : List ℕ) (es : List Entry) (events : List TracedEvent) (spans : List Span) (running : List ℕ) → IsTold es events spans running → IsTold (es ++ entry.End st rest reads writes ∷ []) events spans running
 end_told st rest reads writes es events spans running h =
-    entry_told es events spans running (entry.End st rest reads writes) refl (ended_length (at es).entry (at es).running (at es).extents) refl h
+    entry_told es events spans running (entry.End st rest reads writes) refl (ended_length (at es).entry (at es).running (at es).intervals) refl h
 
 ends_told : (l : Logging) (o : Option Status) (es : List Entry) (events : List TracedEvent) (spans : List Span) (running : List ℕ) → IsTold es events spans running → IsTold (es ++ ends l o) events spans running
 ends_told l None es events spans running h = subst (λ k. IsTold k events spans running) (sym (append-nil es)) h
@@ -68,29 +68,29 @@ ends_told l (Some s) es events spans running h = end_told s l.rest l.reads l.wri
 -- an interval may be left, and one may begin
 marks_told : (o c : Option Mark) (l : Logging) (t : Taken) (sy : Option Sync) (frame : ℕ) (control : Option EventId) (tags : List Tag) (es : List Entry) (events : List TracedEvent) (x : Split)
     → (o ≡ None) ⊎ ((c ≡ None) × (sy ≡ None)) → 0 < length x.running → IsTold (es ++ sync_entries l t sy) events x.spans x.running
-    → IsTold (((es ++ prelogs o) ++ sync_entries l t sy) ++ postlogs c) events (begin_if o frame control (end_if c tags x)).spans (begin_if o frame control (end_if c tags x)).running
+    → IsTold (((es ++ block_entries entry.Prelog o) ++ sync_entries l t sy) ++ block_entries entry.Postlog c) events (begin_if o frame control (end_if c tags x)).spans (begin_if o frame control (end_if c tags x)).running
 marks_told None None l t sy frame control tags es events x apart lt h =
     subst (λ k. IsTold k events x.spans x.running) (sym (append-nil ((es ++ []) ++ sync_entries l t sy)))
     (subst (λ k. IsTold (k ++ sync_entries l t sy) events x.spans x.running) (sym (append-nil es)) h)
 marks_told None (Some k) l t sy frame control tags es events x apart lt h = by x.running refl
   where
-    by : (ks : List ℕ) → x.running ≡ ks → IsTold (((es ++ []) ++ sync_entries l t sy) ++ postlogs (Some k)) events (end_if (Some k) tags x).spans (end_if (Some k) tags x).running
+    by : (ks : List ℕ) → x.running ≡ ks → IsTold (((es ++ []) ++ sync_entries l t sy) ++ block_entries entry.Postlog (Some k)) events (end_if (Some k) tags x).spans (end_if (Some k) tags x).running
     by [] e = absurd (let z : length x.running ≡ 0 = ap length e in omega (arith, z, lt))
     by (m ∷ rest) e =
         let told : IsTold ((es ++ []) ++ sync_entries l t sy) events x.spans (m ∷ rest) =
         subst (λ r. IsTold ((es ++ []) ++ sync_entries l t sy) events x.spans r) e (subst (λ z. IsTold (z ++ sync_entries l t sy) events x.spans x.running) (sym (append-nil es)) h) in
-        subst (λ r. IsTold (((es ++ []) ++ sync_entries l t sy) ++ postlogs (Some k)) events (change_first (λ i. record i { closed = Some (length x.edges); values = k.values; left = tags }) r x.spans) (drop 1 r)) (sym e)
+        subst (λ r. IsTold (((es ++ []) ++ sync_entries l t sy) ++ block_entries entry.Postlog (Some k)) events (change_first (λ i. record i { closed = Some (length x.edges); values = k.values; left = tags }) r x.spans) (drop 1 r)) (sym e)
         (close_told ((es ++ []) ++ sync_entries l t sy) events x.spans m rest k.block k.values (length x.edges) k.values tags told)
 marks_told (Some k) c l t sy frame control tags es events x (inl e) lt h = absurd (none-some k (sym e))
 marks_told (Some k) None l t None frame control tags es events x (inr e) lt h = by x.running refl
   where
-    by : (ks : List ℕ) → x.running ≡ ks → IsTold (((es ++ prelogs (Some k)) ++ []) ++ []) events (begin_if (Some k) frame control x).spans (begin_if (Some k) frame control x).running
+    by : (ks : List ℕ) → x.running ≡ ks → IsTold (((es ++ block_entries entry.Prelog (Some k)) ++ []) ++ []) events (begin_if (Some k) frame control x).spans (begin_if (Some k) frame control x).running
     by [] f = absurd (let z : length x.running ≡ 0 = ap length f in omega (arith, z, lt))
     by (m ∷ rest) f =
         let told : IsTold es events x.spans (m ∷ rest) = subst (λ r. IsTold es events x.spans r) f (subst (λ z. IsTold z events x.spans x.running) (append-nil es) h) in
-        subst (λ z. IsTold z events (begin_if (Some k) frame control x).spans (begin_if (Some k) frame control x).running) (sym (append-nil ((es ++ prelogs (Some k)) ++ [])))
-        (subst (λ z. IsTold z events (begin_if (Some k) frame control x).spans (begin_if (Some k) frame control x).running) (sym (append-nil (es ++ prelogs (Some k))))
-        (subst (λ r. IsTold (es ++ prelogs (Some k)) events (change_first (with_part (nested (length x.spans))) r x.spans ++ (record { block = k.block; round = x.running; frame = frame; control = control; parts = []; steps = 0; opened = length x.edges; closed = None; values = []; left = [] }) ∷ []) (length x.spans ∷ r)) (sym f)
+        subst (λ z. IsTold z events (begin_if (Some k) frame control x).spans (begin_if (Some k) frame control x).running) (sym (append-nil ((es ++ block_entries entry.Prelog (Some k)) ++ [])))
+        (subst (λ z. IsTold z events (begin_if (Some k) frame control x).spans (begin_if (Some k) frame control x).running) (sym (append-nil (es ++ block_entries entry.Prelog (Some k))))
+        (subst (λ r. IsTold (es ++ block_entries entry.Prelog (Some k)) events (change_first (with_part (nested (length x.spans))) r x.spans ++ (record { block = k.block; round = x.running; frame = frame; control = control; parts = []; steps = 0; opened = length x.edges; closed = None; values = []; left = [] }) ∷ []) (length x.spans ∷ r)) (sym f)
         (open_told es events x.spans m rest k.block k.values (record { block = k.block; round = x.running; frame = frame; control = control; parts = []; steps = 0; opened = length x.edges; closed = None; values = []; left = [] }) told f refl refl)))
 marks_told (Some k) (Some j) l t sy frame control tags es events x (inr e) lt h = absurd (none-some j (sym e.0))
 marks_told (Some k) None l t (Some s) frame control tags es events x (inr e) lt h = absurd (none-some s (sym e.1))
@@ -178,14 +178,14 @@ module _ (program : Program) (plan : Plan) (story' : Story) (p : ℕ) where
       let proc_b : b.trace.proc ≡ l.proc = ap (λ (u : Tracing). u.proc) trace_b ∙ sym proc in
       let marked = marks_told (opened program plan b.trace.proc t.need) (closed program plan b.trace.proc t.need) l t (sync_of t) (frame_of program plan b.trace.proc) (control_by program p b.trace t.need)
       (left_by plan (me_in p b.trace) (top_tags b.trace.activations) t.need) es told b (apart program plan b.trace.proc t.need t.number) lt_b owned in
-      let here : IsTold (((es ++ prelogs (opened program plan l.proc t.need)) ++ sync_entries l t (sync_of t)) ++ postlogs (closed program plan l.proc t.need)) told (with_marks program plan p t.need b).spans (with_marks program plan p t.need b).running =
-      subst (λ (s : Proc). IsTold (((es ++ prelogs (opened program plan s t.need)) ++ sync_entries l t (sync_of t)) ++ postlogs (closed program plan s t.need)) told (with_marks program plan p t.need b).spans (with_marks program plan p t.need b).running) proc_b marked in
-      let marked_es : List Entry = ((es ++ prelogs (opened program plan l.proc t.need)) ++ sync_entries l t (sync_of t)) ++ postlogs (closed program plan l.proc t.need) in
+      let here : IsTold (((es ++ block_entries entry.Prelog (opened program plan l.proc t.need)) ++ sync_entries l t (sync_of t)) ++ block_entries entry.Postlog (closed program plan l.proc t.need)) told (with_marks program plan p t.need b).spans (with_marks program plan p t.need b).running =
+      subst (λ (s : Proc). IsTold (((es ++ block_entries entry.Prelog (opened program plan s t.need)) ++ sync_entries l t (sync_of t)) ++ block_entries entry.Postlog (closed program plan s t.need)) told (with_marks program plan p t.need b).spans (with_marks program plan p t.need b).running) proc_b marked in
+      let marked_es : List Entry = ((es ++ block_entries entry.Prelog (opened program plan l.proc t.need)) ++ sync_entries l t (sync_of t)) ++ block_entries entry.Postlog (closed program plan l.proc t.need) in
       let all_es : List Entry = (marked_es ++ units (unit_started t.need) values) ++ ends l (status_of t.need) in
       let all : IsTold all_es told (with_marks program plan p t.need b).spans (with_marks program plan p t.need b).running = ends_told l (status_of t.need) (marked_es ++ units (unit_started t.need) values) told (with_marks program plan p t.need b).spans (with_marks program plan p t.need b).running
       (units_told (unit_started t.need) values marked_es told (with_marks program plan p t.need b).spans (with_marks program plan p t.need b).running here) in
       subst (λ k. IsTold k (split_step program plan story' p x t).trace.events (with_marks program plan p t.need b).spans (with_marks program plan p t.need b).running)
-      (sym (in_order es (prelogs (opened program plan l.proc t.need)) (sync_entries l t (sync_of t)) (postlogs (closed program plan l.proc t.need)) (units (unit_started t.need) values) (ends l (status_of t.need))))
+      (sym (in_order es (block_entries entry.Prelog (opened program plan l.proc t.need)) (sync_entries l t (sync_of t)) (block_entries entry.Postlog (closed program plan l.proc t.need)) (units (unit_started t.need) values) (ends l (status_of t.need))))
       (subst (λ k. IsTold all_es k (with_marks program plan p t.need b).spans (with_marks program plan p t.need b).running) (sym (events_are t x.trace t.need)) all)
 
   -- a process that has stopped does nothing
@@ -193,6 +193,6 @@ module _ (program : Program) (plan : Plan) (story' : Story) (p : ℕ) where
       → IsTold (l.entries ++ entries_of program plan l (record { taken = t; unit_values = values })) (split_step program plan story' p x t).trace.events (split_step program plan story' p x t).spans (split_step program plan story' p x t).running
   at_stop t values l x e h =
       subst (λ (need : Need).
-      IsTold (l.entries ++ (prelogs (opened program plan l.proc need) ++ sync_entries l t (numbered (kind_of_sync need) t.number) ++ postlogs (closed program plan l.proc need) ++ units (unit_started need) values ++ ends l (status_of need)))
+      IsTold (l.entries ++ (block_entries entry.Prelog (opened program plan l.proc need) ++ sync_entries l t (numbered (kind_of_sync need) t.number) ++ block_entries entry.Postlog (closed program plan l.proc need) ++ units (unit_started need) values ++ ends l (status_of need)))
       (trace_by program plan story' p t need x.trace).events (with_marks program plan p need (with_own need (with_step need x))).spans (with_marks program plan p need (with_own need (with_step need x))).running)
       (sym e) (subst (λ k. IsTold k x.trace.events x.spans x.running) (sym (append-nil l.entries)) h)

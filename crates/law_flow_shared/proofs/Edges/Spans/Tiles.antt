@@ -1,8 +1,8 @@
 -- The parts of intervals cover the events of a process in order, and the intervals stand in one another.
 use Rattle.std.proofs.Common.{◌≡◌, ℕ, ◌+◌, ◌<◌, ◌≤◌, true, List, [], ◌∷◌, ◌++◌, Some, refl, ap, sym, subst, ◌∙◌, arith}
-use Rattle.std.specs.Prelude.{⊤, slice_get}
+use Rattle.std.specs.Prelude.{⊤, slice_get, is_some}
 use Rattle.std.proofs.lemmas.List.{append_assoc}
-use Rattle.ppd_model.specs.Intervals.{Part, own, nested, Span, is_closed}
+use Rattle.ppd_model.specs.Intervals.{Part, own, nested, Span}
 
 -- the parts of interval k cover the events from number lo up to number hi, in order: an event covers itself, and
 -- an interval that was left, with a larger number, covers what its own parts cover; F is what else holds of it
@@ -11,7 +11,7 @@ pub data Tiles (F : ℕ → ℕ → ℕ → Type 0) (spans : List Span) : ℕ �
   event : {k lo hi n : ℕ} {ps : List Part} → n ≡ lo → Tiles F spans k (lo + 1) ps hi
       → Tiles F spans k lo (own n ∷ ps) hi
   inside : {k lo hi m : ℕ} {ps : List Part} (i : Span) (mid : ℕ) → k < m → slice_get spans m ≡ Some i
-      → is_closed i ≡ true → F m lo mid → Tiles F spans m lo i.parts mid → Tiles F spans k mid ps hi
+      → is_some i.closed ≡ true → F m lo mid → Tiles F spans m lo i.parts mid → Tiles F spans k mid ps hi
       → Tiles F spans k lo (nested m ∷ ps) hi
 
 -- interval k is none of these parts
@@ -33,7 +33,7 @@ pub data Covers (F : ℕ → ℕ → ℕ → Type 0) (spans : List Span) : ℕ �
   none : {k lo : ℕ} → Covers F spans k lo []
   event : {k lo n : ℕ} {ps : List Part} → n ≡ lo → Covers F spans k (lo + 1) ps → Covers F spans k lo (own n ∷ ps)
   inside : {k lo m : ℕ} {ps : List Part} (i : Span) (mid : ℕ) → k < m → slice_get spans m ≡ Some i
-      → is_closed i ≡ true → F m lo mid → Tiles F spans m lo i.parts mid → Covers F spans k mid ps
+      → is_some i.closed ≡ true → F m lo mid → Tiles F spans m lo i.parts mid → Covers F spans k mid ps
       → Covers F spans k lo (nested m ∷ ps)
   runs : {k lo m : ℕ} → Covers F spans k lo (nested m ∷ [])
 
@@ -44,7 +44,7 @@ pub record HasGrown (i j : Span) : Type 0 where
   pub round : j.round ≡ i.round
   pub more : List Part
   pub parts : j.parts ≡ i.parts ++ more
-  pub left : is_closed i ≡ true → j ≡ i
+  pub left : is_some i.closed ≡ true → j ≡ i
 
 -- so it is with each interval
 abbrev pub HaveGrown : List Span → List Span → Type 0
@@ -81,7 +81,7 @@ module _ (F : ℕ → ℕ → ℕ → Type 0) (spans : List Span) where
   one_event k lo (own m ∷ ps) hi (event e t) = event e (one_event k (lo + 1) ps hi t)
   one_event k lo (nested m ∷ ps) hi (inside i mid lt at c f t u) = inside i mid lt at c f t (one_event k mid ps hi u)
 
-  pub one_interval : (k lo : ℕ) (ps : List Part) (mid m : ℕ) (i : Span) (hi : ℕ) → Tiles F spans k lo ps mid → k < m → slice_get spans m ≡ Some i → is_closed i ≡ true → F m mid hi
+  pub one_interval : (k lo : ℕ) (ps : List Part) (mid m : ℕ) (i : Span) (hi : ℕ) → Tiles F spans k lo ps mid → k < m → slice_get spans m ≡ Some i → is_some i.closed ≡ true → F m mid hi
       → Tiles F spans m mid i.parts hi → Tiles F spans k lo (ps ++ nested m ∷ []) hi
   one_interval k lo [] mid m i hi (ends e) lt at c f t =
       inside i hi lt at c (subst (λ l. F m l hi) (sym e) f) (subst (λ l. Tiles F spans m l i.parts hi) (sym e) t) (ends refl)

@@ -1,22 +1,22 @@
 -- The intervals of a process so far, with its entries and events, and what a part more, an interval that begins and
 -- one that is left change of them.
-use Rattle.std.proofs.Common.{◌≡◌, ℕ, ◌+◌, ◌<◌, true, false, cond, List, [], ◌∷◌, ◌++◌, Option, Some, None, refl, ap, sym, ◌∙◌, arith, length, length-append, true≢false, inl, inr, ◌⊎◌}
-use Rattle.std.specs.Prelude.{filter_map, is_some, option_map, slice_get}
-use Rattle.std.specs.List.{cons_option}
+use Rattle.law_flow_shared.proofs.Edges.Spans.Facts.{Logged, More, MoreEvents, OpensAt, SyncsAt, at, count_to, logged_on, opens_on, syncs}
+use Rattle.law_flow_shared.proofs.Edges.Spans.Tiles.{Covers, HasGrown, HaveGrown, IsNowhere, Stands, Tiles, covers_grow, outermost, stands_grow, tiles_grow, within}
+use Rattle.law_flow_shared.proofs.Vocabulary.Events.{synchronizes}
+use Rattle.ppd_entry.specs.declared.entry.Entry.{Entry}
+use Rattle.ppd_model.proofs.Changes.{change-at, change-else, some}
+use Rattle.ppd_model.specs.Extents.{extend}
+use Rattle.ppd_model.specs.Intervals.{Part, Span, nested}
+use Rattle.ppd_model.specs.RecordedSets.{sync_in}
+use Rattle.ppd_model.specs.World.{change}
+use Rattle.ppd_model.specs.declared.trace.TracedEvent.{TracedEvent}
+use Rattle.std.proofs.Common.{List, None, Option, Some, [], ap, arith, cond, false, inl, inr, length, length-append, refl, sym, true, true≢false, ℕ, ◌++◌, ◌+◌, ◌<◌, ◌∙◌, ◌∷◌, ◌≡◌, ◌⊎◌}
 use Rattle.std.proofs.lemmas.Bool.{cases_eq}
 use Rattle.std.proofs.lemmas.List.{append-nil}
 use Rattle.std.proofs.lemmas.List.Elements.{filter_map-append}
 use Rattle.std.proofs.lemmas.List.Sums.{fold-append}
-use Rattle.ppd_entry.specs.declared.entry.Entry.{Entry}
-use Rattle.ppd_model.specs.declared.trace.TracedEvent.{TracedEvent}
-use Rattle.ppd_model.specs.Extents.{extend}
-use Rattle.ppd_model.specs.Intervals.{Part, nested, Span, is_closed}
-use Rattle.ppd_model.specs.RecordedSets.{sync_in}
-use Rattle.ppd_model.specs.World.{change}
-use Rattle.ppd_model.proofs.Changes.{change-at, change-else, some}
-use Rattle.law_flow_shared.proofs.Vocabulary.Events.{synchronizes}
-use Rattle.law_flow_shared.proofs.Edges.Spans.Facts.{Logged, More, MoreEvents, OpensAt, SyncsAt, at, count_to, logged_on, opens_on, syncs}
-use Rattle.law_flow_shared.proofs.Edges.Spans.Tiles.{Covers, HasGrown, HaveGrown, IsNowhere, Stands, Tiles, covers_grow, outermost, stands_grow, tiles_grow, within}
+use Rattle.std.specs.List.{cons_option}
+use Rattle.std.specs.Prelude.{filter_map, is_some, option_map, slice_get}
 
 module _ (entries : List Entry) (events : List TracedEvent) (spans : List Span) where
   abbrev F : ℕ → ℕ → ℕ → Type 0
@@ -26,7 +26,7 @@ module _ (entries : List Entry) (events : List TracedEvent) (spans : List Span) 
   pub data Around : ℕ → List ℕ → ℕ → Type 0 where
     outside : {m lo : ℕ} → m ≡ 0 → lo ≡ 0 → Around m [] lo
     last_of : {m k lo : ℕ} {rest : List ℕ} (i : Span) (ps : List Part) (first : ℕ) → slice_get spans k ≡ Some i
-        → is_closed i ≡ false → i.round ≡ rest → k < m → i.parts ≡ ps ++ nested m ∷ [] → IsNowhere m ps
+        → is_some i.closed ≡ false → i.round ≡ rest → k < m → i.parts ≡ ps ++ nested m ∷ [] → IsNowhere m ps
         → OpensAt entries events k first → Around k rest first → Tiles F spans k first ps lo → Around m (k ∷ rest) lo
 
   -- interval m is the innermost running one, and its parts cover the events up to number n
@@ -35,7 +35,7 @@ module _ (entries : List Entry) (events : List TracedEvent) (spans : List Span) 
     pub around : Around m rest first
     pub span : Span
     pub there : slice_get spans m ≡ Some span
-    pub runs : is_closed span ≡ false
+    pub runs : is_some span.closed ≡ false
     pub round : span.round ≡ rest
     pub opened : OpensAt entries events m first
     pub parts : Tiles F spans m first span.parts n
@@ -60,7 +60,7 @@ module _ (entries : List Entry) (events : List TracedEvent) (spans : List Span) 
 
   pub record IsTold (running : List ℕ) : Type 0 where
     pub same : (at entries).running ≡ running
-    pub size : length (at entries).extents ≡ length spans
+    pub size : length (at entries).intervals ≡ length spans
     pub count : syncs entries ≡ count_to events (length events)
     pub tiled : AreTiled running (length events)
     pub placed : (k : ℕ) (i : Span) → slice_get spans k ≡ Some i → IsPlaced k i
@@ -101,7 +101,7 @@ pub grown_all : (spans : List Span) → HaveGrown spans spans
 grown_all spans k i e = (i, e, grown_same i)
 
 -- a change of a running interval that adds parts at the end
-module _ (f : Span → Span) (q : List Part) (rounds : (i : Span) → (f i).round ≡ i.round) (parts : (i : Span) → (f i).parts ≡ i.parts ++ q) (spans : List Span) (m : ℕ) (i : Span) (there : slice_get spans m ≡ Some i) (runs : is_closed i ≡ false) where
+module _ (f : Span → Span) (q : List Part) (rounds : (i : Span) → (f i).round ≡ i.round) (parts : (i : Span) → (f i).parts ≡ i.parts ++ q) (spans : List Span) (m : ℕ) (i : Span) (there : slice_get spans m ≡ Some i) (runs : is_some i.closed ≡ false) where
   pub changed_at : slice_get (change f m spans) m ≡ Some (f i)
   changed_at = change-at f m spans ∙ ap (option_map f) there
 
@@ -109,7 +109,7 @@ module _ (f : Span → Span) (q : List Part) (rounds : (i : Span) → (f i).roun
   grown_by k j e = elim (cases_eq k m) [
     | inl same ↦
         let is : j ≡ i = some (sym e ∙ ap (λ z. slice_get spans z) same ∙ there) in
-        (f j, ap (λ z. slice_get (change f m spans) z) same ∙ changed_at ∙ ap (λ (z : Span). Some (f z)) (sym is), record { round = rounds j; more = q; parts = parts j; left = λ c. absurd (true≢false (sym c ∙ ap is_closed is ∙ runs)) })
+        (f j, ap (λ z. slice_get (change f m spans) z) same ∙ changed_at ∙ ap (λ (z : Span). Some (f z)) (sym is), record { round = rounds j; more = q; parts = parts j; left = λ c. absurd (true≢false (sym c ∙ ap (λ (z : Span). is_some z.closed) is ∙ runs)) })
     | inr other ↦ (j, change-else f m k spans other ∙ e, grown_same j)
   ]
 

@@ -1,6 +1,6 @@
 -- The events of a process by its steps: which are synchronizations, and which write a shared cell.
 use Rattle.std.proofs.Common.{◌≡◌, ℕ, ◌+◌, ◌<◌, ◌≤◌, Bool, true, false, cond, List, [], ◌∷◌, ◌++◌, Option, Some, None, refl, ap, ap₂, sym, subst, ◌∙◌, arith, length, length-append, inl, inr}
-use Rattle.std.specs.Prelude.{⊤, fold, is_some, slice_get}
+use Rattle.std.specs.Prelude.{⊤, fold, is_some, slice_get, filter_map}
 use Rattle.std.specs.List.{cons_option}
 use Rattle.std.proofs.lemmas.Bool.{cases_lt}
 use Rattle.std.proofs.lemmas.List.{append-nil, append_assoc}
@@ -17,7 +17,7 @@ use Rattle.ppd_model.specs.declared.tracing.Taken.{Taken}
 use Rattle.ppd_model.specs.declared.tracing.Tracing.{Tracing}
 use Rattle.ppd_model.specs.FullTrace.{begun_tracing, event_of, trace_step, tracing_of}
 use Rattle.ppd_model.specs.LocalTags.{AreOwn}
-use Rattle.ppd_model.specs.Synchronizations.{Sync, kind_of_sync, numbered, sync_of, syncs_of}
+use Rattle.ppd_model.specs.Synchronizations.{Sync, kind_of_sync, numbered, sync_of}
 use Rattle.ppd_model.proofs.Parents.{own_from, own_to}
 use Rattle.law_steps.proofs.StaticEdges.Events.{there}
 use Rattle.law_steps.proofs.StaticEdges.SharedCells.Writers.{events_in}
@@ -52,11 +52,11 @@ number_is t w = by (kind_of_sync t.need) refl t.number refl
     by (Some k) e None f = ap is_some f ∙ sym (ap₂ (λ a b. is_some (numbered a b)) e f)
     by (Some k) e (Some i) f = ap is_some f ∙ sym (ap₂ (λ a b. is_some (numbered a b)) e f)
 
-pub syncs_length : (x : Taken) (xs : List Taken) → length (syncs_of (x ∷ xs)) ≡ cond (is_some (sync_of x)) 1 0 + length (syncs_of xs)
+pub syncs_length : (x : Taken) (xs : List Taken) → length (filter_map sync_of (x ∷ xs)) ≡ cond (is_some (sync_of x)) 1 0 + length (filter_map sync_of xs)
 syncs_length x xs = by (sync_of x)
   where
-    by : (o : Option Sync) → length (cons_option o (syncs_of xs)) ≡ cond (is_some o) 1 0 + length (syncs_of xs)
-    by None = let z : length (syncs_of xs) ≡ 0 + length (syncs_of xs) = omega arith in z
+    by : (o : Option Sync) → length (cons_option o (filter_map sync_of xs)) ≡ cond (is_some o) 1 0 + length (filter_map sync_of xs)
+    by None = let z : length (filter_map sync_of xs) ≡ 0 + length (filter_map sync_of xs) = omega arith in z
     by (Some s) = omega arith
 
 module _ (program : Program) (plan : Plan) (story' : Story) (p : ℕ) where
@@ -89,13 +89,13 @@ module _ (program : Program) (plan : Plan) (story' : Story) (p : ℕ) where
           (let z : count_to u.events (length u.events) ≡ count_to u.events (length u.events) + 0 = omega arith in z)
           ∙ ap (λ k. count_to u.events (length u.events) + cond (is_some (numbered k x.number)) 1 0) (sym (no_sync program plan story' p x.need e))
 
-  pub all_counts : (u : Tracing) (xs : List Taken) → AreOwn program plan u.proc xs → AreNumbered xs → count_to (after_all u xs).events (length (after_all u xs).events) ≡ count_to u.events (length u.events) + length (syncs_of xs)
+  pub all_counts : (u : Tracing) (xs : List Taken) → AreOwn program plan u.proc xs → AreNumbered xs → count_to (after_all u xs).events (length (after_all u xs).events) ≡ count_to u.events (length u.events) + length (filter_map sync_of xs)
   all_counts u [] own w = let z : count_to u.events (length u.events) ≡ count_to u.events (length u.events) + 0 = omega arith in z
   all_counts u (x ∷ xs) own w =
       let rest = all_counts (trace_step program plan story' p u x) xs own.1 w.1 in
       let one = one_count u x own.0 w.0 in
-      let both : length (syncs_of (x ∷ xs)) ≡ cond (is_some (sync_of x)) 1 0 + length (syncs_of xs) = syncs_length x xs in
-      rest ∙ ap (λ k. k + length (syncs_of xs)) one ∙ (let z : count_to u.events (length u.events) + cond (is_some (sync_of x)) 1 0 + length (syncs_of xs) ≡ count_to u.events (length u.events) + length (syncs_of (x ∷ xs)) = omega (arith, both) in z)
+      let both : length (filter_map sync_of (x ∷ xs)) ≡ cond (is_some (sync_of x)) 1 0 + length (filter_map sync_of xs) = syncs_length x xs in
+      rest ∙ ap (λ k. k + length (filter_map sync_of xs)) one ∙ (let z : count_to u.events (length u.events) + cond (is_some (sync_of x)) 1 0 + length (filter_map sync_of xs) ≡ count_to u.events (length u.events) + length (filter_map sync_of (x ∷ xs)) = omega (arith, both) in z)
 
   -- still steps have quiet events
   pub quiet_steps : (c : ℕ) (u : Tracing) (mid rest : List Taken) → AreOwn program plan u.proc (mid ++ rest) → AreNumbered (mid ++ rest) → AreStill c mid → AreQuiet (after_all u (mid ++ rest)).events c (length u.events) (length (after_all u mid).events)
@@ -178,16 +178,16 @@ module _ (program : Program) (plan : Plan) (budget : ℕ) (story' : Story) (p : 
       (ap (λ (z : Tracing). length z.events) (sym (fold-append (trace_step program plan story' p) first before mid)) ∙ length_is (before ++ mid)) quiet))
 
   -- the synchronizations before an event are those of the steps before it
-  pub count_is : (before after : List Taken) → steps ≡ before ++ after → count_to events (events_in before) ≡ length (syncs_of before)
+  pub count_is : (before after : List Taken) → steps ≡ before ++ after → count_to events (events_in before) ≡ length (filter_map sync_of before)
   count_is before after e =
       let u : Tracing = after_all program plan story' p first before in
-      let all : count_to u.events (length u.events) ≡ 0 + length (syncs_of before) =
+      let all : count_to u.events (length u.events) ≡ 0 + length (filter_map sync_of before) =
       all_counts program plan story' p first before (own_to program plan story' p first.proc before after (subst (AreOwn program plan first.proc) e own)) (numbered_to before after (subst AreNumbered e w)) in
       let grown = grows before after in
       ap (λ xs. count_to (after_all program plan story' p first xs).events (events_in before)) e
       ∙ ap (λ es. count_to es (events_in before)) grown.1
       ∙ count_front u.events grown.0 (events_in before) (let l : length u.events ≡ events_in before = length_is before in omega (arith, l))
-      ∙ ap (λ k. count_to u.events k) (sym (length_is before)) ∙ all ∙ (let z : 0 + length (syncs_of before) ≡ length (syncs_of before) = omega arith in z)
+      ∙ ap (λ k. count_to u.events k) (sym (length_is before)) ∙ all ∙ (let z : 0 + length (filter_map sync_of before) ≡ length (filter_map sync_of before) = omega arith in z)
     where
       more : (u : Tracing) (xs : List Taken) → (fresh : List TracedEvent) × ((after_all program plan story' p u xs).events ≡ u.events ++ fresh)
       more u [] = ([], sym (append-nil u.events))

@@ -8,7 +8,6 @@ use Rattle.ppd_ast.specs.declared.plan.Plan.{Plan}
 use Rattle.ppd_ast.specs.declared.program.Program.{Program}
 use Rattle.ppd_ast.specs.declared.status.Status.TheVariants as status
 use Rattle.ppd_entry.specs.declared.entry.Entry.TheVariants as entry
-use Rattle.ppd_entry.specs.Entries.{entries_at}
 use Rattle.ppd_sem.specs.Process.{started}
 use Rattle.ppd_model.specs.declared.state.Logging.{Logging}
 use Rattle.ppd_model.specs.declared.tracing.Story.{Story}
@@ -21,7 +20,7 @@ use Rattle.ppd_model.specs.Logs.{closed_log, closed_logs, log_of}
 use Rattle.ppd_model.proofs.LogWords.{logs_from}
 use Rattle.ppd_model.specs.RecordedSets.{RecordsAccesses}
 use Rattle.ppd_model.specs.Written.{AreOfSteps}
-use Rattle.ppd_model.specs.Story.{Moment, own_moments, own_steps, steps_of, story, told}
+use Rattle.ppd_model.specs.Story.{Moment, steps_of, story, told}
 use Rattle.ppd_model.proofs.Changes.{some}
 use Rattle.ppd_model.proofs.Items.{split_found}
 use Rattle.ppd_model.proofs.LocalTags.{own_steps_told}
@@ -70,22 +69,22 @@ module _ (program : Program) (plan : Plan) (budget : ℕ) where
       pub steps_own : AreOwn program plan (started program plan p budget) (did (told program plan budget h) p)
       pub steps_numbered : AreNumbered (did (told program plan budget h) p)
       pub events_are : x.trace.events ≡ (tracing_of program plan budget (story program plan budget h) p (did (told program plan budget h) p)).events
-      pub told_by : IsTold (entries_at (closed_logs program plan budget h) p) x.trace.events x.spans x.running
-      pub records : RecordsAccesses (story program plan budget h) p (entries_at (closed_logs program plan budget h) p)
+      pub told_by : IsTold (get_or (closed_logs program plan budget h).lists p []) x.trace.events x.spans x.running
+      pub records : RecordsAccesses (story program plan budget h) p (get_or (closed_logs program plan budget h).lists p [])
       pub seen_is : seen_at (map (λ z. seen_of z) xs) p ≡ seen_of x
 
     -- its moments, and what they tell
     abbrev moments_of : ℕ → List Moment
-    moments_of p = own_moments (told program plan budget h) p
+    moments_of p = get_or (told program plan budget h).moments p []
 
     pub closed_told : (p : ℕ) (x : Split) → slice_get xs p ≡ Some x
         → (split_of program plan budget (story program plan budget h) p (steps_of (moments_of p)) ≡ x) × AreOfSteps program plan budget p x (moments_of p)
         × IsTold (closed_log (log_of program plan budget p (moments_of p))) x.trace.events x.spans x.running
     closed_told p x e =
         let s : Story = story program plan budget h in
-        let ms : List Moment = own_moments (told program plan budget h) p in
+        let ms : List Moment = get_or (told program plan budget h).moments p [] in
         let z : 0 + p ≡ p = omega arith in
-        let own_steps_are : own_steps s p ≡ steps_of ms = own_is program plan budget h p in
+        let own_steps_are : get_or s.steps p [] ≡ steps_of ms = own_is program plan budget h p in
         let mine : AreOwn program plan (started program plan p budget) (steps_of ms) = subst (AreOwn program plan (started program plan p budget)) own_steps_are (own_steps_told program plan budget h p) in
         let split_is : split_of program plan budget s p (steps_of ms) ≡ x = ap₂ (λ k l. split_of program plan budget s k l) (sym z) (sym own_steps_are) ∙ split_found program plan budget s 0 s.steps p x e in
         let k : IsKept program plan s p (log_of program plan budget p ms) (split_of program plan budget s p (steps_of ms)) = kept program plan s p v budget ms mine (numbered_told program plan budget h p) in (
@@ -98,16 +97,16 @@ module _ (program : Program) (plan : Plan) (budget : ℕ) where
     pub facts : (p : ℕ) (x : Split) → slice_get xs p ≡ Some x → Facts p x
     facts p x e =
         let s : Story = story program plan budget h in
-        let ms : List Moment = own_moments (told program plan budget h) p in
+        let ms : List Moment = get_or (told program plan budget h).moments p [] in
         let z : 0 + p ≡ p = omega arith in
-        let own_steps_are : own_steps s p ≡ steps_of ms = own_is program plan budget h p in
+        let own_steps_are : get_or s.steps p [] ≡ steps_of ms = own_is program plan budget h p in
         let mine : AreOwn program plan (started program plan p budget) (steps_of ms) = subst (AreOwn program plan (started program plan p budget)) own_steps_are (own_steps_told program plan budget h p) in
         let numbers : AreNumbered (steps_of ms) = numbered_told program plan budget h p in
         let split_is : split_of program plan budget s p (steps_of ms) ≡ x = ap₂ (λ k l. split_of program plan budget s k l) (sym z) (sym own_steps_are) ∙ split_found program plan budget s 0 s.steps p x e in
         let k : IsKept program plan s p (log_of program plan budget p ms) (split_of program plan budget s p (steps_of ms)) = kept program plan s p v budget ms mine numbers in
         let log_there : slice_get (closed_logs program plan budget h).lists p ≡ Some (closed_log (log_of program plan budget p ms)) =
         log_found 0 (told program plan budget h).moments p ms (moments_found s 0 (told program plan budget h).moments p x e) ∙ ap (λ j. Some (closed_log (log_of program plan budget j ms))) z in
-        let entries_are : entries_at (closed_logs program plan budget h) p ≡ closed_log (log_of program plan budget p ms) = got_or (closed_logs program plan budget h).lists p [] (closed_log (log_of program plan budget p ms)) log_there in
+        let entries_are : get_or (closed_logs program plan budget h).lists p [] ≡ closed_log (log_of program plan budget p ms) = got_or (closed_logs program plan budget h).lists p [] (closed_log (log_of program plan budget p ms)) log_there in
         record {
           there = e;
           steps_own = mine;
@@ -116,6 +115,6 @@ module _ (program : Program) (plan : Plan) (budget : ℕ) where
           told_by = subst (λ es. IsTold es x.trace.events x.spans x.running) (sym entries_are)
               (subst (λ (y : Split). IsTold (closed_log (log_of program plan budget p ms)) y.trace.events y.spans y.running) split_is
               (closing p (log_of program plan budget p ms) (split_of program plan budget s p (steps_of ms)) k.told));
-          records = record_sets program plan budget h p (entries_at (closed_logs program plan budget h) p) v (log_there ∙ ap (λ l. Some l) (sym entries_are));
+          records = record_sets program plan budget h p (get_or (closed_logs program plan budget h).lists p []) v (log_there ∙ ap (λ l. Some l) (sym entries_are));
           seen_is = got_or (map (λ z. seen_of z) xs) p (record { items = []; blocks = []; rounds = [] }) (seen_of x) (map_get (λ z. seen_of z) xs p x e);
         }

@@ -1,35 +1,35 @@
 -- The tag of each shared cell that an event reads is that of a step that read it, of the same statement.
-use Rattle.std.proofs.Common.{◌≡◌, ℕ, zero, suc, ℤ, Bool, true, false, List, [], ◌∷◌, ◌++◌, Option, Some, None, Ok, Err, length, map, refl, sym, ap, ◌∙◌, subst, append_assoc, append-nil, if◌then◌else◌}
-use Rattle.std.specs.Prelude.{⊤, fold, slice_get}
+use Rattle.law_flow_shared.proofs.Edges.Spans.Steps.{events_are, new_event, told_events}
+use Rattle.law_steps.proofs.StaticEdges.SharedCells.Aligned.{deed_answers, evaluates_at}
+use Rattle.law_steps.proofs.StaticEdges.SharedCells.Asking.{Finishes, Tells, need_tells}
+use Rattle.ppd_ast.specs.Lookups.{kind_of}
 use Rattle.ppd_ast.specs.declared.plan.Plan.{Plan}
 use Rattle.ppd_ast.specs.declared.program.Program.{Program}
 use Rattle.ppd_ast.specs.declared.status.Status.{Status}
-use Rattle.ppd_ast.specs.Lookups.{kind_of}
+use Rattle.ppd_model.specs.FullTrace.{Tag, event_of, tag_past, tags_of, top_tags, trace_by, trace_step}
+use Rattle.ppd_model.specs.LocalTags.{AreOwn}
 use Rattle.ppd_model.specs.declared.tracing.Story.{Story}
 use Rattle.ppd_model.specs.declared.tracing.Taken.{Taken}
 use Rattle.ppd_model.specs.declared.tracing.Tracing.{Tracing}
-use Rattle.ppd_model.specs.FullTrace.{Tag, answers_past, event_of, tag_at, tags_of, top_tags, trace_by, trace_step}
-use Rattle.ppd_model.specs.LocalTags.{AreOwn}
-use Rattle.ppd_sem.specs.declared.asking.Pause.TheVariants.{Wants, Traps}
-use Rattle.ppd_sem.specs.declared.event.Access.{Access}
-use Rattle.ppd_sem.specs.declared.event.Spot.{Spot}
-use Rattle.ppd_sem.specs.declared.event.Spot.TheVariants.{Local, Shared}
-use Rattle.ppd_sem.specs.declared.proc.Need.{Need}
-use Rattle.ppd_sem.specs.declared.proc.Need.TheVariants.{Read, Write, Enter, Offer, Done, Trap, Budget, Stopped}
-use Rattle.ppd_sem.specs.declared.proc.Proc.{Proc}
-use Rattle.ppd_sem.specs.declared.proc.Todo.{Todo}
+use Rattle.ppd_sem.proofs.Consumed.{reads_taken}
+use Rattle.ppd_sem.proofs.NeedWords.{act_at, need_by_status}
+use Rattle.ppd_sem.proofs.Progress.{act-stopped}
 use Rattle.ppd_sem.specs.Asked.{Asked}
 use Rattle.ppd_sem.specs.Consumed.{Takes, WantsInTurn, shared_of, shared_with, values_read}
 use Rattle.ppd_sem.specs.Deed.{Deed}
 use Rattle.ppd_sem.specs.Described.{evaluates, frame_of, is_event}
-use Rattle.ppd_sem.specs.Process.{act, act_by_asked, act_by_need, head_deed, need_of, started, top_cells, value_of}
-use Rattle.ppd_sem.proofs.NeedWords.{act_at, need_by_status}
+use Rattle.ppd_sem.specs.Process.{act, act_by_asked, act_by_need, head_deed, need_of, started, top_frame, value_of}
 use Rattle.ppd_sem.specs.Reads.{reads_of_kind}
-use Rattle.ppd_sem.proofs.Consumed.{reads_taken}
-use Rattle.ppd_sem.proofs.Progress.{act-stopped}
-use Rattle.law_steps.proofs.StaticEdges.SharedCells.Asking.{Finishes, Tells, need_tells}
-use Rattle.law_steps.proofs.StaticEdges.SharedCells.Aligned.{deed_answers, evaluates_at}
-use Rattle.law_flow_shared.proofs.Edges.Spans.Steps.{events_are, new_event, told_events}
+use Rattle.ppd_sem.specs.declared.asking.Pause.TheVariants.{Traps, Wants}
+use Rattle.ppd_sem.specs.declared.event.Access.{Access}
+use Rattle.ppd_sem.specs.declared.event.Spot.{Spot}
+use Rattle.ppd_sem.specs.declared.event.Spot.TheVariants.{Local, Shared}
+use Rattle.ppd_sem.specs.declared.proc.Need.{Need}
+use Rattle.ppd_sem.specs.declared.proc.Need.TheVariants.{Budget, Done, Enter, Offer, Read, Stopped, Trap, Write}
+use Rattle.ppd_sem.specs.declared.proc.Proc.{Proc}
+use Rattle.ppd_sem.specs.declared.proc.Todo.{Todo}
+use Rattle.std.proofs.Common.{Bool, Err, List, None, Ok, Option, Some, [], ap, append-nil, append_assoc, false, if◌then◌else◌, length, map, refl, subst, suc, sym, true, zero, ℕ, ℤ, ◌++◌, ◌∙◌, ◌∷◌, ◌≡◌}
+use Rattle.std.specs.Prelude.{fold, slice_get, ⊤}
 
 -- ---- answers and their tags
 
@@ -68,7 +68,7 @@ module _ (P : ℕ → Tag → Type 0) (ev : List ℤ → Asked Deed) where
         → slice_get (spots as') i ≡ Some (Shared c) → slice_get (tags_of ls tags as') i ≡ Some w → P c w
 
     one : (s : Spot) (v : ℤ) (as' : List Access) (before left : List ℤ) (tags : List Tag) (i c : ℕ) (w : Tag) → ((b : List ℤ) → IsAligned b as') → WantsInTurn ev before (shared_with s v (shared_of as'))
-        → AreTaken before (values_read (shared_with s v (shared_of as')) ++ left) tags → slice_get (s ∷ spots as') i ≡ Some (Shared c) → slice_get (tag_at ls tags s ∷ tags_of ls (answers_past tags s) as') i ≡ Some w → P c w
+        → AreTaken before (values_read (shared_with s v (shared_of as')) ++ left) tags → slice_get (s ∷ spots as') i ≡ Some (Shared c) → slice_get ((tag_past ls tags s).0 ∷ tags_of ls (tag_past ls tags s).1 as') i ≡ Some w → P c w
     unfolding wanted cell_at
     one (Local f d) v as' before left tags zero c w rest wants takes at tag = absurd (cc)
     one (Local f d) v as' before left tags (suc i) c w rest wants takes at tag = rest before left tags i c w wants takes at tag
@@ -216,8 +216,8 @@ module _ (Q : ℕ → ℕ → Tag → Type 0) (program : Program) (plan : Plan) 
   pub read_is : (u : Tracing) (x : Taken) (t : Todo) (ts : List Todo) (i c : ℕ) (a : Access) (w : Tag) → u.proc.todo ≡ t ∷ ts → u.proc.status ≡ None → HasAnswers (Q (length u.events)) program u.proc u.answers
       → slice_get (new_event program plan story' p x u).event.reads i ≡ Some a → a.spot ≡ Shared c → slice_get (new_event program plan story' p x u).writers i ≡ Some w → Q (length u.events) c w
   read_is u x t ts i c a w is running had read spot tag =
-      let all : List Access = reads_of_kind (frame_of program plan u.proc) program.exprs (kind_of program t.stmt) (top_cells u.proc.frames) u.proc.answers in
-      let takes : Takes (evaluates_at program t u.proc) u.proc.answers (shared_of all) = reads_taken.statement (frame_of program plan u.proc) program.exprs (kind_of program t.stmt) (top_cells u.proc.frames) u.proc.answers in
+      let all : List Access = reads_of_kind (frame_of program plan u.proc) program.exprs (kind_of program t.stmt) (top_frame u.proc.frames).cells u.proc.answers in
+      let takes : Takes (evaluates_at program t u.proc) u.proc.answers (shared_of all) = reads_taken.statement (frame_of program plan u.proc) program.exprs (kind_of program t.stmt) (top_frame u.proc.frames).cells u.proc.answers in
       let at : slice_get (map (λ a. a.spot) all) i ≡ Some (Shared c) =
       spot_there all i a (reads_there (evaluates (need_of program plan u.proc)) all i a (sym (ap (λ todo. slice_get (event_of program plan u.proc x todo).reads i) is) ∙ read)) ∙ ap Some spot in
       let tags : slice_get (tags_of (top_tags u.activations) u.answers all) i ≡ Some w =

@@ -15,7 +15,7 @@ use Rattle.ppd_model.specs.Laws.{IsUnwritten, begins}
 use Rattle.ppd_model.specs.Schedule.{started_world}
 use Rattle.ppd_model.specs.SharedReads.{need_after}
 use Rattle.ppd_model.specs.States.{states_from}
-use Rattle.ppd_model.specs.Story.{Moment, Telling, moment_of, number_of, own_moments, own_steps, steps_of, story, tell, told}
+use Rattle.ppd_model.specs.Story.{Moment, Telling, moment_of, number_of, steps_of, story, tell, told}
 use Rattle.ppd_model.specs.Synchronizations.{kind_of_sync}
 use Rattle.ppd_model.specs.World.{change, need, writes_cell}
 use Rattle.ppd_model.proofs.WorldWords.{need_at}
@@ -56,7 +56,7 @@ nothing (s ∷ ss) (suc q) = nothing ss q
 
 -- what process p did so far
 abbrev pub did : Telling → ℕ → List Taken
-did t p = steps_of (own_moments t p)
+did t p = steps_of (get_or t.moments p [])
 
 changed_list : (m : Moment) (q p : ℕ) (ms : List (List Moment)) → (get_or (change (λ xs. xs ++ m ∷ []) q ms) p [] ≡ get_or ms p []) ⊎ ((q ≡ p) × (get_or (change (λ xs. xs ++ m ∷ []) q ms) p [] ≡ get_or ms p [] ++ m ∷ []))
 changed_list m q p [] = inl refl
@@ -91,7 +91,7 @@ module _ (program : Program) (plan : Plan) where
   did_one : (t : Telling) (q p : ℕ) → (did (tell program plan t q) p ≡ did t p) ⊎ ((q ≡ p) × (did (tell program plan t q) p ≡ did t p ++ next t q ∷ []))
   did_one t q p = elim (changed_list (moment_of program plan t q) q p t.moments) [
     | inl e ↦ inl (ap steps_of e)
-    | inr e ↦ inr (e.0, ap steps_of e.1 ∙ steps_append (own_moments t p) (moment_of program plan t q ∷ []))
+    | inr e ↦ inr (e.0, ap steps_of e.1 ∙ steps_append (get_or t.moments p []) (moment_of program plan t q ∷ []))
   ]
 
   -- no step of these writes the cell
@@ -159,7 +159,7 @@ module _ (program : Program) (plan : Plan) where
   ])
 
   module _ (budget : ℕ) where
-    pub own_is : (h : List ℕ) (p : ℕ) → own_steps (story program plan budget h) p ≡ did (told program plan budget h) p
+    pub own_is : (h : List ℕ) (p : ℕ) → get_or (story program plan budget h).steps p [] ≡ did (told program plan budget h) p
     own_is h p = map_found steps_of refl (told program plan budget h).moments p
 
     pub none_did : (p : ℕ) → did (begins program plan budget) p ≡ []
@@ -185,7 +185,7 @@ module _ (program : Program) (plan : Plan) where
         let b : length t.world.procs ≡ length t.moments = ap length (states_told program plan budget g) ∙ same_count 0 (map steps_of t.moments) ∙ length-steps t.moments in
         omega (arith, a, b)) in
         ap (λ (z : Telling). did z p) (fold-append (tell program plan) (begins program plan budget) g (p ∷ []))
-        ∙ ap steps_of (changed_own (moment_of program plan t p) p t.moments lt) ∙ steps_append (own_moments t p) (moment_of program plan t p ∷ [])
+        ∙ ap steps_of (changed_own (moment_of program plan t p) p t.moments lt) ∙ steps_append (get_or t.moments p []) (moment_of program plan t p ∷ [])
       where
         in_range : (procs : List Proc) (q : ℕ) → (need_at program plan (slice_get procs q) ≡ n.Stopped → ⊥) → q < length procs
         in_range [] q f = absurd (f refl)

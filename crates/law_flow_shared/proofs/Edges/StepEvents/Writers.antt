@@ -1,6 +1,6 @@
 -- The last writer of a cell in an edge, by the step that wrote it.
 use Rattle.std.proofs.Common.{◌≡◌, ℕ, ◌+◌, ◌<◌, ◌≤◌, ℤ, Bool, true, false, cond, List, [], ◌∷◌, ◌++◌, Option, Some, None, refl, ap, ap₂, sym, subst, ◌∙◌, arith, length, true≢false, inl, inr, ◌⊎◌, eq-eqb, ne_eqb, eqb-true, if◌then◌else◌}
-use Rattle.std.specs.Prelude.{⊤, fold, is_some, nat_eq, slice_get}
+use Rattle.std.specs.Prelude.{⊤, fold, is_some, nat_eq, slice_get, filter_map}
 use Rattle.std.proofs.lemmas.List.{append_assoc}
 use Rattle.std.proofs.lemmas.List.Sums.{fold-append}
 use Rattle.std.proofs.lemmas.Option.{none-some}
@@ -18,7 +18,7 @@ use Rattle.ppd_model.specs.Intervals.{Split}
 use Rattle.ppd_model.specs.Laws.{IsUnwritten}
 use Rattle.ppd_model.specs.SharedReads.{need_after}
 use Rattle.ppd_model.specs.Story.{Telling, story, tell, told}
-use Rattle.ppd_model.specs.Synchronizations.{Sync, kind_of_sync, numbered, sync_of, syncs_of}
+use Rattle.ppd_model.specs.Synchronizations.{Sync, kind_of_sync, numbered, sync_of}
 use Rattle.ppd_model.proofs.Accesses.{record_at}
 use Rattle.ppd_model.specs.World.{writes_cell}
 use Rattle.law_steps.proofs.StaticEdges.SharedCells.Writers.{events_in}
@@ -53,28 +53,28 @@ first_sync (x ∷ xs) = by (sync_of x) refl (first_sync xs)
     by None e (inl none') = inl (e, none')
     by None e (inr h) = inr (record { front = x ∷ h.front; step = h.step; back = h.back; are = ap (λ l. x ∷ l) h.are; none = (e, h.none); is_sync = h.is_sync })
 
-pub syncs_none : (xs : List Taken) → AreNone xs → length (syncs_of xs) ≡ 0
+pub syncs_none : (xs : List Taken) → AreNone xs → length (filter_map sync_of xs) ≡ 0
 syncs_none [] h = refl
 syncs_none (x ∷ xs) h = syncs_length x xs ∙ ap₂ (λ b k. cond b 1 0 + k) (ap is_some h.0) (syncs_none xs h.1)
 
-pub none_syncs : (xs : List Taken) → length (syncs_of xs) ≡ 0 → AreNone xs
+pub none_syncs : (xs : List Taken) → length (filter_map sync_of xs) ≡ 0 → AreNone xs
 none_syncs [] e = tt
 none_syncs (x ∷ xs) e = by (sync_of x) refl (none_syncs xs)
   where
-    both : length (syncs_of (x ∷ xs)) ≡ one_if (is_some (sync_of x)) + length (syncs_of xs)
+    both : length (filter_map sync_of (x ∷ xs)) ≡ one_if (is_some (sync_of x)) + length (filter_map sync_of xs)
     both = syncs_length x xs
 
-    by : (o : Option Sync) → sync_of x ≡ o → (length (syncs_of xs) ≡ 0 → AreNone xs) → AreNone (x ∷ xs)
+    by : (o : Option Sync) → sync_of x ≡ o → (length (filter_map sync_of xs) ≡ 0 → AreNone xs) → AreNone (x ∷ xs)
     by None f rest = (f, rest (let z : one_if (is_some (sync_of x)) ≡ 0 = ap (λ q. one_if (is_some q)) f in omega (arith, both, z, e)))
     by (Some s) f rest = absurd (let z : one_if (is_some (sync_of x)) ≡ 1 = ap (λ q. one_if (is_some q)) f in omega (arith, both, z, e))
 
-pub syncs_both : (xs ys : List Taken) → length (syncs_of (xs ++ ys)) ≡ length (syncs_of xs) + length (syncs_of ys)
-syncs_both [] ys = let z : length (syncs_of ys) ≡ 0 + length (syncs_of ys) = omega arith in z
+pub syncs_both : (xs ys : List Taken) → length (filter_map sync_of (xs ++ ys)) ≡ length (filter_map sync_of xs) + length (filter_map sync_of ys)
+syncs_both [] ys = let z : length (filter_map sync_of ys) ≡ 0 + length (filter_map sync_of ys) = omega arith in z
 syncs_both (x ∷ xs) ys =
-    let a : length (syncs_of (x ∷ (xs ++ ys))) ≡ one_if (is_some (sync_of x)) + length (syncs_of (xs ++ ys)) = syncs_length x (xs ++ ys) in
-    let b : length (syncs_of (x ∷ xs)) ≡ one_if (is_some (sync_of x)) + length (syncs_of xs) = syncs_length x xs in
-    let c : length (syncs_of (xs ++ ys)) ≡ length (syncs_of xs) + length (syncs_of ys) = syncs_both xs ys in
-    a ∙ (let z : one_if (is_some (sync_of x)) + length (syncs_of (xs ++ ys)) ≡ length (syncs_of (x ∷ xs)) + length (syncs_of ys) = omega (arith, b, c) in z)
+    let a : length (filter_map sync_of (x ∷ (xs ++ ys))) ≡ one_if (is_some (sync_of x)) + length (filter_map sync_of (xs ++ ys)) = syncs_length x (xs ++ ys) in
+    let b : length (filter_map sync_of (x ∷ xs)) ≡ one_if (is_some (sync_of x)) + length (filter_map sync_of xs) = syncs_length x xs in
+    let c : length (filter_map sync_of (xs ++ ys)) ≡ length (filter_map sync_of xs) + length (filter_map sync_of ys) = syncs_both xs ys in
+    a ∙ (let z : one_if (is_some (sync_of x)) + length (filter_map sync_of (xs ++ ys)) ≡ length (filter_map sync_of (x ∷ xs)) + length (filter_map sync_of ys) = omega (arith, b, c) in z)
 
 pub events_both : (xs ys : List Taken) → events_in (xs ++ ys) ≡ events_in xs + events_in ys
 events_both [] ys = let z : events_in ys ≡ 0 + events_in ys = omega arith in z
@@ -138,7 +138,7 @@ module _ (program : Program) (plan : Plan) (budget : ℕ) (h : List ℕ) (v : Is
   ev_quiet c before mid after e still =
       subst (λ es. AreQuiet es c (events_in before) (events_in (before ++ mid))) (sym f.events_are) (quiet_is program plan budget (story program plan budget h) q steps f.steps_own f.steps_numbered c before mid after e still)
 
-  pub ev_count : (before after : List Taken) → steps ≡ before ++ after → count_to events (events_in before) ≡ length (syncs_of before)
+  pub ev_count : (before after : List Taken) → steps ≡ before ++ after → count_to events (events_in before) ≡ length (filter_map sync_of before)
   ev_count before after e = ap (λ es. count_to es (events_in before)) f.events_are ∙ count_is program plan budget (story program plan budget h) q steps f.steps_own f.steps_numbered before after e
 
   -- the writer of the cell up to an event, since which nothing is written or synchronized
@@ -164,9 +164,9 @@ module _ (program : Program) (plan : Plan) (budget : ℕ) (h : List ℕ) (v : Is
 
 -- ---- edges of a schedule
 
-pub edge_is_count : (program : Program) (plan : Plan) (budget : ℕ) (g : List ℕ) (p : ℕ) → edge_in program plan budget g p ≡ length (syncs_of (did (told program plan budget g) p))
+pub edge_is_count : (program : Program) (plan : Plan) (budget : ℕ) (g : List ℕ) (p : ℕ) → edge_in program plan budget g p ≡ length (filter_map sync_of (did (told program plan budget g) p))
 edge_is_count program plan budget g p =
-    ap (λ (ss : List Sync). length ss) (record_at (story program plan budget g).steps p) ∙ ap (λ l. length (syncs_of l)) (own_is program plan budget g p)
+    ap (λ (ss : List Sync). length ss) (record_at (story program plan budget g).steps p) ∙ ap (λ l. length (filter_map sync_of l)) (own_is program plan budget g p)
 
 -- a step of a schedule among the steps of its process
 pub record IsWrite (program : Program) (plan : Plan) (budget : ℕ) (b after : List ℕ) (q c : ℕ) : Type 0 where

@@ -1,6 +1,6 @@
 -- An event writes a shared cell exactly where its step needs that write.
 use Rattle.std.proofs.Common.{◌≡◌, ℕ, zero, suc, ◌+◌, ℤ, Bool, true, false, nat_lt, List, [], ◌∷◌, ◌++◌, length, Option, Some, None, Ok, Err, refl, ap, sym, subst, ◌∙◌, true≢false, if◌then◌else◌}
-use Rattle.std.specs.Prelude.{nat_eq}
+use Rattle.std.specs.Prelude.{nat_eq, replicate, pos}
 use Rattle.std.proofs.lemmas.Option.{none-some}
 use Rattle.ppd_ast.specs.declared.plan.BlockKind.TheVariants as block
 use Rattle.ppd_ast.specs.declared.plan.Plan.{Plan}
@@ -14,7 +14,6 @@ use Rattle.ppd_ast.specs.Term.{term}
 use Rattle.ppd_ast.specs.Lookups.{kind_of}
 use Rattle.ppd_ast.specs.declared.limits.TheConstants.{MOST_CALLS}
 use Rattle.ppd_sem.specs.declared.asking.Pause.TheVariants.{Wants, Traps}
-use Rattle.ppd_sem.specs.declared.event.Access.{Access}
 use Rattle.ppd_sem.specs.declared.proc.Answer.{Answer}
 use Rattle.ppd_sem.specs.declared.proc.Need.{Need}
 use Rattle.ppd_sem.specs.declared.proc.Need.TheVariants as need
@@ -23,33 +22,22 @@ use Rattle.ppd_sem.specs.declared.proc.Todo.{Todo}
 use Rattle.ppd_sem.specs.Ask.{ask}
 use Rattle.ppd_sem.specs.Asked.{Asked, and_then, gives}
 use Rattle.ppd_sem.specs.Deed.{Deed, set_local, set_shared, clear, leave, invoke, send, receive, ask_deed}
-use Rattle.ppd_sem.specs.Described.{cleared, frame_of, local_write, parameters, trap_of, writes_by, is_event}
+use Rattle.ppd_sem.specs.Described.{frame_of, trap_of, writes_by, is_event}
 use Rattle.ppd_sem.proofs.EventWords.{writes_of_asked}
 use Rattle.ppd_sem.specs.Tables.{block_of, capacity_of, unit_of}
-use Rattle.ppd_sem.specs.Process.{chan_of, cost, entry_of, head_deed, need_of, need_of_call, need_of_deed, need_of_head, need_of_leaving, need_of_send, offer_of, top_cells}
+use Rattle.ppd_sem.specs.Process.{chan_of, cost, entry_of, head_deed, need_of, need_of_deed, need_of_head, need_of_leaving, need_of_send, offer_of, top_frame}
 use Rattle.ppd_sem.proofs.NeedWords.{need_by_entry, need_by_offer, need_by_status, need_of_running}
 use Rattle.ppd_model.specs.declared.tracing.Taken.{Taken}
 use Rattle.ppd_model.specs.FullTrace.{event_of}
-use Rattle.ppd_flow_model.specs.Walk.{is_shared, value_to}
+use Rattle.ppd_flow_model.specs.Walk.{value_to}
+use Rattle.ppd_sem.specs.Reads.{local_accesses}
 
 -- the value that a step of this need writes to the cell
 abbrev pub write_to : ℕ → Need → Option ℤ
 write_to c (need.Write d v) = if nat_eq c d then Some v else None
 write_to c n = None
 
-append_local : (c : ℕ) (xs ys : List Access) → value_to c xs ≡ None → value_to c ys ≡ None → value_to c (xs ++ ys) ≡ None
-append_local c [] ys h k = k
-append_local c (a ∷ xs) ys h k = by (is_shared c a.spot) refl (λ g. append_local c xs ys g k)
-  where
-    by : (b : Bool) → is_shared c a.spot ≡ b → (value_to c xs ≡ None → value_to c (xs ++ ys) ≡ None) → (if b then Some a.value else value_to c (xs ++ ys)) ≡ None
-    by true e rest = absurd (none-some a.value (sym (sym (ap (λ b. if b then Some a.value else value_to c xs) e) ∙ h)))
-    by false e rest = rest (sym (ap (λ b. if b then Some a.value else value_to c xs) e) ∙ h)
-
-cleared_local : (c frame base n : ℕ) → value_to c (cleared frame base n) ≡ None
-cleared_local c frame base zero = refl
-cleared_local c frame base (suc n) = append_local c (cleared frame base n) (local_write frame (base + n) _ ∷ []) (cleared_local c frame base n) refl
-
-parameters_local : (c frame d : ℕ) (vs : List ℤ) → value_to c (parameters frame d vs) ≡ None
+parameters_local : (c frame d : ℕ) (vs : List ℤ) → value_to c (local_accesses frame d vs) ≡ None
 parameters_local c frame d [] = refl
 parameters_local c frame d (v ∷ vs) = parameters_local c frame (d + 1) vs
 
@@ -62,8 +50,8 @@ module _ (c frame : ℕ) (a : Answer) where
   leaving plan t None left e = refl
   leaving plan t (Some b) left e = refl
 
-  calling : (plan : Plan) (f : ℕ) (s : Proc) (values : List ℤ) (into : Option ℕ) (left : List ℤ) → Fits (need_of_call plan f s) (Ok (invoke f values into, left))
-  calling plan f s values into left = by (nat_lt MOST_CALLS (s.below + length s.frames))
+  calling : (p : Program) (plan : Plan) (t f : ℕ) (s : Proc) (values : List ℤ) (into : Option ℕ) (left : List ℤ) → Fits (need_of_deed p plan t s (invoke f values into)) (Ok (invoke f values into, left))
+  calling p plan t f s values into left = by (nat_lt MOST_CALLS (s.below + length s.frames))
     where
       by : (b : Bool) → Fits (if b then need.Trap trap.Depth else need.Invoke (block_of plan (block.Function f)) (unit_of plan (start.Entry f))) (Ok (invoke f values into, left))
       by true e = refl
@@ -76,9 +64,9 @@ module _ (c frame : ℕ) (a : Answer) where
   deed_fits : (p : Program) (plan : Plan) (t : ℕ) (s : Proc) (d : Deed) (left : List ℤ) → Fits (need_of_deed p plan t s d) (Ok (d, left))
   deed_fits p plan t s (set_local d x) left e = refl
   deed_fits p plan t s (set_shared d x) left e = refl
-  deed_fits p plan t s (clear base len) left e = cleared_local c frame base len
+  deed_fits p plan t s (clear base len) left e = parameters_local c frame base (replicate len (pos 0))
   deed_fits p plan t s leave left e = leaving plan t (block_of plan (block.Loop t)) left e
-  deed_fits p plan t s (invoke f values into) left e = calling plan f s values into left e
+  deed_fits p plan t s (invoke f values into) left e = calling p plan t f s values into left e
   deed_fits p plan t s (send chan x) left e = sending plan t (capacity_of p chan) chan x left e
   deed_fits p plan t s (receive chan into) left e = refl
   deed_fits p plan t s d left e = refl
@@ -94,8 +82,8 @@ module _ (c frame : ℕ) (a : Answer) where
   sent (Err pause) d = refl
 
   -- a completion is of a send
-  by_kind : (p : Program) (s : Proc) (k : Kind) (d : ℕ) → chan_of k ≡ Some d → value_to c (writes_of_asked frame a (ask_deed p.exprs k (top_cells s.frames) s.answers)) ≡ None
-  by_kind p s (kind.Send d' e) d is = sent (ask (term p.exprs e) (top_cells s.frames) s.answers) d'
+  by_kind : (p : Program) (s : Proc) (k : Kind) (d : ℕ) → chan_of k ≡ Some d → value_to c (writes_of_asked frame a (ask_deed p.exprs k (top_frame s.frames).cells s.answers)) ≡ None
+  by_kind p s (kind.Send d' e) d is = sent (ask (term p.exprs e) (top_frame s.frames).cells s.answers) d'
   by_kind p s k d is = absurd (none-some d is)
 
   offer_fits : (p : Program) (plan : Plan) (t : Todo) (s : Proc) (o : Option ℕ) → offer_of p t ≡ o → (n : Need) → Fits n (head_deed p t s) → Fits (need_by_offer plan t.stmt o n) (head_deed p t s)

@@ -1,8 +1,9 @@
 -- The numbers of phrases have 64 bits.
 use Rattle.std.proofs.Common.{ℕ, zero, suc, ◌-◌, List, [], ◌∷◌, refl, length}
+use Rattle.ppd_lex.specs.declared.token.Kind.TheVariants as K
 use Rattle.std.specs.Prelude.{drop, ⊤}
 use Rattle.std.specs.List.{flat_map}
-use Rattle.ppd_check_names.specs.Reading.{Phrase, token, formula, goal, value, calling, changing, row, body, names, items, value_of, phrase, last, as_token, as_formula, as_goal, as_value, as_row, as_block, as_items, called, goal_formula, kind, formula_at, beyond, before, is_formula, formulas, some_change, is_semicolon}
+use Rattle.ppd_check_names.specs.Reading.{Phrase, token, formula, goal, value, calling, changing, row, body, names, items, value_of, phrase, last, as_token, as_formula, as_goal, as_value, as_row, as_block, as_items, called, goal_formula, kind, formula_at, beyond, before, is_formula, formulas, some_change, same_kind}
 use Rattle.ppd_check_names.specs.Syntax.{Formula, number, variable, element, negated, inverted, two, both, either, Goal, scalar, item, Value, plain, result, received, Simple, fresh, array, store, change, call, give_back, take, give, send, print, assert, Row, stop, simple, block, choice, repeat, count, Item, shared, shared_array, semaphore, channel, function, process}
 use Rattle.law_logs.proofs.Recording.Fit.{All, Fit, SomeFits, all_append, choose}
 
@@ -136,11 +137,11 @@ drop_fits (suc n) (p ∷ ps) h = drop_fits n ps h.1
 
 pub before_fits : (ps : List Phrase) → AllFit ps → AllFit (before ps)
 before_fits [] h = tt
-before_fits (p ∷ ps) h = choose AllFit (is_semicolon (kind p)) [] (p ∷ before ps) tt (h.0, before_fits ps h.1)
+before_fits (p ∷ ps) h = choose AllFit (same_kind K.Semicolon (kind p)) [] (p ∷ before ps) tt (h.0, before_fits ps h.1)
 
 pub beyond_fits : (ps : List Phrase) → AllFit ps → AllFit (beyond ps)
 beyond_fits [] h = tt
-beyond_fits (p ∷ ps) h = choose AllFit (is_semicolon (kind p)) ps (beyond ps) h.1 (beyond_fits ps h.1)
+beyond_fits (p ∷ ps) h = choose AllFit (same_kind K.Semicolon (kind p)) ps (beyond ps) h.1 (beyond_fits ps h.1)
 
 pub all_items_fit : (ps : List Phrase) → AllFit ps → All ItemFits (flat_map as_items ps)
 all_items_fit [] h = tt

@@ -1,5 +1,5 @@
 -- The numbers of what a tree says have 64 bits, where those of its tokens have.
-use Rattle.std.proofs.Common.{◌≡◌, zero, suc, ℤ, pos, negsuc, nat_abs, neg_ℤ, Bool, true, false, List, [], ◌∷◌, Some, None, refl, arith, if◌then◌else◌}
+use Rattle.std.proofs.Common.{◌≡◌, zero, suc, ℤ, pos, negsuc, nat_abs, neg_ℤ, Bool, true, false, List, [], ◌∷◌, Some, None, refl, arith, if◌then◌else◌, slice_index_or}
 use Rattle.std.specs.Prelude.{drop}
 use Rattle.std.proofs.lemmas.Bool.Decides.{nat_tests}
 use Rattle.ppd_lex.specs.declared.token.Token.{Token}
@@ -9,8 +9,7 @@ use Rattle.ppd_parse.specs.declared.symbol.Rule.{Rule}
 use Rattle.ppd_parse.specs.declared.symbol.Rule.TheVariants as R
 use Rattle.ppd_parse.specs.Grammar.{Shape, leaf, node, Shapes, no_shapes, shape_then}
 use Rattle.ppd_parse.specs.Leaves.{leaves, leaves_in}
-use Rattle.ppd_parse.specs.Stack.{is_assign}
-use Rattle.ppd_check_names.specs.Reading.{Phrase, token, goal, calling, changing, body, value_of, phrase, last, as_token, as_value, as_row, called, kind, name_at, name_of, number_behind, formula_at, number_at, beyond, before, joined, unary, formulas, goal_of, value_said, local_item, changed, followed, rows, locals, for_start, for_test, for_row, some_change, returned, worded, statement, shared_item, numbered, made, said, all_said, is_semicolon, is_bracket, is_minus, is_int, is_recv, is_name}
+use Rattle.ppd_check_names.specs.Reading.{Phrase, token, goal, calling, changing, body, value_of, phrase, last, as_token, as_value, as_row, called, kind, name_at, name_of, number_behind, formula_at, number_at, beyond, before, joined, unary, formulas, local_item, changed, followed, rows, locals, for_start, for_row, some_change, returned, worded, statement, shared_item, numbered, made, said, all_said, same_kind, as_goal}
 use Rattle.ppd_check_names.specs.Syntax.{Formula, number, scalar, item, plain, received, fresh, array, Row, stop, simple, block, choice, repeat, count, Item, shared, shared_array, semaphore, channel}
 use Rattle.law_logs.proofs.Recording.Fit.{All, Fit, SomeFits, all_left, all_right, choose}
 use Rattle.law_logs.proofs.Recording.Constants.Phrases.{FormulaFits, GoalFits, ValueFits, SimpleFits, RowFits, ItemFits, PhraseFits, token_fits, goal_fits, called_fits, value_fits, row_fits, block_fits, change_fits, AllFit, at_fits, last_fits, formula_at_fits, drop_fits, before_fits, beyond_fits, all_items_fit, formulas_fit}
@@ -28,17 +27,17 @@ unary_fits ps K.NotMark e h = rw (e) (formula_at_fits ps 1 h)
 unary_fits ps K.Number e h = rw (e) (token_fits (phrase ps 0) (at_fits ps 0 h))
 unary_fits ps k e h = rw (e) (formula_at_fits ps 0 h)
 
-goal_of_fits : (ps : List Phrase) → AllFit ps → GoalFits (goal_of ps)
-goal_of_fits ps h = choose GoalFits (is_bracket (kind (phrase ps 1))) (item (name_at ps 0) (formula_at ps 2)) (scalar (name_at ps 0)) (formula_at_fits ps 2 h) tt
+goal_of_fits : (ps : List Phrase) → AllFit ps → GoalFits (as_goal (made R.Place ps))
+goal_of_fits ps h = choose GoalFits (same_kind K.LeftBracket (kind (phrase ps 1))) (item (name_at ps 0) (formula_at ps 2)) (scalar (name_at ps 0)) (formula_at_fits ps 2 h) tt
 
-value_said_fits : (ps : List Phrase) → AllFit ps → ValueFits (value_said ps)
-value_said_fits ps h = choose ValueFits (is_recv (kind (phrase ps 0))) (received (name_at ps 2)) (called (phrase ps 0)) tt (called_fits (phrase ps 0) (at_fits ps 0 h))
+value_said_fits : (ps : List Phrase) → AllFit ps → ValueFits (as_value (made R.Value ps))
+value_said_fits ps h = choose ValueFits (same_kind K.RecvWord (kind (phrase ps 0))) (received (name_at ps 2)) (called (phrase ps 0)) tt (called_fits (phrase ps 0) (at_fits ps 0 h))
 
 local_item_fits : (ps : List Phrase) → AllFit ps → SimpleFits (local_item ps)
 local_item_fits ps h =
-    choose SimpleFits (is_bracket (kind (phrase ps 1))) (array (name_at ps 0) (number_at ps 2))
-    (if is_assign (kind (phrase ps 1)) then fresh (name_at ps 0) (as_value (phrase ps 2)) else fresh (name_at ps 0) (plain (number (pos 0)))) tt
-    (choose SimpleFits (is_assign (kind (phrase ps 1))) (fresh (name_at ps 0) (as_value (phrase ps 2))) (fresh (name_at ps 0) (plain (number (pos 0))))
+    choose SimpleFits (same_kind K.LeftBracket (kind (phrase ps 1))) (array (name_at ps 0) (number_at ps 2))
+    (if same_kind K.AssignMark (kind (phrase ps 1)) then fresh (name_at ps 0) (as_value (phrase ps 2)) else fresh (name_at ps 0) (plain (number (pos 0)))) tt
+    (choose SimpleFits (same_kind K.AssignMark (kind (phrase ps 1))) (fresh (name_at ps 0) (as_value (phrase ps 2))) (fresh (name_at ps 0) (plain (number (pos 0))))
     (value_fits (phrase ps 2) (at_fits ps 2 h)) refl)
 
 changed_fits : (ps : List Phrase) (k : Kind) → kind (phrase ps 1) ≡ k → AllFit ps → SimpleFits (changed ps)
@@ -65,13 +64,13 @@ locals_fit [] h = tt
 locals_fit (changing s ∷ ps) h = (h.0, locals_fit ps h.1)
 locals_fit (p ∷ ps) h = locals_fit ps h.1
 
-test_fits : (fs : List Formula) → All FormulaFits fs → FormulaFits (for_test fs)
+test_fits : (fs : List Formula) → All FormulaFits fs → FormulaFits (slice_index_or fs 0 (number (pos 1)))
 test_fits [] h = refl
 test_fits (f ∷ fs) h = h.0
 
 start_fits : (ps : List Phrase) → AllFit ps → SomeFits SimpleFits (for_start ps)
 start_fits ps h =
-    choose (SomeFits SimpleFits) (is_int (kind (phrase ps 0))) (Some (fresh (name_at ps 1) (plain (formula_at ps 3)))) (some_change (phrase ps 0)) (formula_at_fits ps 3 h)
+    choose (SomeFits SimpleFits) (same_kind K.IntWord (kind (phrase ps 0))) (Some (fresh (name_at ps 1) (plain (formula_at ps 3)))) (some_change (phrase ps 0)) (formula_at_fits ps 3 h)
     (change_fits (phrase ps 0) (at_fits ps 0 h))
 
 for_fits : (ps : List Phrase) → AllFit ps → RowFits (for_row ps)
@@ -86,7 +85,7 @@ for_fits ps h =
     )
 
 returned_fits : (p : Phrase) → PhraseFits p → SomeFits ValueFits (returned p)
-returned_fits p h = by (is_semicolon (kind p))
+returned_fits p h = by (same_kind K.Semicolon (kind p))
   where
     by : (b : Bool) → SomeFits ValueFits (if b then None else Some (as_value p))
     by true = tt
@@ -122,20 +121,20 @@ shared_item_fits : (ps : List Phrase) → AllFit ps → ItemFits (shared_item ps
 shared_item_fits ps h =
     let minus : Item = shared (name_at ps 0) (neg_ℤ (pos (number_at ps 3).value)) in
     let plus : Item = shared (name_at ps 0) (value_of (as_token (phrase ps 2)).kind) in
-    choose ItemFits (is_bracket (kind (phrase ps 1))) (shared_array (name_at ps 0) (number_at ps 2)) (if is_minus (kind (phrase ps 2)) then minus else plus) tt
-    (choose ItemFits (is_minus (kind (phrase ps 2))) minus plus (negative_fits (value_of (as_token (phrase ps 3)).kind) (token_fits (phrase ps 3) (at_fits ps 3 h)))
+    choose ItemFits (same_kind K.LeftBracket (kind (phrase ps 1))) (shared_array (name_at ps 0) (number_at ps 2)) (if same_kind K.MinusMark (kind (phrase ps 2)) then minus else plus) tt
+    (choose ItemFits (same_kind K.MinusMark (kind (phrase ps 2))) minus plus (negative_fits (value_of (as_token (phrase ps 3)).kind) (token_fits (phrase ps 3) (at_fits ps 3 h)))
     (token_fits (phrase ps 2) (at_fits ps 2 h)))
 
 sems_fit : (ps : List Phrase) → All ItemFits (numbered semaphore ps)
 sems_fit [] = tt
 sems_fit (p ∷ ps) =
-    choose (All ItemFits) (is_name (kind p)) (semaphore (name_of (as_token p)) (number_behind (name_of (as_token p)) ps) ∷ numbered semaphore ps) (numbered semaphore ps)
+    choose (All ItemFits) (same_kind K.Name (kind p)) (semaphore (name_of (as_token p)) (number_behind (name_of (as_token p)) ps) ∷ numbered semaphore ps) (numbered semaphore ps)
     (tt, sems_fit ps) (sems_fit ps)
 
 chans_fit : (ps : List Phrase) → All ItemFits (numbered channel ps)
 chans_fit [] = tt
 chans_fit (p ∷ ps) =
-    choose (All ItemFits) (is_name (kind p)) (channel (name_of (as_token p)) (number_behind (name_of (as_token p)) ps) ∷ numbered channel ps) (numbered channel ps)
+    choose (All ItemFits) (same_kind K.Name (kind p)) (channel (name_of (as_token p)) (number_behind (name_of (as_token p)) ps) ∷ numbered channel ps) (numbered channel ps)
     (tt, chans_fit ps) (chans_fit ps)
 
 made_fits : (r : Rule) (ps : List Phrase) → AllFit ps → PhraseFits (made r ps)

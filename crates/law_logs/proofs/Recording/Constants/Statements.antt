@@ -4,14 +4,13 @@ use Rattle.ppd_ast.specs.Term as T
 use Rattle.ppd_ast.specs.Term.{Term}
 use Rattle.ppd_check_stmts.specs.Code as C
 use Rattle.ppd_check_stmts.specs.Code.{Act, Code, done, act, choice, loop, join, acts, Spot}
-use Rattle.ppd_check_stmts.specs.Expressions.{read_element, read_scalar, term_of}
+use Rattle.ppd_check_stmts.specs.Expressions.{read, term_of}
 use Rattle.ppd_check_names.specs.Names.{Scope, meaning}
 use Rattle.ppd_check_names.specs.declared.meaning.Meaning.{Meaning}
 use Rattle.ppd_check_names.specs.declared.meaning.Meaning.TheVariants as N
 use Rattle.ppd_check_names.specs.Reading.{goal_formula}
-use Rattle.ppd_check_stmts.specs.Statements.{acts_of, after, after_row, with_scopes_of, code_of, opened, put, return_acts, row_code, spot, spot_of, store_acts}
+use Rattle.ppd_check_stmts.specs.Statements.{acts_of, after, after_row, with_scopes_of, code_of, opened, put, row_code, spot, spot_of, store_acts, code_of_any}
 use Rattle.ppd_check_stmts.proofs.Vocabulary.{after_any}
-use Rattle.ppd_check_stmts.specs.Plain.{code_of_any}
 use Rattle.ppd_check_names.specs.Frames.{declared}
 use Rattle.ppd_check_names.specs.Syntax.{Formula, number, variable, element, negated, inverted, two, both, either, Goal, Value, plain, result, received, Simple, fresh, array, store, change, call, give_back, take, give, send, print, assert, Row, stop, simple, block, choice as choosing, repeat, count}
 use Rattle.ppd_check_stmts.specs.Table.{act_terms, spot_terms, terms}
@@ -22,12 +21,12 @@ use Rattle.law_logs.proofs.Recording.Terms.{TermFits}
 
 -- ---- terms
 
-pub scalar_term : (m : Option Meaning) → TermFits (read_scalar m)
+pub scalar_term : (m : Option Meaning) → TermFits (read m None)
 scalar_term (Some (N.Local c None)) = tt
 scalar_term (Some (N.Shared c None)) = tt
 scalar_term _ = refl
 
-pub element_term : (m : Option Meaning) (i : Term) → TermFits i → TermFits (read_element m i)
+pub element_term : (m : Option Meaning) (i : Term) → TermFits i → TermFits (read m (Some i))
 element_term (Some (N.Local base (Some n))) i h = h
 element_term (Some (N.Shared base (Some n))) i h = h
 element_term _ i h = h
@@ -77,19 +76,16 @@ store_fits m (plain e) f h k = (set_fits m (term_of f.scopes e) h (term_fits f.s
 store_fits (C.local c) v f h k = (put_fits f.scopes c v k, tt)
 store_fits m v f h k = (put_fits f.scopes f.cells v k, (set_fits m (T.local f.cells) h tt, tt))
 
-pub return_fits : (v : Option Value) (f : Frame) → SomeFits ValueFits v → All ActFits (return_acts v f)
-return_fits None f h = (tt, tt)
-return_fits (Some (plain e)) f h = ((term_fits f.scopes e h, tt), tt)
-return_fits (Some v) f h = (put_fits f.scopes f.cells v h, ((tt, tt), tt))
-
 pub acts_fit : (s : Simple) (f : Frame) → SimpleFits s → All ActFits (acts_of s f)
-acts_fit (fresh x v) f h = (put_fits (declared x None f).scopes f.cells v h, tt)
+acts_fit (fresh x v) f h = (put_fits (declared None f x).scopes f.cells v h, tt)
 acts_fit (array x n) f h = (tt, tt)
 acts_fit (store g v) f h = store_fits (spot_of f.scopes g) v f (goal_spot f.scopes g h.0) h.1
 acts_fit (change g op e) f h =
     (set_fits (spot_of f.scopes g) (T.two op (term_of f.scopes (goal_formula g)) (term_of f.scopes e)) (goal_spot f.scopes g h.0) (term_fits f.scopes (goal_formula g) (goal_formula_fits g h.0), term_fits f.scopes e h.1), tt)
 acts_fit (call g args) f h = (terms_fit f.scopes args h, tt)
-acts_fit (give_back p v) f h = return_fits v f h
+acts_fit (give_back p None) f h = (tt, tt)
+acts_fit (give_back p (Some (plain e))) f h = ((term_fits f.scopes e h, tt), tt)
+acts_fit (give_back p (Some v)) f h = (put_fits f.scopes f.cells v h, ((tt, tt), tt))
 acts_fit (take p x) f h = (tt, tt)
 acts_fit (give p x) f h = (tt, tt)
 acts_fit (send p x e) f h = ((term_fits f.scopes e h, tt), tt)

@@ -1,9 +1,9 @@
 -- The entries that a step writes are lawful.
-use Rattle.std.proofs.Common.{◌≡◌, ℕ, ◌<◌, ◌≤◌, ◌^◌, ℤ, true, false, Bool, List, [], ◌∷◌, ◌++◌, Option, Some, None, refl, sym, ◌∙◌, subst, length, map, arith, w64, FitsSigned, if◌then◌else◌}
-use Rattle.std.specs.Prelude.{nat_eq, nat_le, option_to_list}
-use Rattle.std.specs.List.{find}
-use Rattle.std.proofs.lemmas.Bool.Decides.{nat_tests}
-use Rattle.std.proofs.lemmas.List.{length-map}
+use Rattle.law_logs.proofs.Recording.Fit.{All, Fit, SomeFits, all_append, all_more}
+use Rattle.law_logs.proofs.Recording.Logs.Numbers.{NeedNumbered, Small, block_small, calls, loop_postlog, loop_prelog}
+use Rattle.law_logs.proofs.Recording.Logs.Rows.{IsRow, row_lawful}
+use Rattle.law_logs.proofs.Recording.Values.Kept.{LocalsFit, NeedFits, arguments_fit, cells_fit, result_fits}
+use Rattle.law_logs.specs.Recording.Values.{IsConstantOf64Bits}
 use Rattle.ppd_ast.specs.Valid.{IsValid}
 use Rattle.ppd_ast.specs.ValidPlan.{IsValidPlan}
 use Rattle.ppd_ast.specs.declared.limits.TheConstants.{MOST_SHARED_CELLS}
@@ -15,32 +15,31 @@ use Rattle.ppd_ast.specs.declared.status.Status.TheVariants as status
 use Rattle.ppd_ast.specs.declared.status.SyncKind.{SyncKind}
 use Rattle.ppd_ast.specs.declared.status.SyncKind.TheVariants as kind
 use Rattle.ppd_ast.specs.declared.status.Trap.TheVariants as trap
+use Rattle.ppd_codec.specs.Format.{an_entry, numbered as numbered_form}
+use Rattle.ppd_codec.specs.Recordings.{facts_of}
+use Rattle.ppd_codec_fields.specs.Fields.{fits_kind, kind_code, kinds, status_code, statuses}
 use Rattle.ppd_entry.specs.declared.entry.Entry.{Entry}
 use Rattle.ppd_entry.specs.declared.entry.Entry.TheVariants as entry
+use Rattle.ppd_model.specs.Logs.{block_entries, ends, entries_of, passed_value, status_of, syncs, units}
+use Rattle.ppd_model.specs.Marks.{Mark, closed, opened}
+use Rattle.ppd_model.specs.Story.{Moment, unit_started}
+use Rattle.ppd_model.specs.Synchronizations.{kind_of_sync, numbered, sync_of}
+use Rattle.ppd_model.specs.declared.state.Logging.{Logging}
+use Rattle.ppd_model.specs.declared.tracing.Taken.{Taken}
+use Rattle.ppd_sem.proofs.Arithmetic.{true-fits}
+use Rattle.ppd_sem.proofs.EventWords.{result_of_head}
+use Rattle.ppd_sem.specs.Blocks.{postlog_cells, prelog_cells}
+use Rattle.ppd_sem.specs.Laws.{NamesThere}
+use Rattle.ppd_sem.specs.Process.{top_frame, value_of}
 use Rattle.ppd_sem.specs.declared.proc.Answer.{Answer}
 use Rattle.ppd_sem.specs.declared.proc.Need.{Need}
 use Rattle.ppd_sem.specs.declared.proc.Need.TheVariants as n
 use Rattle.ppd_sem.specs.declared.proc.Proc.{Proc}
-use Rattle.ppd_sem.specs.Ask.{cell_of}
-use Rattle.ppd_sem.specs.Blocks.{postlog_cells, prelog_cells}
-use Rattle.ppd_sem.specs.Laws.{NamesThere}
-use Rattle.ppd_sem.proofs.EventWords.{result_of_head}
-use Rattle.ppd_sem.specs.Process.{top_cells, value_of}
-use Rattle.ppd_sem.proofs.Arithmetic.{true-fits}
-use Rattle.ppd_model.specs.declared.state.Logging.{Logging}
-use Rattle.ppd_model.specs.Logs.{ends, entries_of, passed_value, postlogs, prelogs, status_of, syncs, units}
-use Rattle.ppd_model.specs.Marks.{Mark, closed, opened}
-use Rattle.ppd_model.specs.declared.tracing.Taken.{Taken}
-use Rattle.ppd_model.specs.Story.{Moment, unit_started}
-use Rattle.ppd_model.specs.Synchronizations.{kind_of_sync, numbered, sync_of}
-use Rattle.ppd_codec_fields.specs.Fields.{fits_kind, kind_code, kinds, status_code, statuses}
-use Rattle.ppd_codec.specs.Format.{an_entry, numbered as numbered_form}
-use Rattle.ppd_codec.specs.Recordings.{facts_of, version_of}
-use Rattle.law_logs.specs.Recording.Values.{IsConstantOf64Bits}
-use Rattle.law_logs.proofs.Recording.Fit.{All, Fit, SomeFits, all_append, all_more}
-use Rattle.law_logs.proofs.Recording.Values.Kept.{LocalsFit, NeedFits, arguments_fit, cells_fit, result_fits}
-use Rattle.law_logs.proofs.Recording.Logs.Numbers.{NeedNumbered, Small, block_small, calls, loop_postlog, loop_prelog}
-use Rattle.law_logs.proofs.Recording.Logs.Rows.{IsRow, row_lawful}
+use Rattle.std.proofs.Common.{Bool, FitsSigned, List, None, Option, Some, [], arith, false, if◌then◌else◌, length, map, refl, subst, sym, true, w64, ℕ, ℤ, ◌++◌, ◌<◌, ◌^◌, ◌∙◌, ◌∷◌, ◌≡◌, ◌≤◌}
+use Rattle.std.proofs.lemmas.Bool.Decides.{nat_tests}
+use Rattle.std.proofs.lemmas.List.{length-map}
+use Rattle.std.specs.List.{find}
+use Rattle.std.specs.Prelude.{get_or, nat_eq, nat_le, option_to_list, pos}
 
 abbrev coded : {A : Type 0} → (A → ℕ) → List A → ℕ → Option A
 coded code all n = find (λ x. nat_eq (code x) n) all
@@ -109,12 +108,12 @@ module _ (program : Program) (plan : Plan) (v : IsValid program) (w : IsValidPla
   abbrev pub AreRows : Logging → Type 0
   AreRows l = IsRow (length program.starts) 0 l.reads × IsRow (length program.starts) 0 l.writes
 
-  sync_lawful : (k : SyncKind) (o j : ℕ) (x : ℤ) (l : Logging) → (k ≡ kind.Done → nat_eq (version_of program.chans) 2 ≡ true) → o < 2 ^ 8 → 1 ≤ j → j < 2 ^ 32 → Fit x → fits_kind k x ≡ true → AreRows l
+  sync_lawful : (k : SyncKind) (o j : ℕ) (x : ℤ) (l : Logging) → (k ≡ kind.Done → nat_eq (facts_of program).version 2 ≡ true) → o < 2 ^ 8 → 1 ≤ j → j < 2 ^ 32 → Fit x → fits_kind k x ≡ true → AreRows l
       → IsLawful (entry.Sync k o j x l.reads l.writes)
   sync_lawful k o j x l done object least most fit fits rows =
       let one : nat_le 1 j ≡ true = grind (arith, nat_tests) in (
         (omega arith, refl),
-        (kind_lawful (version_of program.chans) k done, (object, ((most, one), ((true-fits x fit, fits), (row_lawful (length program.starts) l.reads few rows.0, row_lawful (length program.starts) l.writes few rows.1))))),
+        (kind_lawful (facts_of program).version k done, (object, ((most, one), ((true-fits x fit, fits), (row_lawful (length program.starts) l.reads few rows.0, row_lawful (length program.starts) l.writes few rows.1))))),
       )
 
   pub end_lawful : (s : Status) (l : Logging) → l.rest < 2 ^ 32 → AreRows l → IsLawful (entry.End s l.rest l.reads l.writes)
@@ -125,16 +124,16 @@ module _ (program : Program) (plan : Plan) (v : IsValid program) (w : IsValidPla
   abbrev MarkFits : Mark → Type 0
   MarkFits m = Small m.block × Small (length m.values) × All Fit m.values
 
-  prelogs_lawful : (o : Option Mark) → SomeFits MarkFits o → All IsLawful (prelogs o)
+  prelogs_lawful : (o : Option Mark) → SomeFits MarkFits o → All IsLawful (block_entries entry.Prelog o)
   prelogs_lawful None h = tt
   prelogs_lawful (Some m) h = (prelog_lawful m.block m.values h.0 h.1 h.2, tt)
 
-  postlogs_lawful : (o : Option Mark) → SomeFits MarkFits o → All IsLawful (postlogs o)
+  postlogs_lawful : (o : Option Mark) → SomeFits MarkFits o → All IsLawful (block_entries entry.Postlog o)
   postlogs_lawful None h = tt
   postlogs_lawful (Some m) h = (postlog_lawful m.block m.values h.0 h.1 h.2, tt)
 
-  many : (s : Proc) (cs : List ℕ) → length cs < 2 ^ 16 → Small (length (map (cell_of (top_cells s.frames)) cs))
-  many s cs lt = subst (λ k. k < 2 ^ 16) (sym (length-map cs (cell_of (top_cells s.frames)))) lt
+  many : (s : Proc) (cs : List ℕ) → length cs < 2 ^ 16 → Small (length (map (λ c. get_or (top_frame s.frames).cells c (pos 0)) cs))
+  many s cs lt = subst (λ k. k < 2 ^ 16) (sym (length-map cs (λ c. get_or (top_frame s.frames).cells c (pos 0)))) lt
 
   pub short : Small 0
   short = omega arith
@@ -178,7 +177,7 @@ module _ (program : Program) (plan : Plan) (v : IsValid program) (w : IsValidPla
 
   -- ---- synchronizations
 
-  sync_of_lawful : (l : Logging) (x : Taken) (k : SyncKind) (o : ℕ) (number : Option ℕ) → (k ≡ kind.Done → nat_eq (version_of program.chans) 2 ≡ true) → o < 2 ^ 8
+  sync_of_lawful : (l : Logging) (x : Taken) (k : SyncKind) (o : ℕ) (number : Option ℕ) → (k ≡ kind.Done → nat_eq (facts_of program).version 2 ≡ true) → o < 2 ^ 8
       → SomeFits (λ j. (1 ≤ j) × (j < 2 ^ 32)) number → Fit (passed_value x.need x.answer) → fits_kind k (passed_value x.need x.answer) ≡ true → AreRows l
       → All IsLawful (syncs l x (numbered (Some (k, o)) number))
   sync_of_lawful l x k o None done object number fit fits rows = tt
@@ -188,7 +187,7 @@ module _ (program : Program) (plan : Plan) (v : IsValid program) (w : IsValidPla
   taken need a number = record { need = need; answer = a; writer = None; number = number }
 
   syncs_lawful : (l : Logging) (need : Need) (a : Answer) (number : Option ℕ) → NeedFits Small program plan table (calls program plan v w) short need → Fit (value_of a) → NamesThere program need
-      → ((c u : ℕ) → need ≡ n.Done c u → nat_eq (version_of program.chans) 2 ≡ true) → SomeFits (λ j. (1 ≤ j) × (j < 2 ^ 32)) number → AreRows l
+      → ((c u : ℕ) → need ≡ n.Done c u → nat_eq (facts_of program).version 2 ≡ true) → SomeFits (λ j. (1 ≤ j) × (j < 2 ^ 32)) number → AreRows l
       → All IsLawful (syncs l (record { need = need; answer = a; writer = None; number = number }) (numbered (kind_of_sync need) number))
   syncs_lawful l (n.P o u) a number fit af there done k rows = sync_of_lawful l (taken (n.P o u) a number) kind.P o number (λ e. absurd cc) (omega (arith, there, v.limits.sem_count)) k refl refl rows
   syncs_lawful l (n.V o u) a number fit af there done k rows = sync_of_lawful l (taken (n.V o u) a number) kind.V o number (λ e. absurd cc) (omega (arith, there, v.limits.sem_count)) k refl refl rows
@@ -213,7 +212,7 @@ module _ (program : Program) (plan : Plan) (v : IsValid program) (w : IsValidPla
     pub given : Fit (value_of a)
     pub numbers : NeedNumbered program plan v w need
     pub there : NamesThere program need
-    pub done : (c u : ℕ) → need ≡ n.Done c u → nat_eq (version_of program.chans) 2 ≡ true
+    pub done : (c u : ℕ) → need ≡ n.Done c u → nat_eq (facts_of program).version 2 ≡ true
     pub in_range : SomeFits (λ j. (1 ≤ j) × (j < 2 ^ 32)) number
     pub few_values : length vs ≤ MOST_SHARED_CELLS
     pub unit_values : All Fit vs
@@ -223,9 +222,9 @@ module _ (program : Program) (plan : Plan) (v : IsValid program) (w : IsValidPla
 
   pub new_lawful : (l : Logging) (need : Need) (a : Answer) (number : Option ℕ) (vs : List ℤ) → IsReady l need a number vs → All IsLawful (entries_of program plan l (moment need a number vs))
   new_lawful l need a number vs r =
-      let p : List Entry = prelogs (opened program plan l.proc need) in
+      let p : List Entry = block_entries entry.Prelog (opened program plan l.proc need) in
       let s : List Entry = syncs l (moment need a number vs).taken (sync_of (moment need a number vs).taken) in
-      let q : List Entry = postlogs (closed program plan l.proc need) in
+      let q : List Entry = block_entries entry.Postlog (closed program plan l.proc need) in
       let u : List Entry = units (unit_started need) vs in
       let e : List Entry = ends l (status_of need) in
       all_append IsLawful (p ++ s ++ q ++ u) e

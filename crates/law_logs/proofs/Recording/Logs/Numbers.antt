@@ -1,14 +1,12 @@
 -- The blocks, units and lists of values of what a step needs have numbers and lengths of 16 bits.
-use Rattle.std.proofs.Common.{◌≡◌, ℕ, zero, suc, ◌+◌, ◌<◌, ◌≤◌, ◌^◌, ℤ, true, false, Bool, List, [], ◌∷◌, Option, Some, None, Ok, Err, refl, sym, ◌∙◌, subst, length, get_or, arith, true≢false, if◌then◌else◌}
-use Rattle.std.specs.Prelude.{IsSomeAnd, slice_get, nat_lt, ⊤}
-use Rattle.std.specs.List.{position}
-use Rattle.std.specs.List as L
-use Rattle.std.specs.List.Sorted.{IsStrictlyIncreasing}
-use Rattle.std.proofs.lemmas.List.Quantifiers.{position-Some}
-use Rattle.std.proofs.lemmas.Option.{none-some, slice_get-get_or}
+use Rattle.law_logs.proofs.Recording.Fit.{SomeFits}
+use Rattle.law_logs.proofs.Recording.Values.Asked.{CallIs}
+use Rattle.ppd_ast.proofs.ValidLaws.{slice_get_below as is_below, some_and}
+use Rattle.ppd_ast.proofs.Vocabulary.{kind_of_stmt}
+use Rattle.ppd_ast.specs.Lookups.{kind_of, no_body}
 use Rattle.ppd_ast.specs.Valid.{IsValid}
 use Rattle.ppd_ast.specs.ValidPlan.{AreCells, IsBlockOf, IsLoopBlock, IsValidPlan}
-use Rattle.ppd_ast.specs.declared.limits.TheConstants.{MOST_SHARED_CELLS, MOST_CALLS}
+use Rattle.ppd_ast.specs.declared.limits.TheConstants.{MOST_CALLS, MOST_SHARED_CELLS}
 use Rattle.ppd_ast.specs.declared.plan.Block.{Block}
 use Rattle.ppd_ast.specs.declared.plan.BlockKind.{BlockKind}
 use Rattle.ppd_ast.specs.declared.plan.BlockKind.TheVariants as block
@@ -22,29 +20,31 @@ use Rattle.ppd_ast.specs.declared.program.Kind.TheVariants as kind
 use Rattle.ppd_ast.specs.declared.program.Program.{Program}
 use Rattle.ppd_ast.specs.declared.program.Stmt.{Stmt}
 use Rattle.ppd_ast.specs.declared.status.Status.{Status}
-use Rattle.ppd_ast.specs.Lookups.{kind_of}
-use Rattle.ppd_ast.proofs.Vocabulary.{kind_of_stmt}
-use Rattle.ppd_ast.proofs.ValidLaws.{some_and, slice_get_below as is_below}
-use Rattle.ppd_sem.specs.declared.asking.Pause.TheVariants.{Wants, Traps}
+use Rattle.ppd_model.proofs.Changes.{some}
+use Rattle.ppd_sem.proofs.Kept.{There, size_small, there_at}
+use Rattle.ppd_sem.proofs.NeedWords.{need_by_entry, need_by_offer, need_of_running}
+use Rattle.ppd_sem.proofs.Progress.{need_at_status}
+use Rattle.ppd_sem.proofs.TableWords.{or_zero, postlog_in, prelog_in}
+use Rattle.ppd_sem.proofs.Validity.{valid-numbered, valid-runnable}
+use Rattle.ppd_sem.specs.Asked.{Asked}
+use Rattle.ppd_sem.specs.Blocks.{postlog_cells, prelog_cells}
+use Rattle.ppd_sem.specs.Deed.{Deed, back, branch, clear, finish, give, invoke, leave, pass, print, receive, send, set_local, set_shared, take, turn}
+use Rattle.ppd_sem.specs.Process.{call_unit, entry_of, head_deed, loop_of, need_of, need_of_asked, need_of_deed, need_of_leaving, need_of_send, offer_of, top_frame}
+use Rattle.ppd_sem.specs.Runs.{IsNumbered, IsRunnable, IsRunnableStmt, LeadsOn, size_of}
+use Rattle.ppd_sem.specs.Tables.{block_of, capacity_of, same_block, same_start, unit_of}
+use Rattle.ppd_sem.specs.declared.asking.Pause.TheVariants.{Traps, Wants}
 use Rattle.ppd_sem.specs.declared.proc.Need.{Need}
 use Rattle.ppd_sem.specs.declared.proc.Need.TheVariants as n
 use Rattle.ppd_sem.specs.declared.proc.Proc.{Proc}
 use Rattle.ppd_sem.specs.declared.proc.Todo.{Todo}
-use Rattle.ppd_sem.specs.Asked.{Asked}
-use Rattle.ppd_sem.specs.Blocks.{postlog_cells, prelog_cells}
-use Rattle.ppd_sem.proofs.TableWords.{or_zero, postlog_in, prelog_in}
-use Rattle.ppd_sem.specs.Deed.{Deed, set_local, set_shared, clear, branch, turn, leave, invoke, back, take, give, send, receive, print, pass, finish}
-use Rattle.ppd_sem.specs.Process.{call_unit, entry_of, head_deed, loop_of, need_of, need_of_asked, need_of_deed, need_of_leaving, need_of_send, offer_of, top_body, top_call}
-use Rattle.ppd_sem.proofs.NeedWords.{need_by_entry, need_by_offer, need_of_running}
-use Rattle.ppd_sem.specs.Runs.{IsNumbered, IsRunnable, IsRunnableStmt, LeadsOn, size_if, size_of}
-use Rattle.ppd_sem.specs.Tables.{block_of, capacity_of, same_block, same_start, unit_of}
-use Rattle.ppd_sem.proofs.Kept.{There, size_small, there_at}
-use Rattle.ppd_sem.proofs.Progress.{need_at_status}
-use Rattle.ppd_sem.proofs.Validity.{valid-numbered, valid-runnable}
-use Rattle.ppd_model.specs.Story.{cells_of_unit}
-use Rattle.ppd_model.proofs.Changes.{some}
-use Rattle.law_logs.proofs.Recording.Values.Asked.{CallIs}
-use Rattle.law_logs.proofs.Recording.Fit.{SomeFits}
+use Rattle.std.proofs.Common.{Bool, Err, List, None, Ok, Option, Some, [], arith, false, get_or, if◌then◌else◌, length, refl, subst, suc, sym, true, true≢false, zero, ℕ, ℤ, ◌+◌, ◌<◌, ◌^◌, ◌∙◌, ◌∷◌, ◌≡◌, ◌≤◌}
+use Rattle.std.proofs.lemmas.List.Quantifiers.{position-Some}
+use Rattle.std.proofs.lemmas.Option.{none-some, slice_get-get_or}
+use Rattle.std.specs.List as L
+use Rattle.std.specs.List.{position}
+use Rattle.std.specs.List.Sorted.{IsStrictlyIncreasing}
+use Rattle.std.specs.Option.{option_map_or}
+use Rattle.std.specs.Prelude.{IsSomeAnd, nat_lt, slice_get, unwrap_or, ⊤}
 
 abbrev pub Small : ℕ → Type 0
 Small k = k < 2 ^ 16
@@ -129,7 +129,7 @@ module _ (program : Program) (plan : Plan) (v : IsValid program) (w : IsValidPla
   loop_block t (block.Loop q) x h e =
       let s = some_and (λ (s : Stmt). IsSomeAnd (slice_get program.bodies s.body) (λ b. IsLoopBlock b.cells x)) (slice_get program.stmts q) h in
       let b = some_and (λ (b : Body). IsLoopBlock b.cells x) (slice_get program.bodies s.0.body) s.2 in
-      let small : b.0.cells < 2 ^ 16 = subst (λ o. size_if o < 2 ^ 16) b.1 (size_small program s.0.body runs) in
+      let small : b.0.cells < 2 ^ 16 = subst (λ o. (unwrap_or o no_body).cells < 2 ^ 16) b.1 (size_small program s.0.body runs) in
       record { prelog = omega (arith, small, few_cells b.0.cells x.prelog b.2.prelog); postlog = omega (arith, small, few_cells b.0.cells x.postlog b.2.postlog) }
 
   pub loop_prelog : (t b : ℕ) → block_of plan (block.Loop t) ≡ Some b → length (prelog_cells plan b) < 2 ^ 16
@@ -142,10 +142,10 @@ module _ (program : Program) (plan : Plan) (v : IsValid program) (w : IsValidPla
       let f = found (λ (x : Block). same_block x.kind (block.Loop t)) (λ x. IsBlockOf program x.kind x) plan.blocks b w.blocks e in
       subst (λ o. length (postlog_in o) < 2 ^ 16) (sym f.there) (loop_block t f.element.kind f.element f.has f.passes).postlog
 
-  pub few_of_unit : (u : ℕ) → length (cells_of_unit (slice_get plan.units u)) ≤ MOST_SHARED_CELLS
+  pub few_of_unit : (u : ℕ) → length (option_map_or (λ u. u.cells) (slice_get plan.units u) []) ≤ MOST_SHARED_CELLS
   few_of_unit u = by (slice_get plan.units u) refl
     where
-      by : (o : Option UnitOf) → slice_get plan.units u ≡ o → length (cells_of_unit o) ≤ MOST_SHARED_CELLS
+      by : (o : Option UnitOf) → slice_get plan.units u ≡ o → length (option_map_or (λ u. u.cells) o []) ≤ MOST_SHARED_CELLS
       by None e = omega arith
       by (Some x) e =
           let lt : u < length plan.units = is_below plan.units u x e in
@@ -212,14 +212,14 @@ module _ (program : Program) (plan : Plan) (v : IsValid program) (w : IsValidPla
   of_deed t s leave = leaving t (block_of plan (block.Loop t)) refl
   of_deed t s (invoke f vs into) =
       either (nat_lt MOST_CALLS (s.below + length s.frames)) _ _ tt (some_block (block.Function f) (block_of plan (block.Function f)) refl, unit_small (start.Entry f))
-  of_deed t s (back x) = (some_block (block.Function (top_body s.frames)) (block_of plan (block.Function (top_body s.frames))) refl, unit_after (top_call s.frames))
+  of_deed t s (back x) = (some_block (block.Function (top_frame s.frames).body) (block_of plan (block.Function (top_frame s.frames).body)) refl, unit_after (top_frame s.frames).call)
   of_deed t s (take o) = unit_small (start.After t)
   of_deed t s (give o) = unit_small (start.After t)
   of_deed t s (send c x) = sending t (capacity_of program c) c x refl
   of_deed t s (receive c into) = unit_small (start.After t)
   of_deed t s (print x) = tt
   of_deed t s pass = tt
-  of_deed t s finish = zero_block (block.Process (top_body s.frames)) (block_of plan (block.Process (top_body s.frames))) refl
+  of_deed t s finish = zero_block (block.Process (top_frame s.frames).body) (block_of plan (block.Process (top_frame s.frames).body)) refl
 
   of_asked : (t : ℕ) (s : Proc) (r : Asked Deed) → NeedNumbered (need_of_asked program plan t s r)
   of_asked t s (Ok p) = of_deed t s p.0

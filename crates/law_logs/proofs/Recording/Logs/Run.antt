@@ -1,4 +1,5 @@
 -- After each schedule that can be taken each log is lawful so far.
+use Rattle.std.specs.Option.{option_map_or}
 use Rattle.std.proofs.Common.{◌≡◌, ℕ, zero, suc, ◌+◌, ◌-◌, ◌*◌, ◌<◌, ◌≤◌, ◌^◌, ℤ, pos, true, List, [], ◌∷◌, ◌++◌, Option, Some, None, refl, ap, sym, ◌∙◌, subst, length, map, get_or, arith, length-append, inl}
 use Rattle.std.specs.Prelude.{option_map, slice_get}
 use Rattle.std.proofs.lemmas.List.{append-nil, append_assoc, length-map}
@@ -25,7 +26,7 @@ use Rattle.ppd_model.specs.Laws.{logged_moment}
 use Rattle.ppd_model.specs.Logs.{begun_log, log_step, loggings}
 use Rattle.ppd_model.proofs.LogWords.{logs_from}
 use Rattle.ppd_model.specs.Schedule.{run, run_from, started_world}
-use Rattle.ppd_model.specs.Story.{Telling, begun, cells_of_unit, number_of, tell, told, unit_started, values_of_unit}
+use Rattle.ppd_model.specs.Story.{Telling, begun, number_of, tell, told, unit_started, values_of_unit}
 use Rattle.ppd_model.proofs.WorldWords.{need_at, values_at_start}
 use Rattle.ppd_model.specs.World.{World, answer, enabled, need, step}
 use Rattle.ppd_model.proofs.Bounded.{Goes, bounded, goes, not_stopped}
@@ -58,7 +59,7 @@ module _ (program : Program) (plan : Plan) (v : IsValid program) (w : IsValidPla
 
   few_values : (shared : List ℤ) (u : ℕ) → length (values_of_unit plan shared u) ≤ MOST_SHARED_CELLS
   few_values shared u =
-      subst (λ m. m ≤ MOST_SHARED_CELLS) (sym (length-map (cells_of_unit (slice_get plan.units u)) (λ c. get_or shared c (pos 0)))) (few_of_unit program plan v w u)
+      subst (λ m. m ≤ MOST_SHARED_CELLS) (sym (length-map (option_map_or (λ u. u.cells) (slice_get plan.units u) []) (λ c. get_or shared c (pos 0)))) (few_of_unit program plan v w u)
 
   few_at_start : (shared : List ℤ) (o : Option ℕ) → length (values_at_start plan shared o) ≤ MOST_SHARED_CELLS
   few_at_start shared None = omega arith
@@ -66,7 +67,7 @@ module _ (program : Program) (plan : Plan) (v : IsValid program) (w : IsValidPla
 
   fit_at_start : (shared : List ℤ) (o : Option ℕ) → All Fit shared → All Fit (values_at_start plan shared o)
   fit_at_start shared None h = tt
-  fit_at_start shared (Some u) h = values_fit shared (cells_of_unit (slice_get plan.units u)) h
+  fit_at_start shared (Some u) h = values_fit shared (option_map_or (λ u. u.cells) (slice_get plan.units u) []) h
 
   -- ---- one step
 
@@ -143,7 +144,7 @@ module _ (program : Program) (plan : Plan) (v : IsValid program) (w : IsValidPla
         rows = (tt, tt);
         entries = (
           prelog_lawful program plan v w k.exprs (or_zero (block_of plan (block.Process body))) [] (process_block program plan v w body) (short program plan v w k.exprs) tt,
-          (unit_lawful program plan v w k.exprs u vs (unit_small program plan v w (start.Entry body)) (omega (arith, few)) (values_fit program.starts (cells_of_unit (slice_get plan.units u)) (world_fits program plan budget [] k).shared), tt),
+          (unit_lawful program plan v w k.exprs u vs (unit_small program plan v w (start.Entry body)) (omega (arith, few)) (values_fit program.starts (option_map_or (λ u. u.cells) (slice_get plan.units u) []) (world_fits program plan budget [] k).shared), tt),
         );
         steps = omega arith;
         spent = omega arith;

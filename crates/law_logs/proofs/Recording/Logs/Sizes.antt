@@ -1,4 +1,5 @@
 -- How many bytes the entries of a step take: at most 26 for each unit that it costs.
+use Rattle.std.specs.Int.{w16}
 use Rattle.std.proofs.Common.{◌≡◌, ◌≢◌, ℕ, suc, ◌+◌, ◌*◌, ◌≤◌, ℤ, List, [], ◌∷◌, ◌++◌, Option, Some, None, refl, ap₂, ◌∙◌, length, arith, length-append}
 use Rattle.std.specs.List.{flat_map}
 use Rattle.ppd_ast.specs.declared.plan.Plan.{Plan}
@@ -13,7 +14,7 @@ use Rattle.ppd_model.specs.declared.state.Logging.{Logging}
 use Rattle.ppd_model.specs.Costs.{values_in}
 use Rattle.ppd_model.specs.Logs.{entries_of, status_of, with_access}
 use Rattle.ppd_codec.specs.Format.{an_entry, cells, values}
-use Rattle.ppd_codec.specs.Form.{number_2, value}
+use Rattle.ppd_codec.specs.Form.{value, number}
 use Rattle.ppd_codec.specs.Recordings.{facts_of}
 use Rattle.law_logs.proofs.Recording.Logs.Rows.{few_more}
 
@@ -51,8 +52,8 @@ values_size vs =
 
 cells_size : (shared : ℕ) (cs : List ℕ) → length ((cells shared).bytes cs) ≡ 2 + 2 * length cs
 cells_size shared cs =
-    let c : length ((cells shared).bytes cs) ≡ suc (suc (length (flat_map number_2.bytes cs))) = refl in
-    let r : length (flat_map number_2.bytes cs) ≡ 2 * length cs = each_long number_2.bytes 2 cs (λ c. refl) in
+    let c : length ((cells shared).bytes cs) ≡ suc (suc (length (flat_map (number w16).bytes cs))) = refl in
+    let r : length (flat_map (number w16).bytes cs) ≡ 2 * length cs = each_long (number w16).bytes 2 cs (λ c. refl) in
     omega (arith, c, r)
 
 both_cells : (shared : ℕ) (r w : List ℕ) → length ((cells shared).bytes r ++ (cells shared).bytes w) ≡ 4 + 2 * (length r + length w)

@@ -1,4 +1,5 @@
 -- A log stays lawful by each step of its process.
+use Rattle.ppd_codec.specs.Recordings.{facts_of}
 use Rattle.std.proofs.Common.{◌≡◌, ◌≢◌, ℕ, zero, suc, ◌+◌, ◌*◌, ◌<◌, ◌≤◌, ◌^◌, ℤ, Bool, true, List, [], ◌∷◌, ◌++◌, Option, Some, None, refl, ap, sym, ◌∙◌, subst, length, arith, inl, inr, ◌⊎◌}
 use Rattle.std.specs.Prelude.{nat_eq, slice_get}
 use Rattle.std.specs.List.{list_any}
@@ -29,7 +30,6 @@ use Rattle.ppd_model.specs.Costs.{CostsWhatItWrites, IsFree, IsPaid, values_in}
 use Rattle.ppd_model.specs.Logs.{entries_of, log_step, rest_after, status_of, with_access}
 use Rattle.ppd_model.specs.Story.{Moment}
 use Rattle.ppd_model.proofs.Statuses.{status_after}
-use Rattle.ppd_codec.specs.Recordings.{version_of}
 use Rattle.law_logs.specs.Recording.Values.{IsConstantOf64Bits}
 use Rattle.law_logs.proofs.Recording.Logs.Entries.{AreRows, IsLawful, IsReady, moment, new_lawful, short}
 use Rattle.law_logs.proofs.Recording.Fit.{All, Fit, SomeFits, all_append}
@@ -49,8 +49,8 @@ any_there [] c lt e = absurd (omega (arith, lt))
 any_there (x ∷ xs) zero lt e = let f : nat_eq x.capacity 0 ≡ true = grind (arith, nat_tests) in rw (f) refl
 any_there (x ∷ xs) (suc c) lt e = or_true (is_rendezvous x) (list_any is_rendezvous xs) (any_there xs c (omega (arith, lt)) e)
 
-version_two : (chans : List Chan) → list_any is_rendezvous chans ≡ true → nat_eq (version_of chans) 2 ≡ true
-version_two chans e = rw (e) refl
+version_two : (p : Program) → list_any is_rendezvous p.chans ≡ true → nat_eq (facts_of p).version 2 ≡ true
+version_two p e = rw (e) refl
 
 budget_or : (need : Need) → (need ≡ n.Budget) ⊎ (need ≢ n.Budget)
 budget_or n.Budget = inl refl
@@ -130,8 +130,8 @@ module _ (program : Program) (plan : Plan) (v : IsValid program) (w : IsValidPla
     there : NamesThere program need
     there = subst (NamesThere program) (sym is) (needs-there program plan l.proc v)
 
-    two : (c u : ℕ) → need ≡ n.Done c u → nat_eq (version_of program.chans) 2 ≡ true
-    two c u e = version_two program.chans (any_there program.chans c (subst (NamesThere program) e there) (fine.done c u (sym is ∙ e)))
+    two : (c u : ℕ) → need ≡ n.Done c u → nat_eq (facts_of program).version 2 ≡ true
+    two c u e = version_two program (any_there program.chans c (subst (NamesThere program) e there) (fine.done c u (sym is ∙ e)))
 
     within : l.rest < 2 ^ 32
     within = omega (arith, fine.rest, fine.steps, fine.spent, most)

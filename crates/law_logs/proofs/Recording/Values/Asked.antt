@@ -1,6 +1,7 @@
 -- What a statement comes to has 64 bits, where its constants, cells and answers have.
 use Rattle.std.proofs.Common.{◌≡◌, ℕ, suc, ℤ, true, false, Bool, List, [], ◌∷◌, Some, None, Err, refl, ap, sym, subst, length, if◌then◌else◌}
-use Rattle.std.specs.Prelude.{⊤}
+use Rattle.std.specs.Prelude.{⊤, pos}
+use Rattle.std.specs.Ordering.{int_eq}
 use Rattle.ppd_ast.specs.declared.program.Expr.{Expr}
 use Rattle.ppd_ast.specs.declared.program.Kind.{Kind}
 use Rattle.ppd_ast.specs.declared.program.Kind.TheVariants as kind
@@ -8,7 +9,7 @@ use Rattle.ppd_ast.specs.declared.program.Target.TheVariants as target
 use Rattle.ppd_ast.specs.declared.status.Trap.TheVariants as trap
 use Rattle.ppd_ast.specs.Term.{term}
 use Rattle.ppd_sem.specs.declared.asking.Pause.TheVariants.{Traps}
-use Rattle.ppd_sem.specs.Ask.{ask, element, is_zero}
+use Rattle.ppd_sem.specs.Ask.{ask, element}
 use Rattle.ppd_sem.specs.Asked.{Asked, and_then, gives, lift}
 use Rattle.ppd_sem.specs.Deed.{Deed, set_local, set_shared, clear, branch, turn, leave, invoke, back, take, give, send, receive, print, pass, finish, ask_all, ask_deed, ask_stored}
 use Rattle.law_logs.specs.Recording.Values.{IsConstantOf64Bits}
@@ -74,7 +75,7 @@ module _ (S : ℕ → Type 0) (es : List Expr) (table : All IsConstantOf64Bits e
   deed_fits (kind.Set (target.SharedAt base len i) e) answers c' a = stored_fits i e base len set_shared answers (λ c v f. f) a
   deed_fits (kind.Zero base len) answers c' a = (tt, a)
   deed_fits (kind.If e first second) answers c' a = one_value e answers _ a (λ v left f l. (tt, l))
-  deed_fits (kind.While e body) answers c' a = one_value e answers _ a (λ v left f l. branch_fits (is_zero v) leave (turn body) left tt tt l)
+  deed_fits (kind.While e body) answers c' a = one_value e answers _ a (λ v left f l. branch_fits (int_eq v (pos 0)) leave (turn body) left tt tt l)
   deed_fits (kind.Call f arguments into) answers c' a =
       then_fits (AreFor arguments) (DeedFits S) (ask_all es arguments cells answers) _ (all_fit arguments answers a) (λ vs left g l. ((g.0, subst S (sym g.1) c'), l))
   deed_fits (kind.Return None) answers c' a = (tt, a)
@@ -84,5 +85,5 @@ module _ (S : ℕ → Type 0) (es : List Expr) (table : All IsConstantOf64Bits e
   deed_fits (kind.Send c e) answers c' a = one_value e answers _ a (λ v left f l. (f, l))
   deed_fits (kind.Recv c into) answers c' a = (tt, a)
   deed_fits (kind.Print e) answers c' a = one_value e answers _ a (λ v left f l. (tt, l))
-  deed_fits (kind.Assert e) answers c' a = one_value e answers _ a (λ v left f l. either_fits (DeedFits S) (is_zero v) (Err (Traps trap.Assert)) (gives left pass) tt (tt, l))
+  deed_fits (kind.Assert e) answers c' a = one_value e answers _ a (λ v left f l. either_fits (DeedFits S) (int_eq v (pos 0)) (Err (Traps trap.Assert)) (gives left pass) tt (tt, l))
   deed_fits kind.End answers c' a = (tt, a)

@@ -13,7 +13,7 @@ use Rattle.ppd_ast.specs.declared.status.Trap.TheVariants as trap
 use Rattle.ppd_ast.specs.Term.{Term, node, term, term_at, terms}
 use Rattle.ppd_ast.specs.Term as T
 use Rattle.ppd_ast.proofs.Vocabulary.{terms_after}
-use Rattle.ppd_sem.specs.Ask.{ask, calc, checked, element, is_in_64_bits, is_zero, truth}
+use Rattle.ppd_sem.specs.Ask.{ask, calc, checked, element, is_in_64_bits, truth}
 use Rattle.ppd_sem.specs.Asked.{Asked, and_then, gives, lift, read_shared}
 use Rattle.ppd_sem.proofs.Arithmetic.{fits-true}
 use Rattle.law_logs.specs.Recording.Values.{IsConstantOf64Bits}
@@ -100,10 +100,10 @@ checked_fits x = by (is_in_64_bits x) refl
     by true e = e
     by false e = tt
 
-pub divided_fits : (x y z : ℤ) → (is_zero y ≡ false → is_in_64_bits (int_div x y) ≡ true → Fit z) → GivenFits Fit (divided x y z)
-divided_fits x y z h = by (is_zero y) (is_in_64_bits (int_div x y)) refl refl
+pub divided_fits : (x y z : ℤ) → (int_eq y (pos 0) ≡ false → is_in_64_bits (int_div x y) ≡ true → Fit z) → GivenFits Fit (divided x y z)
+divided_fits x y z h = by (int_eq y (pos 0)) (is_in_64_bits (int_div x y)) refl refl
   where
-    by : (a b : Bool) → is_zero y ≡ a → is_in_64_bits (int_div x y) ≡ b → GivenFits Fit (if a then Err trap.Zero else if b then Ok z else Err trap.Overflow)
+    by : (a b : Bool) → int_eq y (pos 0) ≡ a → is_in_64_bits (int_div x y) ≡ b → GivenFits Fit (if a then Err trap.Zero else if b then Ok z else Err trap.Overflow)
     by true b e f = tt
     by false true e f = h e f
     by false false e f = tt
@@ -112,12 +112,12 @@ pub abs_most : (y : ℤ) → Fit y → unsigned_abs y ≤ 2 ^ 63
 abs_most (pos n) h = grind (arith, nat_tests)
 abs_most (negsuc n) h = grind (arith, nat_tests)
 
-pub abs_some : (y : ℤ) → is_zero y ≡ false → 0 < unsigned_abs y
+pub abs_some : (y : ℤ) → int_eq y (pos 0) ≡ false → 0 < unsigned_abs y
 abs_some (pos zero) e = absurd (true≢false e)
 abs_some (pos (suc n)) e = omega arith
 abs_some (negsuc n) e = omega arith
 
-pub rest_fits : (x y : ℤ) → Fit y → is_zero y ≡ false → Fit (int_rem x y)
+pub rest_fits : (x y : ℤ) → Fit y → int_eq y (pos 0) ≡ false → Fit (int_rem x y)
 rest_fits x y h e =
     let less : unsigned_abs (int_rem x y) < unsigned_abs y = rem_below x y (abs_some y e) in
     let most : unsigned_abs y ≤ 2 ^ 63 = abs_most y h in
@@ -157,13 +157,13 @@ ask_fits (T.shared_at base len i) cells answers h c a =
     then_fits (λ (n : ℕ). ⊤) Fit (lift left (element base len at)) _ (lift_fits (λ (n : ℕ). ⊤) left (element base len at) l (any_given (element base len at))) (λ n left' g l'. read_fits left' n l'))
 ask_fits (T.neg x) cells answers h c a =
     then_fits Fit Fit (ask x cells answers) _ (ask_fits x cells answers h c a) (λ v left f l. lift_fits Fit left (checked (neg_ℤ v)) l (checked_fits (neg_ℤ v)))
-ask_fits (T.not x) cells answers h c a = then_fits Fit Fit (ask x cells answers) _ (ask_fits x cells answers h c a) (λ v left f l. (truth_fits (is_zero v), l))
+ask_fits (T.not x) cells answers h c a = then_fits Fit Fit (ask x cells answers) _ (ask_fits x cells answers h c a) (λ v left f l. (truth_fits (int_eq v (pos 0)), l))
 ask_fits (T.two o x y) cells answers h c a =
     then_fits Fit Fit (ask x cells answers) _ (ask_fits x cells answers h.0 c a) (λ v left f l.
     then_fits Fit Fit (ask y cells left) _ (ask_fits y cells left h.1 c l) (λ u left' g l'. lift_fits Fit left' (calc o v u) l' (calc_fits o v u f g)))
 ask_fits (T.and x y) cells answers h c a =
     then_fits Fit Fit (ask x cells answers) _ (ask_fits x cells answers h.0 c a) (λ v left f l.
-    either_fits Fit (is_zero v) (gives left (pos 0)) _ (refl, l) (then_fits Fit Fit (ask y cells left) _ (ask_fits y cells left h.1 c l) (λ u left' g l'. (truth_fits (negated (is_zero u)), l'))))
+    either_fits Fit (int_eq v (pos 0)) (gives left (pos 0)) _ (refl, l) (then_fits Fit Fit (ask y cells left) _ (ask_fits y cells left h.1 c l) (λ u left' g l'. (truth_fits (negated (int_eq u (pos 0))), l'))))
 ask_fits (T.or x y) cells answers h c a =
     then_fits Fit Fit (ask x cells answers) _ (ask_fits x cells answers h.0 c a) (λ v left f l.
-    either_fits Fit (is_zero v) _ (gives left (pos 1)) (then_fits Fit Fit (ask y cells left) _ (ask_fits y cells left h.1 c l) (λ u left' g l'. (truth_fits (negated (is_zero u)), l'))) (refl, l))
+    either_fits Fit (int_eq v (pos 0)) _ (gives left (pos 1)) (then_fits Fit Fit (ask y cells left) _ (ask_fits y cells left h.1 c l) (λ u left' g l'. (truth_fits (negated (int_eq u (pos 0))), l'))) (refl, l))

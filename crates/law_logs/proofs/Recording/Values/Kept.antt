@@ -1,6 +1,7 @@
 -- A step of a process keeps its values within 64 bits.
 use Rattle.std.proofs.Common.{◌≡◌, ℕ, zero, suc, ◌+◌, ◌-◌, ℤ, pos, true, false, Bool, List, [], ◌∷◌, Option, Some, None, Ok, Err, refl, sym, subst, map, length, replicate, if◌then◌else◌}
-use Rattle.std.specs.Prelude.{slice_get, slice_set, nat_lt, option_to_list, ⊤}
+use Rattle.std.specs.Prelude.{slice_get, slice_set, nat_lt, option_to_list, ⊤, get_or}
+use Rattle.std.specs.List.{range_with_len}
 use Rattle.ppd_ast.specs.declared.plan.Plan.{Plan}
 use Rattle.ppd_ast.specs.declared.program.Body.{Body}
 use Rattle.ppd_ast.specs.declared.program.Program.{Program}
@@ -14,12 +15,11 @@ use Rattle.ppd_sem.specs.declared.proc.Need.{Need}
 use Rattle.ppd_sem.specs.declared.proc.Need.TheVariants as n
 use Rattle.ppd_sem.specs.declared.proc.Proc.{Proc}
 use Rattle.ppd_sem.specs.declared.proc.Todo.{Todo}
-use Rattle.ppd_sem.specs.Ask.{cell_of}
-use Rattle.ppd_sem.specs.Asked.{Asked, outcome}
+use Rattle.ppd_sem.specs.Asked.{Asked}
 use Rattle.ppd_sem.specs.Deed.{Deed, set_local, set_shared, clear, branch, turn, leave, invoke, back, take, give, send, receive, print, pass, finish}
 use Rattle.ppd_sem.specs.Passed.{arguments_at, arguments_by, result_at, result_by}
 use Rattle.ppd_sem.proofs.EventWords.{arguments_of_head, result_of_head}
-use Rattle.ppd_sem.specs.Process.{act, act_by_asked, act_by_deed, act_by_need, charged, clear_cells, clear_top, entry_of, head_deed, into_of, need_of, need_of_asked, need_of_deed, need_of_leaving, need_of_send, offer_of, receive_at, returned, returned_from, started, top_cells, value_of, write_top}
+use Rattle.ppd_sem.specs.Process.{act, act_by_asked, act_by_deed, act_by_need, charged, entry_of, head_deed, into_of, need_of, need_of_asked, need_of_deed, need_of_leaving, need_of_send, offer_of, receive_at, returned, started, value_of, on_top, top_frame, into_at, with_values}
 use Rattle.ppd_sem.proofs.NeedWords.{act_at, cells_for, need_by_entry, need_by_offer, need_of_running}
 use Rattle.ppd_sem.specs.Tables.{block_of, capacity_of}
 use Rattle.ppd_sem.proofs.Progress.{need_at_status}
@@ -46,19 +46,19 @@ pub zeros_fit : (k : ℕ) → All Fit (replicate k (pos 0))
 zeros_fit zero = tt
 zeros_fit (suc k) = (refl, zeros_fit k)
 
-top_fits : (fs : List Frame) → All FrameFits fs → All Fit (top_cells fs)
+top_fits : (fs : List Frame) → All FrameFits fs → All Fit (top_frame fs).cells
 top_fits [] h = tt
 top_fits (f ∷ fs) h = h.0
 
-write_fits : (c : ℕ) (v : ℤ) (fs : List Frame) → Fit v → All FrameFits fs → All FrameFits (write_top c v fs)
+write_fits : (c : ℕ) (v : ℤ) (fs : List Frame) → Fit v → All FrameFits fs → All FrameFits (on_top (λ cells. slice_set cells c v) fs)
 write_fits c v [] k h = tt
 write_fits c v (f ∷ fs) k h = (set_fits f.cells c v k h.0, h.1)
 
-cleared_fits : (base k : ℕ) (cells : List ℤ) → All Fit cells → All Fit (clear_cells base k cells)
+cleared_fits : (base k : ℕ) (cells : List ℤ) → All Fit cells → All Fit (with_values (range_with_len base k) (replicate k (pos 0)) cells)
 cleared_fits base zero cells h = h
-cleared_fits base (suc k) cells h = set_fits (clear_cells base k cells) (base + k) (pos 0) refl (cleared_fits base k cells h)
+cleared_fits base (suc k) cells h = cleared_fits (base + 1) k (slice_set cells base (pos 0)) (set_fits cells base (pos 0) refl h)
 
-clear_fits : (base k : ℕ) (fs : List Frame) → All FrameFits fs → All FrameFits (clear_top base k fs)
+clear_fits : (base k : ℕ) (fs : List Frame) → All FrameFits fs → All FrameFits (on_top (with_values (range_with_len base k) (replicate k (pos 0))) fs)
 clear_fits base k [] h = tt
 clear_fits base k (f ∷ fs) h = (cleared_fits base k f.cells h.0, h.1)
 
@@ -72,7 +72,7 @@ receive_fits None v fs k h = h
 receive_fits (Some c) None fs k h = h
 
 module _ (S : ℕ → Type 0) (program : Program) where
-  returned_by : (c : Option ℕ) (v : Option ℤ) (fs : List Frame) → SomeFits Fit v → All FrameFits fs → All FrameFits (returned_from program c v fs)
+  returned_by : (c : Option ℕ) (v : Option ℤ) (fs : List Frame) → SomeFits Fit v → All FrameFits fs → All FrameFits (receive_at (into_at program c) v fs)
   returned_by None v fs k h = h
   returned_by (Some c) v fs k h = receive_fits (into_of (kind_of program c)) v fs k h
 
@@ -106,7 +106,7 @@ module _ (S : ℕ → Type 0) (program : Program) where
 
   module _ (plan : Plan) (table : All IsConstantOf64Bits program.exprs) (calls : (t : ℕ) → CallIs S (kind_of program t)) (none : S 0) where
     pub head_fits : (t : Todo) (s : Proc) → LocalsFit s → AskedFits (DeedFits S) (head_deed program t s)
-    head_fits t s h = deed_fits S program.exprs table (top_cells s.frames) (top_fits s.frames h.frames) (kind_of program t.stmt) s.answers (calls t.stmt) h.answers
+    head_fits t s h = deed_fits S program.exprs table (top_frame s.frames).cells (top_fits s.frames h.frames) (kind_of program t.stmt) s.answers (calls t.stmt) h.answers
 
     charged_kept : (need : Need) (s : Proc) → LocalsFit s → LocalsFit (charged plan need s)
     charged_kept need s h = record { frames = h.frames; answers = h.answers }
@@ -194,10 +194,10 @@ module _ (S : ℕ → Type 0) (program : Program) where
     abbrev Passed : List ℤ → Type 0
     Passed vs = All Fit vs × S (length vs)
 
-    args_fit : (r : Asked Deed) → AskedFits (DeedFits S) r → Passed (arguments_by (outcome r))
+    args_fit : (r : Asked Deed) → AskedFits (DeedFits S) r → Passed (arguments_by r)
     args_fit (Ok p) h = by p.0 h.0
       where
-        by : (d : Deed) → DeedFits S d → Passed (arguments_by (Ok d))
+        by : (d : Deed) → DeedFits S d → Passed (arguments_by (Ok (d, p.1)))
         by (invoke g vs into) k = k
         by d k = (tt, none)
     args_fit (Err e) h = (tt, none)
@@ -209,10 +209,10 @@ module _ (S : ℕ → Type 0) (program : Program) where
     pub arguments_fit : (s : Proc) → LocalsFit s → All Fit (arguments_at program s) × S (length (arguments_at program s))
     arguments_fit s h = head_args s (slice_get s.todo 0) h
 
-    result_fit : (r : Asked Deed) → AskedFits (DeedFits S) r → All Fit (option_to_list (result_by (outcome r)))
+    result_fit : (r : Asked Deed) → AskedFits (DeedFits S) r → All Fit (option_to_list (result_by r))
     result_fit (Ok p) h = by p.0 h.0
       where
-        by : (d : Deed) → DeedFits S d → All Fit (option_to_list (result_by (Ok d)))
+        by : (d : Deed) → DeedFits S d → All Fit (option_to_list (result_by (Ok (d, p.1))))
         by (back None) k = tt
         by (back (Some v)) k = (k, tt)
         by d k = tt
@@ -225,9 +225,9 @@ module _ (S : ℕ → Type 0) (program : Program) where
     pub result_fits : (s : Proc) → LocalsFit s → All Fit (result_at program s)
     result_fits s h = head_result s (slice_get s.todo 0) h
 
-    pub cells_fit : (s : Proc) (cs : List ℕ) → LocalsFit s → All Fit (map (cell_of (top_cells s.frames)) cs)
+    pub cells_fit : (s : Proc) (cs : List ℕ) → LocalsFit s → All Fit (map (λ c. get_or (top_frame s.frames).cells c (pos 0)) cs)
     cells_fit s [] h = tt
-    cells_fit s (c ∷ cs) h = (get_fits (top_cells s.frames) c (top_fits s.frames h.frames), cells_fit s cs h)
+    cells_fit s (c ∷ cs) h = (get_fits (top_frame s.frames).cells c (top_fits s.frames h.frames), cells_fit s cs h)
 
     -- ---- the start
 

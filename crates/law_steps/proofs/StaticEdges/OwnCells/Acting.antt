@@ -27,7 +27,7 @@ use Rattle.ppd_sem.specs.declared.proc.Proc.{Proc}
 use Rattle.ppd_sem.specs.declared.proc.Todo.{Todo}
 use Rattle.ppd_sem.specs.Asked.{Asked}
 use Rattle.ppd_sem.specs.Deed.{Deed, set_local, set_shared, clear, branch, turn, leave, invoke, back, take, give, send, receive, print, pass, finish}
-use Rattle.ppd_sem.specs.Process.{act_by_asked, act_by_need, chan_of, head_deed, todos, top_cells}
+use Rattle.ppd_sem.specs.Process.{act_by_asked, act_by_need, chan_of, head_deed, todos, top_frame}
 use Rattle.ppd_sem.proofs.Offers.{CompletesSend}
 use Rattle.ppd_sem.specs.Described.{is_event}
 use Rattle.law_steps.proofs.StaticEdges.OwnCells.Calling.{backs_on, calls_on}
@@ -87,7 +87,7 @@ module _ (program : Program) (plan : Plan) (v : IsValid program) (E : EventId â†
     by_asked (Err (Traps x)) fits does tells home = still s.todo is
 
     head_does : AskedDoes k (head_deed program t s)
-    head_does = deed_does program.exprs (kind_of program t.stmt) (top_cells s.frames) s.answers
+    head_does = deed_does program.exprs (kind_of program t.stmt) (top_frame s.frames).cells s.answers
 
     by_head : IsHome program (act_by_asked program a t ts (head_deed program t s) s) â†’ After (act_by_asked program a t ts (head_deed program t s) s).todo (act_by_asked program a t ts (head_deed program t s) s).frames (tagged_at program s (Some me) s.todo acts)
     by_head home =

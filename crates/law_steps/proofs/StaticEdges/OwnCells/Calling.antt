@@ -1,37 +1,36 @@
 -- A call and a return: the last writes of the local cells come to where the process then is.
-use Rattle.std.proofs.Common.{◌≡◌, ℕ, ◌-◌, ◌<◌, ℤ, true, List, [], ◌∷◌, ◌++◌, Option, Some, None, length, refl, sym, ap, ◌∙◌, subst}
-use Rattle.ppd_model.specs.declared.tracing.Activation.{Activation}
-use Rattle.std.specs.Prelude.{drop, is_some, slice_get}
-use Rattle.ppd_ast.proofs.Vocabulary.{gives as gives_value}
-use Rattle.ppd_ast.specs.Valid.{IsValid}
-use Rattle.ppd_ast.specs.declared.plan.Plan.{Plan}
-use Rattle.ppd_ast.specs.declared.program.Kind.{Kind}
-use Rattle.ppd_ast.specs.declared.program.Kind.TheVariants as K
-use Rattle.ppd_ast.specs.declared.program.Program.{Program}
-use Rattle.ppd_ast.specs.Lookups.{kind_of, top_of_body, body_of}
-use Rattle.ppd_ast.proofs.Vocabulary.{params_of_body}
-use Rattle.ppd_cfg.specs.Lists.{first_or}
-use Rattle.law_steps.specs.Course.{IsBehind, behind, calls_left, calls_of, follow_if, top_call_of}
 use Rattle.law_steps.proofs.Course.Deeds.{IsInvoke}
 use Rattle.law_steps.proofs.Course.Frames.{calls_returned}
 use Rattle.law_steps.proofs.Course.Ways.{head_todos}
-use Rattle.ppd_model.specs.declared.trace.EventId.{EventId}
-use Rattle.ppd_model.specs.FullTrace.{Tag, into_at, tagged_into}
-use Rattle.ppd_model.specs.LocalTags.{locals}
-use Rattle.ppd_model.proofs.Homes.{AreHome, AreTop, bodies-returned}
-use Rattle.ppd_sem.specs.declared.proc.Answer.{Answer}
-use Rattle.ppd_sem.specs.declared.proc.Frame.{Frame}
-use Rattle.ppd_sem.specs.declared.proc.Proc.{Proc}
-use Rattle.ppd_sem.specs.declared.proc.Todo.{Todo}
-use Rattle.ppd_sem.specs.Deed.{invoke, back}
-use Rattle.ppd_sem.specs.Process.{into_of, returned, todos, top_call}
-use Rattle.ppd_sem.specs.Runs.{returns, size_if, bodies_in}
-use Rattle.ppd_sem.specs.Passed.{next_stmt_of}
 use Rattle.law_steps.proofs.StaticEdges.Frames.{AreLinked, IsCalled, links}
 use Rattle.law_steps.proofs.StaticEdges.OwnCells.Moving.{behind_call, head_body, into_tags, new_frame}
 use Rattle.law_steps.proofs.StaticEdges.OwnCells.Steps.{Before, HomeAfter, Leaves}
 use Rattle.law_steps.proofs.StaticEdges.OwnCells.Tagging.{tagged_locals, top_changed}
 use Rattle.law_steps.proofs.StaticEdges.OwnCells.Ways.{AllCome, AreCome}
+use Rattle.law_steps.specs.Course.{IsBehind, behind, calls_left, calls_of, follow_if, top_call_of}
+use Rattle.ppd_ast.proofs.Vocabulary.{gives as gives_value, params_of_body}
+use Rattle.ppd_ast.specs.Lookups.{body_numbered, body_of, kind_of}
+use Rattle.ppd_ast.specs.Valid.{IsValid}
+use Rattle.ppd_ast.specs.declared.plan.Plan.{Plan}
+use Rattle.ppd_ast.specs.declared.program.Kind.{Kind}
+use Rattle.ppd_ast.specs.declared.program.Kind.TheVariants as K
+use Rattle.ppd_ast.specs.declared.program.Program.{Program}
+use Rattle.ppd_model.proofs.Homes.{AreHome, AreTop, bodies-returned}
+use Rattle.ppd_model.specs.FullTrace.{Tag, tagged_into}
+use Rattle.ppd_model.specs.LocalTags.{locals}
+use Rattle.ppd_model.specs.declared.trace.EventId.{EventId}
+use Rattle.ppd_model.specs.declared.tracing.Activation.{Activation}
+use Rattle.ppd_sem.specs.Deed.{back, invoke}
+use Rattle.ppd_sem.specs.Passed.{next_stmt_of}
+use Rattle.ppd_sem.specs.Process.{into_at, into_of, returned, todos, top_frame}
+use Rattle.ppd_sem.specs.Runs.{bodies_in, returns}
+use Rattle.ppd_sem.specs.declared.proc.Answer.{Answer}
+use Rattle.ppd_sem.specs.declared.proc.Frame.{Frame}
+use Rattle.ppd_sem.specs.declared.proc.Proc.{Proc}
+use Rattle.ppd_sem.specs.declared.proc.Todo.{Todo}
+use Rattle.std.proofs.Common.{List, None, Option, Some, [], ap, length, refl, subst, sym, true, ℕ, ℤ, ◌++◌, ◌-◌, ◌<◌, ◌∙◌, ◌∷◌, ◌≡◌}
+use Rattle.std.specs.Option.{option_or}
+use Rattle.std.specs.Prelude.{drop, is_some, slice_get}
 
 -- ---- lists
 
@@ -49,7 +48,7 @@ into_locals (Some c) None me xs = top_same (locals xs)
 into_locals None value me xs = top_same (locals xs)
 
 -- the first of a list that has one
-first_of : (p : Program) (f h : ℕ) (top : List ℕ) (after : Option ℕ) → AreTop p f top → first_or top after ≡ Some h → first_or top None ≡ Some h
+first_of : (p : Program) (f h : ℕ) (top : List ℕ) (after : Option ℕ) → AreTop p f top → option_or (slice_get top 0) after ≡ Some h → slice_get top 0 ≡ Some h
 first_of p f h [] after are e = absurd are
 first_of p f h (x ∷ xs) after are e = e
 
@@ -59,21 +58,21 @@ module _ (program : Program) (plan : Plan) (v : IsValid program) (E : EventId �
 
   -- ---- a call
 
-  pub calls_on : (s : Proc) (acts : List Activation) (b : Before program plan v E a t ts me there is_me s (locals acts)) (f : ℕ) (values : List ℤ) (into : Option ℕ) (left : List ℤ) → IsInvoke k f → AreTop program f (top_of_body (slice_get program.bodies f))
+  pub calls_on : (s : Proc) (acts : List Activation) (b : Before program plan v E a t ts me there is_me s (locals acts)) (f : ℕ) (values : List ℤ) (into : Option ℕ) (left : List ℤ) → IsInvoke k f → AreTop program f (body_numbered program f).top
       → length values ≡ params_of_body (slice_get program.bodies f) → HomeAfter program plan v E a t ts me there is_me s acts b (invoke f values into) → Leaves program plan v E a t ts me there is_me s acts b (invoke f values into) left
   calls_on s acts b f values into left i top count home = (
-    new_frame program E v t.stmt there me is_me f i.arguments i.into i.kind_is (length values) (size_if (slice_get program.bodies f) - length values) (next_stmt_of (todos (top_of_body (slice_get program.bodies f)) ++ ts)) count
+    new_frame program E v t.stmt there me is_me f i.arguments i.into i.kind_is (length values) ((body_numbered program f).cells - length values) (next_stmt_of (todos (body_numbered program f).top ++ ts)) count
         (λ h is.
-        let first : first_or (top_of_body (slice_get program.bodies f)) (next_stmt_of ts) ≡ Some h = sym (head_todos (top_of_body (slice_get program.bodies f)) ts) ∙ is in
-        first_of program f h (top_of_body (slice_get program.bodies f)) (next_stmt_of ts) top first)
-        (λ h is. head_body program f (bodies_in s.frames) (todos (top_of_body (slice_get program.bodies f)) ++ ts) h home is),
+        let first : option_or (slice_get (body_numbered program f).top 0) (next_stmt_of ts) ≡ Some h = sym (head_todos (body_numbered program f).top ts) ∙ is in
+        first_of program f h (body_numbered program f).top (next_stmt_of ts) top first)
+        (λ h is. head_body program f (bodies_in s.frames) (todos (body_numbered program f).top ++ ts) h home is),
     b.come,
   )
 
   -- ---- a return
 
   abbrev Back : Option ℤ → List Frame → List (List Tag) → Type 0
-  Back value frames tags = AllCome program E (next_stmt_of ts ∷ calls_left true (calls_of frames)) (top_changed (into_tags (into_at program (top_call frames)) value (Some me)) (drop 1 tags))
+  Back value frames tags = AllCome program E (next_stmt_of ts ∷ calls_left true (calls_of frames)) (top_changed (into_tags (into_at program (top_frame frames).call) value (Some me)) (drop 1 tags))
 
   no_frame : (value : Option ℤ) (tags : List (List Tag)) (f : Frame) → f.call ≡ None → next_stmt_of ts ≡ follow_if program f.call → Back value (f ∷ []) tags
   no_frame value [] f none follows = tt
@@ -114,8 +113,8 @@ module _ (program : Program) (plan : Plan) (v : IsValid program) (E : EventId �
     backs_on s acts b value left gives home =
         let behind_is : IsBehind program plan (top_call_of (calls_of s.frames)) ts = subst (λ r. IsBehind program plan (behind r t.stmt (calls_of s.frames)) ts) (ap returns is_return.1) b.way.0 in
         let after : AreHome program (drop 1 (bodies_in s.frames)) ts = subst (λ bs. AreHome program bs ts) (bodies-returned program value s.frames) home in
-        let tags : locals (tagged_into (into_at program (top_call s.frames)) value (Some me) (drop 1 acts)) ≡ top_changed (into_tags (into_at program (top_call s.frames)) value (Some me)) (drop 1 (locals acts)) =
-        into_locals (into_at program (top_call s.frames)) value (Some me) (drop 1 acts) ∙ ap (top_changed (into_tags (into_at program (top_call s.frames)) value (Some me))) (drop_locals acts) in
+        let tags : locals (tagged_into (into_at program (top_frame s.frames).call) value (Some me) (drop 1 acts)) ≡ top_changed (into_tags (into_at program (top_frame s.frames).call) value (Some me)) (drop 1 (locals acts)) =
+        into_locals (into_at program (top_frame s.frames).call) value (Some me) (drop 1 acts) ∙ ap (top_changed (into_tags (into_at program (top_frame s.frames).call) value (Some me))) (drop_locals acts) in
         subst (λ (xs : List (List Tag)). AllCome program E (next_stmt_of ts ∷ calls_of (returned program value s.frames)) xs) (sym tags)
-        (subst (λ cs. AllCome program E (next_stmt_of ts ∷ cs) (top_changed (into_tags (into_at program (top_call s.frames)) value (Some me)) (drop 1 (locals acts)))) (sym (calls_returned program value s.frames))
+        (subst (λ cs. AllCome program E (next_stmt_of ts ∷ cs) (top_changed (into_tags (into_at program (top_frame s.frames).call) value (Some me)) (drop 1 (locals acts)))) (sym (calls_returned program value s.frames))
         (by_frames value s.frames (locals acts) b.home b.linked gives behind_is.follows after b.come))

@@ -25,7 +25,7 @@ use Rattle.ppd_sem.specs.declared.proc.Frame.{Frame}
 use Rattle.ppd_sem.specs.declared.proc.Need.{Need}
 use Rattle.ppd_sem.specs.declared.proc.Proc.{Proc}
 use Rattle.ppd_sem.specs.declared.proc.Todo.{Todo}
-use Rattle.ppd_sem.specs.Process.{act, act_by_need, head_deed, need_of, started, top_cells}
+use Rattle.ppd_sem.specs.Process.{act, act_by_need, head_deed, need_of, started, top_frame}
 use Rattle.ppd_sem.proofs.NeedWords.{act_at}
 use Rattle.ppd_sem.specs.Runs.{IsRunning, bodies_in}
 use Rattle.ppd_sem.proofs.Kept.{act-runs}
@@ -175,5 +175,5 @@ module _ (program : Program) (plan : Plan) (story : Story) (p : ℕ) (v : IsVali
     home = started-home program plan p budget v;
     sound = started_sound program plan p budget;
     runs = runs_all program plan story p budget [] v;
-    come = (begun_come (IsIn (begun_tracing (started program plan p budget))) (next_stmt_of (started program plan p budget).todo) (top_cells (started program plan p budget).frames), tt);
+    come = (begun_come (IsIn (begun_tracing (started program plan p budget))) (next_stmt_of (started program plan p budget).todo) (top_frame (started program plan p budget).frames).cells, tt);
   }

@@ -1,41 +1,39 @@
 -- Where a process of a valid program is after a step, and what its frames' cells have then.
-use Rattle.std.proofs.Common.{◌≡◌, ℕ, ◌<◌, ℤ, true, false, List, [], ◌∷◌, ◌++◌, Option, Some, None, length, get_or, refl, sym, ap, ◌∙◌, subst, inl, inr, true≢false}
-use Rattle.std.specs.Prelude.{IsTrue, IsSome, nat_lt, is_some, replicate, slice_get, slice_set, if◌then◌else◌, option_to_list}
-use Rattle.std.specs.List.{filter, flat_map}
-use Rattle.std.proofs.lemmas.Bool.{and_from, cases_eq, cases_lt, cond-true, lt-ltb, ne_eqb}
-use Rattle.ppd_ast.proofs.Vocabulary.{gives as gives_value}
+use Rattle.law_steps.proofs.StaticEdges.OwnCells.Does.{is_own}
+use Rattle.law_steps.proofs.StaticEdges.OwnCells.Tagging.{copied, set_other, set_same, top_changed, uncopied}
+use Rattle.law_steps.proofs.StaticEdges.OwnCells.Ways.{AllCome, AreCome, IsCome, NewTag, kept, mine, none, own_place, step_way}
+use Rattle.law_steps.proofs.StaticEdges.Vars.{param_var}
+use Rattle.ppd_ast.proofs.Members.{filter_has, has_first, has_right}
+use Rattle.ppd_ast.proofs.ValidLaws.{slice_get_below, some_and, valid_stmt}
+use Rattle.ppd_ast.proofs.Vocabulary.{gives as gives_value, kind_of_stmt}
+use Rattle.ppd_ast.specs.Lookups.{body_numbered, body_of, kind_of}
+use Rattle.ppd_ast.specs.Members.{has}
 use Rattle.ppd_ast.specs.Valid.{CallsRightly, IsValid, IsValidKind}
 use Rattle.ppd_ast.specs.declared.program.Body.{Body}
 use Rattle.ppd_ast.specs.declared.program.Kind.{Kind}
 use Rattle.ppd_ast.specs.declared.program.Kind.TheVariants as K
 use Rattle.ppd_ast.specs.declared.program.Program.{Program}
 use Rattle.ppd_ast.specs.declared.program.Stmt.{Stmt}
-use Rattle.ppd_ast.proofs.ValidLaws.{slice_get_below, some_and, valid_stmt}
-use Rattle.ppd_ast.specs.Members.{has}
-use Rattle.ppd_ast.specs.Lookups.{kind_of, top_of, body_of, params_of}
-use Rattle.ppd_ast.proofs.Vocabulary.{kind_of_stmt}
-use Rattle.ppd_ast.proofs.Members.{has_first, has_right, filter_has}
 use Rattle.ppd_cfg.specs.Flow.{follow, next_of, successors}
-use Rattle.ppd_cfg.specs.Lists.{first_or}
 use Rattle.ppd_cfg.specs.Reach.{start}
-use Rattle.ppd_deps.specs.Edges.{begins, scalar_written}
-use Rattle.ppd_deps.proofs.Vocabulary.{is_cell, passes}
-use Rattle.ppd_deps.specs.Named.{calls, local_writes, places, places_by}
 use Rattle.ppd_deps.proofs.Arriving.{IsOwn, own_by}
 use Rattle.ppd_deps.proofs.Bodies.{stands_among}
-use Rattle.ppd_model.specs.declared.trace.EventId.{EventId}
-use Rattle.ppd_model.specs.FullTrace.{Tag}
-use Rattle.ppd_model.proofs.Homes.{AreHome}
+use Rattle.ppd_deps.proofs.Vocabulary.{is_cell, passes}
+use Rattle.ppd_deps.specs.Edges.{begins, scalar_written}
+use Rattle.ppd_deps.specs.Named.{calls, own_vars, places, places_by}
 use Rattle.ppd_model.proofs.Changes.{some}
+use Rattle.ppd_model.proofs.Homes.{AreHome}
 use Rattle.ppd_model.proofs.Parents.{none_some}
-use Rattle.ppd_sem.specs.declared.proc.Todo.{Todo}
-use Rattle.ppd_sem.specs.Runs.{returns}
+use Rattle.ppd_model.specs.FullTrace.{Tag}
+use Rattle.ppd_model.specs.declared.trace.EventId.{EventId}
 use Rattle.ppd_sem.specs.Passed.{next_stmt_of}
-use Rattle.ppd_sets.specs.Used.{callee, stmts_at}
-use Rattle.law_steps.proofs.StaticEdges.OwnCells.Does.{is_own}
-use Rattle.law_steps.proofs.StaticEdges.OwnCells.Tagging.{copied, set_other, set_same, top_changed, uncopied}
-use Rattle.law_steps.proofs.StaticEdges.Vars.{param_var}
-use Rattle.law_steps.proofs.StaticEdges.OwnCells.Ways.{AllCome, AreCome, IsCome, NewTag, kept, mine, none, own_place, step_way}
+use Rattle.ppd_sem.specs.Runs.{returns}
+use Rattle.ppd_sem.specs.declared.proc.Todo.{Todo}
+use Rattle.ppd_sets.specs.Used.{callee, stmts_at, writes_at}
+use Rattle.std.proofs.Common.{List, None, Option, Some, [], ap, false, get_or, inl, inr, length, refl, subst, sym, true, true≢false, ℕ, ℤ, ◌++◌, ◌<◌, ◌∙◌, ◌∷◌, ◌≡◌}
+use Rattle.std.proofs.lemmas.Bool.{and_from, cases_eq, cases_lt, cond-true, lt-ltb, ne_eqb}
+use Rattle.std.specs.List.{filter, flat_map}
+use Rattle.std.specs.Prelude.{IsSome, IsTrue, if◌then◌else◌, is_some, nat_lt, option_to_list, replicate, slice_get, slice_set}
 
 -- ---- bodies
 
@@ -103,24 +101,24 @@ module _ (p : Program) (E : EventId → ℕ → Type 0) (v : IsValid p) (at : �
 
 module _ (p : Program) (E : EventId → ℕ → Type 0) (v : IsValid p) (at : ℕ) (there : at < length p.stmts) (me : EventId) (is_me : E me at) (f : ℕ) (args : List ℕ) (into : Option ℕ) (is : kind_of p at ≡ K.Call f args into) where
   -- a parameter comes from the call to the function's first statement
-  param_begins : (k h : ℕ) → k < params_of p f → first_or (top_of p f) None ≡ Some h → IsTrue (has (begins p f at k) h)
+  param_begins : (k h : ℕ) → k < (body_numbered p f).params → slice_get (body_numbered p f).top 0 ≡ Some h → IsTrue (has (begins p f at k) h)
   param_begins k h lt first =
       let called : IsTrue (calls p at f) = subst (λ (q : Kind). IsTrue (has (callee q) f)) (sym is) (has_first f []) in
-      let passed : passes p f at k ≡ true = and_from (calls p at f) (nat_lt k (params_of p f)) called (lt-ltb k (params_of p f) lt) in
-      let list : (if passes p f at k then option_to_list (first_or (top_of p f) None) else []) ≡ h ∷ [] = cond-true (passes p f at k) (option_to_list (first_or (top_of p f) None)) [] passed ∙ ap option_to_list first in
-      has_right (flat_map (next_of p) (filter (λ c. has (local_writes p c) k) (places p f at))) (if passes p f at k then option_to_list (first_or (top_of p f) None) else []) h
+      let passed : passes p f at k ≡ true = and_from (calls p at f) (nat_lt k (body_numbered p f).params) called (lt-ltb k (body_numbered p f).params lt) in
+      let list : (if passes p f at k then option_to_list (slice_get (body_numbered p f).top 0) else []) ≡ h ∷ [] = cond-true (passes p f at k) (option_to_list (slice_get (body_numbered p f).top 0)) [] passed ∙ ap option_to_list first in
+      has_right (flat_map (next_of p) (filter (λ c. has (own_vars p (writes_at false p) c) k) (places p f at))) (if passes p f at k then option_to_list (slice_get (body_numbered p f).top 0) else []) h
       (subst (λ xs. IsTrue (has xs h)) (sym list) (has_first h []))
 
-  new_tags : (n k h c : ℕ) → n ≡ params_of p f → first_or (top_of p f) None ≡ Some h → IsCome p E f h c (get_or (replicate n (Some me) ++ replicate k None) c None)
+  new_tags : (n k h c : ℕ) → n ≡ (body_numbered p f).params → slice_get (body_numbered p f).top 0 ≡ Some h → IsCome p E f h c (get_or (replicate n (Some me) ++ replicate k None) c None)
   new_tags n k h c count first = elim (cases_lt c n) [
     | inl lt ↦
-        let param : c < params_of p f = subst (λ m. c < m) count lt in
+        let param : c < (body_numbered p f).params = subst (λ m. c < m) count lt in
         subst (λ t. IsCome p E f h c t) (sym (copied n k c (Some me) lt))
         (record { from = at; there = there; is_of = is_me; var = c; in_var = param_var p f c v param; comes = λ l. start (param_begins c h param first) })
     | inr le ↦ subst (λ t. IsCome p E f h c t) (sym (uncopied n k c (Some me) le)) tt
   ]
 
-  pub new_frame : (n k : ℕ) (o : Option ℕ) → n ≡ params_of p f → ((h : ℕ) → o ≡ Some h → first_or (top_of p f) None ≡ Some h) → ((h : ℕ) → o ≡ Some h → body_of p h ≡ f)
+  pub new_frame : (n k : ℕ) (o : Option ℕ) → n ≡ (body_numbered p f).params → ((h : ℕ) → o ≡ Some h → slice_get (body_numbered p f).top 0 ≡ Some h) → ((h : ℕ) → o ≡ Some h → body_of p h ≡ f)
       → AreCome p E o (replicate n (Some me) ++ replicate k None)
   new_frame n k None count first body = tt
   new_frame n k (Some h) count first body = λ c. subst (λ b. IsCome p E b h c (get_or (replicate n (Some me) ++ replicate k None) c None)) (sym (body h refl)) (new_tags n k h c count (first h refl))

@@ -1,43 +1,44 @@
 -- After each step of a process of a valid program the last writes of its local cells come to where it is.
-use Rattle.std.proofs.Common.{◌≡◌, ℕ, ◌+◌, ◌<◌, ℤ, true, false, List, [], ◌∷◌, ◌++◌, Option, Some, None, Ok, length, get_or, refl, sym, ap, ◌∙◌, subst, inl, inr}
-use Rattle.ppd_model.specs.declared.tracing.Activation.{Activation}
-use Rattle.std.specs.Prelude.{IsTrue, slice_set, option_to_list}
-use Rattle.std.proofs.lemmas.Bool.{cases_eq, cases_lt}
-use Rattle.ppd_ast.specs.Valid.{IsEnding, IsValid}
-use Rattle.ppd_ast.specs.declared.plan.Plan.{Plan}
-use Rattle.ppd_ast.specs.declared.program.Kind.{Kind}
-use Rattle.ppd_ast.specs.declared.program.Kind.TheVariants as K
-use Rattle.ppd_ast.specs.declared.program.Program.{Program}
-use Rattle.ppd_ast.specs.Members.{has}
-use Rattle.ppd_ast.specs.Lookups.{kind_of, body_of}
-use Rattle.ppd_ast.proofs.Members.{has_first, in_bounds_has}
-use Rattle.ppd_cfg.specs.Flow.{follow, next_of, successors}
-use Rattle.ppd_cfg.specs.Lists.{first_or}
-use Rattle.law_steps.specs.Course.{IsBehind, IsWay, behind, calls_of}
 use Rattle.law_steps.proofs.Course.Deeds.{DeedFits, IsBranch}
 use Rattle.law_steps.proofs.Course.Frames.{calls_clear, calls_write}
 use Rattle.law_steps.proofs.Course.Last.{ends_are_last}
 use Rattle.law_steps.proofs.Course.Successors.{has_rising_left, has_rising_right}
 use Rattle.law_steps.proofs.Course.Ways.{head_todos}
+use Rattle.law_steps.proofs.StaticEdges.Frames.{AreLinked, links}
+use Rattle.law_steps.proofs.StaticEdges.OwnCells.Does.{IsLocalWrite, is_own, other_cell}
+use Rattle.law_steps.proofs.StaticEdges.OwnCells.Moving.{own_stays, same_body, same_frame, same_tags}
+use Rattle.law_steps.proofs.StaticEdges.OwnCells.Tagging.{all_locals, all_others, all_same, set_all, set_other, set_same, tagged_locals, top_changed}
+use Rattle.law_steps.proofs.StaticEdges.OwnCells.Ways.{AllCome, NewTag, kept, mine, none}
+use Rattle.law_steps.specs.Course.{IsBehind, IsWay, behind, calls_of}
+use Rattle.ppd_ast.proofs.Members.{has_first, in_bounds_has}
+use Rattle.ppd_ast.specs.Lookups.{body_of, kind_of}
+use Rattle.ppd_ast.specs.Members.{has}
+use Rattle.ppd_ast.specs.Valid.{IsEnding, IsValid}
+use Rattle.ppd_ast.specs.declared.plan.Plan.{Plan}
+use Rattle.ppd_ast.specs.declared.program.Kind.{Kind}
+use Rattle.ppd_ast.specs.declared.program.Kind.TheVariants as K
+use Rattle.ppd_ast.specs.declared.program.Program.{Program}
+use Rattle.ppd_cfg.specs.Flow.{follow, next_of, successors}
 use Rattle.ppd_deps.specs.Edges.{scalar_written}
-use Rattle.ppd_model.specs.declared.trace.EventId.{EventId}
-use Rattle.ppd_model.specs.FullTrace.{Tag, tagged_by}
-use Rattle.ppd_model.specs.LocalTags.{locals}
 use Rattle.ppd_model.proofs.Homes.{AreHome, IsHome, bodies-clear, bodies-write}
 use Rattle.ppd_model.proofs.Parents.{none_some}
+use Rattle.ppd_model.specs.FullTrace.{Tag, tagged_by}
+use Rattle.ppd_model.specs.LocalTags.{locals}
+use Rattle.ppd_model.specs.declared.trace.EventId.{EventId}
+use Rattle.ppd_model.specs.declared.tracing.Activation.{Activation}
+use Rattle.ppd_sem.specs.Deed.{Deed, clear, receive, set_local}
+use Rattle.ppd_sem.specs.Passed.{next_stmt_of}
+use Rattle.ppd_sem.specs.Process.{act_by_deed, on_top, todos, value_of, with_values}
+use Rattle.ppd_sem.specs.Runs.{bodies_in, returns}
 use Rattle.ppd_sem.specs.declared.proc.Answer.{Answer}
 use Rattle.ppd_sem.specs.declared.proc.Frame.{Frame}
 use Rattle.ppd_sem.specs.declared.proc.Proc.{Proc}
 use Rattle.ppd_sem.specs.declared.proc.Todo.{Todo}
-use Rattle.ppd_sem.specs.Deed.{Deed, set_local, clear, receive}
-use Rattle.ppd_sem.specs.Process.{act_by_deed, clear_top, todos, value_of, write_top}
-use Rattle.ppd_sem.specs.Runs.{returns, bodies_in}
-use Rattle.ppd_sem.specs.Passed.{next_stmt_of}
-use Rattle.law_steps.proofs.StaticEdges.OwnCells.Does.{IsLocalWrite, is_own, other_cell}
-use Rattle.law_steps.proofs.StaticEdges.Frames.{AreLinked, links}
-use Rattle.law_steps.proofs.StaticEdges.OwnCells.Moving.{own_stays, same_body, same_frame, same_tags}
-use Rattle.law_steps.proofs.StaticEdges.OwnCells.Tagging.{all_locals, all_others, all_same, set_all, set_other, set_same, tagged_locals, top_changed}
-use Rattle.law_steps.proofs.StaticEdges.OwnCells.Ways.{AllCome, NewTag, kept, mine, none}
+use Rattle.std.proofs.Common.{List, None, Ok, Option, Some, [], ap, false, get_or, inl, inr, length, refl, subst, sym, true, ℕ, ℤ, ◌++◌, ◌+◌, ◌<◌, ◌∙◌, ◌∷◌, ◌≡◌}
+use Rattle.std.proofs.lemmas.Bool.{cases_eq, cases_lt}
+use Rattle.std.specs.List.{range_with_len}
+use Rattle.std.specs.Option.{option_or}
+use Rattle.std.specs.Prelude.{IsTrue, option_to_list, pos, replicate, slice_get, slice_set}
 
 -- ---- the tags of what is written
 
@@ -97,21 +98,21 @@ module _ (program : Program) (plan : Plan) (v : IsValid program) (E : EventId �
     pub to_branch : (stmts : List ℕ) → IsBranch k stmts → Leads (todos stmts ++ ts)
     to_branch stmts c h is =
         let after : Option ℕ = follow program t.stmt in
-        let first : first_or stmts after ≡ Some h = ap (first_or stmts) (sym (follows (ap returns c.kind_is))) ∙ sym (head_todos stmts ts) ∙ is in
+        let first : option_or (slice_get stmts 0) after ≡ Some h = ap (option_or (slice_get stmts 0)) (sym (follows (ap returns c.kind_is))) ∙ sym (head_todos stmts ts) ∙ is in
         subst (λ (kind : Kind). IsTrue (has (successors t.stmt kind after) h)) (sym c.kind_is) (elim c.choice [
-          | inl one ↦ has_rising_left (first_or c.first after) (first_or c.second after) h (ap (λ xs. first_or xs after) (sym one) ∙ first)
-          | inr two ↦ has_rising_right (first_or c.first after) (first_or c.second after) h (ap (λ xs. first_or xs after) (sym two) ∙ first)
+          | inl one ↦ has_rising_left (option_or (slice_get c.first 0) after) (option_or (slice_get c.second 0) after) h (ap (λ xs. option_or (slice_get xs 0) after) (sym one) ∙ first)
+          | inr two ↦ has_rising_right (option_or (slice_get c.first 0) after) (option_or (slice_get c.second 0) after) h (ap (λ xs. option_or (slice_get xs 0) after) (sym two) ∙ first)
         ])
 
     pub to_turn : (test : ℕ) (stmts : List ℕ) → k ≡ K.While test stmts → Leads (todos stmts ++ t ∷ ts)
     to_turn test stmts e h is =
         let after : Option ℕ = follow program t.stmt in
-        subst (λ (kind : Kind). IsTrue (has (successors t.stmt kind after) h)) (sym e) (has_rising_left (first_or stmts (Some t.stmt)) after h (sym (head_todos stmts (t ∷ ts)) ∙ is))
+        subst (λ (kind : Kind). IsTrue (has (successors t.stmt kind after) h)) (sym e) (has_rising_left (option_or (slice_get stmts 0) (Some t.stmt)) after h (sym (head_todos stmts (t ∷ ts)) ∙ is))
 
     pub to_leave : (test : ℕ) (body : List ℕ) → k ≡ K.While test body → Leads ts
     to_leave test body e h is =
         let after : Option ℕ = follow program t.stmt in
-        subst (λ (kind : Kind). IsTrue (has (successors t.stmt kind after) h)) (sym e) (has_rising_right (first_or body (Some t.stmt)) after h (sym (follows (ap returns e)) ∙ is))
+        subst (λ (kind : Kind). IsTrue (has (successors t.stmt kind after) h)) (sym e) (has_rising_right (option_or (slice_get body 0) (Some t.stmt)) after h (sym (follows (ap returns e)) ∙ is))
 
     pub to_end : k ≡ K.End → Leads ts
     to_end e h is =
@@ -144,12 +145,12 @@ module _ (program : Program) (plan : Plan) (v : IsValid program) (E : EventId �
 
     pub sets_local : (c : ℕ) (x : ℤ) (left : List ℤ) → DeedFits k (set_local c x) → IsLocalWrite k c → HomeAfter (set_local c x) → Leaves (set_local c x) left
     sets_local c x left l w home =
-        moved ts (write_top c x s.frames) (λ xs. slice_set xs c (Some me)) (locals (tagged_by program s (Some me) (Ok (set_local c x, left)) acts)) (calls_write c x s.frames) (bodies-write c x s.frames) home
+        moved ts (on_top (λ cells. slice_set cells c x) s.frames) (λ xs. slice_set xs c (Some me)) (locals (tagged_by program s (Some me) (Ok (set_local c x, left)) acts)) (calls_write c x s.frames) (bodies-write c x s.frames) home
         w.own (to_next w.own (λ after. l.goes t.stmt after)) (λ xs d. set_new k me c xs w d) (tagged_locals c (Some me) acts)
 
     pub clears : (base len : ℕ) (left : List ℤ) → k ≡ K.Zero base len → HomeAfter (clear base len) → Leaves (clear base len) left
     clears base len left e home =
-        moved ts (clear_top base len s.frames) (set_all base len (Some me)) (locals (tagged_by program s (Some me) (Ok (clear base len, left)) acts)) (calls_clear base len s.frames) (bodies-clear base len s.frames) home
+        moved ts (on_top (with_values (range_with_len base len) (replicate len (pos 0))) s.frames) (set_all base len (Some me)) (locals (tagged_by program s (Some me) (Ok (clear base len, left)) acts)) (calls_clear base len s.frames) (bodies-clear base len s.frames) home
         (ap is_own e) (to_next (ap is_own e) (λ after. ap (λ (kind : Kind). successors t.stmt kind after) e))
         (λ xs d. subst (λ (kind : Kind). NewTag kind me d (get_or xs d None) (get_or (set_all base len (Some me) xs) d None)) (sym e) (all_new me base len xs d)) (all_locals base len (Some me) acts)
 
@@ -158,5 +159,5 @@ module _ (program : Program) (plan : Plan) (v : IsValid program) (E : EventId �
 
     pub receives : (chan into : ℕ) (left : List ℤ) → k ≡ K.Recv chan into → HomeAfter (receive chan into) → Leaves (receive chan into) left
     receives chan into left e home =
-        moved ts (write_top into (value_of a) s.frames) (λ xs. slice_set xs into (Some me)) (locals (tagged_by program s (Some me) (Ok (receive chan into, left)) acts)) (calls_write into (value_of a) s.frames) (bodies-write into (value_of a) s.frames) home
+        moved ts (on_top (λ cells. slice_set cells into (value_of a)) s.frames) (λ xs. slice_set xs into (Some me)) (locals (tagged_by program s (Some me) (Ok (receive chan into, left)) acts)) (calls_write into (value_of a) s.frames) (bodies-write into (value_of a) s.frames) home
         (ap is_own e) (to_next (ap is_own e) (λ after. ap (λ (kind : Kind). successors t.stmt kind after) e)) (λ xs d. set_new k me into xs (receives_one chan into e) d) (tagged_locals into (Some me) acts)

@@ -1,29 +1,28 @@
 -- From the last write of a local cell a way along the flow graph is kept to the statement that comes next.
-use Rattle.std.proofs.Common.{◌≡◌, ℕ, ◌<◌, true, false, List, [], ◌∷◌, Option, Some, None, length, get_or, refl, sym, ap, ◌∙◌, subst}
-use Rattle.std.specs.Prelude.{IsTrue, ⊤, nat_eq, not, ◌&&◌, slice_get, if◌then◌else◌, option_to_list}
-use Rattle.std.specs.List.{filter, flat_map}
-use Rattle.std.proofs.lemmas.Bool.{and_from, cond-true, eq-eqb}
+use Rattle.law_steps.proofs.StaticEdges.Vars.{HasVar, keeps, local_var, met}
+use Rattle.law_steps.specs.Sound.{IsCellOf}
+use Rattle.ppd_ast.proofs.Members.{filter_has, flat_from, has_first, has_left}
+use Rattle.ppd_ast.specs.Lookups.{body_numbered, body_of, kind_of}
+use Rattle.ppd_ast.specs.Members.{has}
 use Rattle.ppd_ast.specs.Valid.{IsValid}
 use Rattle.ppd_ast.specs.declared.program.Kind.{Kind}
 use Rattle.ppd_ast.specs.declared.program.Program.{Program}
 use Rattle.ppd_ast.specs.declared.program.Var.{Var}
-use Rattle.ppd_ast.specs.Members.{has}
-use Rattle.ppd_ast.specs.Lookups.{kind_of, top_of, body_of, locals_of}
-use Rattle.ppd_ast.proofs.Members.{has_first, has_left, filter_has, flat_from}
 use Rattle.ppd_cfg.specs.Flow.{next_of}
-use Rattle.ppd_cfg.specs.Lists.{first_or, row}
 use Rattle.ppd_cfg.specs.Reach.{Reached, next, start}
-use Rattle.ppd_deps.specs.Edges.{begins, ends_paths, kept_rows, scalar_written}
-use Rattle.ppd_deps.proofs.Vocabulary.{is_cell, passes}
-use Rattle.ppd_deps.specs.Named.{local_writes, places}
 use Rattle.ppd_deps.proofs.Arriving.{IsOwn}
 use Rattle.ppd_deps.proofs.Reaching.{kept_row_is}
-use Rattle.ppd_model.specs.declared.trace.EventId.{EventId}
+use Rattle.ppd_deps.proofs.Vocabulary.{is_cell, passes}
+use Rattle.ppd_deps.specs.Edges.{begins, ends_paths, kept_rows, scalar_written}
+use Rattle.ppd_deps.specs.Named.{own_vars, places}
 use Rattle.ppd_model.specs.FullTrace.{Tag}
+use Rattle.ppd_model.specs.declared.trace.EventId.{EventId}
 use Rattle.ppd_sets.specs.Named.{writes}
 use Rattle.ppd_sets.specs.Used.{writes_at}
-use Rattle.law_steps.specs.Sound.{IsCellOf}
-use Rattle.law_steps.proofs.StaticEdges.Vars.{HasVar, keeps, local_var, met}
+use Rattle.std.proofs.Common.{List, None, Option, Some, [], ap, false, get_or, length, refl, subst, sym, true, ℕ, ◌<◌, ◌∙◌, ◌∷◌, ◌≡◌}
+use Rattle.std.proofs.lemmas.Bool.{and_from, cond-true, eq-eqb}
+use Rattle.std.specs.List.{filter, flat_map}
+use Rattle.std.specs.Prelude.{IsTrue, if◌then◌else◌, nat_eq, not, option_to_list, slice_get, ⊤, ◌&&◌}
 
 -- the event, which is one of E at some statement of the program, wrote the cell c of body b, and what it wrote may come
 -- to statement at
@@ -32,8 +31,8 @@ pub record HasWay (p : Program) (E : EventId → ℕ → Type 0) (b at c : ℕ) 
   pub there : from < length p.stmts
   pub is_of : E id from
   pub var : ℕ
-  pub in_var : IsCellOf (locals_of p b) var c
-  pub comes : var < 65536 → Reached (kept_rows p b (slice_get (locals_of p b) var)) (begins p b from var) at
+  pub in_var : IsCellOf (body_numbered p b).locals var c
+  pub comes : var < 65536 → Reached (kept_rows p b (slice_get (body_numbered p b).locals var)) (begins p b from var) at
 
 abbrev pub IsCome : Program → (EventId → ℕ → Type 0) → (b at c : ℕ) → Tag → Type 0
 IsCome p E b at c None = ⊤
@@ -77,11 +76,11 @@ pub data NewTag (k : Kind) (me : EventId) (c : ℕ) (old new : Tag) : Type 0 whe
 
 module _ (p : Program) (E : EventId → ℕ → Type 0) (v : IsValid p) (at to : ℕ) (there : at < length p.stmts) (leads : IsTrue (has (next_of p at) to)) where
   -- the row of a variable whose paths the statement does not end
-  in_row : (x : Var) (o : Option Var) → o ≡ Some x → ends_paths (Some x) (kind_of p at) ≡ false → IsTrue (has (row (kept_rows p (body_of p at) o) at) to)
+  in_row : (x : Var) (o : Option Var) → o ≡ Some x → ends_paths (Some x) (kind_of p at) ≡ false → IsTrue (has (get_or (kept_rows p (body_of p at) o) at []) to)
   in_row x o is no_end =
       let passes_on : (nat_eq (body_of p at) (body_of p at) && not (ends_paths o (kind_of p at))) ≡ true =
       and_from (nat_eq (body_of p at) (body_of p at)) (not (ends_paths o (kind_of p at))) (eq-eqb (body_of p at) (body_of p at) refl) (ap (λ y. not (ends_paths y (kind_of p at))) is ∙ ap not no_end) in
-      let e : row (kept_rows p (body_of p at) o) at ≡ next_of p at = kept_row_is p (body_of p at) o at there ∙ cond-true (nat_eq (body_of p at) (body_of p at) && not (ends_paths o (kind_of p at))) (next_of p at) [] passes_on in
+      let e : get_or (kept_rows p (body_of p at) o) at [] ≡ next_of p at = kept_row_is p (body_of p at) o at there ∙ cond-true (nat_eq (body_of p at) (body_of p at) && not (ends_paths o (kind_of p at))) (next_of p at) [] passes_on in
       subst (λ xs. IsTrue (has xs to)) (sym e) leads
 
   goes_on : (c : ℕ) (id : EventId) → is_cell c (scalar_written (kind_of p at)) ≡ false → HasWay p E (body_of p at) at c id → HasWay p E (body_of p at) to c id
@@ -91,7 +90,7 @@ module _ (p : Program) (E : EventId → ℕ → Type 0) (v : IsValid p) (at to :
     is_of = h.is_of;
     var = h.var;
     in_var = h.in_var;
-    comes = λ lt. next (h.comes lt) (in_row h.in_var.variable (slice_get (locals_of p (body_of p at)) h.var) h.in_var.there (keeps h.in_var.variable c (kind_of p at) h.in_var.held other));
+    comes = λ lt. next (h.comes lt) (in_row h.in_var.variable (slice_get (body_numbered p (body_of p at)).locals h.var) h.in_var.there (keeps h.in_var.variable c (kind_of p at) h.in_var.held other));
   }
 
   goes : (c : ℕ) (tag : Tag) → is_cell c (scalar_written (kind_of p at)) ≡ false → IsCome p E (body_of p at) at c tag → IsCome p E (body_of p at) to c tag
@@ -100,23 +99,23 @@ module _ (p : Program) (E : EventId → ℕ → Type 0) (v : IsValid p) (at to :
 
   -- ---- where a path begins
 
-  begin_at : (s w : ℕ) → IsTrue (has (places p (body_of p at) s) at) → IsTrue (has (local_writes p at) w) → IsTrue (has (begins p (body_of p at) s w) to)
+  begin_at : (s w : ℕ) → IsTrue (has (places p (body_of p at) s) at) → IsTrue (has (own_vars p (writes_at false p) at) w) → IsTrue (has (begins p (body_of p at) s w) to)
   begin_at s w place written =
-      has_left (flat_map (next_of p) (filter (λ c. has (local_writes p c) w) (places p (body_of p at) s))) (if passes p (body_of p at) s w then option_to_list (first_or (top_of p (body_of p at)) None) else []) to
-      (flat_from (next_of p) (filter (λ c. has (local_writes p c) w) (places p (body_of p at) s)) at to
-      (filter_has (λ c. has (local_writes p c) w) (places p (body_of p at) s) at place written) leads)
+      has_left (flat_map (next_of p) (filter (λ c. has (own_vars p (writes_at false p) c) w) (places p (body_of p at) s))) (if passes p (body_of p at) s w then option_to_list (slice_get (body_numbered p (body_of p at)).top 0) else []) to
+      (flat_from (next_of p) (filter (λ c. has (own_vars p (writes_at false p) c) w) (places p (body_of p at) s)) at to
+      (filter_has (λ c. has (own_vars p (writes_at false p) c) w) (places p (body_of p at) s) at place written) leads)
 
   -- the event of statement s writes the cell at this statement
   begins_way : (s c : ℕ) (me : EventId) → s < length p.stmts → E me s → IsTrue (has (places p (body_of p at) s) at) → IsTrue (has (writes_at false p at) c) → HasWay p E (body_of p at) to c me
   begins_way s c me below is place written =
-      let x : HasVar (locals_of p (body_of p at)) c = local_var p at c v written in
+      let x : HasVar (body_numbered p (body_of p at)).locals c = local_var p at c v written in
       record {
         from = s;
         there = below;
         is_of = is;
         var = x.var;
         in_var = x.in_var;
-        comes = λ lt. start (begin_at s x.var place (met (locals_of p (body_of p at)) (writes_at false p at) x.var c lt x.in_var written));
+        comes = λ lt. start (begin_at s x.var place (met (body_numbered p (body_of p at)).locals (writes_at false p at) x.var c lt x.in_var written));
       }
 
   module _ (s : ℕ) (me : EventId) (below : s < length p.stmts) (is : E me s) (place : IsTrue (has (places p (body_of p at) s) at)) where

@@ -1,33 +1,33 @@
 -- The answers that a statement has so far are of the cells that it wanted in turn, and their tags those of the cells' writers.
-use Rattle.std.proofs.Common.{◌≡◌, ℕ, zero, suc, ℤ, List, [], ◌∷◌, ◌++◌, Option, Some, None, Ok, Err, map, refl, sym, ap, ◌∙◌, subst, append_assoc, append-nil}
-use Rattle.ppd_model.specs.declared.tracing.Story.{Story}
-use Rattle.ppd_model.specs.declared.tracing.Taken.{Taken}
-use Rattle.ppd_model.specs.declared.tracing.Tracing.{Tracing}
-use Rattle.std.specs.Prelude.{⊤, fold, slice_get}
+use Rattle.law_steps.proofs.StaticEdges.SharedCells.Asking.{Finishes, Tells, need_tells}
+use Rattle.law_steps.proofs.StaticEdges.SharedCells.Writers.{EachReadIs, IsWriter, ReadIs}
+use Rattle.ppd_ast.specs.Lookups.{kind_of}
 use Rattle.ppd_ast.specs.declared.plan.Plan.{Plan}
 use Rattle.ppd_ast.specs.declared.program.Program.{Program}
 use Rattle.ppd_ast.specs.declared.status.Status.{Status}
-use Rattle.ppd_ast.specs.Lookups.{kind_of}
-use Rattle.ppd_model.specs.FullTrace.{Tag, answers_past, tag_at, tags_of, trace_by, trace_step}
-use Rattle.ppd_model.specs.LocalTags.{AreOwn}
 use Rattle.ppd_model.proofs.Parents.{none_some}
-use Rattle.ppd_sem.specs.declared.asking.Pause.TheVariants.{Wants, Traps}
+use Rattle.ppd_model.specs.FullTrace.{Tag, tag_past, tags_of, trace_by, trace_step}
+use Rattle.ppd_model.specs.LocalTags.{AreOwn}
+use Rattle.ppd_model.specs.declared.tracing.Story.{Story}
+use Rattle.ppd_model.specs.declared.tracing.Taken.{Taken}
+use Rattle.ppd_model.specs.declared.tracing.Tracing.{Tracing}
+use Rattle.ppd_sem.proofs.NeedWords.{act_at, need_by_status}
+use Rattle.ppd_sem.proofs.Progress.{act-stopped}
+use Rattle.ppd_sem.specs.Asked.{Asked}
+use Rattle.ppd_sem.specs.Consumed.{WantsInTurn, shared_of, shared_with, values_read}
+use Rattle.ppd_sem.specs.Deed.{Deed, ask_deed, back, clear, invoke, receive, set_local}
+use Rattle.ppd_sem.specs.Process.{act, act_by_asked, act_by_deed, act_by_need, head_deed, need_of, started, top_frame, value_of}
+use Rattle.ppd_sem.specs.declared.asking.Pause.TheVariants.{Traps, Wants}
 use Rattle.ppd_sem.specs.declared.event.Access.{Access}
 use Rattle.ppd_sem.specs.declared.event.Spot.{Spot}
 use Rattle.ppd_sem.specs.declared.event.Spot.TheVariants.{Local, Shared}
 use Rattle.ppd_sem.specs.declared.proc.Answer.{Answer}
 use Rattle.ppd_sem.specs.declared.proc.Need.{Need}
-use Rattle.ppd_sem.specs.declared.proc.Need.TheVariants.{Read, Write, Enter, Offer, Done, Trap, Budget, Stopped}
+use Rattle.ppd_sem.specs.declared.proc.Need.TheVariants.{Budget, Done, Enter, Offer, Read, Stopped, Trap, Write}
 use Rattle.ppd_sem.specs.declared.proc.Proc.{Proc}
 use Rattle.ppd_sem.specs.declared.proc.Todo.{Todo}
-use Rattle.ppd_sem.specs.Asked.{Asked}
-use Rattle.ppd_sem.specs.Consumed.{WantsInTurn, shared_of, shared_with, values_read}
-use Rattle.ppd_sem.specs.Deed.{Deed, set_local, clear, invoke, back, receive, ask_deed}
-use Rattle.ppd_sem.specs.Process.{act, act_by_asked, act_by_deed, act_by_need, head_deed, need_of, started, top_cells, value_of}
-use Rattle.ppd_sem.proofs.NeedWords.{act_at, need_by_status}
-use Rattle.ppd_sem.proofs.Progress.{act-stopped}
-use Rattle.law_steps.proofs.StaticEdges.SharedCells.Asking.{Finishes, Tells, need_tells}
-use Rattle.law_steps.proofs.StaticEdges.SharedCells.Writers.{EachReadIs, IsWriter, ReadIs}
+use Rattle.std.proofs.Common.{Err, List, None, Ok, Option, Some, [], ap, append-nil, append_assoc, map, refl, subst, suc, sym, zero, ℕ, ℤ, ◌++◌, ◌∙◌, ◌∷◌, ◌≡◌}
+use Rattle.std.specs.Prelude.{fold, slice_get, ⊤}
 
 -- ---- answers and their tags
 
@@ -66,7 +66,7 @@ module _ (steps : List (List Taken)) (ev : List ℤ → Asked Deed) (ls : List T
       → slice_get (spots as') i ≡ Some (Shared c) → slice_get (tags_of ls tags as') i ≡ Some w → IsWriter steps c w
 
   one : (s : Spot) (v : ℤ) (as' : List Access) (before left : List ℤ) (tags : List Tag) (i c : ℕ) (w : Tag) → ((b : List ℤ) → IsAligned b as') → WantsInTurn ev before (shared_with s v (shared_of as'))
-      → AreTaken steps ev before (values_read (shared_with s v (shared_of as')) ++ left) tags → slice_get (s ∷ spots as') i ≡ Some (Shared c) → slice_get (tag_at ls tags s ∷ tags_of ls (answers_past tags s) as') i ≡ Some w → IsWriter steps c w
+      → AreTaken steps ev before (values_read (shared_with s v (shared_of as')) ++ left) tags → slice_get (s ∷ spots as') i ≡ Some (Shared c) → slice_get ((tag_past ls tags s).0 ∷ tags_of ls (tag_past ls tags s).1 as') i ≡ Some w → IsWriter steps c w
   one (Local f d) v as' before left tags zero c w rest wants takes at tag = absurd (cc)
   one (Local f d) v as' before left tags (suc i) c w rest wants takes at tag = rest before left tags i c w wants takes at tag
   one (Shared d) v as' before left [] i c w rest wants takes at tag = absurd takes
@@ -85,7 +85,7 @@ module _ (steps : List (List Taken)) (ev : List ℤ → Asked Deed) (ls : List T
 
 -- what a statement asks for, by its answers
 abbrev pub evaluates_at : Program → Todo → Proc → List ℤ → Asked Deed
-evaluates_at program t s answers = ask_deed program.exprs (kind_of program t.stmt) (top_cells s.frames) answers
+evaluates_at program t s answers = ask_deed program.exprs (kind_of program t.stmt) (top_frame s.frames).cells answers
 
 abbrev pub TakenAt : Program → List (List Taken) → Proc → List Tag → List Todo → Type 0
 TakenAt program steps s tags [] = ⊤

@@ -16,7 +16,7 @@ use Rattle.ppd_sem.specs.declared.proc.Todo.{Todo}
 use Rattle.ppd_sem.specs.Asked.{Asked}
 use Rattle.ppd_sem.specs.Deed.{Deed, set_shared, leave, invoke, send}
 use Rattle.ppd_sem.specs.Tables.{block_of, capacity_of, unit_of}
-use Rattle.ppd_sem.specs.Process.{cost, entry_of, head_deed, need_of, need_of_call, need_of_deed, need_of_head, need_of_leaving, need_of_send, offer_of}
+use Rattle.ppd_sem.specs.Process.{cost, entry_of, head_deed, need_of, need_of_deed, need_of_head, need_of_leaving, need_of_send, offer_of}
 use Rattle.ppd_sem.proofs.NeedWords.{need_by_entry, need_by_offer, need_by_status, need_of_running}
 
 -- it wants no cell
@@ -42,8 +42,8 @@ leaving : (plan : Plan) (t : ℕ) (o : Option ℕ) (left : List ℤ) → Tells (
 leaving plan t None left = tt
 leaving plan t (Some b) left = tt
 
-calling : (plan : Plan) (f : ℕ) (s : Proc) (values : List ℤ) (into : Option ℕ) (left : List ℤ) → Tells (need_of_call plan f s) (Ok (invoke f values into, left))
-calling plan f s values into left = by (nat_lt MOST_CALLS (s.below + length s.frames))
+calling : (p : Program) (plan : Plan) (t f : ℕ) (s : Proc) (values : List ℤ) (into : Option ℕ) (left : List ℤ) → Tells (need_of_deed p plan t s (invoke f values into)) (Ok (invoke f values into, left))
+calling p plan t f s values into left = by (nat_lt MOST_CALLS (s.below + length s.frames))
   where
     by : (b : Bool) → Tells (if b then need.Trap trap.Depth else need.Invoke (block_of plan (block.Function f)) (unit_of plan (start.Entry f))) (Ok (invoke f values into, left))
     by true = tt
@@ -56,7 +56,7 @@ sending plan t (suc n) c x left = tt
 deed_tells : (p : Program) (plan : Plan) (t : ℕ) (s : Proc) (d : Deed) (left : List ℤ) → Tells (need_of_deed p plan t s d) (Ok (d, left))
 deed_tells p plan t s (set_shared c x) left = (left, refl)
 deed_tells p plan t s leave left = leaving plan t _ left
-deed_tells p plan t s (invoke f values into) left = calling plan f s values into left
+deed_tells p plan t s (invoke f values into) left = calling p plan t f s values into left
 deed_tells p plan t s (send chan x) left = sending plan t (capacity_of p chan) chan x left
 deed_tells p plan t s d left = tt
 

@@ -1,50 +1,50 @@
 -- The value of each shared cell that an event reads comes over a data edge.
-use Rattle.std.proofs.Common.{◌≡◌, ℕ, zero, suc, ◌+◌, ◌<◌, Bool, true, false, List, [], ◌∷◌, ◌++◌, Option, Some, None, length, map, refl, sym, ap, ◌∙◌, subst, arith, if◌then◌else◌}
-use Rattle.ppd_model.specs.declared.tracing.Story.{Story}
-use Rattle.ppd_model.specs.declared.tracing.Taken.{Taken}
-use Rattle.ppd_model.specs.declared.tracing.Tracing.{Tracing}
-use Rattle.std.specs.Prelude.{IsTrue, slice_get}
-use Rattle.std.proofs.lemmas.Bool.{cond-true}
+use Rattle.law_steps.proofs.StaticEdges.Edges.{shared_data}
+use Rattle.law_steps.proofs.StaticEdges.Events.{IsStepOf, event_step, is_event_of, traced_by_steps}
+use Rattle.law_steps.proofs.StaticEdges.OwnCells.LocalReads.{holds_here, may_read, own_here, own_need, statement_read}
+use Rattle.law_steps.proofs.StaticEdges.OwnCells.Locals.{Holds}
+use Rattle.law_steps.proofs.StaticEdges.SharedCells.Aligned.{AreTaken, HasAnswers, TakenAt, aligned, answers_all, answers_start, evaluates_at}
+use Rattle.law_steps.proofs.StaticEdges.SharedCells.Telling.{reads_told}
+use Rattle.law_steps.proofs.StaticEdges.SharedCells.Writers.{EachReadIs, IsWrite, IsWriter, events_in, reads_first}
+use Rattle.law_steps.proofs.StaticEdges.SharedCells.Writing.{count_events, head_runs, is_running, written}
+use Rattle.law_steps.proofs.StaticEdges.States.{HasHead, event_head, head_there}
+use Rattle.law_steps.proofs.StaticEdges.Vars.{HasVar, met, shared_var}
+use Rattle.law_steps.specs.Sound.{ComesOverData, HasWriter, IsEventOf, SharedReadsComeOverEdges, event_at}
+use Rattle.ppd_ast.specs.Lookups.{body_of, kind_of}
+use Rattle.ppd_ast.specs.Members.{has}
 use Rattle.ppd_ast.specs.Valid.{IsValid}
 use Rattle.ppd_ast.specs.declared.plan.Plan.{Plan}
 use Rattle.ppd_ast.specs.declared.program.Program.{Program}
 use Rattle.ppd_ast.specs.declared.status.Status.{Status}
-use Rattle.ppd_ast.specs.Members.{has}
-use Rattle.ppd_ast.specs.Lookups.{kind_of, body_of}
-use Rattle.ppd_deps.specs.Named.{running, shared_writes}
 use Rattle.ppd_deps.proofs.Arriving.{body_there}
-use Rattle.ppd_model.specs.declared.trace.EventId.{EventId}
-use Rattle.ppd_model.specs.declared.trace.TracedEvent.{TracedEvent}
-use Rattle.ppd_model.specs.FullTrace.{Tag, begun_tracing, event_of, full_trace, me_in, tags_of, top_tags}
-use Rattle.ppd_model.specs.Story.{own_steps, story}
+use Rattle.ppd_deps.specs.Named.{running, shared_writes}
 use Rattle.ppd_model.proofs.Homes.{AreHome}
 use Rattle.ppd_model.proofs.Parents.{own_to}
+use Rattle.ppd_model.specs.FullTrace.{Tag, begun_tracing, event_of, full_trace, me_in, tags_of, top_tags}
+use Rattle.ppd_model.specs.Story.{story}
+use Rattle.ppd_model.specs.declared.trace.EventId.{EventId}
+use Rattle.ppd_model.specs.declared.trace.TracedEvent.{TracedEvent}
+use Rattle.ppd_model.specs.declared.tracing.Story.{Story}
+use Rattle.ppd_model.specs.declared.tracing.Taken.{Taken}
+use Rattle.ppd_model.specs.declared.tracing.Tracing.{Tracing}
+use Rattle.ppd_sem.proofs.Consumed.{reads_taken}
+use Rattle.ppd_sem.proofs.NeedWords.{need_by_status}
+use Rattle.ppd_sem.specs.Consumed.{Takes, shared_of}
+use Rattle.ppd_sem.specs.Described.{evaluates, frame_of, is_event}
+use Rattle.ppd_sem.specs.Process.{need_of, started, top_frame}
+use Rattle.ppd_sem.specs.Reads.{reads_of_kind}
+use Rattle.ppd_sem.specs.Runs.{bodies_in}
 use Rattle.ppd_sem.specs.declared.event.Access.{Access}
 use Rattle.ppd_sem.specs.declared.event.Event.{Event}
 use Rattle.ppd_sem.specs.declared.event.Spot.TheVariants.{Shared}
 use Rattle.ppd_sem.specs.declared.proc.Need.TheVariants.{Write}
 use Rattle.ppd_sem.specs.declared.proc.Proc.{Proc}
 use Rattle.ppd_sem.specs.declared.proc.Todo.{Todo}
-use Rattle.ppd_sem.specs.Consumed.{Takes, shared_of}
-use Rattle.ppd_sem.specs.Described.{evaluates, frame_of, is_event}
-use Rattle.ppd_sem.specs.Process.{need_of, started, top_cells}
-use Rattle.ppd_sem.proofs.NeedWords.{need_by_status}
-use Rattle.ppd_sem.specs.Reads.{reads_of_kind}
-use Rattle.ppd_sem.proofs.Consumed.{reads_taken}
-use Rattle.ppd_sem.specs.Runs.{bodies_in}
 use Rattle.ppd_sets.specs.Named.{reads}
 use Rattle.ppd_sets.specs.Used.{reads_at, vars_met, writes_at}
-use Rattle.law_steps.specs.Sound.{ComesOverData, HasWriter, IsEventOf, SharedReadsComeOverEdges, event_at}
-use Rattle.law_steps.proofs.StaticEdges.SharedCells.Aligned.{AreTaken, HasAnswers, TakenAt, aligned, answers_all, answers_start, evaluates_at}
-use Rattle.law_steps.proofs.StaticEdges.Edges.{shared_data}
-use Rattle.law_steps.proofs.StaticEdges.Events.{IsStepOf, event_step, is_event_of, traced_by_steps}
-use Rattle.law_steps.proofs.StaticEdges.OwnCells.LocalReads.{holds_here, may_read, own_here, own_need, statement_read}
-use Rattle.law_steps.proofs.StaticEdges.OwnCells.Locals.{Holds}
-use Rattle.law_steps.proofs.StaticEdges.States.{HasHead, event_head, head_there}
-use Rattle.law_steps.proofs.StaticEdges.Vars.{HasVar, met, shared_var}
-use Rattle.law_steps.proofs.StaticEdges.SharedCells.Writing.{count_events, head_runs, is_running, written}
-use Rattle.law_steps.proofs.StaticEdges.SharedCells.Writers.{EachReadIs, IsWrite, IsWriter, events_in, reads_first}
-use Rattle.law_steps.proofs.StaticEdges.SharedCells.Telling.{reads_told}
+use Rattle.std.proofs.Common.{Bool, List, None, Option, Some, [], ap, arith, false, if◌then◌else◌, length, map, refl, subst, suc, sym, true, zero, ℕ, ◌++◌, ◌+◌, ◌<◌, ◌∙◌, ◌∷◌, ◌≡◌}
+use Rattle.std.proofs.lemmas.Bool.{cond-true}
+use Rattle.std.specs.Prelude.{IsTrue, get_or, slice_get}
 
 -- ---- reads
 
@@ -78,7 +78,7 @@ module _ (program : Program) (plan : Plan) (budget : ℕ) (h : List ℕ) (v : Is
   record IsWrittenAt (id : EventId) (c : ℕ) : Type 0 where
     stmt : ℕ
     there : stmt < length program.stmts
-    is_of : IsEventOf (full_trace program plan budget h) id stmt
+    is_of : IsEventOf (full_trace program plan budget (story program plan budget h)) id stmt
     writes : IsTrue (has (writes_at true program stmt) c)
     runs : IsTrue (has (running program) (body_of program stmt))
 
@@ -92,7 +92,7 @@ module _ (program : Program) (plan : Plan) (budget : ℕ) (h : List ℕ) (v : Is
       let holds : Holds program plan told_story q v u = holds_here program plan budget h q v w.before w.taken w.after w.steps_are in
       let t : ℕ = head.head.stmt in
       let below : t < length program.stmts = head_there program u.proc head holds.runs in
-      let of : IsEventOf (full_trace program plan budget h) (me_in q u) t =
+      let of : IsEventOf (full_trace program plan budget (story program plan budget h)) (me_in q u) t =
       is_event_of program plan budget h q w.before w.taken w.after t w.steps_are (ap is_event w.writes) (ap (λ todo. (event_of program plan u.proc w.taken todo).stmt) head.is) in
       let count : length u.events ≡ 0 + events_in w.before = count_events program plan told_story q (begun_tracing (started program plan q budget)) w.before in
       let number : id.number ≡ events_in w.before = w.number_is in
@@ -100,13 +100,13 @@ module _ (program : Program) (plan : Plan) (budget : ℕ) (h : List ℕ) (v : Is
       record {
         stmt = t;
         there = below;
-        is_of = record { event = of.event; there = ap (λ n. event_at (full_trace program plan budget h) q n) (sym counted) ∙ of.there; stmt_is = of.stmt_is };
+        is_of = record { event = of.event; there = ap (λ n. event_at (full_trace program plan budget (story program plan budget h)) q n) (sym counted) ∙ of.there; stmt_is = of.stmt_is };
         writes = written program plan u.proc head.head head.rest c w.value head.is need;
         runs = is_running program (body_of program t) (body_there program t v below) (head_runs program u.proc.frames head.head head.rest (subst (λ todo. AreHome program (bodies_in u.proc.frames) todo) head.is holds.home) holds.sound.run);
       }
 
   -- a write gives an edge
-  write_edge : (id : EventId) (t c : ℕ) → IsTrue (has (reads_at true program t) c) → IsWrittenAt id c → ComesOverData program (full_trace program plan budget h) id t (Shared c)
+  write_edge : (id : EventId) (t c : ℕ) → IsTrue (has (reads_at true program t) c) → IsWrittenAt id c → ComesOverData program (full_trace program plan budget (story program plan budget h)) id t (Shared c)
   write_edge id t c reads w =
       let x : HasVar program.shared c = shared_var program w.stmt c v w.writes in
       record {
@@ -127,7 +127,7 @@ module _ (program : Program) (plan : Plan) (budget : ℕ) (h : List ℕ) (v : Is
     abbrev begun : Tracing
     begun = begun_tracing (started program plan p budget)
 
-    answers_here : (before : List Taken) (x : Taken) (after : List Taken) → own_steps told_story p ≡ before ++ x ∷ after
+    answers_here : (before : List Taken) (x : Taken) (after : List Taken) → get_or told_story.steps p [] ≡ before ++ x ∷ after
         → HasAnswers program told_story.steps (traced_by_steps program plan budget h p before).proc (traced_by_steps program plan budget h p before).answers
     answers_here before x after steps =
         answers_all program plan told_story p told_story.steps begun before (own_to program plan told_story p begun.proc before (x ∷ after) (own_here program plan budget h p v before x after steps))
@@ -138,8 +138,8 @@ module _ (program : Program) (plan : Plan) (budget : ℕ) (h : List ℕ) (v : Is
     writer_is : (u : Tracing) (x : Taken) (t : Todo) (ts : List Todo) (i c : ℕ) (a : Access) (w : Tag) → u.proc.todo ≡ t ∷ ts → AreTaken told_story.steps (evaluates_at program t u.proc) [] u.proc.answers u.answers
         → slice_get (event_of program plan u.proc x u.proc.todo).reads i ≡ Some a → a.spot ≡ Shared c → slice_get (tags_of (top_tags u.activations) u.answers (event_of program plan u.proc x u.proc.todo).reads) i ≡ Some w → IsWriter told_story.steps c w
     writer_is u x t ts i c a w is taken read spot tag =
-        let all : List Access = reads_of_kind (frame_of program plan u.proc) program.exprs (kind_of program t.stmt) (top_cells u.proc.frames) u.proc.answers in
-        let takes : Takes (evaluates_at program t u.proc) u.proc.answers (shared_of all) = reads_taken.statement (frame_of program plan u.proc) program.exprs (kind_of program t.stmt) (top_cells u.proc.frames) u.proc.answers in
+        let all : List Access = reads_of_kind (frame_of program plan u.proc) program.exprs (kind_of program t.stmt) (top_frame u.proc.frames).cells u.proc.answers in
+        let takes : Takes (evaluates_at program t u.proc) u.proc.answers (shared_of all) = reads_taken.statement (frame_of program plan u.proc) program.exprs (kind_of program t.stmt) (top_frame u.proc.frames).cells u.proc.answers in
         let at : slice_get (map (λ a. a.spot) all) i ≡ Some (Shared c) = spot_there all i a (statement_read program plan u.proc x t ts i a is read) ∙ ap Some spot in
         let tags : slice_get (tags_of (top_tags u.activations) u.answers all) i ≡ Some w =
         tags_there (evaluates (need_of program plan u.proc)) (top_tags u.activations) u.answers all i w
@@ -147,8 +147,8 @@ module _ (program : Program) (plan : Plan) (budget : ℕ) (h : List ℕ) (v : Is
         aligned told_story.steps (evaluates_at program t u.proc) (top_tags u.activations) all [] takes.left u.answers i c w takes.in_turn
         (subst (λ vs. AreTaken told_story.steps (evaluates_at program t u.proc) [] vs u.answers) (sym takes.all) taken) at tags
 
-    pub shared_comes : (e : TracedEvent) (i : ℕ) (a : Access) (id : EventId) (c : ℕ) → IsStepOf program plan told_story p begun (own_steps told_story p) e → HasWriter e i a id → a.spot ≡ Shared c
-        → ComesOverData program (full_trace program plan budget h) id e.event.stmt (Shared c)
+    pub shared_comes : (e : TracedEvent) (i : ℕ) (a : Access) (id : EventId) (c : ℕ) → IsStepOf program plan told_story p begun (get_or told_story.steps p []) e → HasWriter e i a id → a.spot ≡ Shared c
+        → ComesOverData program (full_trace program plan budget (story program plan budget h)) id e.event.stmt (Shared c)
     shared_comes e i a id c s w spot =
         let u : Tracing = traced_by_steps program plan budget h p s.before in
         let finishes : is_event (need_of program plan u.proc) ≡ true = ap is_event (sym (own_need program plan budget h p v s.before s.taken s.after s.steps_are)) ∙ s.finishes in
@@ -162,7 +162,7 @@ module _ (program : Program) (plan : Plan) (budget : ℕ) (h : List ℕ) (v : Is
         let wrote : IsWrite told_story.steps c id = writer_is u s.taken head.head head.rest i c a (Some id) head.is taken read spot tags in
         let may : IsTrue (has (reads true program.exprs (kind_of program t)) c) = (may_read program plan u.proc s.taken head.head head.rest i a head.is read).shared_cell c spot in
         let stmt : t ≡ e.event.stmt = sym (ap (λ todo. (event_of program plan u.proc s.taken todo).stmt) head.is) ∙ sym (ap (λ (y : Event). y.stmt) event) in
-        subst (λ n. ComesOverData program (full_trace program plan budget h) id n (Shared c)) stmt
+        subst (λ n. ComesOverData program (full_trace program plan budget (story program plan budget h)) id n (Shared c)) stmt
         (write_edge id t c may (write_at id c wrote))
 
 pub shared_reads_come : SharedReadsComeOverEdges

@@ -8,7 +8,7 @@ use Rattle.ppd_ast.specs.declared.program.Program.{Program}
 use Rattle.ppd_ast.proofs.ValidLaws.{slice_get_below}
 use Rattle.ppd_model.specs.Schedule.{started_world}
 use Rattle.ppd_model.specs.States.{states_from}
-use Rattle.ppd_model.specs.Story.{Moment, Telling, begun, moment_of, next_event, own_moments, own_steps, steps_of, story, tell, writer_of, writers_after}
+use Rattle.ppd_model.specs.Story.{Moment, Telling, begun, moment_of, next_event, steps_of, story, tell, writer_of, writers_after}
 use Rattle.ppd_model.specs.World.{change, need}
 use Rattle.ppd_model.proofs.WorldWords.{need_at}
 use Rattle.ppd_model.proofs.Changes.{own-at}
@@ -61,13 +61,13 @@ module _ (program : Program) (plan : Plan) (budget : ℕ) where
 
     new_write : (c : ℕ) (v : ℤ) → need program plan t.world q ≡ Write c v → IsWrite grew c (next_event t q)
     new_write c v is = record {
-      before = steps_of (own_moments t q);
+      before = steps_of (get_or t.moments q []);
       taken = m.taken;
       after = [];
       steps_are = own-at (λ xs. xs ++ m.taken ∷ []) q [] (map steps_of t.moments) (writes_there c v is) ∙ ap (λ xs. xs ++ m.taken ∷ []) (get_steps t.moments q);
       value = v;
       writes = is;
-      number_is = count_is (own_moments t q);
+      number_is = count_is (get_or t.moments q []);
     }
 
     old_writers : (c : ℕ) → IsWriter grew c (get_or t.writers c None)
@@ -126,5 +126,5 @@ module _ (program : Program) (plan : Plan) (budget : ℕ) where
   }
 
   -- the writers of the reads of a schedule
-  pub reads_told : (h : List ℕ) (p : ℕ) → EachReadIs (story program plan budget h).steps (own_steps (story program plan budget h) p)
+  pub reads_told : (h : List ℕ) (p : ℕ) → EachReadIs (story program plan budget h).steps (get_or (story program plan budget h).steps p [])
   reads_told h p = (tagged_fold (begun (started_world program plan budget)) h tagged_begun).reads p

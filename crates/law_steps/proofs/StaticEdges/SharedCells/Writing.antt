@@ -24,7 +24,7 @@ use Rattle.ppd_sem.specs.declared.proc.Proc.{Proc}
 use Rattle.ppd_sem.specs.declared.proc.Todo.{Todo}
 use Rattle.ppd_sem.specs.Asked.{Asked}
 use Rattle.ppd_sem.specs.Deed.{Deed}
-use Rattle.ppd_sem.specs.Process.{head_deed, need_of, top_cells}
+use Rattle.ppd_sem.specs.Process.{head_deed, need_of, top_frame}
 use Rattle.ppd_sem.specs.Described.{is_event}
 use Rattle.ppd_sem.specs.Runs.{bodies_in}
 use Rattle.ppd_sets.specs.Used.{call_rows, writes_at}
@@ -39,7 +39,7 @@ use Rattle.law_steps.proofs.StaticEdges.SharedCells.Writers.{events_in}
 pub written : (program : Program) (plan : Plan) (s : Proc) (t : Todo) (ts : List Todo) (c : ℕ) (v : ℤ) → s.todo ≡ t ∷ ts → need_of program plan s ≡ Write c v → IsTrue (has (writes_at true program t.stmt) c)
 written program plan s t ts c v is need =
     let tells : Tells (Write c v) (head_deed program t s) = subst (λ n. Tells n (head_deed program t s)) need (need_tells program plan s t ts is) in
-    let does : AskedDoes (kind_of program t.stmt) (head_deed program t s) = deed_does program.exprs (kind_of program t.stmt) (top_cells s.frames) s.answers in
+    let does : AskedDoes (kind_of program t.stmt) (head_deed program t s) = deed_does program.exprs (kind_of program t.stmt) (top_frame s.frames).cells s.answers in
     let both = subst (λ (asked : Asked Deed). AskedDoes (kind_of program t.stmt) asked) tells.1 does in
     both.1
 

@@ -1,9 +1,10 @@
+use Rattle.ppd_check_bodies.specs.Sources.{entered}
 use Rattle.std.proofs.Common.{◌∙◌, ap, subst, sym, refl, arith, ◌≡◌, [], ◌∷◌, drop}
 use Rattle.ppd_check_names.specs.declared.frame.Frame.{Frame}
 use Rattle.ppd_check_names.specs.Holding.{head_said}
 use Rattle.ppd_check_names.specs.Names.{innermost}
 use Rattle.ppd_check_names.specs.Nodes.{phrases_below}
-use Rattle.ppd_check_bodies.specs.Bodies.{entered, WroteHeads}
+use Rattle.ppd_check_bodies.specs.Bodies.{WroteHeads}
 use Rattle.ppd_check_names.proofs.Table.Costs.{nodes_step}
 use Rattle.ppd_check_bodies.proofs.bodies.write_head.Goals as goal
 

@@ -1,19 +1,19 @@
-use Rattle.std.proofs.Common.{◌∙◌, sym, ap, subst, ◌++◌, [], ◌∷◌, true}
-use Rattle.ppd_check_stmts.specs.Forms.{Added}
-use Rattle.ppd_check_names.specs.Nodes.{operand_formula}
-use Rattle.ppd_check_stmts.specs.Expressions.{term_of, formula_faults, name_faults, read_element}
-use Rattle.ppd_check_names.specs.Faults.{first, first_of_both}
-use Rattle.ppd_check_names.specs.Names.{fits_index}
-use Rattle.ppd_check_stmts.proofs.Table.Flat.{added_element, added_negated, added_inverted, added_joined, with_ok, faults_joined}
-use Rattle.ppd_check_names.proofs.Found.First.{found_in_both}
 use Rattle.ppd_check_names.proofs.Declared.Costs.{ok_any}
+use Rattle.ppd_check_names.proofs.Found.First.{found_in_both}
+use Rattle.ppd_check_names.specs.Faults.{first, first_of_both}
+use Rattle.ppd_check_names.specs.Nodes.{operand_formula}
+use Rattle.ppd_check_names.specs.declared.meaning.Use.TheVariants as U
+use Rattle.ppd_check_stmts.proofs.Table.Flat.{added_element, added_inverted, added_joined, added_negated, faults_joined, with_ok}
 use Rattle.ppd_check_stmts.proofs.formulas.+formula.Goals as goal
+use Rattle.ppd_check_stmts.specs.Expressions.{formula_faults, name_faults, read, term_of}
+use Rattle.ppd_check_stmts.specs.Forms.{Added}
+use Rattle.std.proofs.Common.{Some, [], ap, subst, sym, ◌++◌, ◌∙◌, ◌∷◌}
 
 pub formula_at-returns-in_ok-at-in-Element-clause-added : goal.formula_at-returns-in_ok-at-in-Element-clause-added
 formula_at-returns-in_ok-at-in-Element-clause-added g t c =
     with_ok c.put-in-Element.result _ _ _
     (λ n new number. subst (λ f. Added c.args.exprs.now (term_of c.args.scopes.now f) c.put-in-Element.new.exprs n) c.in-Element.ensures.formula
-    (subst (λ m. Added c.args.exprs.now (read_element m (term_of c.args.scopes.now (operand_formula c.args.source.nodes.now c.in-Element.index))) c.put-in-Element.new.exprs n) c.used-meaning-in-Element.ensures.means
+    (subst (λ m. Added c.args.exprs.now (read m (Some (term_of c.args.scopes.now (operand_formula c.args.source.nodes.now c.in-Element.index)))) c.put-in-Element.new.exprs n) c.used-meaning-in-Element.ensures.means
     (added_element _ _ _ _ _ _ _ n c.element_expr.ensures c.in_ok-at-in-Element.ensures.added new number)))
     c.put-in-Element.ensures.added c.put-in-Element.ensures.number
 
@@ -21,7 +21,7 @@ pub formula_at-returns-in_ok-at-in-Element-clause-faults : goal.formula_at-retur
 formula_at-returns-in_ok-at-in-Element-clause-faults g t c =
     ok_any c.put-in-Element.result _
     (found_in_both c.args.found.now c.used-meaning-in-Element.new.found c.formula.new.found
-    (name_faults (fits_index true) c.args.scopes.now (record { text = c.in-Element.name.text.now; place = c.in-Element.name.place }))
+    (name_faults U.Element c.args.scopes.now (record { text = c.in-Element.name.text.now; place = c.in-Element.name.place }))
     (formula_faults c.args.scopes.now (operand_formula c.args.source.nodes.now c.in-Element.index)) c.used-meaning-in-Element.ensures.faults c.in_ok-at-in-Element.ensures.faults
     ∙ ap (λ f. first_of_both c.args.found.now (first (formula_faults c.args.scopes.now f))) c.in-Element.ensures.formula)
 

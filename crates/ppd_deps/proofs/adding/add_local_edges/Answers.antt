@@ -1,7 +1,6 @@
 use Rattle.std.proofs.Common.{◌∙◌, ◌∷◌, [], sym, ap, subst, length}
 use Rattle.std.specs.Prelude.{slice_get, ◌&&◌, if◌then◌else◌}
 use Rattle.ppd_ast.specs.Members.{AreBelow}
-use Rattle.ppd_ast.specs.Lookups.{locals_of}
 use Rattle.ppd_cfg.specs.Reach.{closure, leads}
 use Rattle.ppd_cfg.specs.WorkList.{is_marked}
 use Rattle.ppd_deps.proofs.Added.{adds_as, adds_none}
@@ -12,6 +11,7 @@ use Rattle.ppd_deps.specs.Edges.{kept_rows}
 use Rattle.ppd_deps.proofs.Vocabulary.{local_edge}
 use Rattle.ppd_deps.specs.Rows.{is_reader}
 use Rattle.ppd_deps.proofs.adding.add_local_edges.Goals as goal
+use Rattle.ppd_ast.specs.Lookups.{body_numbered}
 
 pub arrivals-requires-clause-starts : goal.arrivals-requires-clause-starts
 arrivals-requires-clause-starts c =
@@ -29,5 +29,5 @@ returns c =
     let v = c.args.local.var in
     adds_as _ _ _ _
     (λ t lt. ap (λ m. if is_reader p b v t && m then local_edge s v ∷ [] else [])
-    (ap (λ ms. is_marked ms t) c.as_slice-2.ensures.value ∙ c.in_ok-marks.ensures.reached t ∙ ap (λ starts. leads (closure (kept_rows p b (slice_get (locals_of p b) v))) starts t) (c.as_slice.ensures ∙ c.in_ok-starts.ensures)))
+    (ap (λ ms. is_marked ms t) c.as_slice-2.ensures.value ∙ c.in_ok-marks.ensures.reached t ∙ ap (λ starts. leads (closure (kept_rows p b (slice_get (body_numbered p b).locals v))) starts t) (c.as_slice.ensures ∙ c.in_ok-starts.ensures)))
     c.in_ok-add_local_edge.ensures

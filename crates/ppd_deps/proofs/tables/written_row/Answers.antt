@@ -1,5 +1,5 @@
 use Rattle.std.proofs.Common.{◌∙◌, ap, false}
-use Rattle.ppd_ast.specs.Lookups.{body_of, locals_of}
+use Rattle.ppd_ast.specs.Lookups.{body_of, body_numbered}
 use Rattle.ppd_sets.specs.Used.{writes_at, vars_met}
 use Rattle.ppd_deps.proofs.Naming.{locals_small, met_as}
 use Rattle.ppd_deps.proofs.tables.written_row.Goals as goal
@@ -8,5 +8,5 @@ pub returns : goal.returns
 returns c =
     let p = c.args.program.now in
     let s = c.args.stmt in
-    met_as (locals_of p (body_of p s)) c.written_cells-cells.result (writes_at false p s) c.in_ok-ids.ids (locals_small p (body_of p s) c.requires) c.written_cells-cells.ensures
-    (c.in_ok-ids.ensures ∙ ap (λ vars. vars_met vars c.written_cells-cells.result) (c.locals.ensures ∙ ap (locals_of p) c.body_at.ensures))
+    met_as (body_numbered p (body_of p s)).locals c.written_cells-cells.result (writes_at false p s) c.in_ok-ids.ids (locals_small p (body_of p s) c.requires) c.written_cells-cells.ensures
+    (c.in_ok-ids.ensures ∙ ap (λ vars. vars_met vars c.written_cells-cells.result) (c.locals.ensures ∙ ap (λ i. (body_numbered p i).locals) c.body_at.ensures))

@@ -1,6 +1,6 @@
+use Rattle.std.specs.Prelude.{get_or, []}
 use Rattle.std.proofs.Common.{◌≡◌, ◌+◌, ◌<◌, ◌≤◌, ◌∙◌, List, ap, drop, length, subst, sym}
 use Rattle.std.proofs.lemmas.List.{drop_all}
-use Rattle.ppd_entry.specs.Entries.{entries_at}
 use Rattle.ppd_model.specs.Extents.{Extent, extents}
 use Rattle.ppd_flow_model.specs.Ends.{innermost_from}
 use Rattle.ppd_flow_past.proofs.Edges.Standing.{extents_count, innermost_next}
@@ -8,7 +8,7 @@ use Rattle.ppd_flow_past.proofs.ends.innermost_at.Goals as goal
 
 pub loop-interval-preserved : goal.loop-interval-preserved
 loop-interval-preserved c =
-    let xs = extents (entries_at c.args.past.now.logs.now c.args.process) in
+    let xs = extents (get_or c.args.past.now.logs.now.lists c.args.process []) in
     let k = c.loop-interval.interval in
     let count : c.count-interval-end.result ≡ length xs = c.count-interval-end.ensures
     ∙ sym (extents_count c.args.past.now c.args.process c.requires.index_is) in
@@ -19,7 +19,7 @@ loop-interval-preserved c =
 
 pub returns : goal.returns
 returns c =
-    let xs = extents (entries_at c.args.past.now.logs.now c.args.process) in
+    let xs = extents (get_or c.args.past.now.logs.now.lists c.args.process []) in
     let k = c.loop-interval.interval in
     let count : c.count-interval-end.result ≡ length xs = c.count-interval-end.ensures
     ∙ sym (extents_count c.args.past.now c.args.process c.requires.index_is) in

@@ -1,12 +1,11 @@
 use Rattle.std.proofs.Common.{◌≡◌, ◌+◌, drop}
-use Rattle.std.specs.Prelude.{sum_by}
-use Rattle.ppd_entry.specs.Entries.{entries_at}
+use Rattle.std.specs.Prelude.{sum_by, get_or, []}
 use Rattle.ppd_flow_model.specs.Ends.{first_edge, syncs_of_item}
 use Rattle.ppd_flow_past.proofs.places.edge_at.Given as goal
 
 -- with the synchronizations of the items that are left it is the edge after all
 abbrev pub invariant-loop-item : goal.invariant-loop-item
 invariant-loop-item l =
-    l.edge + sum_by (syncs_of_item (entries_at l.past.logs.now l.process)) (drop l.item-index l.before)
-    ≡ first_edge (entries_at l.past.logs.now l.process) l.interval
-    + sum_by (syncs_of_item (entries_at l.past.logs.now l.process)) l.before
+    l.edge + sum_by (syncs_of_item (get_or l.past.logs.now.lists l.process [])) (drop l.item-index l.before)
+    ≡ first_edge (get_or l.past.logs.now.lists l.process []) l.interval
+    + sum_by (syncs_of_item (get_or l.past.logs.now.lists l.process [])) l.before

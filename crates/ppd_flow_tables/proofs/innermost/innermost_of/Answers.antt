@@ -1,7 +1,6 @@
 use Rattle.std.proofs.Common.{◌≡◌, ◌+◌, ◌<◌, ◌≤◌, ◌∙◌, List, ap, arith, drop, get_or, length, refl, subst, sym}
-use Rattle.std.specs.Prelude.{slice_get}
+use Rattle.std.specs.Prelude.{slice_get, []}
 use Rattle.std.proofs.lemmas.List.{drop_all, length-replicate}
-use Rattle.ppd_entry.specs.Entries.{entries_at}
 use Rattle.ppd_model.specs.Extents.{Extent, extents}
 use Rattle.ppd_flow_model.specs.Ends.{innermost_from}
 use Rattle.ppd_flow_past.specs.Edges.Found.{stands_there}
@@ -12,14 +11,14 @@ use Rattle.ppd_flow_tables.proofs.innermost.innermost_of.Goals as goal
 pub loop-interval-init : goal.loop-interval-init
 loop-interval-init c = record {
   long = ap length c.in_ok-innermost.ensures ∙ length-replicate (c.args.count + 1) 0;
-  are = λ n le. ap (λ m. innermost_from n m 0 (extents (entries_at c.args.past.now.logs.now c.args.process)))
+  are = λ n le. ap (λ m. innermost_from n m 0 (extents (get_or c.args.past.now.logs.now.lists c.args.process [])))
       (zero_there (c.args.count + 1) n c.in_ok-innermost.innermost c.in_ok-innermost.ensures (omega (arith, le)));
 }
 
 pub loop-interval-preserved : goal.loop-interval-preserved
 loop-interval-preserved c =
     let inv = c.loop-interval.invariant in
-    let xs = extents (entries_at c.args.past.now.logs.now c.args.process) in
+    let xs = extents (get_or c.args.past.now.logs.now.lists c.args.process []) in
     let k = c.loop-interval.interval in
     let old = c.loop-interval.innermost in
     let count : c.count-interval-end.result ≡ length xs =
@@ -38,7 +37,7 @@ loop-interval-preserved c =
 pub returns : goal.returns
 returns c =
     let inv = c.loop-interval.invariant in
-    let xs = extents (entries_at c.args.past.now.logs.now c.args.process) in
+    let xs = extents (get_or c.args.past.now.logs.now.lists c.args.process []) in
     let k = c.loop-interval.interval in
     let count : c.count-interval-end.result ≡ length xs =
     c.count-interval-end.ensures ∙ sym (extents_count c.args.past.now c.args.process c.requires.index_is) in

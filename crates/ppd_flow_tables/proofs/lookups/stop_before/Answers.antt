@@ -1,5 +1,5 @@
+use Rattle.std.specs.Prelude.{get_or, []}
 use Rattle.std.proofs.Common.{◌∙◌}
-use Rattle.ppd_entry.specs.Entries.{entries_at}
 use Rattle.ppd_flow_tables.specs.Stops.{after}
 use Rattle.ppd_flow_tables.proofs.Passing.{none_passed}
 use Rattle.ppd_flow_tables.proofs.Tabled.{places_at}
@@ -7,7 +7,7 @@ use Rattle.ppd_flow_tables.proofs.lookups.stop_before.Goals as goal
 
 pub returns-in-Some : goal.returns-in-Some
 returns-in-Some c = λ past all is.
-    c.stop_before.ensures (entries_at past.logs.now c.args.process) c.args.interval c.args.items.now
+    c.stop_before.ensures (get_or past.logs.now.lists c.args.process []) c.args.interval c.args.items.now
     (places_at past c.args.tables.now c.args.process c.args.interval c.in-Some.tables.now c.args.items.now all
     c.in-Some.ensures is)
 

@@ -1,11 +1,11 @@
+use Rattle.std.specs.Prelude.{get_or, []}
 use Rattle.std.proofs.Common.{◌∙◌, ◌-◌, None, Some, ap₂}
-use Rattle.ppd_entry.specs.Entries.{entries_at}
 use Rattle.ppd_flow_past.proofs.Edges.Standing.{inside_is}
 use Rattle.ppd_flow_tables.proofs.spans.syncs_inside.Goals as goal
 
 pub returns-in-Some : goal.returns-in-Some
 returns-in-Some c =
-    let entries = entries_at c.args.past.now.logs.now c.args.process in
+    let entries = get_or c.args.past.now.logs.now.lists c.args.process [] in
     c.saturating_sub.ensures
     ∙ ap₂ (λ a b. a - b) (c.count_at.ensures entries c.requires.counts)
     (c.count_at-in-Some.ensures entries c.requires.counts)

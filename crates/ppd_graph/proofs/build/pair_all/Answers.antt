@@ -1,5 +1,6 @@
 use Rattle.std.proofs.Common.{arith, length, ap, subst, ◌∙◌, filter_map, map}
 use Rattle.ppd_graph.specs.ByNumber.{KeepsAll, partner_kept}
+use Rattle.ppd_graph.specs.Refusals.{AreNumbered}
 use Rattle.ppd_model.specs.RecordedSets.{sync_in}
 use Rattle.ppd_graph.proofs.Vocabulary.{placed_lists}
 use Rattle.std.specs.List.{sum_by}
@@ -23,3 +24,8 @@ returns-clause-cost g c =
     let count = ap length c.as_slice.ensures in
     pair_spent c.args.steps.now c.all_placed.new.steps c.number_all.new.steps _ (length c.in_ok-placed.placed) (entries_in c.args.logs.now) (pass_cost c.args.logs.now) (length c.args.program.now.sems) (length c.args.program.now.chans)
     (omega (arith, same, c.in_ok-placed.ensures.cost)) (omega (arith, count, c.in_ok-nodes.ensures.cost)) few (omega (arith, same, c.in_ok-pairs.ensures.cost))
+
+pub returns-clause-passed : goal.returns-clause-passed
+returns-clause-passed g c =
+    let are = c.as_slice.ensures ∙ c.in_ok-placed.ensures.placed ∙ ap (placed_lists 0) c.as_slice-lists.ensures in
+    subst (AreNumbered c.args.program.now) are c.in_ok-nodes.ensures.passed

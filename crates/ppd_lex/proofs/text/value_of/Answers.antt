@@ -1,13 +1,13 @@
 use Rattle.std.proofs.Common.{◌+◌, ◌&&◌, sym, ◌∙◌, ap, arith, get_or}
 use Rattle.std.proofs.lemmas.List.Folds.{list_all_at, list_all_more}
-use Rattle.ppd_ast.specs.Digits.{is_digit}
+use Rattle.std.specs.Char.{is_ascii_digit}
 use Rattle.ppd_ast.proofs.Digits.{value_next}
 use Rattle.ppd_lex.proofs.Numbers.{value_front, too_great, digit_small, not_digits, all_digits}
 use Rattle.ppd_lex.proofs.text.value_of.Goals as goal
 
 pub returns-then-not-is_digit-clause-value : goal.returns-then-not-is_digit-clause-value
 returns-then-not-is_digit-clause-value c =
-    sym (not_digits c.args.digits.now (list_all_at is_digit c.args.digits.now c.loop-b.b-index 0 c.loop-b-test.true (sym c.if-not-is_digit.ensures)))
+    sym (not_digits c.args.digits.now (list_all_at is_ascii_digit c.args.digits.now c.loop-b.b-index 0 c.loop-b-test.true (sym c.if-not-is_digit.ensures)))
 
 pub returns-then-value-digit-clause-value : goal.returns-then-value-digit-clause-value
 returns-then-value-digit-clause-value c =
@@ -31,7 +31,7 @@ loop-b-preserved c =
     let t = c.if-value-digit.false in
     let s = digit_small (get_or bs i 0) (sym c.if-not-is_digit.ensures) in
     record {
-      digits = list_all_more is_digit bs i 0 c.loop-b-test.true ∙ (ap (λ b. b && is_digit (get_or bs i 0)) c.loop-b.invariant.digits ∙ sym c.if-not-is_digit.ensures);
+      digits = list_all_more is_ascii_digit bs i 0 c.loop-b-test.true ∙ (ap (λ b. b && is_ascii_digit (get_or bs i 0)) c.loop-b.invariant.digits ∙ sym c.if-not-is_digit.ensures);
       value = omega (arith, n, v, d);
       small = omega (arith, t, s, d);
     }

@@ -1,9 +1,9 @@
 use Rattle.std.proofs.Common.{◌≡◌, ◌+◌, ◌∙◌, ap, sym, ℕ, ℤ, pos, List, length, drop, get_or, arith}
 use Rattle.std.specs.Prelude.{min, slice_set}
 use Rattle.std.proofs.lemmas.Int.{to_z-of_z}
-use Rattle.ppd_sem.specs.Blocks.{with_values}
 use Rattle.ppd_sem.proofs.Begun.{with_next, with_none}
 use Rattle.ppd_sem.proofs.blocks.write_values.Goals as goal
+use Rattle.ppd_sem.specs.Process.{with_values}
 
 pub returns : goal.returns
 returns c =

@@ -1,9 +1,12 @@
+use Rattle.std.specs.Result.{result_err}
+use Rattle.std.specs.List.{filter_map}
+use Rattle.std.specs.Prelude.{slice_get}
 use Rattle.std.proofs.Common.{◌≡◌, ◌++◌, [], None}
 use Rattle.ppd_session.specs.Keeping.{AreAsked}
 use Rattle.ppd_session.specs.LastTables.{AreOfLast}
 use Rattle.ppd_session.specs.Known.{last_by}
 use Rattle.ppd_session.specs.Sessions.{known_by, last_block}
-use Rattle.ppd_session.specs.Texts.{first_unfound, lasts_text}
+use Rattle.ppd_session.specs.Texts.{lasts_text}
 use Rattle.ppd_session.proofs.lasts.put_cell_lines.Given as goal
 use Rattle.ppd_session.proofs.KnownWords.{of_cells}
 
@@ -13,8 +16,7 @@ invariant-loop-cell l = record {
       ≡ l.initial.text.items
       ++ lasts_text l.past.program.now 0
       (of_cells (last_by l.past.program.now l.past.plan.now l.past.budget l.past.logs.now) 0 l.cell);
-  none : first_unfound
-      (of_cells (last_by l.past.program.now l.past.plan.now l.past.budget l.past.logs.now) 0 l.cell)
+  none : slice_get (filter_map result_err (of_cells (last_by l.past.program.now l.past.plan.now l.past.budget l.past.logs.now) 0 l.cell)) 0
       ≡ None;
   asked : AreAsked (known_by l.past []) (of_cells (last_block l.past) 0 l.cell) l.initial.kept l.kept;
   tables : AreOfLast l.past l.tables;

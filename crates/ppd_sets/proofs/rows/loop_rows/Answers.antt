@@ -1,4 +1,5 @@
-use Rattle.ppd_sets.specs.Used.{loop_used_of, loop_defined_of}
+use Rattle.std.specs.Prelude.{false}
+use Rattle.ppd_sets.specs.Used.{local_in, reads_at, writes_at}
 use Rattle.ppd_sets.proofs.Calling.{map_more}
 use Rattle.ppd_sets.proofs.rows.loop_rows.Goals as goal
 
@@ -7,6 +8,6 @@ loop-stmt-preserved c =
     let p = c.args.program.now in
     let k = c.loop-stmt.stmt in
     record {
-      used = map_more (loop_used_of p) k c.loop-stmt.used c.push.new.self c.in_ok-row.row.used c.loop-stmt.invariant.used c.in_ok-row.ensures.used c.in_ok-push.ensures.ok;
-      defined = map_more (loop_defined_of p) k c.loop-stmt.defined c.push-in-loop-stmt.new.self c.in_ok-row.row.defined c.loop-stmt.invariant.defined c.in_ok-row.ensures.defined c.in_ok-push-2.ensures.ok;
+      used = map_more (local_in p (reads_at false p)) k c.loop-stmt.used c.push.new.self c.in_ok-row.row.used c.loop-stmt.invariant.used c.in_ok-row.ensures.used c.in_ok-push.ensures.ok;
+      defined = map_more (local_in p (writes_at false p)) k c.loop-stmt.defined c.push-in-loop-stmt.new.self c.in_ok-row.row.defined c.loop-stmt.invariant.defined c.in_ok-row.ensures.defined c.in_ok-push-2.ensures.ok;
     }

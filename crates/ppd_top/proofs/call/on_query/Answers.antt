@@ -1,10 +1,10 @@
+use Rattle.ppd_top.specs.declared.loads.TheConstants.{MOST_RECORDING}
 use Rattle.std.proofs.Common.{Err, inr, refl, ap, ◌∙◌}
 use Rattle.ppd_io.specs.Content.{Loads}
 use Rattle.ppd_top_query.specs.Queries.{query_of}
 use Rattle.ppd_top.specs.Call.{call_of, devices}
 use Rattle.ppd_top_runs.specs.Output.{standing}
 use Rattle.ppd_top.specs.Ran.Comes.{query_done}
-use Rattle.ppd_top.specs.Top.{most_recording}
 use Rattle.ppd_top.proofs.Unloaded.{recording_unloaded}
 use Rattle.ppd_top.proofs.call.on_query.Goals as goal
 
@@ -15,5 +15,5 @@ returns-in-Err g c = λ words left last reads asks.
 
 pub returns-in-Ok : goal.returns-in-Ok
 returns-in-Ok g c = λ words left last reads asks.
-    let loads : Loads (g.F.Shelf.held c.args.shelf.now) c.args.name.now most_recording c.deref.result.now = rw c.deref.ensures.value c.in-Ok.ensures.bytes in
+    let loads : Loads (g.F.Shelf.held c.args.shelf.now) c.args.name.now MOST_RECORDING c.deref.result.now = rw c.deref.ensures.value c.in-Ok.ensures.bytes in
     query_done c.args.name.now (query_of c.args.query.now) c.deref.result.now asks loads (record { held = c.load.ensures.same; stores = c.load.ensures.stores }) (record { left = refl; last = refl; reads = refl }) c.tell_query.ensures

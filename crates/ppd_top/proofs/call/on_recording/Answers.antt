@@ -1,9 +1,9 @@
+use Rattle.ppd_top.specs.declared.loads.TheConstants.{MOST_RECORDING}
 use Rattle.std.proofs.Common.{Err, inl, refl, ap, ◌∙◌}
 use Rattle.ppd_io.specs.Content.{Loads}
 use Rattle.ppd_top.specs.Call.{call_of, devices}
 use Rattle.ppd_top_runs.specs.Output.{standing}
 use Rattle.ppd_top.specs.Ran.Comes.{debug_done}
-use Rattle.ppd_top.specs.Top.{most_recording}
 use Rattle.ppd_top.proofs.Debugged.{debug_not_early}
 use Rattle.ppd_top.proofs.Unloaded.{recording_unloaded, unloaded_not_early}
 use Rattle.ppd_top.proofs.call.on_recording.Goals as goal
@@ -18,7 +18,7 @@ returns-in-Err-clause-status g c = unloaded_not_early c.in-Err.error c.unloaded.
 
 pub returns-in-Ok-clause-comes : goal.returns-in-Ok-clause-comes
 returns-in-Ok-clause-comes g c = λ words asks.
-    let loads : Loads (g.F.Shelf.held c.args.shelf.now) c.args.name.now most_recording c.deref.result.now = rw c.deref.ensures.value c.in-Ok.ensures.bytes in
+    let loads : Loads (g.F.Shelf.held c.args.shelf.now) c.args.name.now MOST_RECORDING c.deref.result.now = rw c.deref.ensures.value c.in-Ok.ensures.bytes in
     debug_done c.args.name.now c.deref.result.now asks loads (record { held = c.load.ensures.same; stores = c.load.ensures.stores }) c.new.ensures c.debug.ensures
 
 pub returns-in-Ok-clause-status : goal.returns-in-Ok-clause-status

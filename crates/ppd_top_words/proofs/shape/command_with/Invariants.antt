@@ -1,11 +1,11 @@
 use Rattle.std.proofs.Common.{◌≡◌, [], take}
 use Rattle.clap.specs.Simple.{app_of}
-use Rattle.ppd_top_words.specs.Reads.{texts_in}
+use Rattle.ppd_top_words.specs.Words.{texts}
 use Rattle.ppd_top_words.specs.Shape.{app_with}
 use Rattle.ppd_top_words.proofs.shape.command_with.Given as goal
 
 abbrev pub invariant-loop-long : goal.invariant-loop-long
-invariant-loop-long l = app_of l.command ≡ app_with l.title (texts_in (take l.long-index l.longs)) []
+invariant-loop-long l = app_of l.command ≡ app_with l.title (texts (take l.long-index l.longs)) []
 
 abbrev pub invariant-loop-name : goal.invariant-loop-name
-invariant-loop-name l = app_of l.command ≡ app_with l.title (texts_in l.longs) (texts_in (take l.name-index l.names))
+invariant-loop-name l = app_of l.command ≡ app_with l.title (texts l.longs) (texts (take l.name-index l.names))

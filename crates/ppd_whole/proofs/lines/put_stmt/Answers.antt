@@ -2,7 +2,6 @@ use Rattle.std.proofs.Common.{◌≡◌, ◌∙◌, ◌++◌, ℕ, List, Option,
 use Rattle.std.specs.List.{flat_map}
 use Rattle.std.proofs.lemmas.List.{append_assoc}
 use Rattle.std.proofs.lemmas.Result.{on_ok_weaker}
-use Rattle.ppd_ast.specs.Lookups.{locals_of}
 use Rattle.ppd_text.specs.Texts.{place_text}
 use Rattle.ppd_model.specs.declared.trace.EventId.{EventId}
 use Rattle.ppd_text.specs.Items.{access_text, event_kind, outcome_text, written_locals}
@@ -10,6 +9,7 @@ use Rattle.ppd_whole_origins.specs.Origins.{pair_by}
 use Rattle.ppd_whole.specs.Told.{told_read, told_stmt}
 use Rattle.ppd_whole.specs.WholeText.{paired_text}
 use Rattle.ppd_whole.proofs.lines.put_stmt.Goals as goal
+use Rattle.ppd_ast.specs.Lookups.{body_numbered}
 
 -- one text more before the end
 further : (now before first last end : List ℕ) → now ≡ before ++ end → before ≡ first ++ last → now ≡ first ++ (last ++ end)
@@ -35,7 +35,7 @@ returns-clause-text g c =
     let stmt = c.args.stmt.now in
     let t4 : List ℕ = c.put_accesses.new.text.items in
     let t5 : List ℕ = c.put_outcome.new.text.items in
-    let reads : List ℕ = flat_map (told_read past process linker (locals_of program stmt.body)) event.reads in
+    let reads : List ℕ = flat_map (told_read past process linker (body_numbered program stmt.body).locals) event.reads in
     let writes : List ℕ = flat_map (access_text (codes " write ") program (written_locals program stmt.body stmt.kind)) event.writes in
     let t6 : List ℕ = c.put_paired.new.text.items in
     let found : Option EventId = c.pair_of-pair.result in

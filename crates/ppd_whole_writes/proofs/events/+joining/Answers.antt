@@ -4,7 +4,7 @@ use Rattle.std.proofs.lemmas.List.{append_assoc, append-nil, take_more, take_all
 use Rattle.ppd_model.specs.declared.flow.Item.{Item}
 use Rattle.ppd_sem.specs.declared.event.Event.{Event}
 use Rattle.law_whole.specs.Joined.{events_of_item, events_of_items, joined}
-use Rattle.ppd_flow_model.specs.Seen.{Seen, items_at}
+use Rattle.ppd_flow_model.specs.Seen.{Seen}
 use Rattle.ppd_whole_writes.proofs.Joining.{joined_at}
 use Rattle.ppd_whole_writes.proofs.events.+joining.Goals as goal
 
@@ -30,7 +30,7 @@ add_interval-returns t c = λ x same.
     let items : List Item = c.items_of-items.result.now in
     let old : List Event = map (λ e. e.now) c.args.events.now.items in
     let all : take c.loop-item.item-index items ≡ items = take_all c.loop-item.item-index items c.loop-item-test.false in
-    let there : items ≡ items_at x c.args.interval = c.items_of-items.ensures ∙ ap (λ (l : List (List Item)). get_or l c.args.interval []) (sym same) in
+    let there : items ≡ get_or x.items c.args.interval [] = c.items_of-items.ensures ∙ ap (λ (l : List (List Item)). get_or l c.args.interval []) (sym same) in
     c.loop-item.invariant x same
     ∙ ap (λ (l : List Item). old ++ events_of_items (joined (c.args.depth - 1) x) l) (all ∙ there)
     ∙ ap (λ (l : List Event). old ++ l) (sym (joined_at c.args.depth x c.args.interval c.if-depth-eq0.false))

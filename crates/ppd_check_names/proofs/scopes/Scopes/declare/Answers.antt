@@ -1,6 +1,5 @@
 use Rattle.std.proofs.Common.{◌-◌, ◌∙◌, ap, arith}
-use Rattle.ppd_check_names.specs.Names.{declare, scope_of}
-use Rattle.ppd_check_names.specs.Declaring.{in_innermost}
+use Rattle.ppd_check_names.specs.Names.{declare, scope_of, in_innermost}
 use Rattle.ppd_check_names.proofs.Found.Lookup.{last_set}
 use Rattle.ppd_check_names.proofs.Found.Outcomes.{ok_map}
 use Rattle.ppd_check_names.proofs.scopes.Scopes.declare.Goals as goal

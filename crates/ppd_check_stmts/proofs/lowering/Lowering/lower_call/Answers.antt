@@ -1,8 +1,9 @@
 use Rattle.std.proofs.Common.{◌≡◌, ◌∙◌, ap, subst, map, length, is_some}
 use Rattle.ppd_ast.specs.declared.program.Kind.TheVariants as K
 use Rattle.ppd_check_stmts.specs.Code as C
+use Rattle.ppd_check_names.specs.declared.meaning.Use.TheVariants as U
 use Rattle.ppd_check_names.specs.Faults.{first, first_of_both}
-use Rattle.ppd_check_names.specs.Names.{meaning, function_of}
+use Rattle.ppd_check_names.specs.Names.{meaning, number_as}
 use Rattle.ppd_check_names.specs.Reading.{name_at, formulas}
 use Rattle.ppd_check_names.specs.Nodes.{phrases_below, children_of}
 use Rattle.ppd_check_stmts.specs.Writing.{Argued}
@@ -27,10 +28,10 @@ returns-clause-wrote g c =
     ∙ ap (λ b. first_of_both c.arguments.new.table.found (first (wrong_call (meaning s (name_at ps 0).text) (name_at ps 0).place (length (formulas ps)) b))) c.is_some.ensures in
     let all = argued_call c.args.here.level.source.nodes.now s c.args.id c.args.self.now.out.now.table.exprs c.arguments.new.table.exprs c.arguments.new.args c.args.self.now.out.now.table.found c.arguments.new.table.found c.function-number.new.found fs argued noted in
     both_ok c.put_stmt.result _ _ _ c.put_stmt.ensures.stmts c.put_stmt.ensures.row
-    (λ t o. wrote_put c.args.here.level.site.body c.args.here.level.site.parent c.args.here.place (C.call (function_of (meaning s (name_at ps 0).text)) (map (term_of s) (formulas ps)) c.args.into) (K.Call c.function-number.result c.arguments.new.args c.args.into)
+    (λ t o. wrote_put c.args.here.level.site.body c.args.here.level.site.parent c.args.here.place (C.call (number_as U.Function (meaning s (name_at ps 0).text)) (map (term_of s) (formulas ps)) c.args.into) (K.Call c.function-number.result c.arguments.new.args c.args.into)
     (call_faults s (is_some c.args.into) (name_at ps 0) (formulas ps)) c.args.self.now.out.now.table c.put_stmt.new.out.table c.args.self.now.out.now.row c.put_stmt.new.out.row c.arguments.new.table.stmts c.arguments.ensures.stmts
     (c.put_stmt.ensures.exprs ∙ all.0.table)
-    (ap (λ n. K.Call n c.arguments.new.args c.args.into) (c.function-number.ensures.number ∙ ap (λ x. function_of (meaning s x.text)) label)
-    ∙ ap (λ ids. K.Call (function_of (meaning s (name_at ps 0).text)) ids c.args.into) all.0.numbers)
+    (ap (λ n. K.Call n c.arguments.new.args c.args.into) (c.function-number.ensures.number ∙ ap (λ x. number_as U.Function (meaning s x.text)) label)
+    ∙ ap (λ ids. K.Call (number_as U.Function (meaning s (name_at ps 0).text)) ids c.args.into) all.0.numbers)
     t o
     (c.put_stmt.ensures.found ∙ all.1))

@@ -1,7 +1,8 @@
+use Rattle.std.specs.Int.{w16}
+use Rattle.ppd_codec.specs.Form.{number}
 use Rattle.std.proofs.Common.{◌+◌, ◌∙◌, ap, arith, rules}
 use Rattle.std.proofs.lemmas.Result.{err_from_is_err_and}
 use Rattle.ppd_codec.specs.Reader.{several}
-use Rattle.ppd_codec.specs.Form.{number_2}
 use Rattle.ppd_codec.specs.Format.{cell}
 use Rattle.ppd_codec.proofs.Several.{counted, no_more, one_more}
 use Rattle.ppd_codec.proofs.cursor.Cursor.cells.Goals as goal
@@ -12,7 +13,7 @@ returns-in_err-cell g c =
     rw (e.1, e.2) (record {
       ok = search rules;
       err = λ m.
-          counted (number_2.read) (several (λ low. (cell c.args.shared low).read) (λ c. c + 1) (0)) _ _ _ _ _ c.in_ok-left.ensures.read.ok
+          counted ((number w16).read) (several (λ low. (cell c.args.shared low).read) (λ c. c + 1) (0)) _ _ _ _ _ c.in_ok-left.ensures.read.ok
           ∙ c.loop-left.invariant.reads
           ∙ no_more (λ low. (cell c.args.shared low).read) (λ c. c + 1) (c.loop-left.low) c.loop-left.left c.loop-left.self.at c.loop-left.self.rest.now c.loop-left.found c.in_err-cell.field-0.0 (omega (arith, c.loop-left-test.true)) c.in_err-cell.ensures.err m;
       within = omega (arith, c.loop-left.invariant.within, c.cell.ensures.within);

@@ -1,9 +1,10 @@
+use Rattle.std.specs.Int.{w16}
 use Rattle.std.proofs.Common.{◌∙◌, ◌++◌, ◌∷◌, [], ap, refl, arith, rules}
 use Rattle.std.proofs.lemmas.Result.{err_from_is_err_and}
 use Rattle.std.proofs.Math.Facts.{to_z-of_z}
 use Rattle.std.specs.Prelude.{⊤}
 use Rattle.ppd_codec.specs.Reader.{several}
-use Rattle.ppd_codec.specs.Form.{number_2, value}
+use Rattle.ppd_codec.specs.Form.{value, number}
 use Rattle.ppd_codec.proofs.Several.{counted, no_more, one_more}
 use Rattle.ppd_codec.proofs.cursor.Cursor.values.Goals as goal
 
@@ -13,7 +14,7 @@ returns-in_err-item g c =
     rw (e.1, e.2) (record {
       ok = search rules;
       err = λ m.
-          counted (number_2.read) (several (λ (t : ⊤). value.read) (λ v. tt {0}) (tt {0})) _ _ _ _ _ c.in_ok-left.ensures.read.ok
+          counted ((number w16).read) (several (λ (t : ⊤). value.read) (λ v. tt {0}) (tt {0})) _ _ _ _ _ c.in_ok-left.ensures.read.ok
           ∙ c.loop-left.invariant.reads
           ∙ no_more (λ (t : ⊤). value.read) (λ v. tt {0}) (tt {0}) c.loop-left.left c.loop-left.self.at c.loop-left.self.rest.now c.loop-left.found c.in_err-item.field-0.0 (omega (arith, c.loop-left-test.true)) c.in_err-item.ensures.read.err m;
       within = omega (arith, c.loop-left.invariant.within, c.value.ensures.read.within);

@@ -1,5 +1,6 @@
+use Rattle.std.specs.Int.{w32}
+use Rattle.ppd_codec.specs.Form.{number}
 use Rattle.std.proofs.Common.{◌++◌, ◌∙◌, ap, arith, length}
-use Rattle.ppd_codec.specs.Form.{number_4}
 use Rattle.ppd_codec.specs.Format.{an_entry}
 use Rattle.ppd_codec.proofs.Writing.{closed, grown}
 use Rattle.ppd_codec.proofs.writer.Writer.log.Goals as goal
@@ -11,4 +12,4 @@ loop-entry-preserved g c = record {
 }
 
 pub returns-clause-ok : goal.returns-clause-ok
-returns-clause-ok g c = λ f. closed (an_entry f).bytes c.args.entries.now c.loop-entry.entry-index (number_4.bytes (length c.args.entries.now)) _ _ _ c.loop-entry-test.false c.in_ok-number_4.ensures.ok (c.loop-entry.invariant.bytes f)
+returns-clause-ok g c = λ f. closed (an_entry f).bytes c.args.entries.now c.loop-entry.entry-index ((number w32).bytes (length c.args.entries.now)) _ _ _ c.loop-entry-test.false c.in_ok-number_4.ensures.ok (c.loop-entry.invariant.bytes f)

@@ -1,4 +1,4 @@
-use Rattle.ppd_flow_model.specs.Seen.{items_at}
+use Rattle.std.specs.Prelude.{get_or, []}
 use Rattle.ppd_flow_local.specs.Searches.{plan_in, program_in, seen}
 use Rattle.ppd_flow_local.proofs.Places.{table_at}
 use Rattle.std.proofs.Common.{◌∙◌, List, ap, arith, length}
@@ -11,7 +11,7 @@ pub returns-in-Some : goal.returns-in-Some
 returns-in-Some c =
     let s = c.args.self.now in
     let items = c.args.items.now in
-    let table = table_at (program_in s) (plan_in s) (items_at (seen s) c.args.interval) items c.in-Some.tables.now.locals
+    let table = table_at (program_in s) (plan_in s) (get_or (seen s).items c.args.interval []) items c.in-Some.tables.now.locals
     c.requires.items c.in-Some.ensures.0 in
     (c.last_write.ensures (program_in s) (plan_in s) items table (omega arith)).writer
     ∙ ap (λ (xs : List Item). (scan (program_in s) (plan_in s) 0 c.args.cell xs).writer)
