@@ -96,7 +96,7 @@ HEADLINE = [
             ("ppd_top/specs/Top.antt", "out_of", "ppd"),
             ("ppd_top/specs/Clauses.antt", "RanWhole", "ppd"),
             ("ppd_codec/specs/Recordings.antt", "IsRecordingOf", "encode, decode"),
-            ("ppd_top/specs/Clauses.antt", "WasStored", "ppd"),
+            ("ppd_top/specs/Clauses.antt", "WasDone", "ppd"),
             ("ppd_codec_runs/specs/Recordings.antt", "IsAccepted", "recall"),
             ("ppd_top/specs/Clauses.antt", "WasAnswered", "ppd"),
             ("ppd_top/specs/Promises/Headline.antt", "Headline", "calls_tell_of_runs"),

@@ -1,7 +1,8 @@
 #!/usr/bin/env python3
 """Runs the kit's command rt, which takes the sum of a crate's sources once in the run. Of itself rt takes it again for
-each way that leads down to the crate through crates.txt, which for the upper crates lasts longer than their proofs. No
-source changes meanwhile in a copy that is built. Where the kit's rt has no such sum, it runs as it is.
+each library below a crate, some seconds for an upper one; kits before 13f for each way that leads down to it through
+crates.txt, which lasts longer than the proofs. No source changes meanwhile in a copy that is built. Where the kit's rt
+has no such sum, it runs as it is.
 
     rt_once.py WORD ..      like rt WORD ..
 """
