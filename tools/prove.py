@@ -265,11 +265,10 @@ def prove(below, copies):
         ready = [crate for crate in waiting if proved.issuperset(below[crate])]
         spare = len(copies) - sum(each.jobs for each in checks)
         if ready and spare > 0:
-            # where all others wait for one, it gets all that is free; a large one, and that on which the longest chain
-            # waits, gets more than that, since its jobs cannot become more later
+            # where all others wait for one, it gets all that is free; a large one gets more than that, since its
+            # jobs cannot become more later
             waiting.remove(ready[0])
-            is_longest = all(weights[ready[0]] >= weights[it] for it in [*waiting, *(each.crate for each in checks)])
-            least = 1 + max(functions_in(ready[0]) // 80, int(is_longest))
+            least = 1 + functions_in(ready[0]) // 80
             jobs = max(spare // len(ready), min(least, spare + 1))
             checks.append(Check(ready[0], free.pop(0), jobs, seconds[ready[0]]))
             continue
