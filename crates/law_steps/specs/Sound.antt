@@ -62,7 +62,7 @@ ControlComesOverEdges =
 -- ---- data
 
 -- the cell is one of variable number v of these
-pub record IsCellOf (vars : List Var) (v c : ℕ) : Type 0 where
+pub record IsCellOfVariable (vars : List Var) (v c : ℕ) : Type 0 where
   pub variable : Var
   pub there : slice_get vars v ≡ Some variable
   pub held : IsTrue (holds c variable)
@@ -74,7 +74,7 @@ pub record WritesOverEdge (program : Program) (trace : Trace) (id : EventId) (t 
   pub from : ℕ
   pub is_of : IsEventOf trace id from
   pub var : ℕ
-  pub is_cell : IsCellOf vars var c
+  pub is_cell : IsCellOfVariable vars var c
   pub edge : var < 65536 → Contains (edges_of program t) (Data from is_shared var)
 
 -- what statement t reads at a place: a local cell is of a variable of its body, a shared one of a shared variable

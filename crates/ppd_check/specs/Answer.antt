@@ -9,7 +9,7 @@ use Rattle.ppd_check_bodies.specs.Sources.{core_of, faults_in}
 use Rattle.ppd_check_names.specs.Reading.{source_of}
 use Rattle.ppd_check.specs.declared.error.CheckError.{CheckError}
 use Rattle.ppd_check.specs.Read.{IsTreeOf}
-use Rattle.ppd_check.specs.Refused.{IsRefused}
+use Rattle.ppd_check.specs.Refused.{IsTreeRefused}
 
 -- the answer is the table of the tree that the nodes stand for, or the first rule that it breaks
 pub record IsCheckOf (nodes : List Node) (answer : Result Program CheckError) : Type 0 where
@@ -20,4 +20,4 @@ pub record IsCheckOf (nodes : List Node) (answer : Result Program CheckError) : 
   -- its lists have at most nine elements for each node
   pub few : IfOk answer (λ p. elements_of p ≤ 9 * length nodes)
   -- an error is the first rule that the tree breaks
-  pub refused : IfErr answer (λ e. IsRefused (tree_of nodes) e)
+  pub refused : IfErr answer (λ e. IsTreeRefused (tree_of nodes) e)

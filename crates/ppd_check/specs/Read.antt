@@ -40,7 +40,7 @@ IsRefused bytes (S.Lex e) = Lexing.IsRefused bytes e
 IsRefused bytes (S.Syntax Y.Memory) = ⊥
 IsRefused bytes (S.Syntax e) = (tokens : List Token) × IsTokens bytes tokens × Parsing.IsRefused tokens e
 IsRefused bytes (S.Check C.Memory) = ⊥
-IsRefused bytes (S.Check e) = (tree : Shape) × IsTreeOf bytes tree × Checking.IsRefused tree e
+IsRefused bytes (S.Check e) = (tree : Shape) × IsTreeOf bytes tree × Checking.IsTreeRefused tree e
 IsRefused bytes S.Memory = Unit {0}
 
 -- what the error of one part is for the whole

@@ -10,8 +10,8 @@ use Rattle.ppd_check_bodies.specs.Sources.{faults_in}
 use Rattle.ppd_check_names.specs.Reading.{source_of}
 
 -- Why a tree is refused: the first rule that it breaks, with its place. Want of memory may come at any.
-abbrev pub IsRefused : Shape → CheckError → Type 0
-IsRefused t e = go e
+abbrev pub IsTreeRefused : Shape → CheckError → Type 0
+IsTreeRefused t e = go e
   where
     First : Fault → Type 0
     First f = first (faults_in (source_of t)) ≡ Some f

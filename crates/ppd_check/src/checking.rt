@@ -12,7 +12,7 @@ ghost use Rattle.ppd_check_names.specs.Holding.{head_at, Holds, IsHeadAt};
 ghost use Rattle.ppd_check_names.specs.Names.{innermost};
 ghost use Rattle.ppd_check_bodies.specs.Sources.{vars, core_of, faults_in};
 ghost use Rattle.ppd_check_names.specs.Fitted.{fitted};
-ghost use Rattle.ppd_check.specs.Refused.{IsRefused};
+ghost use Rattle.ppd_check.specs.Refused.{IsTreeRefused};
 ghost use Rattle.ppd_check_names.specs.Cost.{heads_nodes, nodes_at, total};
 ghost use Rattle.ppd_check_names.specs.Reading.{source_of};
 
@@ -46,7 +46,7 @@ struct Lists {
 
 // Why a source is refused, by the first rule that it breaks.
 fn error_of(fault: Fault) -> CheckError
-    ensures { (tree : Shape) → first (faults_in (source_of tree)) ≡ Some fault → IsRefused tree result }
+    ensures { (tree : Shape) → first (faults_in (source_of tree)) ≡ Some fault → IsTreeRefused tree result }
 {
     let place = fault.place;
     match fault.cause {

@@ -5,7 +5,8 @@ use Rattle.std.specs.List.Sorted.{IsNonDecreasing}
 use Rattle.std.proofs.Math.Bool.{and-false, or-false, or-true}
 use Rattle.std.proofs.lemmas.Bool.{cases_eq, cases_lt}
 use Rattle.ppd_ast.specs.Members.{has}
-use Rattle.ppd_flow_tables.specs.Listed.{IsCut, IsFirstUnder, IsLastUnder, IsPlaceUnder, key}
+use Rattle.ppd_flow_tables.specs.Listed.{IsFirstUnder, IsLastUnder, IsPlaceUnder, key}
+use Rattle.ppd_flow_tables.specs.Writing.{IsCut}
 
 -- ---- one key
 

@@ -1,5 +1,5 @@
 -- Places that are listed under numbers: each with its number as one key, in order.
-use Rattle.std.specs.Prelude.{◌≡◌, ℕ, ◌+◌, ◌*◌, ◌^◌, ◌<◌, ◌≤◌, true, false, List, get_or, length, Option, Some, None}
+use Rattle.std.specs.Prelude.{◌≡◌, ℕ, ◌+◌, ◌*◌, ◌^◌, ◌<◌, true, false, List, Option, Some, None}
 use Rattle.ppd_ast.specs.Members.{has}
 
 -- place i under number n; places are below 2 ^ 32
@@ -10,12 +10,6 @@ key n i = n * 2 ^ 32 + i
 abbrev pub IsPlaceUnder : ℕ → ℕ → Option ℕ → Type 0
 IsPlaceUnder n k None = (i : ℕ) → i < 2 ^ 32 → k ≡ key n i → ⊥
 IsPlaceUnder n k (Some i) = (i < 2 ^ 32) × (k ≡ key n i)
-
--- the first n of these keys are below the limit, and the others are not
-pub record IsCut (limit : ℕ) (keys : List ℕ) (n : ℕ) : Type 0 where
-  pub within : n ≤ length keys
-  pub first : (k d : ℕ) → k < n → get_or keys k d < limit
-  pub others : (k d : ℕ) → n ≤ k → k < length keys → limit ≤ get_or keys k d
 
 -- the first place under a number, if there is one
 abbrev pub IsFirstUnder : List ℕ → ℕ → Option ℕ → Type 0

@@ -2,7 +2,8 @@
 ghost use Rattle.std.specs.Prelude.{◌≡◌, ◌&&◌, ◌||◌, ◌<◌, ◌^◌, ℕ, OnOk, nat_eq};
 ghost use Rattle.std.specs.List.Sorted.{IsNonDecreasing};
 ghost use Rattle.ppd_ast.specs.Members.{has};
-ghost use Rattle.ppd_flow_tables.specs.Listed.{IsCut, IsFirstUnder, IsLastUnder, IsPlaceUnder, key as key_of};
+ghost use Rattle.ppd_flow_tables.specs.Writing.{IsCut};
+ghost use Rattle.ppd_flow_tables.specs.Listed.{IsFirstUnder, IsLastUnder, IsPlaceUnder, key as key_of};
 
 use ppd_ast::{Memory, Seq};
 

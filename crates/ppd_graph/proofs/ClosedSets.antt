@@ -11,7 +11,7 @@ use Rattle.ppd_entry.specs.declared.entry.Entry.TheVariants as entry
 use Rattle.ppd_entry.specs.Entries.{is_end}
 use Rattle.ppd_model.specs.Logs.{closed_logs}
 use Rattle.ppd_model.specs.RecordedSets as recorded
-use Rattle.ppd_model.specs.RecordedSets.{RecordsAccesses, cells_in, last_edge, sets_at_sync}
+use Rattle.ppd_model.specs.RecordedSets.{RecordsAccesses, set_in, last_edge, sets_at_sync}
 use Rattle.ppd_model.specs.Story.{story}
 use Rattle.ppd_model.specs.declared.tracing.Story.{Story}
 use Rattle.ppd_model.proofs.RecordedSets.{record_sets}
@@ -34,7 +34,7 @@ closed_sets (entry.End status' rest' reads writes ∷ es) status rest r w h = ab
 
 -- the sets of an edge in the run
 unfoldable pub run_sets : Story → ℕ → ℕ → EdgeSets
-run_sets s p i = edge_sets (cells_in s p i false) (cells_in s p i true)
+run_sets s p i = edge_sets (set_in s p i false) (set_in s p i true)
 
 pub row_sets : (program : Program) (plan : Plan) (budget : ℕ) (h : List ℕ) → IsValid program → (p : ℕ)
     → p < length (closed_logs program plan budget h).lists
@@ -49,7 +49,7 @@ row_sets program plan budget h valid p lt =
     record_sets program plan budget h p entries valid (slice_get-get_or (closed_logs program plan budget h).lists p [] lt) in
     at_there (sets_from None) (closed_logs program plan budget h).lists p lt
     ∙ ap (sets_from None) r.entries_are
-    ∙ closed_sets r.before r.status r.rest (cells_in s p (last_edge s p) false) (cells_in s p (last_edge s p) true) r.no_end
-    ∙ ap (λ x. map ended x ++ edge_sets (cells_in s p (last_edge s p) false) (cells_in s p (last_edge s p) true) ∷ []) r.syncs_are
-    ∙ ap (λ x. x ++ edge_sets (cells_in s p (last_edge s p) false) (cells_in s p (last_edge s p) true) ∷ [])
+    ∙ closed_sets r.before r.status r.rest (set_in s p (last_edge s p) false) (set_in s p (last_edge s p) true) r.no_end
+    ∙ ap (λ x. map ended x ++ edge_sets (set_in s p (last_edge s p) false) (set_in s p (last_edge s p) true) ∷ []) r.syncs_are
+    ∙ ap (λ x. x ++ edge_sets (set_in s p (last_edge s p) false) (set_in s p (last_edge s p) true) ∷ [])
     (map-map ended (recorded.sets_in s p) (range_with_len 0 (last_edge s p)))

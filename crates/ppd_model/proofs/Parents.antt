@@ -21,7 +21,7 @@ use Rattle.ppd_model.specs.FullTrace.{Activation, Test, Tracing, event_of, lates
 use Rattle.std.specs.Option.{option_or}
 use Rattle.ppd_model.proofs.TraceWords.{of_outer}
 use Rattle.ppd_model.specs.LocalTags.{AreOwn, HasTags, from_end}
-use Rattle.ppd_model.specs.Parents.{GoesOn, IsBegunBy, IsFirst, IsFromStart, IsLatestTest, IsOutermost, IsParent, IsUntested, Lasts, StandsIn, is_test}
+use Rattle.ppd_model.specs.Parents.{GoesOn, IsBegunBy, IsFirst, IsActiveFromStart, IsLatestTest, IsOutermost, IsParent, IsUntested, Lasts, StandsIn, is_test}
 use Rattle.ppd_model.specs.Story.{Story, Taken}
 use Rattle.ppd_model.proofs.CallSteps.{begins_none}
 use Rattle.ppd_model.proofs.FromEnd.{hit, miss}
@@ -305,7 +305,7 @@ module _ (program : Program) (plan : Plan) (story : Story) (p : ℕ) (frames : L
     from_latest : (s : ℕ) (event : EventId) (passed : Bool) → IsLatestTest program plan story p k s t xs event passed → latest_at (views u.activations) k s ≡ Some (record { stmt = s; event = event; passed = passed })
     from_latest s event passed w = kept program plan story p k s t xs event passed has own w
 
-    to_call : IsBegunBy program plan story p k t xs (call_at (views u.activations) k) ⊎ IsFromStart program plan k t xs (call_at (views u.activations) k)
+    to_call : IsBegunBy program plan story p k t xs (call_at (views u.activations) k) ⊎ IsActiveFromStart program plan k t xs (call_at (views u.activations) k)
     to_call = elim (begun program plan story p k t xs has own lt) [
       | inl w ↦ inl w
       | inr h ↦ inr (record { call_is = h.0 ∙ ap (λ acts. call_at (views acts) k) begun_is ∙ ap (λ (v : View). v.0) (begun_views frames k); lasts = h.1 })
@@ -342,7 +342,7 @@ module _ (program : Program) (plan : Plan) (story : Story) (p : ℕ) (frames : L
       outermost h o = record {
         first = never h;
         untested = λ outer is event passed l. none_some (sym (tests_are outer ∙ o.untested outer is) ∙ from_latest outer event passed l);
-        call = subst (λ c. IsBegunBy program plan story p k t xs c ⊎ IsFromStart program plan k t xs c) (call_is ∙ sym (parent_is h ∙ o.parent_is)) to_call;
+        call = subst (λ c. IsBegunBy program plan story p k t xs c ⊎ IsActiveFromStart program plan k t xs c) (call_is ∙ sym (parent_is h ∙ o.parent_is)) to_call;
       }
 
       is_parent : IsParent program plan story p k s t xs (parent_in program s a)

@@ -22,7 +22,7 @@ use Rattle.ppd_model.specs.Marks.{Mark, closed, opened}
 use Rattle.ppd_model.specs.Story.{Moment, Story, Taken, steps_of, story, told, unit_started}
 use Rattle.ppd_model.specs.Synchronizations.{Sync, sync_of}
 use Rattle.ppd_model.specs.World.{change}
-use Rattle.ppd_model.specs.Written.{IntervalsAreOfSteps, IsEndAt, IsOfSteps, IsWrittenBy}
+use Rattle.ppd_model.specs.Written.{IntervalsAreOfSteps, IsEndAt, IsOfSteps, WroteEntry}
 use Rattle.ppd_model.specs.declared.trace.EventId.{EventId}
 use Rattle.ppd_sem.specs.Described.{frame_of, is_event}
 use Rattle.ppd_sem.specs.Process.{act, started}
@@ -222,7 +222,7 @@ module _ (program : Program) (plan : Plan) (budget p : ℕ) (story' : Story) (al
   entries = (log_of program plan budget p all).entries
 
   abbrev IsOf : ℕ → ℕ → Type 0
-  IsOf now j = IsWrittenBy program plan budget p all now j
+  IsOf now j = WroteEntry program plan budget p all now j
 
   abbrev IsKeptEnd : ℕ → Type 0
   IsKeptEnd j = IsEndAt entries j × ((now : ℕ) × IsOf now j)

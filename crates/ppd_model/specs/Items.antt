@@ -9,8 +9,8 @@ use Rattle.ppd_model.specs.Intervals.{own, Span, Split, items_of, ref, splits}
 use Rattle.ppd_model.specs.FlowbackEdges.{part_at}
 
 -- each part of the interval is an item
-abbrev pub IsWhole : Split → Span → Type 0
-IsWhole x i = length (items_of x i) ≡ length i.parts
+abbrev pub EachPartIsItem : Split → Span → Type 0
+EachPartIsItem x i = length (items_of x i) ≡ length i.parts
 
 -- event n is item j of interval k, and no other item
 pub record IsItemOnce (x : Split) (n k j : ℕ) : Type 0 where
@@ -26,7 +26,7 @@ pub record IsReferred (xs : List Split) (x : Split) (p n : ℕ) : Type 0 where
 
 -- the intervals of process p have whole items, and its events are items of them
 pub record HasWholeItems (xs : List Split) (x : Split) (p : ℕ) : Type 0 where
-  pub whole : (k : ℕ) (i : Span) → slice_get x.spans k ≡ Some i → IsWhole x i
+  pub whole : (k : ℕ) (i : Span) → slice_get x.spans k ≡ Some i → EachPartIsItem x i
   pub events : (n : ℕ) → n < length x.trace.events → IsReferred xs x p n
 
 -- so it is with each process after each schedule of a valid program

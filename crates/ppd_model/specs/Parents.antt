@@ -84,7 +84,7 @@ pub record IsBegunBy (program : Program) (plan : Plan) (story : Story) (p k : �
   pub lasts : Lasts program plan k (act program plan (traced_to program plan story p t before).proc taken.answer) after
 
 -- the activation was there before the first step, and is there since: no call began it
-pub record IsFromStart (program : Program) (plan : Plan) (k : ℕ) (t : Tracing) (steps : List Taken)
+pub record IsActiveFromStart (program : Program) (plan : Plan) (k : ℕ) (t : Tracing) (steps : List Taken)
     (call : Option EventId) : Type 0 where
   pub call_is : call ≡ None
   pub lasts : Lasts program plan k t.proc steps
@@ -123,7 +123,7 @@ pub record IsOutermost (program : Program) (plan : Plan) (story : Story) (p k s 
   pub untested : (outer : ℕ) → option_and_then (λ x. x.parent) (slice_get program.stmts s) ≡ Some outer
       → (event : EventId) (passed : Bool)
       → IsLatestTest program plan story p k outer t steps event passed → ⊥
-  pub call : IsBegunBy program plan story p k t steps parent ⊎ IsFromStart program plan k t steps parent
+  pub call : IsBegunBy program plan story p k t steps parent ⊎ IsActiveFromStart program plan k t steps parent
 
 abbrev pub IsParent : Program → Plan → Story → (p k s : ℕ) → Tracing → List Taken → Option EventId → Type 0
 IsParent program plan story p k s t steps parent =
@@ -218,7 +218,7 @@ pub record IsOfTopList (program : Program) (plan : Plan) (story : Story) (p k s 
     (steps : List Taken) (parent : Option EventId) : Type 0 where
   pub first : IsFirst program plan story p k s t steps
   pub top : option_and_then (λ x. x.parent) (slice_get program.stmts s) ≡ None
-  pub call : IsBegunBy program plan story p k t steps parent ⊎ IsFromStart program plan k t steps parent
+  pub call : IsBegunBy program plan story p k t steps parent ⊎ IsActiveFromStart program plan k t steps parent
 
 -- an event is of the top activation, and its parent is the test of a loop's run that goes on, or that of
 -- the statement round its own, or the call, where its statement is of a top list

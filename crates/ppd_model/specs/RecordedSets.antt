@@ -51,17 +51,17 @@ abbrev pub cells_of : List SharedAccess → ℕ → Bool → List ℕ
 cells_of xs i writes = rising (map (λ a. a.cell) (filter (λ a. nat_eq a.edge i && beq a.writes writes) xs))
 
 -- the cells that process p reads, or writes, in its edge i
-abbrev pub cells_in : Story → ℕ → ℕ → Bool → List ℕ
-cells_in s p i writes = cells_of (accesses s p) i writes
+abbrev pub set_in : Story → ℕ → ℕ → Bool → List ℕ
+set_in s p i writes = cells_of (accesses s p) i writes
 
 -- both
 abbrev pub sets_in : Story → ℕ → ℕ → List ℕ × List ℕ
-sets_in s p i = (cells_in s p i false, cells_in s p i true)
+sets_in s p i = (set_in s p i false, set_in s p i true)
 
 -- rising, they are the cells that the edge has an access of
 pub record AreCellsOf (s : Story) (p i : ℕ) (writes : Bool) : Type 0 where
-  pub rises : IsStrictlyIncreasing (cells_in s p i writes)
-  pub are : (c : ℕ) → list_any (λ d. nat_eq d c) (cells_in s p i writes) ≡ has_access s p i c writes
+  pub rises : IsStrictlyIncreasing (set_in s p i writes)
+  pub are : (c : ℕ) → list_any (λ d. nat_eq d c) (set_in s p i writes) ≡ has_access s p i c writes
 
 -- so it is in each edge
 abbrev pub CellsAreOfAccesses : Type 0
@@ -91,7 +91,7 @@ pub record RecordsAccesses (s : Story) (p : ℕ) (entries : List Entry) : Type 0
   pub status : Status
   pub rest : ℕ
   pub entries_are : entries ≡ before
-      ++ entry.End status rest (cells_in s p (last_edge s p) false) (cells_in s p (last_edge s p) true) ∷ []
+      ++ entry.End status rest (set_in s p (last_edge s p) false) (set_in s p (last_edge s p) true) ∷ []
   pub syncs_are : filter_map sets_at_sync before ≡ map (sets_in s p) (range_with_len 0 (last_edge s p))
   pub no_end : list_any is_end before ≡ false
 

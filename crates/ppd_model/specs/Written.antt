@@ -12,7 +12,7 @@ use Rattle.ppd_model.specs.Logs.{closed_log, log_of}
 use Rattle.ppd_model.specs.Story.{Moment, story, told}
 
 -- step n of process p wrote entry j: with the steps before it the log was shorter, with it the entry is there
-pub record IsWrittenBy (program : Program) (plan : Plan) (budget p : ℕ) (moments : List Moment) (n j : ℕ) : Type 0 where
+pub record WroteEntry (program : Program) (plan : Plan) (budget p : ℕ) (moments : List Moment) (n j : ℕ) : Type 0 where
   pub before : List Moment
   pub moment : Moment
   pub after : List Moment
@@ -39,12 +39,12 @@ pub record IsOfSteps (IsOf : ℕ → ℕ → Type 0) (IsEnd : ℕ → Type 0) (i
 
 -- the intervals of a process's log are of its steps; an end is of a step too, or closes the log after all of them
 pub record AreOfSteps (program : Program) (plan : Plan) (budget p : ℕ) (x : Split) (moments : List Moment) : Type 0 where
-  pub kept_are : AreEach (IsOfSteps (IsWrittenBy program plan budget p moments)
-      (λ j. IsEndAt (log_of program plan budget p moments).entries j × ((n : ℕ) × IsWrittenBy program plan budget p moments n j)))
+  pub kept_are : AreEach (IsOfSteps (WroteEntry program plan budget p moments)
+      (λ j. IsEndAt (log_of program plan budget p moments).entries j × ((n : ℕ) × WroteEntry program plan budget p moments n j)))
       x.spans (extents (log_of program plan budget p moments).entries)
-  pub closed_are : AreEach (IsOfSteps (IsWrittenBy program plan budget p moments)
+  pub closed_are : AreEach (IsOfSteps (WroteEntry program plan budget p moments)
       (λ j. IsEndAt (closed_log (log_of program plan budget p moments)) j
-      × ((j ≡ length (log_of program plan budget p moments).entries) ⊎ ((n : ℕ) × IsWrittenBy program plan budget p moments n j))))
+      × ((j ≡ length (log_of program plan budget p moments).entries) ⊎ ((n : ℕ) × WroteEntry program plan budget p moments n j))))
       x.spans (extents (closed_log (log_of program plan budget p moments)))
 
 -- so it is after each schedule

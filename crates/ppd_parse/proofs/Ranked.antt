@@ -9,9 +9,9 @@ use Rattle.ppd_lex.specs.declared.token.Kind.{Kind}
 use Rattle.ppd_parse.specs.declared.symbol.Want.{Want}
 use Rattle.ppd_parse.specs.declared.symbol.Want.TheVariants.{Get, Close}
 use Rattle.ppd_parse.specs.Grammar.{Production, parts, wants_in, operand_parts, operand}
-use Rattle.ppd_parse.specs.Rank.{lead, lead_all, weight_all, rank}
+use Rattle.ppd_parse.specs.Rank.{moves_to_token, lead_all, weight_all, rank}
 
-lead_most : (y : Symbol) → lead y ≤ 15
+lead_most : (y : Symbol) → moves_to_token y ≤ 15
 lead_most (S.Chain l) = omega arith
 lead_most _ = omega arith
 
@@ -20,7 +20,7 @@ lead_all_most [] = omega arith
 lead_all_most (Get y a b ∷ ws) = lead_most y
 lead_all_most (Close r b ∷ ws) = lead_all_most ws
 
-some_lead : (y : Symbol) → 1 ≤ lead y
+some_lead : (y : Symbol) → 1 ≤ moves_to_token y
 some_lead (S.Chain l) = omega arith
 some_lead _ = omega arith
 

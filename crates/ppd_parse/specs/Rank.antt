@@ -47,8 +47,8 @@ opening S.ForTest = 15
 opening _ = 4
 
 -- the moves for a symbol that is next, up to a token, which may be that of a symbol behind it
-abbrev pub lead : Symbol → ℕ
-lead y = if nat_lt 0 (weight y) then 15 else opening y
+abbrev pub moves_to_token : Symbol → ℕ
+moves_to_token y = if nat_lt 0 (weight y) then 15 else opening y
 
 abbrev pub weight_all : List Want → ℕ
 weight_all [] = 0
@@ -57,7 +57,7 @@ weight_all (Close r b ∷ ws) = 1 + weight_all ws
 
 abbrev pub lead_all : List Want → ℕ
 lead_all [] = 0
-lead_all (Get y a b ∷ ws) = lead y
+lead_all (Get y a b ∷ ws) = moves_to_token y
 lead_all (Close r b ∷ ws) = lead_all ws
 
 abbrev pub rank : List Want → ℕ

@@ -14,7 +14,7 @@ use Rattle.ppd_model.specs.HappenedBefore.{is_edge_before}
 use Rattle.ppd_model.specs.Logs.{closed_logs}
 use Rattle.ppd_model.specs.Races.{edges_of_story, has_access, races}
 use Rattle.ppd_model.specs.Record.{SharedAccess, accesses, record_of}
-use Rattle.ppd_model.specs.RecordedSets.{cells_in, last_edge, record_in, sync_in}
+use Rattle.ppd_model.specs.RecordedSets.{set_in, last_edge, record_in, sync_in}
 use Rattle.ppd_model.specs.Story.{story}
 use Rattle.ppd_model.proofs.AccessSets.{accesses_there, cells_are}
 use Rattle.ppd_model.proofs.Prefixes.{objects_stay}
@@ -61,7 +61,7 @@ module _ (program : Program) (plan : Plan) (budget : ℕ) (h : List ℕ) (valid 
       let n = last_edge (story program plan budget h) p in
       ap length (row_sets program plan budget h valid p lt) ∙ length_more (map (run_sets (story program plan budget h) p) (range_with_len 0 n)) (run_sets (story program plan budget h) p n) ∙ ap (λ k. k + 1) (count_range (run_sets (story program plan budget h) p) 0 n)
 
-  by_kind : (p i : ℕ) (w : Bool) → cells_by w (run_sets (story program plan budget h) p i) ≡ cells_in (story program plan budget h) p i w
+  by_kind : (p i : ℕ) (w : Bool) → cells_by w (run_sets (story program plan budget h) p i) ≡ set_in (story program plan budget h) p i w
   unfolding run_sets
   by_kind p i true = refl
   by_kind p i false = refl

@@ -12,9 +12,9 @@ pub(crate) struct TextSink {
 }
 
 impl Model for TextSink {
-    ghost use Rattle.ppd_top.specs.Kept.{Kept};
+    ghost use Rattle.ppd_top.specs.Kept.{KeptText};
 
-    ghost Value = { Kept };
+    ghost Value = { KeptText };
 
     ghost view = { λ s. record { text = s.text.items; faults = s.faults } };
 }

@@ -6,7 +6,7 @@ use Rattle.std.proofs.lemmas.List.{take_at}
 use Rattle.std.proofs.lemmas.List.Concat.{flat_map-append}
 use Rattle.ppd_model.specs.Intervals.{Part, own, nested, Span, Split, item_of}
 use Rattle.ppd_model.proofs.IntervalWords.{item_of_event, item_of_span}
-use Rattle.ppd_model.specs.Items.{IsWhole}
+use Rattle.ppd_model.specs.Items.{EachPartIsItem}
 use Rattle.ppd_model.specs.declared.trace.TracedEvent.{TracedEvent}
 use Rattle.law_flow_own.specs.Places.Levels.{IsLater, Level, StandsIn, numbers}
 use Rattle.law_flow_own.specs.Places.Leaves.{items_so_far}
@@ -54,7 +54,7 @@ first_items y ps qs h = ap (take (length ps)) (flat_map-append (item_of y) ps qs
 
 -- every interval has whole items
 abbrev pub AreWhole : Split → Type 0
-AreWhole y = (k : ℕ) (i : Span) → slice_get y.spans k ≡ Some i → IsWhole y i
+AreWhole y = (k : ℕ) (i : Span) → slice_get y.spans k ≡ Some i → EachPartIsItem y i
 
 -- the interval of a level at a later time
 pub record LevelAt (y : Split) (l : Level) (outside : List ℕ) : Type 0 where

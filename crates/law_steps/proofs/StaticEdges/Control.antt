@@ -22,7 +22,7 @@ use Rattle.ppd_model.proofs.Parents.{own_from}
 use Rattle.ppd_model.proofs.ValidParents.{valid_parents}
 use Rattle.ppd_model.specs.FullTrace.{begun_tracing, event_of, full_trace}
 use Rattle.ppd_model.specs.LocalTags.{AreOwn}
-use Rattle.ppd_model.specs.Parents.{IsBegunBy, IsFromStart, IsLatestTest, is_choice, is_test_at}
+use Rattle.ppd_model.specs.Parents.{IsBegunBy, IsActiveFromStart, IsLatestTest, is_choice, is_test_at}
 use Rattle.ppd_model.specs.Story.{story}
 use Rattle.ppd_model.specs.declared.trace.EventId.{EventId}
 use Rattle.ppd_model.specs.declared.tracing.Story.{Story}
@@ -127,7 +127,7 @@ module _ (program : Program) (plan : Plan) (budget : ℕ) (h : List ℕ) (p : �
 
   -- a parent that is a call, or none
   by_call : (t k : ℕ) (before : List Taken) (taken : Taken) (after : List Taken) (parent : Option EventId) → get_or told_story.steps p [] ≡ before ++ taken ∷ after
-      → IsBegunBy program plan told_story p k start before parent ⊎ IsFromStart program plan k start before parent → Contains (edges_of program t) ControlEntry
+      → IsBegunBy program plan told_story p k start before parent ⊎ IsActiveFromStart program plan k start before parent → Contains (edges_of program t) ControlEntry
       → ComesOverControl program (full_trace program plan budget (story program plan budget h)) parent t
   by_call t k before taken after parent steps h2 edge = elim h2 [
     | inl c ↦

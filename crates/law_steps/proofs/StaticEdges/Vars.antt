@@ -1,5 +1,5 @@
 -- The variables of the cells that a statement reads and writes.
-use Rattle.law_steps.specs.Sound.{IsCellOf}
+use Rattle.law_steps.specs.Sound.{IsCellOfVariable}
 use Rattle.ppd_ast.proofs.Members.{any_from, below_range, filter_has, from_zero}
 use Rattle.ppd_ast.proofs.ValidLaws.{some_and, valid_body, valid_stmt}
 use Rattle.ppd_ast.proofs.Vocabulary.{kind_of_stmt, locals_of_body, params_of_body}
@@ -37,7 +37,7 @@ there_of (y ∷ vars) zero x e = omega arith
 there_of (y ∷ vars) (suc v) x e = let l = there_of vars v x e in omega (arith, l)
 
 -- it is met where the cell is among these
-pub met : (vars : List Var) (cells : List ℕ) (v c : ℕ) → v < 65536 → IsCellOf vars v c → IsTrue (has cells c) → IsTrue (has (vars_met vars cells) v)
+pub met : (vars : List Var) (cells : List ℕ) (v c : ℕ) → v < 65536 → IsCellOfVariable vars v c → IsTrue (has cells c) → IsTrue (has (vars_met vars cells) v)
 met vars cells v c lt is h =
     let below : v < min (length vars) 65536 = below_min v (length vars) (there_of vars v is.variable is.there) lt in
     let here : IsTrue (list_any (λ d. holds d is.variable) cells) = any_from (λ d. holds d is.variable) cells c h is.held in
@@ -57,7 +57,7 @@ got (y ∷ vars) (suc k) x lt e = got vars k x (omega (arith, lt)) e
 -- a variable that has the cell
 pub record HasVar (vars : List Var) (c : ℕ) : Type 0 where
   pub var : ℕ
-  pub in_var : IsCellOf vars var c
+  pub in_var : IsCellOfVariable vars var c
 
 scalar_var : (vars : List Var) (c : ℕ) → IsScalarOf vars c → HasVar vars c
 scalar_var vars c h =
@@ -153,7 +153,7 @@ keeps x c k h other = by x.len refl
 
 -- ---- a function's parameters
 
-params_at : (p : Program) (f k : ℕ) (o : Option Body) → IsValid p → slice_get p.bodies f ≡ o → k < params_of_body o → IsCellOf (locals_of_body o) k k
+params_at : (p : Program) (f k : ℕ) (o : Option Body) → IsValid p → slice_get p.bodies f ≡ o → k < params_of_body o → IsCellOfVariable (locals_of_body o) k k
 params_at p f k None v at lt = absurd (omega arith)
 params_at p f k (Some b) v at lt =
     let x = some_and (λ (y : Var). (y.base ≡ k) × (y.len ≡ None)) (slice_get b.locals k) ((valid_body p f b v at).params k lt) in
@@ -162,5 +162,5 @@ params_at p f k (Some b) v at lt =
     record { variable = x.0; there = x.1; held = held x.0 k (omega arith) (omega arith) }
 
 -- parameter k of a function is its variable number k, in cell k
-pub param_var : (p : Program) (f k : ℕ) → IsValid p → k < (body_numbered p f).params → IsCellOf (body_numbered p f).locals k k
+pub param_var : (p : Program) (f k : ℕ) → IsValid p → k < (body_numbered p f).params → IsCellOfVariable (body_numbered p f).locals k k
 param_var p f k v lt = params_at p f k (slice_get p.bodies f) v refl lt

@@ -131,7 +131,7 @@ kept_all c a b more e h = ap (λ t. if t then a ++ more else a) (le_true c MOST_
     le_true m n h = grind (arith, h)
 
 holds_shared : (ns : List Node) (x : Name) (len : Option ℕ) (more : List ℤ) (old : Globals) (s t : S.Globals) → Holds ns old s
-    → t ≡ record (S.with_shared x len more s) { scope = N.declare x.text (N.shared s.cells len) s.scope }
+    → t ≡ record (S.with_shared_variable x len more s) { scope = N.declare x.text (N.shared s.cells len) s.scope }
     → Holds ns (with_shared x len more old) t
 holds_shared ns x len more old s t h is =
     subst (λ u. Holds ns (with_shared x len more old) u) (sym is)

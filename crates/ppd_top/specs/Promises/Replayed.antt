@@ -49,8 +49,8 @@ pub record Kept : Type 0 where
   pub cut : Logs
   pub kept : List (List (List Item))
 
-abbrev pub kept_in : Past → Kept
-kept_in past = record {
+abbrev pub kept_of_past : Past → Kept
+kept_of_past past = record {
   program = past.program.now;
   plan = past.plan.now;
   budget = past.budget;
@@ -79,11 +79,11 @@ pub record ReplaysAreFew (r : Run) : Type 0 where
   pub own_steps : (p k : ℕ)
       → own_steps_of r.program (plan_in r) r.budget (get_or (logs_in r).lists p []) k
       ≡ steps_in (slice_get (splits_in r r.schedule) p) k
-  pub edges : (past : Past) (p k j before after : ℕ) (es found : List FlowEdge) → kept_in past ≡ kept_of r
+  pub edges : (past : Past) (p k j before after : ℕ) (es found : List FlowEdge) → kept_of_past past ≡ kept_of r
       → HasEdges r r.schedule p k j es → IsEdges past p k j before after (Ok found)
       → (found ≡ es) × (after ≤ before
       + 2 * (length es + 1) * near_steps r.program (plan_in r) r.budget (story_in r r.schedule) p k j)
-  pub lasts : (past : Past) (c before after : ℕ) (found : ℤ × Origin) → kept_in past ≡ kept_of r
+  pub lasts : (past : Past) (c before after : ℕ) (found : ℤ × Origin) → kept_of_past past ≡ kept_of r
       → c < length r.program.starts → IsLastFound past c before after (Ok found)
       → (found ≡ last r.program (plan_in r) r.budget (story_in r r.schedule) c)
       × (after ≤ before + last_steps r.program (plan_in r) r.budget (story_in r r.schedule) c)

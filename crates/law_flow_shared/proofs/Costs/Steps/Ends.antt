@@ -34,7 +34,7 @@ use Rattle.ppd_model.specs.Intervals.{Part, Span, Split, item_of, own, splits}
 use Rattle.ppd_model.specs.Items.{IsReferred}
 use Rattle.ppd_model.specs.Logs.{closed_logs}
 use Rattle.ppd_model.specs.NearIntervals.{is_open_in}
-use Rattle.ppd_model.specs.RecordedSets.{RecordsAccesses, cells_in, last_edge}
+use Rattle.ppd_model.specs.RecordedSets.{RecordsAccesses, set_in, last_edge}
 use Rattle.ppd_model.specs.Story.{story, told}
 use Rattle.ppd_model.specs.Synchronizations.{sync_of}
 use Rattle.ppd_model.specs.declared.trace.TracedEvent.{TracedEvent}
@@ -78,10 +78,10 @@ module _ (program : Program) (plan : Plan) (budget : ℕ) (h : List ℕ) (v : Is
   r = f.records
 
   abbrev reads : List ℕ
-  reads = cells_in (story program plan budget h) q (last_edge (story program plan budget h) q) false
+  reads = set_in (story program plan budget h) q (last_edge (story program plan budget h) q) false
 
   abbrev writes : List ℕ
-  writes = cells_in (story program plan budget h) q (last_edge (story program plan budget h) q) true
+  writes = set_in (story program plan budget h) q (last_edge (story program plan budget h) q) true
 
   abbrev stop : Entry
   stop = entry.End r.status r.rest reads writes

@@ -17,7 +17,7 @@ use Rattle.ppd_model.specs.Intervals.{Span, Split, begun_split, split_of}
 use Rattle.ppd_model.specs.Logs.{begun_log, closed_log, entries_of, log_of, log_step}
 use Rattle.ppd_model.specs.RecordedSets.{sync_in}
 use Rattle.ppd_model.specs.Story.{Moment, steps_of}
-use Rattle.ppd_model.specs.Written.{AreOfSteps, IsOfSteps, IsWrittenBy}
+use Rattle.ppd_model.specs.Written.{AreOfSteps, IsOfSteps, WroteEntry}
 use Rattle.ppd_model.specs.declared.state.Logging.{Logging}
 use Rattle.ppd_model.specs.declared.trace.TracedEvent.{TracedEvent}
 use Rattle.ppd_model.specs.declared.tracing.Story.{Story}
@@ -111,7 +111,7 @@ module _ (program : Program) (plan : Plan) (budget : ℕ) (p : ℕ) (ms : List M
       omega (arith, long)
 
   abbrev IsOf : ℕ → ℕ → Type 0
-  IsOf = IsWrittenBy program plan budget p ms
+  IsOf = WroteEntry program plan budget p ms
 
   -- a later entry is of no earlier step
   in_order : (s j t i : ℕ) → IsOf s j → IsOf t i → i < j → t ≤ s

@@ -1,6 +1,6 @@
 -- From the last write of a local cell a way along the flow graph is kept to the statement that comes next.
 use Rattle.law_steps.proofs.StaticEdges.Vars.{HasVar, keeps, local_var, met}
-use Rattle.law_steps.specs.Sound.{IsCellOf}
+use Rattle.law_steps.specs.Sound.{IsCellOfVariable}
 use Rattle.ppd_ast.proofs.Members.{filter_has, flat_from, has_first, has_left}
 use Rattle.ppd_ast.specs.Lookups.{body_numbered, body_of, kind_of}
 use Rattle.ppd_ast.specs.Members.{has}
@@ -31,7 +31,7 @@ pub record HasWay (p : Program) (E : EventId → ℕ → Type 0) (b at c : ℕ) 
   pub there : from < length p.stmts
   pub is_of : E id from
   pub var : ℕ
-  pub in_var : IsCellOf (body_numbered p b).locals var c
+  pub in_var : IsCellOfVariable (body_numbered p b).locals var c
   pub comes : var < 65536 → Reached (kept_rows p b (slice_get (body_numbered p b).locals var)) (begins p b from var) at
 
 abbrev pub IsCome : Program → (EventId → ℕ → Type 0) → (b at c : ℕ) → Tag → Type 0

@@ -2,7 +2,7 @@ use Rattle.std.proofs.Common.{ℕ, List, ltb, ltb-true, arith, rules, subst, sym
 use Rattle.std.specs.List.Sorted.{IsNonDecreasing}
 use Rattle.std.proofs.lemmas.Bool.{ltb-false}
 use Rattle.std.proofs.lemmas.List.Sorted.{IsPartitionPoint-from_clause, IsPartitionedBy-ltb}
-use Rattle.ppd_flow_tables.specs.Listed.{IsCut}
+use Rattle.ppd_flow_tables.specs.Writing.{IsCut}
 use Rattle.ppd_flow_tables.proofs.listing.Listing.count_below.Goals as goal
 
 pub returns : goal.returns

@@ -1,6 +1,7 @@
 use Rattle.std.proofs.Common.{◌≡◌, ◌<◌, ◌∙◌, arith, length, refl, subst, sym}
 use Rattle.ppd_model.proofs.Lists.{get_or_any}
-use Rattle.ppd_flow_tables.specs.Listed.{IsCut, IsPlaceUnder}
+use Rattle.ppd_flow_tables.specs.Listed.{IsPlaceUnder}
+use Rattle.ppd_flow_tables.specs.Writing.{IsCut}
 use Rattle.ppd_flow_tables.proofs.Sought.{first_is, first_past}
 use Rattle.ppd_flow_tables.proofs.listing.Listing.first_under.Goals as goal
 

@@ -1,6 +1,7 @@
 use Rattle.std.proofs.Common.{◌-◌, ◌<◌, ◌∙◌, arith, length, subst}
 use Rattle.ppd_model.proofs.Lists.{get_or_any}
-use Rattle.ppd_flow_tables.specs.Listed.{IsCut, IsPlaceUnder}
+use Rattle.ppd_flow_tables.specs.Listed.{IsPlaceUnder}
+use Rattle.ppd_flow_tables.specs.Writing.{IsCut}
 use Rattle.ppd_flow_tables.proofs.Sought.{last_is, last_none}
 use Rattle.ppd_flow_tables.proofs.listing.Listing.last_under.Goals as goal
 
