@@ -1,8 +1,9 @@
 #!/usr/bin/env python3
 """Runs the kit's command rt, which takes the sum of a crate's sources once in the run. Of itself rt takes it again for
 each library below a crate, some seconds for an upper one; kits before 13f for each way that leads down to it through
-crates.txt, which lasts longer than the proofs. No source changes meanwhile in a copy that is built. Where the kit's rt
-has no such sum, it runs as it is.
+crates.txt, which lasts longer than the proofs. No source changes meanwhile in a copy that is built. And a library that
+it builds holds the statements of its lemmas and not their proofs, as under rt ci: the crates above it read nothing
+else, and are read in less time and memory. Where the kit's rt has no such words, it runs as it is.
 
     rt_once.py WORD ..      like rt WORD ..
 """
@@ -23,9 +24,21 @@ def loaded(command):
         loader.exec_module(made)
         taken = functools.cache(made.rtlib.Crate.stamp)
         made.rtlib.Crate.stamp = lambda crate: taken(crate)
+        if "--statements" in made.rtlib.help_of("build"):
+            cut_libraries(made.rtlib)
         return made if callable(made.main) else None
     except (AttributeError, ImportError, SyntaxError, UnicodeDecodeError, ValueError):
         return None
+
+
+def cut_libraries(rtlib):
+    """Has a library that is built hold its statements alone, which rattle does where no kept work stands beside it."""
+    words_of = rtlib.Crate.words
+
+    def words(crate, *given, **named):
+        return words_of(crate, *given, **named) + ([] if crate.is_program else ["--statements"])
+
+    rtlib.Crate.words, rtlib.libraries_keep = words, lambda: False
 
 
 def main():
