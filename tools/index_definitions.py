@@ -41,7 +41,7 @@ HEADLINE = [
             ("ppd_model/specs/World.antt", "step", "World::step"),
             ("ppd_model/specs/Schedule.antt", "run", "World::drive"),
             ("ppd_model/specs/Schedule.antt", "IsWhole", "run of ppd_run"),
-            ("ppd_top_runs/specs/Commands.antt", "IsWholeRun", "ppd"),
+            ("ppd_top_commands/specs/Commands.antt", "IsWholeRun", "ppd"),
         ],
     ),
     (
@@ -99,7 +99,7 @@ HEADLINE = [
             ("ppd_top/specs/Clauses.antt", "WasDone", "ppd"),
             ("ppd_codec_runs/specs/Recordings.antt", "IsAccepted", "recall"),
             ("ppd_top/specs/Clauses.antt", "WasAnswered", "ppd"),
-            ("ppd_top/specs/Promises/Headline.antt", "Headline", "calls_tell_of_runs"),
+            ("law_headline/specs/Headline.antt", "Headline", "calls_tell_of_runs"),
         ],
     ),
 ]

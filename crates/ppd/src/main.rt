@@ -24,6 +24,23 @@ fn words_given(alloc: Global, rt: &HostRuntime) -> Result<Vec<String>, Memory> {
     }
 }
 
+/// Calls the program for these words, over the files, the input and the output that the runtime gives.
+fn call<R: Threads + Wait + Sync>(rt: &HostRuntime, threads: &R, words: &[&str]) -> u8 {
+    let mut shelf = HostShelf::new(rt);
+    let mut input = StdSource::new(rt.reader());
+    let mut output = StdSink::new(io::writer(rt));
+    let outcome = ppd(
+        threads,
+        rt.alloc(),
+        words,
+        &mut shelf,
+        &mut input,
+        &mut output,
+        &FreeGate,
+    );
+    outcome.status
+}
+
 /// Runs the program over what the runtime gives, its threads by `threads`.
 fn run<R: Threads + Wait + Sync>(rt: &HostRuntime, threads: &R) -> Result<u8, Memory> {
     let alloc = rt.alloc();
@@ -32,19 +49,7 @@ fn run<R: Threads + Wait + Sync>(rt: &HostRuntime, threads: &R) -> Result<u8, Me
         return Err(Memory);
     };
     let words: Vec<&str> = words;
-    let mut shelf = HostShelf::new(rt);
-    let mut input = StdSource::new(rt.reader());
-    let mut output = StdSink::new(io::writer(rt));
-    let outcome = ppd(
-        threads,
-        alloc,
-        &words,
-        &mut shelf,
-        &mut input,
-        &mut output,
-        &FreeGate,
-    );
-    Ok(outcome.status)
+    Ok(call(rt, threads, &words))
 }
 
 fn main(rt: HostRuntime) -> ExitCode {

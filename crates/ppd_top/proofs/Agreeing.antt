@@ -5,10 +5,10 @@ use Rattle.ppd_ast.specs.declared.program.Program.{Program}
 use Rattle.law_agreement.proofs.Agreeing.{agreeing_histories, agreeing_stories}
 use Rattle.ppd_model.specs.Logs.{close}
 use Rattle.ppd_session.specs.Known.{Known, known_of_story}
-use Rattle.ppd_top_runs.specs.Commands.{known_of, summary_of_run}
-use Rattle.ppd_top_runs.specs.declared.options.Options.{Options}
-use Rattle.ppd_top_runs.specs.Output.{answers, before}
-use Rattle.ppd_top_runs.specs.Summary.{summary_of}
+use Rattle.ppd_top_commands.specs.Commands.{known_of, summary_of_run}
+use Rattle.ppd_top_requests.specs.declared.options.Options.{Options}
+use Rattle.ppd_top_commands.specs.Output.{answers, before}
+use Rattle.ppd_top_commands.specs.Summary.{summary_of}
 use Rattle.ppd_top.specs.Top.{IsOfAgreeing, out_of}
 
 pub of_agreeing : (program : Program) (options : Options) (schedule commands : List ℕ) → IsOfAgreeing program options schedule commands (out_of program options schedule commands)

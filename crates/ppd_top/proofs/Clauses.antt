@@ -6,7 +6,7 @@ use Rattle.ppd_ast.specs.declared.program.Program.{Program}
 use Rattle.ppd_codec.specs.declared.recording.Header.{Header}
 use Rattle.ppd_top_query.specs.OfRuns.{AnswersAreOfRuns}
 use Rattle.ppd_top_query.specs.Recordings.{IsRunRecorded}
-use Rattle.ppd_top_runs.specs.declared.options.Options.{Options}
+use Rattle.ppd_top_requests.specs.declared.options.Options.{Options}
 use Rattle.ppd_top.specs.Call.{Call, HasFailedLoad, HasFailedWrite, LeftShelf, Wrote}
 use Rattle.ppd_top.specs.Clauses.{IsOutcome, IsPromised, IsPromisedAnswers, IsTaken, MemoryRanOut, RanWhole, ReadFailed, RecordingRefused, WasAnswered, WasDone, WasRefused, WriteFailed}
 use Rattle.ppd_top.specs.Clauses.IsTaken.{by_drill, by_run}
@@ -17,12 +17,12 @@ use Rattle.ppd_top.specs.Ran.{Comes}
 use Rattle.ppd_top.specs.Ran.Comes.{not_asked, no_memory, not_loaded, refusal, flow_done, show_done, run_done, recording_not_loaded, debug_done, drill_done, query_done}
 use Rattle.ppd_top.specs.Ran.Drilled.{no_program, drilled}
 use Rattle.ppd_top.specs.Top.{usage}
-use Rattle.ppd_top_runs.specs.Output.{Finished}
+use Rattle.ppd_top_commands.specs.Output.{Finished}
 use Rattle.ppd_top.specs.Top.Writes.{for_words}
-use Rattle.ppd_top.specs.Words.{Asks, Command, asked}
-use Rattle.ppd_top.specs.Words.Request.{on_number, on_source}
-use Rattle.ppd_top.specs.Words.Command.{Flow, Run, Show}
-use Rattle.ppd_top_runs.proofs.Conversing.{same_input}
+use Rattle.ppd_top_requests.specs.Words.{Asks, Command, asked}
+use Rattle.ppd_top_requests.specs.Words.Request.{on_number, on_source}
+use Rattle.ppd_top_requests.specs.Words.Command.{Flow, Run, Show}
+use Rattle.ppd_top_commands.proofs.Conversing.{same_input}
 use Rattle.ppd_top.proofs.Debugged.{debug_any, debug_broken, debug_complete, debug_out, debug_refused, debug_unwritten, debug_whole}
 use Rattle.ppd_top.proofs.DrillEnds.{drill_any, drill_complete, drill_cut_off, drill_no_run, drill_not_refused, drill_unwritten, drill_whole, not_nothing, not_recording, not_source}
 use Rattle.ppd_top.proofs.Outcomes.{ask_nothing, one_run, flow_any, flow_broken, flow_complete, flow_out, flow_unwritten, flow_whole, one_name, refused_complete, refused_out, refused_so, refused_unwritten, refused_any, show_any, show_complete, show_done as shown, show_out, show_unwritten, was_read, write_failed}

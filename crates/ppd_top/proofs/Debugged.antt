@@ -28,15 +28,15 @@ use Rattle.ppd_top.specs.Clauses.RecordingRefused.{bytes_refused, line_failed}
 use Rattle.ppd_top.specs.Clauses.WriteFailed.{output_failed}
 use Rattle.ppd_top.specs.Top.{IsRecalledFrom}
 use Rattle.ppd_top.specs.Top.Writes.{for_recording, refused_recording}
-use Rattle.ppd_top.specs.Words.{Asks}
-use Rattle.ppd_top.specs.Words.Request.{on_recording}
+use Rattle.ppd_top_requests.specs.Words.{Asks}
+use Rattle.ppd_top_requests.specs.Words.Request.{on_recording}
 use Rattle.ppd_top_query.proofs.Runs.{no_run_is_refused, runs_are_recalled}
 use Rattle.ppd_top_query.proofs.Same.{refused_or_accepted}
 use Rattle.ppd_top_query.specs.Recordings.{IsAccepted, IsRunRecorded, known_of as known_of_recording}
-use Rattle.ppd_top_runs.proofs.Conversing.{same_input}
-use Rattle.ppd_top_runs.specs.Debugging.{Debugs}
-use Rattle.ppd_top_runs.specs.Debugging.Debugs.{no_recall, recalled, recording_refused}
-use Rattle.ppd_top_runs.specs.Output.{Standing, Talks, answers}
+use Rattle.ppd_top_commands.proofs.Conversing.{same_input}
+use Rattle.ppd_top_commands.specs.Debugging.{Debugs}
+use Rattle.ppd_top_commands.specs.Debugging.Debugs.{no_recall, recalled, recording_refused}
+use Rattle.ppd_top_commands.specs.Output.{Standing, Talks, answers}
 use Rattle.std.proofs.Common.{List, [], arith, inl, inr, refl, subst, sym, ℕ, ◌∙◌, ◌∷◌, ◌≡◌}
 use Rattle.std.specs.Prelude.{None, ◌⊎◌}
 

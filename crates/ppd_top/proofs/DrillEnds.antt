@@ -19,14 +19,14 @@ use Rattle.ppd_top.specs.Ran.{Drilled, Drills, Refuses}
 use Rattle.ppd_top.specs.Ran.Drilled.{drilled, no_program}
 use Rattle.ppd_top.specs.Top.{drill_commands, drill_options, out_of}
 use Rattle.ppd_top.specs.Top.Writes.{for_number}
-use Rattle.ppd_top.specs.Words.{Asks, Command, asked}
-use Rattle.ppd_top.specs.Words.Request.{on_number, on_recording, on_source}
+use Rattle.ppd_top_requests.specs.Words.{Asks, Command, asked}
+use Rattle.ppd_top_requests.specs.Words.Request.{on_number, on_recording, on_source}
 use Rattle.ppd_top_drill.specs.Drills.{generated}
-use Rattle.ppd_top_runs.proofs.Conversing.{same_input}
-use Rattle.ppd_top_runs.specs.Commands.{Flows, known_of, summary_of_run}
-use Rattle.ppd_top_runs.specs.Output.{AppendsFront, Finished, IsUnread, Standing, Talks, answers}
-use Rattle.ppd_top_runs.specs.Output.Talks.{unfinished, unread, unwritten, whole}
-use Rattle.ppd_top_runs.specs.declared.options.Options.{Options}
+use Rattle.ppd_top_commands.proofs.Conversing.{same_input}
+use Rattle.ppd_top_commands.specs.Commands.{Flows, known_of, summary_of_run}
+use Rattle.ppd_top_commands.specs.Output.{AppendsFront, Finished, IsUnread, Standing, Talks, answers}
+use Rattle.ppd_top_commands.specs.Output.Talks.{unfinished, unread, unwritten, whole}
+use Rattle.ppd_top_requests.specs.declared.options.Options.{Options}
 use Rattle.std.proofs.Common.{List, Option, [], ap, arith, inl, inr, refl, subst, sym, ℕ, ◌++◌, ◌∙◌, ◌∷◌, ◌≡◌}
 use Rattle.std.proofs.Math.Nat.{min-eq_left}
 use Rattle.std.proofs.lemmas.Option.{none-some}

@@ -2,11 +2,11 @@
 use Rattle.std.specs.Prelude.{◌⊎◌}
 use Rattle.std.specs.Borrow.{Bor}
 use Rattle.std.proofs.Common.{◌≡◌, ℕ, List, inl, inr, subst}
-use Rattle.ppd_top_runs.specs.declared.options.Options.{Options}
+use Rattle.ppd_top_requests.specs.declared.options.Options.{Options}
 use Rattle.ppd_top.specs.Clauses.{ReadsNothing}
-use Rattle.ppd_top.specs.Words.{Asks, Command}
-use Rattle.ppd_top.specs.Words.Request.{on_source, on_recording}
-use Rattle.ppd_top.specs.Words.Command.{Flow}
+use Rattle.ppd_top_requests.specs.Words.{Asks, Command}
+use Rattle.ppd_top_requests.specs.Words.Request.{on_source, on_recording}
+use Rattle.ppd_top_requests.specs.Words.Command.{Flow}
 
 pub source_input : (words : List (Bor (List ℕ))) (command : Command) (name : List ℕ) (options : Options) (status : ℕ) → Asks words (on_source command name options) → ReadsNothing words status → (status ≡ 1) ⊎ ((status ≡ 2) ⊎ (command ≡ Flow → ⊥))
 source_input words command name options status asks (inl e) = inl e

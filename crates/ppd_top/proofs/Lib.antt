@@ -1,9 +1,5 @@
 pub mod Agreeing
-pub mod Asked
-pub mod Comes
-pub mod Followed
 pub mod Talked
-pub mod Told
 pub mod Statuses
 pub mod Outcomes
 pub mod Recorded

@@ -22,13 +22,13 @@ use Rattle.ppd_top.specs.Clauses.WriteFailed.{output_failed}
 use Rattle.ppd_top.specs.Ran.{Refuses}
 use Rattle.ppd_top.specs.Top.{WasRead, Writes, out_of}
 use Rattle.ppd_top.specs.Top.Writes.{for_flow, for_show, refused_source}
-use Rattle.ppd_top.specs.Words.{Asks, Command, Request, asked}
-use Rattle.ppd_top.specs.Words.Command.{Flow, Run, Show}
-use Rattle.ppd_top.specs.Words.Request.{on_recording, on_source}
-use Rattle.ppd_top_runs.proofs.Conversing.{same_input}
-use Rattle.ppd_top_runs.specs.Commands.{Flows, Shows, WasTold, known_of, summary_of_run}
-use Rattle.ppd_top_runs.specs.Output.{AreCommands, Finished, IsUnread, Standing, output}
-use Rattle.ppd_top_runs.specs.declared.options.Options.{Options}
+use Rattle.ppd_top_requests.specs.Words.{Asks, Command, Request, asked}
+use Rattle.ppd_top_requests.specs.Words.Command.{Flow, Run, Show}
+use Rattle.ppd_top_requests.specs.Words.Request.{on_recording, on_source}
+use Rattle.ppd_top_commands.proofs.Conversing.{same_input}
+use Rattle.ppd_top_commands.specs.Commands.{Flows, Shows, WasTold, known_of, summary_of_run}
+use Rattle.ppd_top_commands.specs.Output.{AreCommands, Finished, IsUnread, Standing, output}
+use Rattle.ppd_top_requests.specs.declared.options.Options.{Options}
 use Rattle.std.proofs.Common.{List, [], ap, arith, inl, inr, refl, subst, sym, ℕ, ◌∙◌, ◌∷◌, ◌≡◌}
 use Rattle.std.proofs.lemmas.Option.{none-some}
 use Rattle.std.specs.Borrow.{Bor}

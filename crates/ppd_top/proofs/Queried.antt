@@ -23,24 +23,25 @@ use Rattle.ppd_top.specs.Ran.{IsTold, Queries}
 use Rattle.ppd_top.specs.Ran.Queries.{no_query, queried, query_refused}
 use Rattle.ppd_top.specs.Top.{IsRecalledFrom}
 use Rattle.ppd_top.specs.Top.Writes.{for_query, refused_recording}
-use Rattle.ppd_top.specs.Words.{Asks, AsksRecording, Command, asked}
-use Rattle.ppd_top.specs.Words.Request.{on_number, on_query, on_recording, on_source}
+use Rattle.ppd_top_requests.specs.Words.{Asks, AsksRecording, Command, asked}
+use Rattle.ppd_top_requests.specs.Words.Request.{on_number, on_query, on_recording, on_source}
 use Rattle.ppd_top_query.proofs.Determined.{answers_are_determined, failed_are_missing}
 use Rattle.ppd_top_query.proofs.Ends.{queries_end, runs_are_told}
 use Rattle.ppd_top_query.proofs.Runs.{no_run_is_refused, runs_are_recalled}
 use Rattle.ppd_top_query.proofs.Same.{refused_or_accepted}
 use Rattle.ppd_top_query.specs.Determined.{GivesBy}
 use Rattle.ppd_top_query.specs.OfRuns.{AnswersAreOfRuns}
-use Rattle.ppd_top_query.specs.Queries.{Gives, IsAnswer, Query}
+use Rattle.ppd_top_query.specs.Queries.{Gives, IsAnswer}
+use Rattle.ppd_top_requests.specs.Questions.{Query}
 use Rattle.ppd_top_query.specs.Queries.IsWritten.{answers, fails, refuses}
-use Rattle.ppd_top_query.specs.Queries.Query.{Clean, Rerun, Slice, Whole}
+use Rattle.ppd_top_requests.specs.Questions.Query.{Clean, Rerun, Slice, Whole}
 use Rattle.ppd_top_query.specs.Recalled.{Recalled}
 use Rattle.ppd_top_query.specs.Recordings.{IsAccepted, IsRecalled, IsRunRecorded, known_of}
 use Rattle.ppd_top_query.specs.Replies.{IsAskable, IsError}
-use Rattle.ppd_top_runs.proofs.Conversing.{same_input}
-use Rattle.ppd_top_runs.specs.Asking.{IsFailed}
-use Rattle.ppd_top_runs.specs.Output.{Finished, IsUnread}
-use Rattle.ppd_top_runs.specs.declared.options.Options.{Options}
+use Rattle.ppd_top_commands.proofs.Conversing.{same_input}
+use Rattle.ppd_top_commands.specs.Asking.{IsFailed}
+use Rattle.ppd_top_commands.specs.Output.{Finished, IsUnread}
+use Rattle.ppd_top_requests.specs.declared.options.Options.{Options}
 use Rattle.std.proofs.Common.{List, [], arith, inl, inr, leb-true, refl, subst, sym, ℕ, ◌∙◌, ◌∷◌, ◌≡◌}
 use Rattle.std.proofs.lemmas.Option.{none-some}
 use Rattle.std.specs.Borrow.{Bor}

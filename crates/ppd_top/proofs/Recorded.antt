@@ -6,11 +6,11 @@ use Rattle.std.proofs.Common.{◌≡◌, ℕ, List, [], ◌∷◌, arith, inl, i
 use Rattle.ppd_ast.specs.declared.program.Program.{Program}
 use Rattle.ppd_check.specs.Read.{IsRead}
 use Rattle.ppd_io.specs.Content.{Loads, StoreFails}
-use Rattle.ppd_top_runs.specs.Commands.{Keeps, header_of, Records, summary_of_run}
-use Rattle.ppd_top_runs.specs.declared.options.Options.{Options}
-use Rattle.ppd_top_runs.specs.Output.{IsUnread}
+use Rattle.ppd_top_commands.specs.Commands.{Keeps, header_of, Records, summary_of_run}
+use Rattle.ppd_top_requests.specs.declared.options.Options.{Options}
+use Rattle.ppd_top_commands.specs.Output.{IsUnread}
 use Rattle.ppd_top.specs.Ran.{kept_in}
-use Rattle.ppd_top_runs.specs.Commands.Keeps.{not_kept, store_failed, kept}
+use Rattle.ppd_top_commands.specs.Commands.Keeps.{not_kept, store_failed, kept}
 use Rattle.ppd_top.specs.Call.{Call}
 use Rattle.ppd_top.specs.Clauses.{IsPromised, MemoryRanOut, WasDone, WriteFailed}
 use Rattle.ppd_top.specs.Clauses.MemoryRanOut.{early, in_run}
@@ -18,10 +18,10 @@ use Rattle.ppd_top.specs.Clauses.WasDone.{stored as done_stored}
 use Rattle.ppd_top.specs.Clauses.WriteFailed.{shelf_failed}
 use Rattle.ppd_top.specs.Top.{WasRead}
 use Rattle.ppd_top.specs.Top.Writes.{for_run}
-use Rattle.ppd_top.specs.Words.{Asks}
-use Rattle.ppd_top.specs.Words.Request.{on_source}
-use Rattle.ppd_top.specs.Words.Command.{Run}
-use Rattle.ppd_top_runs.proofs.Conversing.{same_input}
+use Rattle.ppd_top_requests.specs.Words.{Asks}
+use Rattle.ppd_top_requests.specs.Words.Request.{on_source}
+use Rattle.ppd_top_requests.specs.Words.Command.{Run}
+use Rattle.ppd_top_commands.proofs.Conversing.{same_input}
 use Rattle.ppd_top.proofs.Outcomes.{one_command, was_read, write_failed}
 use Rattle.ppd_top.proofs.Statuses.{IsIn}
 

@@ -3,7 +3,7 @@ use Rattle.std.specs.Prelude.{Option, ◌⊎◌, ◌||◌, ◌&&◌, nat_eq, nat
 use Rattle.std.proofs.Common.{◌≡◌, ℕ, ◌<◌, List, [], ◌∷◌, Bool, true, false, arith, inl, inr, refl, subst}
 use Rattle.std.proofs.lemmas.Bool.{eqb-false, ltb-true}
 use Rattle.ppd_session.specs.Known.{Known}
-use Rattle.ppd_top_runs.specs.Output.{Standing, Finished}
+use Rattle.ppd_top_commands.specs.Output.{Standing, Finished}
 use Rattle.ppd_top.proofs.Talked.{IsAny}
 
 abbrev pub IsIn : ℕ → List ℕ → Type 0

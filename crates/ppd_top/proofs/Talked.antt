@@ -10,8 +10,8 @@ use Rattle.ppd_session.specs.Known.{Known}
 use Rattle.ppd_session.specs.Questions.{is_quit}
 use Rattle.ppd_session.specs.Sessions.{FlowError}
 use Rattle.ppd_session.specs.Texts.{failure_of, text_of}
-use Rattle.ppd_top_runs.specs.Output.{AppendsFront, AreCommands, IsBroken, IsReadNoFurther, Standing, Talks, answers, answers_from, before, output}
-use Rattle.ppd_top_runs.specs.Output.Talks.{whole, unread, unwritten, unfinished}
+use Rattle.ppd_top_commands.specs.Output.{AppendsFront, AreCommands, IsBroken, IsReadNoFurther, Standing, Talks, answers, answers_from, before, output}
+use Rattle.ppd_top_commands.specs.Output.Talks.{whole, unread, unwritten, unfinished}
 
 -- ---- statuses of answers
 

@@ -3,13 +3,13 @@ use Rattle.std.specs.Prelude.{◌⊎◌}
 use Rattle.std.proofs.Common.{◌≡◌, ℕ, List, arith, inl, inr, refl}
 use Rattle.ppd_io.specs.declared.shelf.ShelfError.{ShelfError}
 use Rattle.ppd_io.specs.declared.shelf.ShelfError.TheVariants as shelf
-use Rattle.ppd_top_runs.specs.Commands.{DidNothing}
-use Rattle.ppd_top_runs.specs.declared.options.Options.{Options}
+use Rattle.ppd_top_commands.specs.Commands.{DidNothing}
+use Rattle.ppd_top_requests.specs.declared.options.Options.{Options}
 use Rattle.ppd_top.specs.Call.{Call, HasFailedLoad, LeftShelf}
 use Rattle.ppd_top.specs.Ran.{Comes, IsUnloaded}
 use Rattle.ppd_top.specs.Ran.Comes.{no_memory, not_loaded, recording_not_loaded}
-use Rattle.ppd_top.specs.Words.{Asks, AsksRecording, Command}
-use Rattle.ppd_top.specs.Words.Request.{on_source}
+use Rattle.ppd_top_requests.specs.Words.{Asks, AsksRecording, Command}
+use Rattle.ppd_top_requests.specs.Words.Request.{on_source}
 
 module _ (c : Call) (name : List ℕ) (left : LeftShelf c) (none : DidNothing c.schedule c.before.io c.after.io) where
   pub source_unloaded : (command : Command) (options : Options) (error : ShelfError) → Asks c.words (on_source command name options) → (error ≡ shelf.Failed → HasFailedLoad c name) → IsUnloaded error c.status → Comes c

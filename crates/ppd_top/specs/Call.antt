@@ -3,7 +3,7 @@ use Rattle.std.specs.Prelude.{◌≡◌, ℕ, List, Option}
 use Rattle.std.specs.Borrow.{Bor}
 use Rattle.ppd_io.specs.Causes.{Rose}
 use Rattle.ppd_io.specs.Content.{Appends}
-use Rattle.ppd_top_runs.specs.Output.{Standing}
+use Rattle.ppd_top_commands.specs.Output.{Standing}
 
 -- how the devices stand: what the shelf is told to hold, its counts of loads and of stores that failed, and input and
 -- output

@@ -25,17 +25,17 @@ use Rattle.ppd_session.specs.declared.reply.SessionError.TheVariants.{Sets}
 use Rattle.ppd_top_query.specs.Determined.{GivesBy, IsFailedBy}
 use Rattle.ppd_top_query.specs.Missing.{IsMissingFor}
 use Rattle.ppd_top_query.specs.OfRuns.{IsOfRuns}
-use Rattle.ppd_top_query.specs.Queries.{Query}
-use Rattle.ppd_top_query.specs.Queries.Query.{Rerun}
+use Rattle.ppd_top_requests.specs.Questions.{Query}
+use Rattle.ppd_top_requests.specs.Questions.Query.{Rerun}
 use Rattle.ppd_top_query.specs.Recordings.{IsAccepted, IsRefusedBy, IsRunRecorded}
-use Rattle.ppd_top_runs.specs.Commands.{IsWholeRun, header_of, known_of, summary_of_run}
-use Rattle.ppd_top_runs.specs.declared.options.Options.{Options}
+use Rattle.ppd_top_commands.specs.Commands.{IsWholeRun, header_of, known_of, summary_of_run}
+use Rattle.ppd_top_requests.specs.declared.options.Options.{Options}
 use Rattle.ppd_top.specs.Call.{Call, HasFailedLoad, HasFailedWrite, Wrote}
-use Rattle.ppd_top_runs.specs.Output.{AreCommands, IsBroken, IsReadNoFurther, Output, answers, IsUnread, AppendsFront}
+use Rattle.ppd_top_commands.specs.Output.{AreCommands, IsBroken, IsReadNoFurther, Output, answers, IsUnread, AppendsFront}
 use Rattle.ppd_top.specs.Top.{IsOfAgreeing, IsRecalledFrom, WasRead, Writes, drill_commands, drill_options, out_of, usage}
-use Rattle.ppd_top.specs.Words.{Asks, AsksRecording, Command, asked}
-use Rattle.ppd_top.specs.Words.Request.{on_source, on_recording, on_number, on_query}
-use Rattle.ppd_top.specs.Words.Command.{Flow, Run, Show}
+use Rattle.ppd_top_requests.specs.Words.{Asks, AsksRecording, Command, asked}
+use Rattle.ppd_top_requests.specs.Words.Request.{on_source, on_recording, on_number, on_query}
+use Rattle.ppd_top_requests.specs.Words.Command.{Flow, Run, Show}
 
 -- ---- what a call came to
 

@@ -1,6 +1,5 @@
--- What a program's run comes to, by the schedule that was taken or by one that is handed in.
+-- What a command comes to, by the schedule that was taken.
 use Rattle.ppd_top.specs.declared.loads.TheConstants.{MOST_BYTES, MOST_RECORDING}
-use Rattle.ppd_blocks.specs.Blocks.{plan_of}
 use Rattle.std.specs.Prelude.{◌≡◌, ◌≢◌, ◌⊎◌, ℕ, List, [], Option, None}
 use Rattle.ppd_ast.specs.declared.program.Program.{Program}
 use Rattle.ppd_check.specs.Read.{IsRead, IsRefused}
@@ -10,25 +9,20 @@ use Rattle.ppd_io.specs.declared.shelf.ShelfError.{ShelfError}
 use Rattle.ppd_io.specs.declared.shelf.ShelfError.TheVariants as shelf
 use Rattle.ppd_check.specs.declared.error.SourceError.{SourceError}
 use Rattle.ppd_check.specs.declared.error.SourceError.TheVariants as source
-use Rattle.ppd_model.specs.declared.trace.DriveError.{DriveError}
-use Rattle.ppd_model.specs.declared.trace.DriveError.TheVariants as drive
-use Rattle.ppd_model.specs.declared.closed.Closed.{Closed}
-use Rattle.ppd_model.specs.Logs.{close}
-use Rattle.ppd_top_runs.specs.Commands.{DidNothing, Flows, IsWholeRun, Keeping, Records, Shows, keeping}
-pub use Rattle.ppd_top_runs.specs.declared.options.Options.{Options}
-use Rattle.ppd_top.specs.declared.following.FollowError.{FollowError}
-use Rattle.ppd_top.specs.declared.following.FollowError.TheVariants.{Refused, NotEnabled, NotWhole, LongLine, ManyLines, Memory}
+use Rattle.ppd_top_commands.specs.Commands.{DidNothing, Flows, IsWholeRun, Keeping, Records, Shows, keeping}
+pub use Rattle.ppd_top_requests.specs.declared.options.Options.{Options}
 use Rattle.ppd_top.specs.Call.{Call, Devices, HasFailedLoad, LeftShelf}
-use Rattle.ppd_top_runs.specs.Output.{AppendsFront, output, Finished, IsUnread}
+use Rattle.ppd_top_commands.specs.Output.{AppendsFront, Finished, IsUnread}
 use Rattle.ppd_text_refusals.specs.Sources.{refused}
-use Rattle.ppd_top.specs.Top.{EndsWith, IsStuckAt, IsUnfinished, drill_options, out_of, usage, drill_commands}
-use Rattle.ppd_top_query.specs.Queries.{Gives, Query}
-use Rattle.ppd_top.specs.Words.{Asks, AsksRecording, Command, asked}
-use Rattle.ppd_top.specs.Words.Request.{on_source, on_recording, on_number, on_query}
-use Rattle.ppd_top.specs.Words.Command.{Flow, Run, Show}
+use Rattle.ppd_top.specs.Top.{drill_commands, drill_options, out_of, usage}
+use Rattle.ppd_top_query.specs.Queries.{Gives}
+use Rattle.ppd_top_requests.specs.Questions.{Query}
+use Rattle.ppd_top_requests.specs.Words.{Asks, AsksRecording, Command, asked}
+use Rattle.ppd_top_requests.specs.Words.Request.{on_source, on_recording, on_number, on_query}
+use Rattle.ppd_top_requests.specs.Words.Command.{Flow, Run, Show}
 use Rattle.ppd_codec.specs.declared.recording.Recording.{Recording}
 use Rattle.ppd_top_query.specs.Recordings.{IsAccepted, IsRefusedBy}
-use Rattle.ppd_top_runs.specs.Debugging.{Debugs}
+use Rattle.ppd_top_commands.specs.Debugging.{Debugs}
 
 -- ---- a command
 
@@ -121,47 +115,3 @@ pub data Comes (c : Call) : Type 0 where
       → Loads c.before.held name MOST_RECORDING bytes → LeftShelf c → IsUnread c.before.io c.after.io
       → Queries bytes query c.schedule c.before.io.written c.after.io.written c.before.io.writes c.after.io.writes
       c.status → Comes c
-
--- ---- a schedule that is handed in
-
--- the text of a whole schedule and of these commands
-pub record RanTo (program : Program) (options : Options) (commands schedule text : List ℕ) : Type 0 where
-  pub whole : IsWholeRun program options schedule
-  pub is : out_of program options schedule commands ≡ output 0 text
-
--- a whole schedule, and what it leaves
-pub record IsClosed (program : Program) (options : Options) (schedule : List ℕ) (closed : Closed) : Type 0 where
-  pub whole : IsWholeRun program options schedule
-  pub is : closed ≡ close program (plan_of program options.policy) options.budget schedule
-
--- why a schedule cannot be taken to a whole run
-abbrev pub StopsAt : Program → Options → List ℕ → FollowError → Type 0
-StopsAt program options schedule (Refused error) = ⊥
-StopsAt program options schedule (NotEnabled n) = IsStuckAt program options schedule n
-StopsAt program options schedule NotWhole = IsUnfinished program options schedule
-StopsAt program options schedule LongLine = ⊥
-StopsAt program options schedule ManyLines = ⊥
-StopsAt program options schedule Memory = Unit {0}
-
--- why answers that end with this status are no text
-abbrev pub FailsBy : ℕ → FollowError → Type 0
-FailsBy status (Refused error) = ⊥
-FailsBy status (NotEnabled n) = ⊥
-FailsBy status NotWhole = ⊥
-FailsBy status LongLine = status ≡ 7
-FailsBy status ManyLines = status ≡ 8
-FailsBy status Memory = Unit {0}
-
--- why the schedule gives a program no text
-abbrev pub ScheduleFails : Program → Options → (commands schedule : List ℕ) → FollowError → Type 0
-ScheduleFails program options commands schedule (Refused error) = ⊥
-ScheduleFails program options commands schedule (NotEnabled n) = IsStuckAt program options schedule n
-ScheduleFails program options commands schedule NotWhole = IsUnfinished program options schedule
-ScheduleFails program options commands schedule LongLine = EndsWith program options commands schedule 7
-ScheduleFails program options commands schedule ManyLines = EndsWith program options commands schedule 8
-ScheduleFails program options commands schedule Memory = Unit {0}
-
--- why a schedule was not taken
-abbrev pub drive_error : DriveError → FollowError
-drive_error (drive.NotEnabled n) = NotEnabled n
-drive_error drive.Memory = Memory

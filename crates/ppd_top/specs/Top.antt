@@ -1,7 +1,7 @@
 -- What is written for the words, the source, the run and the commands, and with which status.
 use Rattle.ppd_top.specs.declared.loads.TheConstants.{MOST_BYTES, MOST_RECORDING}
 use Rattle.ppd_blocks.specs.Blocks.{plan_of}
-use Rattle.std.specs.Prelude.{◌≡◌, ◌≢◌, ℕ, false, true, List, [], take, Some, slice_get, codes, None}
+use Rattle.std.specs.Prelude.{◌≡◌, ◌≢◌, ℕ, List, [], codes, None}
 use Rattle.ppd_io.specs.Content.{Loads}
 use Rattle.ppd_ast.specs.declared.program.Program.{Program}
 use Rattle.ppd_ast.specs.declared.limits.TheConstants.{MOST_BUDGET}
@@ -11,25 +11,21 @@ use Rattle.ppd_check.specs.Read.{IsRead, IsRefused}
 use Rattle.ppd_top_drill.specs.Drills.{generated}
 use Rattle.ppd_model.specs.Agreement.{Agree}
 use Rattle.ppd_model.specs.Races.{races}
-use Rattle.ppd_model.specs.Schedule.{run as run_of}
-use Rattle.ppd_model.specs.World.{World, enabled}
 use Rattle.ppd_text.specs.Table.{table_of}
-use Rattle.ppd_top_runs.specs.Commands.{IsWholeRun, known_of, summary_of_run}
-use Rattle.ppd_top_runs.specs.declared.options.Options.{Options}
-use Rattle.ppd_top.specs.declared.following.FollowError.{FollowError}
-use Rattle.ppd_top.specs.declared.following.FollowError.TheVariants.{Refused, NotEnabled, NotWhole, LongLine, ManyLines, Memory}
+use Rattle.ppd_top_commands.specs.Commands.{IsWholeRun, known_of, summary_of_run}
+use Rattle.ppd_top_requests.specs.declared.options.Options.{Options}
 use Rattle.ppd_top.specs.Call.{Call}
-use Rattle.ppd_top_runs.specs.Output.{Output, answers, before, output}
+use Rattle.ppd_top_commands.specs.Output.{Output, answers, before, output}
 use Rattle.ppd_text_refusals.specs.Sources.{refused}
-use Rattle.ppd_top.specs.Words.{Asks, AsksRecording, Command, Request, asked}
-use Rattle.ppd_top.specs.Words.Request.{on_source, on_recording, on_number, on_query}
-use Rattle.ppd_top.specs.Words.Command.{Flow, Run, Show}
+use Rattle.ppd_top_requests.specs.Words.{Asks, AsksRecording, Command, Request, asked}
+use Rattle.ppd_top_requests.specs.Words.Request.{on_source, on_recording, on_number, on_query}
+use Rattle.ppd_top_requests.specs.Words.Command.{Flow, Run, Show}
 use Rattle.ppd_codec.specs.declared.recording.Recording.{Recording}
 use Rattle.ppd_session.specs.Known.{Known}
 use Rattle.ppd_session.specs.Knowing.{IsKnownOfLogs}
 use Rattle.ppd_top_query.specs.Determined.{GivesBy}
 use Rattle.ppd_top_query.specs.OfRuns.{IsOfRuns}
-use Rattle.ppd_top_query.specs.Queries.{Query}
+use Rattle.ppd_top_requests.specs.Questions.{Query}
 use Rattle.ppd_top_query.specs.CodecRunsLaws.{IsKnownOfRuns}
 use Rattle.ppd_top_query.specs.Recordings.{IsAccepted, IsRefusedBy}
 
@@ -105,47 +101,3 @@ pub data Writes (c : Call) (commands : List ℕ) : Output → Type 0 where
   for_query : (query : Query) (r : Recording) (known : Known) (status : ℕ) (text : List ℕ)
       → (from : IsRecalledFrom c (λ name. on_query name query) r known) → GivesBy r known query c.schedule status text
       → (status ≡ 0 → IsOfRuns from.bytes query c.schedule text) → Writes c commands (output status text)
-
--- ---- a run by a schedule that is handed in
-
--- the text of a source's run by this schedule, and of these commands
-pub record Follows (bytes : List ℕ) (options : Options) (commands schedule : List ℕ) (text : List ℕ) : Type 0 where
-  pub program : Program
-  pub accepted : IsRead bytes program
-  pub whole : IsWholeRun program options schedule
-  pub is : out_of program options schedule commands ≡ output 0 text
-  pub agreeing : IsOfAgreeing program options schedule commands (output 0 text)
-
--- number n of the schedule, the first such, names no process that can take a step
-pub record IsStuckAt (program : Program) (options : Options) (schedule : List ℕ) (n : ℕ) : Type 0 where
-  pub world : World
-  pub runs : run_of program (plan_of program options.policy) options.budget (take n schedule) ≡ Some world
-  pub process : ℕ
-  pub next : slice_get schedule n ≡ Some process
-  pub stuck : enabled program (plan_of program options.policy) world process ≡ false
-
--- the schedule can be taken, and some process can take a step after it
-pub record IsUnfinished (program : Program) (options : Options) (schedule : List ℕ) : Type 0 where
-  pub world : World
-  pub runs : run_of program (plan_of program options.policy) options.budget schedule ≡ Some world
-  pub process : ℕ
-  pub next : enabled program (plan_of program options.policy) world process ≡ true
-
--- the schedule is whole, and its output ends with this status
-pub record EndsWith (program : Program) (options : Options) (commands schedule : List ℕ) (status : ℕ) : Type 0 where
-  pub whole : IsWholeRun program options schedule
-  pub is : (out_of program options schedule commands).status ≡ status
-  pub agreeing : IsOfAgreeing program options schedule commands (out_of program options schedule commands)
-
--- why there is no text: a refused source comes first, then what the schedule lacks, then the lines
-abbrev pub FollowFails : List ℕ → Options → (commands schedule : List ℕ) → FollowError → Type 0
-FollowFails bytes options commands schedule (Refused error) = (error ≢ source.Memory) × IsRefused bytes error
-FollowFails bytes options commands schedule (NotEnabled n) = (program : Program) × IsRead bytes program
-    × IsStuckAt program options schedule n
-FollowFails bytes options commands schedule NotWhole = (program : Program) × IsRead bytes program
-    × IsUnfinished program options schedule
-FollowFails bytes options commands schedule LongLine = (program : Program) × IsRead bytes program
-    × EndsWith program options commands schedule 7
-FollowFails bytes options commands schedule ManyLines = (program : Program) × IsRead bytes program
-    × EndsWith program options commands schedule 8
-FollowFails bytes options commands schedule Memory = Unit {0}

@@ -12,7 +12,8 @@ use ppd_check::read_source;
 use ppd_io::{CHUNK_BYTES, Gate, Sink, SteadySource};
 use ppd_top_commands::flow;
 use ppd_top_drill::generate;
-use ppd_top_runs::{Means, Options, Outcome, Task, ended};
+use ppd_top_requests::Options;
+use ppd_top_runs::{Means, Outcome, Task, ended};
 use std::sync::Wait;
 use std::thread::Threads;
 

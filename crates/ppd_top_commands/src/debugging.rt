@@ -1,10 +1,11 @@
 // The command `debug`: the lines of the input are answered on a recording.
-ghost use Rattle.ppd_top_runs.specs.Output.{standing};
-ghost use Rattle.ppd_top_runs.specs.Debugging.{Debugs};
+ghost use Rattle.ppd_top_commands.specs.Output.{standing};
+ghost use Rattle.ppd_top_commands.specs.Debugging.{Debugs};
 
+use crate::recorded::converse;
+use ppd_codec_runs::{NoRecall, recall};
 use ppd_io::{Sink, Source};
 use ppd_top_output::finish;
-use ppd_top_runs::{NoRecall, converse, recall};
 use std::alloc::Global;
 use std::thread::Threads;
 

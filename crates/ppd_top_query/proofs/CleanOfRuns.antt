@@ -30,9 +30,10 @@ use Rattle.ppd_session.specs.Questions.{process_named}
 use Rattle.ppd_session.specs.declared.reply.SessionError.{SessionError}
 use Rattle.ppd_session.specs.declared.reply.SessionError.TheVariants.{Diverged, Sets, Memory}
 use Rattle.ppd_top_query.specs.OfRuns.{IsOfRun}
-use Rattle.ppd_top_query.specs.Queries.{Gives, IsCleanFailure, ItemAsked, block_refusal, clean_of, clean_text, refusal}
+use Rattle.ppd_top_query.specs.Queries.{Gives, IsCleanFailure, block_refusal, clean_of, clean_text, refusal}
+use Rattle.ppd_top_requests.specs.Questions.{ItemAsked}
 use Rattle.ppd_top_query.specs.Queries.IsWritten.{refuses, answers}
-use Rattle.ppd_top_query.specs.Queries.Query.{Clean}
+use Rattle.ppd_top_requests.specs.Questions.Query.{Clean}
 use Rattle.ppd_top_query.specs.Replies.{IsFoundClean}
 use Rattle.ppd_top_query.proofs.CleanTold.{Found}
 use Rattle.ppd_session.proofs.KnownWords.{of_split}

@@ -27,9 +27,10 @@ use Rattle.ppd_session.specs.Texts.{no_process}
 use Rattle.ppd_session.specs.declared.reply.SessionError.{SessionError}
 use Rattle.ppd_session.specs.declared.reply.SessionError.TheVariants.{Diverged, Memory, Sets}
 use Rattle.ppd_top_query.proofs.QueryWords.{process_refusal}
-use Rattle.ppd_top_query.specs.Queries.{Gives, ItemAsked, block_refusal, clean_of, clean_text, refusal}
+use Rattle.ppd_top_query.specs.Queries.{Gives, block_refusal, clean_of, clean_text, refusal}
+use Rattle.ppd_top_requests.specs.Questions.{ItemAsked}
 use Rattle.ppd_top_query.specs.Queries.IsWritten.{answers, fails, refuses}
-use Rattle.ppd_top_query.specs.Queries.Query.{Clean}
+use Rattle.ppd_top_requests.specs.Questions.Query.{Clean}
 use Rattle.ppd_top_query.specs.Replies.{IsCleanItem, IsError, IsFoundClean, IsTextReply}
 use Rattle.std.proofs.Common.{Bool, Err, List, None, Ok, Result, Some, [], ap, length, refl, subst, sym, true, ℕ, ◌∙◌, ◌≡◌}
 use Rattle.std.specs.Prelude.{IfErr, IfOk, Vec, codes, false, get_or, if◌then◌else◌, nat_lt}

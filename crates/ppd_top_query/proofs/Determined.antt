@@ -23,9 +23,10 @@ use Rattle.ppd_top_query.proofs.OfRuns.{no_races}
 use Rattle.ppd_top_query.specs.Determined.{AnswersAreDetermined, FailedAreMissing, GivesBy, IsAnsweredBy, IsCleanBy, IsFailedBy, cut_seens, is_item_raced}
 use Rattle.ppd_top_query.specs.Determined.IsCleanBy.{begins_raced, ends_before, has_edges, is_raced}
 use Rattle.ppd_top_query.specs.Missing.{IsMissingFor}
-use Rattle.ppd_top_query.specs.Queries.{Gives, IsAnswer, IsFailure, Query, clean_of, first_raced_of, refusal}
+use Rattle.ppd_top_query.specs.Queries.{Gives, IsAnswer, IsFailure, clean_of, first_raced_of, refusal}
+use Rattle.ppd_top_requests.specs.Questions.{Query}
 use Rattle.ppd_top_query.specs.Queries.IsWritten.{answers, fails, refuses}
-use Rattle.ppd_top_query.specs.Queries.Query.{Clean, Rerun, Slice, Whole}
+use Rattle.ppd_top_requests.specs.Questions.Query.{Clean, Rerun, Slice, Whole}
 use Rattle.std.proofs.Common.{Bool, Err, List, None, Ok, Option, Result, Some, ap, false, inl, inr, refl, subst, sym, true, ℕ, ◌∙◌, ◌≡◌, ◌⊎◌}
 use Rattle.std.specs.Prelude.{[], get_or, if◌then◌else◌, nat_le, slice_get}
 

@@ -10,9 +10,10 @@ use Rattle.ppd_entry.specs.declared.entry.At.{At}
 use Rattle.ppd_flow_past.specs.declared.flow_error.FlowError.{FlowError}
 use Rattle.ppd_flow_past.specs.declared.flow_error.FlowError.TheVariants as flow_error
 use Rattle.ppd_top_query.specs.Laws.{QueriesEnd, RunsAreTold}
-use Rattle.ppd_top_query.specs.Queries.{IsFailure, IsSliceFailure, Query, refusal}
+use Rattle.ppd_top_query.specs.Queries.{IsFailure, IsSliceFailure, refusal}
+use Rattle.ppd_top_requests.specs.Questions.{Query}
 use Rattle.ppd_top_query.specs.Queries.IsWritten.{refuses, answers, fails}
-use Rattle.ppd_top_query.specs.Queries.Query.{Slice, Whole, Rerun, Clean}
+use Rattle.ppd_top_requests.specs.Questions.Query.{Slice, Whole, Rerun, Clean}
 use Rattle.ppd_session.specs.Known.{Known, known_of_run}
 use Rattle.ppd_session.specs.Texts.{failure_in, flow_at, told_at, unfound_flow}
 use Rattle.ppd_session.specs.declared.reply.SessionError.{SessionError}

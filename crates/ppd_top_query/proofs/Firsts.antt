@@ -13,7 +13,7 @@ use Rattle.ppd_session.specs.Texts.{told_at}
 use Rattle.ppd_session.specs.declared.reply.SessionError.TheVariants.{Diverged}
 use Rattle.ppd_top_query.specs.Determined.{IsFailedBy}
 use Rattle.ppd_top_query.specs.Queries.{first_failure}
-use Rattle.ppd_top_query.specs.Queries.Query.{Whole}
+use Rattle.ppd_top_requests.specs.Questions.Query.{Whole}
 use Rattle.ppd_whole.specs.Intervals.{intervals_from}
 use Rattle.std.proofs.Common.{Bool, List, Option, [], ap, arith, false, get_or, inl, inr, length, map, refl, subst, suc, sym, true, zero, ℕ, ◌++◌, ◌+◌, ◌<◌, ◌∙◌, ◌∷◌, ◌≡◌, ◌≤◌}
 use Rattle.std.proofs.lemmas.Bool.{ltb-false, ltb-true}

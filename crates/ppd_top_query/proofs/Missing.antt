@@ -5,7 +5,7 @@ use Rattle.law_flow_missing.specs.Missing.{write_at}
 use Rattle.ppd_codec_runs.specs.Recordings.{known_of}
 use Rattle.ppd_session.proofs.Missing.{missing_writes_told}
 use Rattle.ppd_top_query.specs.Missing.{FailuresAreMissing}
-use Rattle.ppd_top_query.specs.Queries.Query.{Slice, Whole, Rerun, Clean}
+use Rattle.ppd_top_requests.specs.Questions.Query.{Slice, Whole, Rerun, Clean}
 
 pub failures_missing : FailuresAreMissing
 failures_missing bytes r (Slice a) at accepted f = (

@@ -40,9 +40,10 @@ use Rattle.ppd_session.specs.declared.reply.SessionError.{SessionError}
 use Rattle.ppd_top_query.proofs.CleanOfRuns.{clean_told, never_fails}
 use Rattle.ppd_top_query.proofs.SlicesOfRuns.{slices_of_runs}
 use Rattle.ppd_top_query.specs.OfRuns.{AnswersAreOfRuns, IsOfRun}
-use Rattle.ppd_top_query.specs.Queries.{Gives, IsCleanFailure, IsRerunAnswer, IsSliceAnswer, ItemAsked, first_failure, refusal, schedule_of}
+use Rattle.ppd_top_query.specs.Queries.{Gives, IsCleanFailure, IsRerunAnswer, IsSliceAnswer, first_failure, refusal, schedule_of}
+use Rattle.ppd_top_requests.specs.Questions.{ItemAsked}
 use Rattle.ppd_top_query.specs.Queries.IsWritten.{answers, refuses}
-use Rattle.ppd_top_query.specs.Queries.Query.{Clean, Rerun, Slice, Whole}
+use Rattle.ppd_top_requests.specs.Questions.Query.{Clean, Rerun, Slice, Whole}
 use Rattle.ppd_top_query.specs.VerdictTexts.{verdict_text}
 use Rattle.ppd_whole.specs.Intervals.{intervals_from}
 use Rattle.ppd_whole.specs.WholeText.{whole_text}

@@ -11,8 +11,8 @@ use Rattle.ppd_model.specs.declared.graph.Race.{Race}
 use Rattle.ppd_session.specs.Known.{Known, known_with}
 use Rattle.ppd_session.specs.Sessions.{known_by}
 use Rattle.ppd_session.specs.declared.reply.SessionError.{SessionError}
-use Rattle.ppd_top_query.specs.Queries.{ItemAsked}
-use Rattle.ppd_top_query.specs.Queries.Query.{Slice}
+use Rattle.ppd_top_requests.specs.Questions.{ItemAsked}
+use Rattle.ppd_top_requests.specs.Questions.Query.{Slice}
 use Rattle.ppd_top_query.specs.Replies.{IsError, IsSliceReply, IsTextReply, WritesSlice}
 
 pub known_is : (r : Recording) (past : Past) (races : List Race) → past.program.now ≡ r.program → past.plan.now ≡ r.plan → past.logs.now ≡ r.logs → past.budget ≡ r.header.budget → races ≡ (known_of r).races

@@ -1,6 +1,6 @@
 -- From the answers of the code to what is written.
 use Rattle.std.specs.Option.{unwrap_or}
-use Rattle.ppd_top_query.specs.Queries.Query.{Slice}
+use Rattle.ppd_top_requests.specs.Questions.Query.{Slice}
 use Rattle.std.specs.Prelude.{IfErr, IfOk, Vec, codes, nat_lt, is_some, if◌then◌else◌, ◌==◌, get_or}
 use Rattle.std.specs.List.{flat_map}
 use Rattle.std.proofs.Common.{◌≡◌, ℕ, ◌<◌, Bool, true, false, true≢false, List, [], ◌∷◌, Option, Some, None, Result, Ok, Err, length, refl, ap, sym, ◌∙◌, subst, inl, inr}
@@ -18,7 +18,8 @@ use Rattle.ppd_session.specs.Texts.{no_event, no_process, told_at, races_refusal
 use Rattle.ppd_session.specs.declared.reply.SessionError.{SessionError}
 use Rattle.ppd_session.specs.declared.reply.SessionError.TheVariants.{Diverged, Sets, Memory}
 use Rattle.ppd_slice.specs.Slices.{IsSlice, IsSliceOf}
-use Rattle.ppd_top_query.specs.Queries.{ItemAsked, block_refusal, event_refusal, reached_line, refusal}
+use Rattle.ppd_top_query.specs.Queries.{block_refusal, event_refusal, reached_line, refusal}
+use Rattle.ppd_top_requests.specs.Questions.{ItemAsked}
 use Rattle.ppd_top_query.specs.Queries.IsWritten.{refuses, answers, fails}
 use Rattle.ppd_top_query.specs.Replies.{IsError, IsItemFailed, IsItemReply, IsSliceReply, WritesSlice}
 use Rattle.ppd_top_query.proofs.OfPast.{diverges, misses, no_item, slice_known, slice_there, some_item}

@@ -25,8 +25,9 @@ use Rattle.ppd_slice_search.specs.declared.reached.ItemAt.{ItemAt}
 use Rattle.ppd_slice_search.specs.declared.reached.Reached.{Reached}
 use Rattle.ppd_top_query.proofs.QueryWords.{origins_of, process_refusal}
 use Rattle.ppd_top_query.specs.OfRuns.{IsOfRun, SlicesAreOfRuns}
-use Rattle.ppd_top_query.specs.Queries.{IsSliceAnswer, IsSliceText, ItemAsked, block_refusal, event_refusal, origins_told, reached_line}
-use Rattle.ppd_top_query.specs.Queries.Query.{Slice}
+use Rattle.ppd_top_query.specs.Queries.{IsSliceAnswer, IsSliceText, block_refusal, event_refusal, origins_told, reached_line}
+use Rattle.ppd_top_requests.specs.Questions.{ItemAsked}
+use Rattle.ppd_top_requests.specs.Questions.Query.{Slice}
 use Rattle.ppd_top_query.specs.SlicesOfRuns.{SliceTextsAreOfRuns, lines_of_reach}
 use Rattle.std.proofs.Common.{Bool, Err, List, None, Ok, Option, Some, [], ap, arith, false, get_or, length, map, refl, suc, sym, true, zero, ℕ, ◌+◌, ◌<◌, ◌∙◌, ◌∷◌, ◌≡◌, ◌≤◌}
 use Rattle.std.proofs.lemmas.Bool.{ltb-false, ltb-true}

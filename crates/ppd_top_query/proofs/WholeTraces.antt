@@ -11,7 +11,7 @@ use Rattle.ppd_session.specs.declared.reply.SessionError.{SessionError}
 use Rattle.ppd_session.specs.declared.reply.SessionError.TheVariants.{Diverged, Sets, Memory}
 use Rattle.ppd_top_query.specs.Queries.{Gives}
 use Rattle.ppd_top_query.specs.Queries.IsWritten.{refuses, answers, fails}
-use Rattle.ppd_top_query.specs.Queries.Query.{Whole}
+use Rattle.ppd_top_requests.specs.Questions.Query.{Whole}
 use Rattle.ppd_top_query.specs.Replies.{IsError, IsTextReply, IsWholeReply}
 use Rattle.ppd_top_query.proofs.Replied.{races_refuse}
 

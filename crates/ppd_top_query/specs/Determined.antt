@@ -21,8 +21,9 @@ use Rattle.ppd_session.specs.Texts.{told_at}
 use Rattle.ppd_session.specs.declared.reply.SessionError.{SessionError}
 use Rattle.ppd_session.specs.declared.reply.SessionError.TheVariants.{Diverged, Memory, Sets}
 use Rattle.ppd_top_query.specs.Missing.{IsMissingFor}
-use Rattle.ppd_top_query.specs.Queries.{Diverges, Gives, IsRerunAnswer, IsSliceAnswer, IsSliceFailure, IsWritten, Query, clean_text, cut_of, first_raced_of, refusal}
-use Rattle.ppd_top_query.specs.Queries.Query.{Clean, Rerun, Slice, Whole}
+use Rattle.ppd_top_query.specs.Queries.{Diverges, Gives, IsRerunAnswer, IsSliceAnswer, IsSliceFailure, IsWritten, clean_text, cut_of, first_raced_of, refusal}
+use Rattle.ppd_top_requests.specs.Questions.{Query}
+use Rattle.ppd_top_requests.specs.Questions.Query.{Clean, Rerun, Slice, Whole}
 use Rattle.std.specs.Prelude.{Bool, Err, List, None, Some, [], false, get_or, if◌then◌else◌, slice_get, true, ℕ, ◌<◌, ◌≡◌, ◌≤◌, ◌⊎◌}
 
 -- ---- an item in a run with races: item j of interval k of process q

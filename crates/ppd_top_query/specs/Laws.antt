@@ -3,7 +3,8 @@ use Rattle.std.specs.Prelude.{◌≡◌, ◌⊎◌, ℕ, List}
 use Rattle.ppd_ast.specs.declared.program.Program.{Program}
 use Rattle.ppd_codec.specs.declared.recording.Header.{Header}
 use Rattle.ppd_codec.specs.declared.recording.Recording.{Recording}
-use Rattle.ppd_top_query.specs.Queries.{Gives, Query}
+use Rattle.ppd_top_query.specs.Queries.{Gives}
+use Rattle.ppd_top_requests.specs.Questions.{Query}
 use Rattle.ppd_codec_runs.specs.Recordings.{IsAccepted, IsRunRecorded}
 
 -- what is asked of a recording ends with status 0, or with status 6

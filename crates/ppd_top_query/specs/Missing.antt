@@ -7,8 +7,9 @@ use Rattle.ppd_session.specs.Known.{seens}
 use Rattle.ppd_session.specs.Missing.{IsMissingAt}
 use Rattle.ppd_session.specs.Questions.{process_named}
 use Rattle.ppd_session.specs.declared.reply.SessionError.TheVariants.{Sets}
-use Rattle.ppd_top_query.specs.Queries.{IsFailure, Query, cut_of}
-use Rattle.ppd_top_query.specs.Queries.Query.{Slice, Whole, Rerun, Clean}
+use Rattle.ppd_top_query.specs.Queries.{IsFailure, cut_of}
+use Rattle.ppd_top_requests.specs.Questions.{Query}
+use Rattle.ppd_top_requests.specs.Questions.Query.{Slice, Whole, Rerun, Clean}
 
 -- a write that the entry records is missing by what the query replays: the logs of the recording; for an item in a run
 -- with races, the logs cut off where these are. The others need no write

@@ -18,8 +18,9 @@ use Rattle.ppd_session.specs.Questions.{process_named}
 use Rattle.ppd_slice_search.specs.OfRuns.{origins}
 use Rattle.ppd_slice_search.specs.Reach.{IsReach, at}
 use Rattle.ppd_slice_search.specs.declared.reached.Reached.{Reached}
-use Rattle.ppd_top_query.specs.Queries.{Gives, IsSliceAnswer, ItemAsked, Query, clean_text, reached_line, refusal}
-use Rattle.ppd_top_query.specs.Queries.Query.{Clean, Rerun, Slice, Whole}
+use Rattle.ppd_top_query.specs.Queries.{Gives, IsSliceAnswer, clean_text, reached_line, refusal}
+use Rattle.ppd_top_requests.specs.Questions.{ItemAsked, Query}
+use Rattle.ppd_top_requests.specs.Questions.Query.{Clean, Rerun, Slice, Whole}
 use Rattle.ppd_top_query.specs.VerdictTexts.{verdict_text}
 use Rattle.ppd_whole.specs.WholeText.{whole_text}
 use Rattle.std.specs.List.{flat_map}

@@ -1,4 +1,4 @@
--- What is asked of a recording without an input, and what is answered.
+-- What is answered to what is asked of a recording without an input.
 use Rattle.law_clean.specs.Answers.{CleanOr, clean, is_reached, no_item, unclean, unwritten}
 use Rattle.law_clean.specs.Cuts.{cut_logs}
 use Rattle.law_clean.specs.Pasts.{first_raced}
@@ -31,42 +31,14 @@ use Rattle.ppd_slice_search.specs.declared.reached.Reached.{Reached}
 use Rattle.ppd_text.specs.CellNames.{process_name}
 use Rattle.ppd_text.specs.Edges.{why_text}
 use Rattle.ppd_top_query.specs.VerdictTexts.{verdict_text}
-use Rattle.ppd_top_query.specs.declared.query.AskedItem.{AskedItem as GivenItem}
-use Rattle.ppd_top_query.specs.declared.query.Query.{Query as GivenQuery}
-use Rattle.ppd_top_query.specs.declared.query.Query.TheVariants as given
+use Rattle.ppd_top_requests.specs.Questions.{ItemAsked, Query}
+use Rattle.ppd_top_requests.specs.Questions.Query.{Clean, Rerun, Slice, Whole}
 use Rattle.ppd_whole.specs.Intervals.{intervals_from}
 use Rattle.ppd_whole.specs.WholeText.{whole_text}
 use Rattle.std.specs.List.{flat_map}
 use Rattle.std.specs.Option.{option_map_or, option_or}
 use Rattle.std.specs.Prelude.{Err, List, None, Ok, Option, Some, [], codes, decimal, false, get_or, if◌then◌else◌, length, nat_lt, ℕ, ◌++◌, ◌∷◌, ◌≡◌}
 use Rattle.std.specs.Result.{result_unwrap_or}
-
--- ---- what is asked
-
--- an item: the name of its process, its interval there, and its number in that
-pub record ItemAsked : Type 0 where
-  pub process : List ℕ
-  pub interval : ℕ
-  pub item : ℕ
-
-pub data Query : Type 0 where
-  -- every item that an item came from
-  Slice : ItemAsked → Query
-  -- the whole trace, by so many workers
-  Whole : (workers : ℕ) → Query
-  -- whether a run under the recorded synchronization is the recorded one
-  Rerun : Query
-  -- an item with its edges, where no race touches its past
-  Clean : ItemAsked → Query
-
-abbrev pub asked_of : GivenItem → ItemAsked
-asked_of a = record { process = a.process.now; interval = a.interval; item = a.item }
-
-abbrev pub query_of : GivenQuery → Query
-query_of (given.Slice a) = Slice (asked_of a)
-query_of (given.Whole workers) = Whole workers
-query_of given.Rerun = Rerun
-query_of (given.Clean a) = Clean (asked_of a)
 
 -- ---- refusals, each with what stands in its place where it does not apply
 

@@ -1,5 +1,5 @@
 -- What may be asked, and what the code answers. Want of memory is free.
-use Rattle.ppd_top_query.specs.Queries.Query.{Slice}
+use Rattle.ppd_top_requests.specs.Questions.Query.{Slice}
 use Rattle.std.specs.Prelude.{◌≡◌, ◌≤◌, ◌⊎◌, ℕ, List, [], Some, None, Result, Ok, Err, ⊤, Vec}
 use Rattle.ppd_ast.specs.declared.limits.TheConstants.{MOST_BUDGET}
 use Rattle.ppd_ast.specs.declared.program.Program.{Program}
@@ -11,12 +11,13 @@ use Rattle.ppd_session.specs.Known.{Known}
 use Rattle.ppd_session.specs.Texts.{refused_replay, told_at}
 use Rattle.ppd_session.specs.declared.reply.SessionError.{SessionError}
 use Rattle.ppd_session.specs.declared.reply.SessionError.TheVariants.{Diverged, Sets, Memory}
-use Rattle.ppd_top_query.specs.declared.query.Answer.{Answer}
+use Rattle.ppd_top_query.specs.declared.answers.Answer.{Answer}
 use Rattle.law_clean.specs.Answers.{unwritten}
 use Rattle.ppd_clean.specs.Answers.{IsFound}
 use Rattle.ppd_clean.specs.declared.clean_error.CleanError.{CleanError}
 use Rattle.ppd_clean.specs.declared.clean.Clean.{Clean as GivenClean}
-use Rattle.ppd_top_query.specs.Queries.{Diverges, Gives, clean_of, clean_text, IsSliceAnswer, IsSliceFailure, IsSliceText, IsWholeAnswer, IsWholeFailure, IsWritten, ItemAsked, Query, event_refusal, refusal}
+use Rattle.ppd_top_query.specs.Queries.{Diverges, Gives, clean_of, clean_text, IsSliceAnswer, IsSliceFailure, IsSliceText, IsWholeAnswer, IsWholeFailure, IsWritten, event_refusal, refusal}
+use Rattle.ppd_top_requests.specs.Questions.{ItemAsked, Query}
 
 -- a recording that was accepted, with the index and the graph of its logs, so that nothing in it happens before itself
 pub record IsAskable (r : Recalled) : Type 0 where

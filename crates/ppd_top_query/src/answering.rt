@@ -2,19 +2,20 @@
 ghost use Rattle.std.specs.Prelude.{◌≡◌, []};
 ghost use Rattle.ppd_flow_past.specs.Pasts.{IsPast};
 ghost use Rattle.ppd_session.specs.Sessions.{known_by};
-ghost use Rattle.ppd_top_query.specs.Queries.{asked_of, query_of};
-ghost use Rattle.ppd_top_query.specs.Queries.Query.{Slice};
+ghost use Rattle.ppd_top_requests.specs.Questions.{asked_of, query_of};
+ghost use Rattle.ppd_top_requests.specs.Questions.Query.{Slice};
 ghost use Rattle.ppd_top_query.specs.Replies.{IsAskable, IsReply, IsSliceReply};
 
+use crate::answers::Answer;
 use crate::cleans::clean_answer;
 use crate::kept::{line_of, past_of, races_of, racy, unscheduled};
-use crate::query::{Answer, AskedItem, Query};
 use crate::reruns::rerun_answer;
 use crate::slices::slice_text;
 use crate::wholes::whole_answer;
 use ppd_codec_runs::Recalled;
 use ppd_model::Race;
 use ppd_session::{Past, SessionError, interval_there, process_named};
+use ppd_top_requests::{AskedItem, Query};
 use std::alloc::Global;
 use std::thread::Threads;
 

@@ -3,18 +3,20 @@ ghost use Rattle.std.specs.Prelude.{◌≡◌, ◌<◌, ◌++◌, Err, IfErr, If
 ghost use Rattle.ppd_codec_runs.specs.Recordings.{IsRecalled, known_of};
 ghost use Rattle.ppd_session.specs.declared.reply.SessionError.TheVariants as session_error;
 ghost use Rattle.ppd_text.specs.Edges.{why_text as why_text_of};
-ghost use Rattle.ppd_top_query.specs.Queries.{asked_of, unclean_line};
-ghost use Rattle.ppd_top_query.specs.Queries.Query.{Clean as CleanQuery};
+ghost use Rattle.ppd_top_query.specs.Queries.{unclean_line};
+ghost use Rattle.ppd_top_requests.specs.Questions.{asked_of};
+ghost use Rattle.ppd_top_requests.specs.Questions.Query.{Clean as CleanQuery};
 ghost use Rattle.ppd_top_query.specs.Replies.{IsAskable, IsCleanItem, IsFoundClean, IsReply, IsTextReply};
 
+use crate::answers::Answer;
 use crate::kept::{line_of, past_of, races_of, unscheduled};
-use crate::query::{Answer, AskedItem};
 use ppd_ast::{Memory, Program, Steps};
 use ppd_clean::{Clean, CleanError, clean_edges};
 use ppd_codec_runs::Recalled;
 use ppd_model::{EdgeId, Race};
 use ppd_session::{At, SessionError, interval_there, process_named, why_text};
 use ppd_text::{process_name, put, put_number};
+use ppd_top_requests::AskedItem;
 use std::alloc::Global;
 use std::marker::Brand;
 use std::sync::ledger::{Blank, Ledger};

@@ -6,10 +6,10 @@ ghost use Rattle.ppd_codec.specs.declared.recording.Recording.{Recording};
 ghost use Rattle.ppd_codec_runs.specs.Recordings.{IsRecalled, known_of};
 ghost use Rattle.ppd_flow_past.specs.Pasts.{IsPast};
 ghost use Rattle.ppd_session.specs.declared.reply.SessionError.TheVariants as session_error;
-ghost use Rattle.ppd_top_query.specs.Queries.{Query};
+ghost use Rattle.ppd_top_requests.specs.Questions.{Query};
 ghost use Rattle.ppd_top_query.specs.Replies.{IsReply, IsTextReply};
 
-use crate::query::Answer;
+use crate::answers::Answer;
 use ppd_ast::Seq;
 use ppd_codec_runs::Recalled;
 use ppd_model::Race;

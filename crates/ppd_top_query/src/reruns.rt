@@ -4,10 +4,10 @@ ghost use Rattle.ppd_rerun_model.specs.Verdicts.{IsVerdict};
 ghost use Rattle.ppd_session.specs.declared.reply.SessionError.TheVariants as session_error;
 ghost use Rattle.ppd_top_query.specs.VerdictTexts.{verdict_text};
 ghost use Rattle.ppd_top_query.specs.Queries.{schedule_of};
-ghost use Rattle.ppd_top_query.specs.Queries.Query.{Rerun};
+ghost use Rattle.ppd_top_requests.specs.Questions.Query.{Rerun};
 ghost use Rattle.ppd_top_query.specs.Replies.{IsAskable, IsReply};
 
-use crate::query::Answer;
+use crate::answers::Answer;
 use crate::verdict_text::put_verdict;
 use ppd_ast::{Bytes, Memory, Seq, Steps};
 use ppd_codec_runs::Recalled;

@@ -1,11 +1,11 @@
 // The whole trace of a recording as a text.
 ghost use Rattle.std.specs.Prelude.{◌≡◌};
 ghost use Rattle.ppd_codec_runs.specs.Recordings.{known_of};
-ghost use Rattle.ppd_top_query.specs.Queries.Query.{Whole};
+ghost use Rattle.ppd_top_requests.specs.Questions.Query.{Whole};
 ghost use Rattle.ppd_top_query.specs.Replies.{IsAskable, IsReply, IsTextReply, IsWholeReply};
 
+use crate::answers::Answer;
 use crate::kept::{past_of, races_of, racy, unscheduled};
-use crate::query::Answer;
 use ppd_codec_runs::Recalled;
 use ppd_model::Race;
 use ppd_session::{At, SessionError};

@@ -1,15 +1,10 @@
--- The words of proofs for lines and for how processes ended.
+-- The words of proofs for how processes ended.
 use Rattle.ppd_ast.specs.Lookups.{body_numbered}
 use Rattle.ppd_ast.specs.declared.program.Program.{Program}
 use Rattle.ppd_model.specs.declared.closed.ProcEnd.{ProcEnd}
-use Rattle.ppd_top_runs.specs.Summary.{end_text}
-use Rattle.std.specs.List.{AllByRecursion, enumerate_from, flat_map}
+use Rattle.ppd_top_runs.specs.Ends.{end_text}
+use Rattle.std.specs.List.{enumerate_from, flat_map}
 use Rattle.std.specs.Prelude.{List, ℕ}
-use Rattle.std.specs.Str.Iter.{LacksByte}
-
--- none of the lines has a newline in it
-abbrev pub ArePlain : List (List ℕ) → Type 0
-ArePlain lines = AllByRecursion (LacksByte 10) lines
 
 -- the processes in order; the first one's body has number b
 abbrev pub end_texts : Program → ℕ → List ProcEnd → List ℕ

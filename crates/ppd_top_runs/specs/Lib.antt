@@ -1,8 +1,3 @@
--- The answers to the lines of an input, one after another.
-pub use Rattle.ppd_codec_runs.specs.Recordings
-pub mod Output
-pub mod Asking
-pub mod Debugging
-pub mod Summary
+-- A run that came to its end, and what is written of how its processes ended.
+pub mod Ends
 pub mod Runs
-pub mod Commands

@@ -9,7 +9,7 @@ use Rattle.ppd_blocks.specs.Blocks.{plan_of}
 use Rattle.ppd_model.specs.declared.closed.Closed.{Closed}
 use Rattle.ppd_model.specs.Logs.{close}
 use Rattle.ppd_model.specs.Schedule.{IsWhole}
-use Rattle.ppd_top_runs.specs.declared.options.Options.{Options}
+use Rattle.ppd_top_requests.specs.declared.options.Options.{Options}
 use Rattle.ppd_top_runs.specs.declared.run.ClosedRun.{ClosedRun}
 
 -- the program is valid, the plan is that of some policy, and this is what some whole schedule of theirs within this

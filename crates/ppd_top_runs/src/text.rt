@@ -1,6 +1,6 @@
 ghost use Rattle.std.specs.List.{flat_map};
 ghost use Rattle.std.specs.Prelude.{◌≡◌, ◌++◌, OnOk};
-ghost use Rattle.ppd_top_runs.specs.Summary.{status_text, print_text};
+ghost use Rattle.ppd_top_runs.specs.Ends.{status_text, print_text};
 
 use ppd_ast::{Memory, Place, Status};
 use ppd_text::{put, put_place, put_trap, put_value};

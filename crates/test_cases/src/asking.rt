@@ -16,7 +16,8 @@ use ppd_ast::limits::{MOST_BUDGET, MOST_POLICY};
 use ppd_io::{
     CHUNK_BYTES, FreeGate, MemoryShelf, MemorySink, MemorySource, Shelf, StdSink, StdSource,
 };
-use ppd_top::{Options, Outcome, follow, ppd};
+use ppd_top::{Options, Outcome, ppd};
+use ppd_top_following::follow;
 use std::alloc::Global;
 use std::sync::Wait;
 use std::sync::atomic::AtomicU64;

@@ -3,7 +3,7 @@ use Rattle.ppd_ast.specs.Lookups.{body_numbered}
 use Rattle.ppd_ast.specs.declared.program.Program.{Program}
 use Rattle.ppd_model.specs.declared.closed.ProcEnd.{ProcEnd}
 use Rattle.ppd_top_runs.proofs.RunWords.{end_texts}
-use Rattle.ppd_top_runs.specs.Summary.{end_text, print_text}
+use Rattle.ppd_top_runs.specs.Ends.{end_text, print_text}
 use Rattle.std.proofs.Common.{List, [], ap, append-nil, append_assoc, arith, get_or, length, refl, sym, take, ℕ, ℤ, ◌++◌, ◌+◌, ◌<◌, ◌∙◌, ◌∷◌, ◌≡◌}
 use Rattle.std.proofs.lemmas.List.{length-take-le, take_more}
 use Rattle.std.specs.List.{flat_map}

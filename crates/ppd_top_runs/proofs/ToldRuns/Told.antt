@@ -12,23 +12,16 @@ use Rattle.ppd_model.specs.Logs.{closed_log, closed_logs, ends_from, loggings}
 use Rattle.ppd_model.specs.Schedule.{IsWhole}
 use Rattle.ppd_model.proofs.Prefixes.{objects_stay}
 use Rattle.ppd_model.proofs.States.{follow}
-use Rattle.ppd_graph.specs.declared.sync_graph.SyncGraph.{SyncGraph}
 use Rattle.ppd_graph.specs.declared.refusal.BadSync.{BadSync}
 use Rattle.ppd_graph.specs.declared.refusal.BadSync.TheVariants as no_graph
-use Rattle.ppd_graph.specs.Graphs.{IsGraphOf}
 use Rattle.ppd_graph.specs.Refusals.{IsRefused as IsNoGraph}
-use Rattle.ppd_codec_runs.proofs.Ordered.{refused}
-use Rattle.ppd_index.specs.declared.log_index.LogIndex.{LogIndex}
+use Rattle.law_logs.proofs.Graph.Ordered.{refused}
 use Rattle.ppd_index.specs.declared.refusal.BadLog.{BadLog}
 use Rattle.ppd_index.specs.declared.refusal.BadLog.TheVariants as no_index
-use Rattle.ppd_index.specs.Fitting.{AreFittingLogs}
-use Rattle.ppd_index.specs.Indexes.{IsIndexOf}
 use Rattle.ppd_index.specs.Refusals.{IsRefused as IsNoIndex, first_in_lists}
-use Rattle.ppd_codec_runs.proofs.Found.{logs_indexed}
+use Rattle.law_logs.proofs.Index.Found.{logs_indexed}
 use Rattle.ppd_race.specs.Races.{AreCellsThere}
 use Rattle.ppd_race.proofs.OfRuns.{of_runs}
-use Rattle.ppd_codec_runs.specs.Pasts.{BelongTogether}
-use Rattle.ppd_codec_runs.proofs.Keeping.{nothing_kept}
 use Rattle.ppd_top_runs.specs.Runs.{CanBeTold}
 
 -- ---- how many processes
@@ -84,16 +77,3 @@ module _ (program : Program) (plan : Plan) (budget : ℕ) (closed : Closed) (t :
   never_without_graph e r other =
       let r' : IsNoGraph program (closed_logs program plan budget t.schedule) e = subst (λ (c : Closed). IsNoGraph program c.logs e) t.is r in
       refused program plan budget t.schedule t.whole.last t.whole.runs e other r'
-
--- with their index and graph they are what a session is about
-pub together : (program : Program) (plan : Plan) (budget : ℕ) (closed : Closed) (index : LogIndex) (graph : SyncGraph) → CanBeTold program plan budget closed → IsIndexOf plan closed.logs index.tables → AreFittingLogs plan closed.logs → IsGraphOf program closed.logs graph → BelongTogether program plan closed.logs index graph closed.logs index budget []
-together program plan budget closed index graph t i f k = record {
-  program_ok = t.program_ok;
-  plan_ok = t.plan_ok;
-  cells = told_cells program plan budget closed t;
-  index_is = i;
-  cut_index_is = i;
-  fitting = f;
-  graph_is = k;
-  kept_are = nothing_kept program plan budget closed.logs;
-}

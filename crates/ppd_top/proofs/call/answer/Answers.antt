@@ -1,8 +1,8 @@
-use Rattle.ppd_top.proofs.Asked.{asks_drill, asks_query, asks_recording, asks_source}
+use Rattle.ppd_top_requests.proofs.Asked.{asks_drill, asks_query, asks_recording, asks_source}
 use Rattle.ppd_top.proofs.Inputs.{recording_input, source_input}
 use Rattle.ppd_top.proofs.call.answer.Goals as goal
 use Rattle.ppd_top.specs.Ran.Comes.{drill_done}
-use Rattle.ppd_top.specs.Words.{command_of}
+use Rattle.ppd_top_requests.specs.Words.{command_of}
 use Rattle.std.proofs.Common.{refl}
 
 pub returns-in-Source-clause-comes : goal.returns-in-Source-clause-comes

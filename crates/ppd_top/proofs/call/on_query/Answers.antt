@@ -1,9 +1,9 @@
 use Rattle.ppd_top.specs.declared.loads.TheConstants.{MOST_RECORDING}
 use Rattle.std.proofs.Common.{Err, inr, refl, ap, ◌∙◌}
 use Rattle.ppd_io.specs.Content.{Loads}
-use Rattle.ppd_top_query.specs.Queries.{query_of}
+use Rattle.ppd_top_requests.specs.Questions.{query_of}
 use Rattle.ppd_top.specs.Call.{call_of, devices}
-use Rattle.ppd_top_runs.specs.Output.{standing}
+use Rattle.ppd_top_commands.specs.Output.{standing}
 use Rattle.ppd_top.specs.Ran.Comes.{query_done}
 use Rattle.ppd_top.proofs.Unloaded.{recording_unloaded}
 use Rattle.ppd_top.proofs.call.on_query.Goals as goal

@@ -2,7 +2,7 @@ use Rattle.ppd_top.specs.declared.loads.TheConstants.{MOST_RECORDING}
 use Rattle.std.proofs.Common.{Err, inl, refl, ap, ◌∙◌}
 use Rattle.ppd_io.specs.Content.{Loads}
 use Rattle.ppd_top.specs.Call.{call_of, devices}
-use Rattle.ppd_top_runs.specs.Output.{standing}
+use Rattle.ppd_top_commands.specs.Output.{standing}
 use Rattle.ppd_top.specs.Ran.Comes.{debug_done}
 use Rattle.ppd_top.proofs.Debugged.{debug_not_early}
 use Rattle.ppd_top.proofs.Unloaded.{recording_unloaded, unloaded_not_early}

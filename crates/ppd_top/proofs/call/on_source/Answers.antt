@@ -3,12 +3,12 @@ use Rattle.std.proofs.Common.{Err, refl, ap, subst, sym, ◌∙◌, ◌≡◌}
 use Rattle.ppd_check.specs.Read.{IsRead}
 use Rattle.ppd_io.specs.Content.{Loads}
 use Rattle.ppd_top.specs.Call.{call_of, devices}
-use Rattle.ppd_top_runs.specs.Output.{standing}
+use Rattle.ppd_top_commands.specs.Output.{standing}
 use Rattle.ppd_top.specs.Ran.Comes.{refusal, flow_done, show_done, run_done}
-use Rattle.ppd_top.specs.Words.{Asks, command_of}
-use Rattle.ppd_top.specs.Words.Request.{on_source}
+use Rattle.ppd_top_requests.specs.Words.{Asks, command_of}
+use Rattle.ppd_top_requests.specs.Words.Request.{on_source}
 use Rattle.ppd_top.proofs.Outcomes.{flow_not_early}
-use Rattle.ppd_top_runs.proofs.StoredRuns.{records_from}
+use Rattle.ppd_top_commands.proofs.StoredRuns.{records_from}
 use Rattle.ppd_top.proofs.Unloaded.{source_unloaded}
 use Rattle.ppd_top.proofs.call.on_source.Goals as goal
 

@@ -1,4 +1,4 @@
-use Rattle.ppd_top.proofs.Promises.Calls.{debug_tells, flow_tells, programs_told, run_tells, runs_told, sources_recorded}
+use Rattle.ppd_top.proofs.Promises.{debug_tells, flow_tells, programs_told, run_tells, runs_told, sources_recorded}
 use Rattle.ppd_top.proofs.laws.calls_tell_of_runs.Goals as goal
 
 pub returns-clause-flow : goal.returns-clause-flow

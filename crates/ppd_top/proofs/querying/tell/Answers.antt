@@ -1,4 +1,4 @@
-use Rattle.ppd_top_query.specs.Queries.{query_of}
+use Rattle.ppd_top_requests.specs.Questions.{query_of}
 use Rattle.ppd_top.proofs.Queried.{tells_failure, tells_text}
 use Rattle.ppd_top.proofs.querying.tell.Goals as goal
 

@@ -1,8 +1,8 @@
 use Rattle.std.proofs.Common.{◌≡◌, subst}
-use Rattle.ppd_top_query.specs.Queries.{query_of}
+use Rattle.ppd_top_requests.specs.Questions.{query_of}
 use Rattle.ppd_top_query.specs.Recordings.{IsNotRecalled, IsRefusedBy}
 use Rattle.ppd_top.specs.Ran.Queries.{query_refused}
-use Rattle.ppd_top_runs.specs.Output.{Finished}
+use Rattle.ppd_top_commands.specs.Output.{Finished}
 use Rattle.ppd_top.proofs.Queried.{askable, told_by}
 use Rattle.ppd_top.proofs.querying.tell_query.Goals as goal
 

@@ -1,5 +1,5 @@
 use Rattle.std.proofs.Common.{inr}
-use Rattle.ppd_top_runs.proofs.Told.{was_told_by}
+use Rattle.ppd_top_commands.proofs.Told.{was_told_by}
 use Rattle.ppd_top_commands.proofs.answering.flow.Goals as goal
 
 pub returns : goal.returns

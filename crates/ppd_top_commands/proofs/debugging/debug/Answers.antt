@@ -1,7 +1,7 @@
 use Rattle.std.proofs.Common.{◌≡◌, refl, subst}
-use Rattle.ppd_top_runs.specs.Recordings.{IsNotRecalled, IsRefusedBy}
-use Rattle.ppd_top_runs.specs.Debugging.Debugs.{recalled, recording_refused}
-use Rattle.ppd_top_runs.specs.Output.{Finished}
+use Rattle.ppd_codec_runs.specs.Recordings.{IsNotRecalled, IsRefusedBy}
+use Rattle.ppd_top_commands.specs.Debugging.Debugs.{recalled, recording_refused}
+use Rattle.ppd_top_commands.specs.Output.{Finished}
 use Rattle.ppd_top_commands.proofs.debugging.debug.Goals as goal
 
 pub returns-in-Err-Refused : goal.returns-in-Err-Refused

@@ -1,5 +1,5 @@
 use Rattle.std.proofs.Common.{inr}
-use Rattle.ppd_top_runs.proofs.StoredRuns.{of_some_run_by, was_recorded_by}
+use Rattle.ppd_top_commands.proofs.StoredRuns.{of_some_run_by, was_recorded_by}
 use Rattle.ppd_top_commands.proofs.storing.record_run.Goals as goal
 
 pub store-status-requires-clause-of_run : goal.store-status-requires-clause-of_run

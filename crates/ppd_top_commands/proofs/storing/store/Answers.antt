@@ -1,8 +1,8 @@
 use Rattle.std.proofs.Common.{◌∙◌, subst, sym}
 use Rattle.ppd_codec.specs.Recordings.{IsRecordingOf}
-use Rattle.ppd_top_runs.specs.Commands.Keeps.{kept}
-use Rattle.ppd_top_runs.specs.Commands.{header_of as header_for}
-use Rattle.ppd_top_runs.specs.Output.{Finished}
+use Rattle.ppd_top_commands.specs.Commands.Keeps.{kept}
+use Rattle.ppd_top_commands.specs.Commands.{header_of as header_for}
+use Rattle.ppd_top_commands.specs.Output.{Finished}
 use Rattle.ppd_top_commands.proofs.storing.store.Goals as goal
 
 pub returns-in-Ok-store : goal.returns-in-Ok-store

@@ -1,7 +1,7 @@
 use Rattle.std.proofs.Common.{◌∙◌}
 use Rattle.ppd_session.specs.Sessions.{known_by}
-use Rattle.ppd_top_query.specs.Queries.{asked_of}
-use Rattle.ppd_top_query.specs.Queries.Query.{Slice}
+use Rattle.ppd_top_requests.specs.Questions.{asked_of}
+use Rattle.ppd_top_requests.specs.Questions.Query.{Slice}
 use Rattle.ppd_top_query.proofs.Recorded.{known_is, slice_told}
 use Rattle.ppd_top_query.proofs.answering.slice_answer.Goals as goal
 

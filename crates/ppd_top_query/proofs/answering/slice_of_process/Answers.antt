@@ -1,5 +1,5 @@
 use Rattle.std.proofs.Common.{[], ap, sym, ◌∙◌}
-use Rattle.ppd_top_query.specs.Queries.{asked_of}
+use Rattle.ppd_top_requests.specs.Questions.{asked_of}
 use Rattle.ppd_session.specs.Questions.{process_named}
 use Rattle.ppd_session.specs.Sessions.{known_by}
 use Rattle.ppd_session.specs.Texts.{no_process}

@@ -2,7 +2,7 @@ use Rattle.std.specs.Option.{unwrap_or}
 use Rattle.std.proofs.Common.{[], sym}
 use Rattle.ppd_session.specs.Sessions.{known_by}
 use Rattle.ppd_session.specs.Texts.{races_refusal}
-use Rattle.ppd_top_query.specs.Queries.{asked_of}
+use Rattle.ppd_top_requests.specs.Questions.{asked_of}
 use Rattle.ppd_top_query.proofs.Replied.{races_refuse_slices, refused_reply}
 use Rattle.ppd_top_query.proofs.answering.slice_unless_raced.Goals as goal
 

@@ -1,5 +1,5 @@
-use Rattle.ppd_top_query.specs.Queries.{asked_of}
-use Rattle.ppd_top_query.specs.Queries.Query.{Clean}
+use Rattle.ppd_top_requests.specs.Questions.{asked_of}
+use Rattle.ppd_top_requests.specs.Questions.Query.{Clean}
 use Rattle.ppd_top_query.proofs.cleans.clean_answer.Goals as goal
 
 pub returns : goal.returns

@@ -3,7 +3,7 @@ use Rattle.std.specs.Prelude.{is_some, nat_lt, length, get_or, []}
 use Rattle.ppd_ast.specs.declared.program.Program.{Program}
 use Rattle.ppd_session.specs.Questions.{process_named}
 use Rattle.ppd_codec_runs.specs.Recordings.{known_of}
-use Rattle.ppd_top_query.specs.Queries.{asked_of}
+use Rattle.ppd_top_requests.specs.Questions.{asked_of}
 use Rattle.ppd_top_query.specs.Replies.{IsCleanItem}
 use Rattle.ppd_top_query.proofs.CleanTold.{item_reply, no_block_told, no_process_told, there_as}
 use Rattle.ppd_top_query.proofs.cleans.clean_of_process.Goals as goal

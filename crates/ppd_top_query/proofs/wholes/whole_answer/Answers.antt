@@ -1,4 +1,4 @@
-use Rattle.ppd_top_query.specs.Queries.Query.{Whole}
+use Rattle.ppd_top_requests.specs.Questions.Query.{Whole}
 use Rattle.ppd_top_query.proofs.wholes.whole_answer.Goals as goal
 
 pub returns : goal.returns

@@ -1,7 +1,7 @@
 use Rattle.std.specs.List.{flat_map}
 use Rattle.std.proofs.lemmas.Int.{to_z-of_z}
 use Rattle.std.proofs.Common.{◌+◌, take, get_or, pos, rules, FitsSigned, w64}
-use Rattle.ppd_top_runs.specs.Summary.{print_text}
+use Rattle.ppd_top_runs.specs.Ends.{print_text}
 use Rattle.ppd_top_runs.proofs.ToldRuns.Printed.{prints-taken, appended}
 use Rattle.ppd_top_runs.proofs.text.put_prints.Goals as goal
 

@@ -1,6 +1,6 @@
 use Rattle.std.specs.List.{flat_map}
 use Rattle.std.proofs.Common.{◌≡◌, ◌++◌, take}
-use Rattle.ppd_top_runs.specs.Summary.{print_text}
+use Rattle.ppd_top_runs.specs.Ends.{print_text}
 use Rattle.ppd_top_runs.proofs.text.put_prints.Given as goal
 
 abbrev pub invariant-loop-value : goal.invariant-loop-value

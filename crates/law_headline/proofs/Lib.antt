@@ -1,0 +1,10 @@
+mod Below
+mod Members
+mod Tables
+mod Once
+mod Listed
+mod Values
+mod Edges
+mod Replays
+mod Few
+mod Tells

@@ -1,6 +1,0 @@
--- What a text that is written to holds, and how often it could not grow.
-use Rattle.std.specs.Prelude.{ℕ, List}
-
-pub record KeptText : Type 0 where
-  pub text : List ℕ
-  pub faults : ℕ

@@ -1,0 +1,3 @@
+mod Comes
+mod Followed
+mod Told

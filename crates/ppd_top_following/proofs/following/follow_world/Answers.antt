@@ -1,0 +1,20 @@
+use Rattle.ppd_top_following.proofs.Followed.{fails_at, unfinished, comes_to, same_program, same_plan, same_budget}
+use Rattle.ppd_top_following.proofs.following.follow_world.Goals as goal
+
+pub returns-in-Err-clause-error : goal.returns-in-Err-clause-error
+returns-in-Err-clause-error c = fails_at c.args.program.now c.args.options.now c.args.world c.drive.new.self c.args.schedule.now c.in-Err.error c.drive_error.result c.requires.first c.requires.comes c.in-Err.ensures.driven c.drive_error.ensures
+
+pub returns-in-Some-clause-error : goal.returns-in-Some-clause-error
+returns-in-Some-clause-error c = unfinished c.args.program.now c.args.options.now c.args.world c.drive.new.self c.requires.first c.requires.comes c.args.schedule.now c.in-Ok.ensures.driven c.in-Some._process c.in-Some.ensures.some.can
+
+pub close_world-requires-clause-comes : goal.close_world-requires-clause-comes
+close_world-requires-clause-comes c = comes_to c.args.program.now c.args.options.now c.args.world c.drive.new.self c.requires.first c.requires.comes c.args.schedule.now c.in-Ok.ensures.driven
+
+pub close_world-requires-clause-program : goal.close_world-requires-clause-program
+close_world-requires-clause-program c = same_program c.args.program.now c.args.options.now c.args.world c.drive.new.self c.requires.first c.requires.comes c.args.schedule.now c.in-Ok.ensures.driven
+
+pub close_world-requires-clause-plan : goal.close_world-requires-clause-plan
+close_world-requires-clause-plan c = same_plan c.args.program.now c.args.options.now c.args.world c.drive.new.self c.requires.first c.requires.comes c.args.schedule.now c.in-Ok.ensures.driven
+
+pub close_world-requires-clause-budget : goal.close_world-requires-clause-budget
+close_world-requires-clause-budget c = same_budget c.args.program.now c.args.options.now c.args.world c.drive.new.self c.requires.first c.requires.comes c.args.schedule.now c.in-Ok.ensures.driven

@@ -1,0 +1,3 @@
+-- What the words ask for.
+pub mod Questions
+pub mod Words
