@@ -1,13 +1,11 @@
 -- Walks over the numbers of statements and over bodies.
-use Rattle.std.proofs.Common.{◌≡◌, ℕ, zero, suc, ◌+◌, ◌-◌, ◌<◌, ◌≤◌, Bool, true, false, List, [], ◌∷◌, ◌++◌, length, get_or, take, drop, None, sym, ap, ◌∙◌, arith, length-take}
+use Rattle.std.proofs.Common.{◌≡◌, ℕ, zero, suc, ◌+◌, ◌-◌, ◌<◌, ◌≤◌, Bool, true, false, List, [], ◌∷◌, ◌++◌, length, get_or, take, sym, ap, ◌∙◌, arith, length-take}
 use Rattle.std.specs.Prelude.{◌||◌}
 use Rattle.std.specs.List.{flat_map, range_with_len, list_any, enumerate_from}
 use Rattle.std.proofs.lemmas.List.{append_assoc, append-nil, take_more}
 use Rattle.std.proofs.lemmas.List.Folds.{list_any-append}
 use Rattle.std.proofs.lemmas.Grind.{flat_map-append, common_steps}
 use Rattle.ppd_ast.specs.declared.program.Body.{Body}
-use Rattle.ppd_ast.specs.Begins.{Begins}
-use Rattle.ppd_ast.proofs.Beginnings.{begins_then, begins_stop_at}
 
 range_append : (a m n : ℕ) → range_with_len a (m + n) ≡ range_with_len a m ++ range_with_len (a + m) n
 range_append a zero n =
@@ -38,23 +36,7 @@ range_split a k e h l =
 pub flat_one : {X : Type 0} (f : ℕ → List X) (xs : List ℕ) (k : ℕ) → flat_map f (xs ++ k ∷ []) ≡ flat_map f xs ++ f k
 flat_one f xs k = flat_map-append f xs (k ∷ []) ∙ ap (λ l. flat_map f xs ++ l) (append-nil (f k))
 
-module _ {X : Type 0} (f : ℕ → List X) (list : List X) (place next a k : ℕ) (low : a ≤ k)
-    (so_far : drop place list ≡ flat_map f (range_with_len a (k - a)) ++ drop next list) where
-  pub walk_more : (m : ℕ) → drop next list ≡ f k ++ drop m list → drop place list ≡ flat_map f (range_with_len a (k + 1 - a)) ++ drop m list
-  walk_more m h =
-      so_far ∙ ap (λ l. flat_map f (range_with_len a (k - a)) ++ l) h
-      ∙ sym (append_assoc (flat_map f (range_with_len a (k - a))) (f k) (drop m list))
-      ∙ ap (λ l. l ++ drop m list) (sym (flat_one f (range_with_len a (k - a)) k) ∙ ap (flat_map f) (sym (range_more a k low)))
-
-  pub walk_stop : (e : ℕ) → k < e → ((rest : List X) → drop next list ≡ f k ++ rest → ⊥) → Begins None list place (flat_map f (range_with_len a (e - a)))
-  walk_stop e high h =
-      let all : flat_map f (range_with_len a (e - a)) ≡ (flat_map f (range_with_len a (k - a)) ++ f k) ++ flat_map f (range_with_len (k + 1) (e - (k + 1))) =
-      ap (flat_map f) (range_split a k e low high) ∙ flat_map-append f (range_with_len a (k - a) ++ k ∷ []) (range_with_len (k + 1) (e - (k + 1)))
-      ∙ ap (λ l. l ++ flat_map f (range_with_len (k + 1) (e - (k + 1)))) (flat_one f (range_with_len a (k - a)) k) in
-      begins_stop_at list place (flat_map f (range_with_len a (k - a)) ++ f k) (flat_map f (range_with_len (k + 1) (e - (k + 1)))) _ all
-      (begins_then list place next (flat_map f (range_with_len a (k - a))) (f k) None so_far h)
-
-each_append : {X : Type 0} (f : ℕ → Body → List X) (j : ℕ) (xs ys : List Body) → flat_map (λ e. f e.0 e.1) (enumerate_from j (xs ++ ys)) ≡ flat_map (λ e. f e.0 e.1) (enumerate_from j xs) ++ flat_map (λ e. f e.0 e.1) (enumerate_from (j + length xs) ys)
+pub each_append : {X : Type 0} (f : ℕ → Body → List X) (j : ℕ) (xs ys : List Body) → flat_map (λ e. f e.0 e.1) (enumerate_from j (xs ++ ys)) ≡ flat_map (λ e. f e.0 e.1) (enumerate_from j xs) ++ flat_map (λ e. f e.0 e.1) (enumerate_from (j + length xs) ys)
 each_append f j [] ys = let e : j ≡ j + 0 = omega arith in ap (λ n. flat_map (λ e. f e.0 e.1) (enumerate_from n ys)) e
 each_append f j (x ∷ xs) ys =
     let e : j + 1 + length xs ≡ j + suc (length xs) = omega arith in
@@ -66,22 +48,6 @@ each_more f bs k b h is =
     let long : 0 + length (take k bs) ≡ k = omega (arith, length-take k bs) in
     ap (λ l. flat_map (λ e. f e.0 e.1) (enumerate_from 0 l)) (take_more bs k b h ∙ ap (λ x. take k bs ++ x ∷ []) (sym is)) ∙ each_append f 0 (take k bs) (b ∷ [])
     ∙ ap (λ l. flat_map (λ e. f e.0 e.1) (enumerate_from 0 (take k bs)) ++ l) (append-nil (f (0 + length (take k bs)) b)) ∙ ap (λ n. flat_map (λ e. f e.0 e.1) (enumerate_from 0 (take k bs)) ++ f n b) long
-
-module _ {X : Type 0} (f : ℕ → Body → List X) (list : List X) (next k : ℕ) (bs : List Body) (b : Body) (inside : k < length bs) (is : b ≡ get_or bs k b)
-    (so_far : drop 0 list ≡ flat_map (λ e. f e.0 e.1) (enumerate_from 0 (take k bs)) ++ drop next list) where
-  pub bodies_more : (m : ℕ) → drop next list ≡ f k b ++ drop m list → drop 0 list ≡ flat_map (λ e. f e.0 e.1) (enumerate_from 0 (take (k + 1) bs)) ++ drop m list
-  bodies_more m h =
-      so_far ∙ ap (λ l. flat_map (λ e. f e.0 e.1) (enumerate_from 0 (take k bs)) ++ l) h ∙ sym (append_assoc (flat_map (λ e. f e.0 e.1) (enumerate_from 0 (take k bs))) (f k b) (drop m list))
-      ∙ ap (λ l. l ++ drop m list) (sym (each_more f bs k b inside is))
-
-  pub bodies_stop : ((rest : List X) → drop next list ≡ f k b ++ rest → ⊥) → Begins None list 0 (flat_map (λ e. f e.0 e.1) (enumerate_from 0 bs))
-  bodies_stop h =
-      let cut : take (k + 1) bs ++ drop (k + 1) bs ≡ bs = grind (arith, common_steps) in
-      let all : flat_map (λ e. f e.0 e.1) (enumerate_from 0 bs) ≡ (flat_map (λ e. f e.0 e.1) (enumerate_from 0 (take k bs)) ++ f k b) ++ flat_map (λ e. f e.0 e.1) (enumerate_from (0 + length (take (k + 1) bs)) (drop (k + 1) bs)) =
-      ap (λ l. flat_map (λ e. f e.0 e.1) (enumerate_from 0 l)) (sym cut) ∙ each_append f 0 (take (k + 1) bs) (drop (k + 1) bs)
-      ∙ ap (λ l. l ++ flat_map (λ e. f e.0 e.1) (enumerate_from (0 + length (take (k + 1) bs)) (drop (k + 1) bs))) (each_more f bs k b inside is) in
-      begins_stop_at list 0 (flat_map (λ e. f e.0 e.1) (enumerate_from 0 (take k bs)) ++ f k b) (flat_map (λ e. f e.0 e.1) (enumerate_from (0 + length (take (k + 1) bs)) (drop (k + 1) bs))) _ all
-      (begins_then list 0 next (flat_map (λ e. f e.0 e.1) (enumerate_from 0 (take k bs))) (f k b) None so_far h)
 
 -- a test at each of the numbers
 pub any_more : (p : ℕ → Bool) (a k : ℕ) → a ≤ k → list_any p (range_with_len a (k - a)) ≡ false → p k ≡ false → list_any p (range_with_len a (k + 1 - a)) ≡ false

@@ -1,6 +1,5 @@
 -- Expressions of the table as trees, and which programs and plans are valid.
 pub mod Bare
-pub mod Begins
 pub mod Cells
 pub mod Counting
 pub mod Digits

@@ -2,12 +2,13 @@
 ghost use Rattle.std.specs.Prelude.{◌≡◌, ◌<◌, ◌^◌, [], ◌∷◌, ◌++◌, IfOk, OnOk, length, map, if◌then◌else◌};
 ghost use Rattle.std.specs.List.{flat_map, enumerate_from};
 ghost use Rattle.ppd_ast.specs.Bare.{bare, bare_block, bare_unit, gives_value};
-ghost use Rattle.ppd_ast.specs.Numbered.{is_block_loop, numbers_of, of_body};
+ghost use Rattle.ppd_ast.specs.declared.plan.BlockKind.TheVariants.{Function, Process};
+ghost use Rattle.ppd_ast.specs.Numbered.{is_block_loop, is_block_body, loops_at, starts_at, numbers_of, of_body};
 ghost use Rattle.ppd_ast.specs.Valid.{IsValid};
 ghost use Rattle.ppd_ast.specs.ValidPlan.{IsValidPlan, IsValidPolicy};
 
 use crate::lists::{Memory, Seq};
-use crate::numbered::{Numbered, end_of, is_block_body, is_block_loop};
+use crate::numbered::{end_of, is_block_body, is_block_loop};
 use crate::plan::{Block, BlockKind, Plan, Policy, Start, Unit};
 use crate::program::{Body, Program};
 use std::alloc::Global;
@@ -50,12 +51,23 @@ fn add_unit(units: &mut Seq<Unit>, alloc: Global, start: Start) -> Result<(), Me
     })
 }
 
-// What is numbered, without its cells.
-trait Bare: Numbered + Drop {
-    ghost use Rattle.std.specs.Prelude.{List};
+// What a policy numbers, body by body, without its cells: the blocks, known by their kinds, and the units, known by their
+// starts.
+trait Bare: Sized + Drop {
+    ghost use Rattle.std.specs.Prelude.{ℕ, List};
+    ghost use Rattle.ppd_ast.specs.declared.program.Stmt.{Stmt};
     ghost use Rattle.ppd_ast.specs.declared.program.Body.{Body};
+    ghost use Rattle.ppd_ast.specs.declared.plan.Policy.{Policy};
+
+    type Key;
 
     ghost bare: { List Body → Self.Key → Self };
+
+    // What there is at a statement.
+    ghost at_stmt: { List Stmt → Policy → ℕ → List Self.Key };
+
+    // What a body itself is.
+    ghost own: { List Stmt → Policy → ℕ → Body → List Self.Key };
 
     // Adds what there is at the statement.
     fn add_stmt(
@@ -67,7 +79,7 @@ trait Bare: Numbered + Drop {
     ) -> Result<(), Memory>
         requires { number < length program.now.stmts }
         ensures { OnOk result (list.new
-            ≡ list.old ++ map (bare program.now.bodies) (Self.at_stmt program.now.stmts policy number)) };
+            ≡ list.old ++ map (bare program.now.bodies) (at_stmt program.now.stmts policy number)) };
 
     // Adds what the body itself is.
     fn add_own(
@@ -79,7 +91,7 @@ trait Bare: Numbered + Drop {
         body: &Body,
     ) -> Result<(), Memory>
         ensures { OnOk result (list.new
-            ≡ list.old ++ map (bare program.now.bodies) (Self.own program.now.stmts policy number body.now)) };
+            ≡ list.old ++ map (bare program.now.bodies) (own program.now.stmts policy number body.now)) };
 }
 
 fn kind_of_body(number: u16, body: &Body) -> BlockKind
@@ -93,7 +105,14 @@ fn kind_of_body(number: u16, body: &Body) -> BlockKind
 }
 
 impl Bare for Block {
+    type Key = BlockKind;
+
     ghost bare = { bare_block };
+
+    ghost at_stmt = { loops_at };
+
+    ghost own = { λ stmts policy number body. if is_block_body stmts policy body
+        then (if body.process then Process number else Function number) ∷ [] else [] };
 
     fn add_stmt(
         list: &mut Seq<Block>,
@@ -131,7 +150,15 @@ impl Bare for Block {
 }
 
 impl Bare for Unit {
+    ghost use Rattle.ppd_ast.specs.declared.plan.Start.TheVariants.{Entry};
+
+    type Key = Start;
+
     ghost bare = { λ bodies. bare_unit };
+
+    ghost at_stmt = { starts_at };
+
+    ghost own = { λ stmts policy number body. Entry number ∷ [] };
 
     fn add_stmt(
         list: &mut Seq<Unit>,

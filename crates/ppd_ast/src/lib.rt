@@ -3,22 +3,18 @@
 #![tactic(auto)]
 
 mod bare;
-mod cells;
 mod digit;
 pub mod limits;
 mod lists;
 mod numbered;
-mod order;
 mod plan;
 mod program;
 mod status;
 mod steps;
-mod uses;
-mod valid;
-mod valid_plan;
 
 pub use digit::is_digit;
 pub use lists::{Bytes, Cells, Ids, Memory, Nums, Seq};
+pub use numbered::{end_of, is_block_body, is_block_loop};
 pub use plan::{Block, BlockKind, Plan, Policy, Start, Unit};
 pub use program::{Body, Chan, Expr, Kind, Op, Place, Program, Sem, Stmt, Target, Var};
 pub use status::{Status, SyncKind, Trap};

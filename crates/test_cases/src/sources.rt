@@ -3,6 +3,7 @@
 use ppd_ast::{Body, Expr, Kind, Op, Place, Program, Stmt, Target, Var};
 use ppd_check::{CheckError, SourceError, read_source};
 use std::alloc::{AllocError, Global};
+use test_valid::is_valid_program;
 
 /// Appends a part, if there is memory for it.
 fn add(text: &mut String, part: Result<String, AllocError>) -> Result<(), AllocError> {
@@ -272,7 +273,7 @@ fn refusal(alloc: Global, error: CheckError) -> Result<String, AllocError> {
 
 /// The word for a program that was read.
 fn accepted(alloc: Global, program: &Program) -> Result<String, AllocError> {
-    let told = if program.valid() {
+    let told = if is_valid_program(program) {
         "accepted"
     } else {
         "not valid"

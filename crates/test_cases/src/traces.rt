@@ -8,11 +8,15 @@ use ppd_model::Trace;
 use ppd_top::Options;
 use ppd_trace::full_trace;
 use std::alloc::{AllocError, Global};
+use test_valid::{is_valid_plan, is_valid_program};
 
 /// The full trace of a schedule that is whole.
 fn trace_of(alloc: Global, source: &[u8], options: &Options, schedule: &[u8]) -> Option<Trace> {
     let (program, plan) = parts(alloc, source, options)?;
-    if options.budget > MOST_BUDGET || !program.valid() || !plan.valid(&program) {
+    if options.budget > MOST_BUDGET
+        || !is_valid_program(&program)
+        || !is_valid_plan(&plan, &program)
+    {
         return None;
     }
     full_trace(alloc, &program, &plan, options.budget, schedule).ok()

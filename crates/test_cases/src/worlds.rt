@@ -8,12 +8,13 @@ use ppd_ast::{Memory, Plan, Program};
 use ppd_model::Closed;
 use ppd_world::World;
 use std::alloc::Global;
+use test_valid::{is_valid_plan, is_valid_program};
 
 /// The world before its first step. None where program, plan or budget is not valid.
 fn start<'a>(alloc: Global, program: &'a Program, plan: &'a Plan, budget: u32) -> Option<World<'a>>
     ensures { IfSome result (λ world. IsReached world) }
 {
-    if budget > MOST_BUDGET || !program.valid() || !plan.valid(program) {
+    if budget > MOST_BUDGET || !is_valid_program(program) || !is_valid_plan(plan, program) {
         return None;
     }
     World::new(alloc, program, plan, budget).ok()

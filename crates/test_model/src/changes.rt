@@ -3,6 +3,7 @@
 use ppd_ast::{Body, Chan, Expr, Ids, Kind, Memory, Op, Place, Program, Sem, Seq, Stmt};
 use ppd_check::read_source;
 use std::alloc::Global;
+use test_valid::is_valid_program;
 
 // A statement's kind in a line of a table.
 #[derive(Clone, Copy)]
@@ -143,7 +144,7 @@ fn apply(alloc: Global, program: &mut Program, change: Change) -> Result<(), Mem
 /// Whether the program is valid after a change. None where memory is wanting.
 fn is_valid_after(alloc: Global, program: &mut Program, change: Change) -> Option<bool> {
     match apply(alloc, program, change) {
-        Ok(()) => Some(program.valid()),
+        Ok(()) => Some(is_valid_program(program)),
         Err(Memory) => None,
     }
 }

@@ -4,6 +4,7 @@ use crate::changes::{Act, body_of, stmt_of};
 use ppd_ast::{Expr, Kind, Memory, Place, Program, Seq, Stmt};
 use ppd_check::read_source;
 use std::alloc::Global;
+use test_valid::is_valid_program;
 
 /// A shared scalar, a shared array of one cell, and a print of the scalar.
 const PRINTING: &str = "shared int x, a[1]; process p { print(x); }";
@@ -95,7 +96,7 @@ fn set(alloc: Global, program: &mut Program, limit: Limit) -> Result<(), Memory>
 /// Whether the program is valid with so many of them. None where memory is wanting.
 fn is_valid_with(alloc: Global, program: &mut Program, limit: Limit) -> Option<bool> {
     match set(alloc, program, limit) {
-        Ok(()) => Some(program.valid()),
+        Ok(()) => Some(is_valid_program(program)),
         Err(Memory) => None,
     }
 }

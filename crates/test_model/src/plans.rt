@@ -7,6 +7,7 @@ use ppd_ast::{Block, BlockKind, Cells, Memory, Plan, Policy, Program, Seq, Start
 use ppd_blocks::partition;
 use ppd_check::read_source;
 use std::alloc::Global;
+use test_valid::{is_valid_plan, is_valid_program};
 
 const LOOP: &str =
     "shared int x; process a { int i; while (i < 3) { x = x + i; i = i + 1; } print(x); }";
@@ -182,7 +183,7 @@ fn is_plan(alloc: Global, program: &Program, planned: Planned) -> Option<bool> {
         units: Seq::new(alloc),
     };
     match fill(alloc, &mut plan, parts, starts) {
-        Ok(()) => Some(plan.valid(program)),
+        Ok(()) => Some(is_valid_plan(&plan, program)),
         Err(Memory) => None,
     }
 }
@@ -215,7 +216,7 @@ fn has_policies(program: &Program, plan: &mut Plan) -> bool {
             leaf: *leaf,
             loops: *loops,
         };
-        if plan.valid(program) != *valid {
+        if is_valid_plan(plan, program) != *valid {
             return false;
         }
     }
@@ -249,7 +250,7 @@ fn has_bare(alloc: Global, program: &Program, plan: &Plan) -> bool
 {
     match Plan::bare(alloc, program, &FUNCTIONS) {
         Ok(bare) => {
-            bare.valid(program)
+            is_valid_plan(&bare, program)
                 && are_bare_blocks(bare.blocks.as_slice(), plan.blocks.as_slice())
                 && are_bare_units(bare.units.as_slice(), plan.units.as_slice())
         }
@@ -263,7 +264,9 @@ fn is_valid_by_policies(alloc: Global, program: &Program) -> bool
 {
     match partition(alloc, program, &FUNCTIONS) {
         Ok(mut plan) => {
-            program.valid() && has_bare(alloc, program, &plan) && has_policies(program, &mut plan)
+            is_valid_program(program)
+                && has_bare(alloc, program, &plan)
+                && has_policies(program, &mut plan)
         }
         Err(_) => false,
     }

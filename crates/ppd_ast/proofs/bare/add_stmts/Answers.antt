@@ -6,6 +6,6 @@ pub loop-number-preserved : goal.loop-number-preserved
 loop-number-preserved g c =
     let low : c.args.body.now.first ≤ c.loop-number.number = omega arith in
     record {
-      added = numbers_more (g.T.Bare.bare c.args.program.now.bodies) (g.T.Numbered.at_stmt c.args.program.now.stmts c.args.policy) c.args.list.now c.loop-number.list c.add_stmt.new.list c.args.body.now.first c.loop-number.number low c.loop-number.invariant.added c.in_ok-add_stmt.ensures;
+      added = numbers_more (g.T.Bare.bare c.args.program.now.bodies) (g.T.Bare.at_stmt c.args.program.now.stmts c.args.policy) c.args.list.now c.loop-number.list c.add_stmt.new.list c.args.body.now.first c.loop-number.number low c.loop-number.invariant.added c.in_ok-add_stmt.ensures;
       within = omega (arith, c.loop-number-test.true);
     }

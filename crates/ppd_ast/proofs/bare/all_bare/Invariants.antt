@@ -5,4 +5,4 @@ use Rattle.ppd_ast.proofs.bare.all_bare.Given as goal
 
 abbrev pub invariant-loop-number : goal.invariant-loop-number
 invariant-loop-number g l =
-    l.list ≡ map (g.T.Bare.bare l.program.bodies) (flat_map (λ e. of_body g.T.Numbered.own g.T.Numbered.at_stmt l.program.stmts l.policy e.0 e.1) (enumerate_from 0 (take l.number l.bodies)))
+    l.list ≡ map (g.T.Bare.bare l.program.bodies) (flat_map (λ e. of_body g.T.Bare.own g.T.Bare.at_stmt l.program.stmts l.policy e.0 e.1) (enumerate_from 0 (take l.number l.bodies)))

@@ -1,4 +1,0 @@
-use Rattle.ppd_ast.proofs.cells.+does_name_whole.Given as goal
-
-abbrev pub decreases-does_name_whole : goal.decreases-does_name_whole
-decreases-does_name_whole l = l.number

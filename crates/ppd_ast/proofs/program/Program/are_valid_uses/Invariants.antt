@@ -1,7 +1,0 @@
-use Rattle.std.proofs.Common.{ℕ, ◌<◌, get_or}
-use Rattle.ppd_ast.specs.Uses.{kind_uses}
-use Rattle.ppd_ast.specs.Valid.{IsValidUse}
-use Rattle.ppd_ast.proofs.program.Program.are_valid_uses.Given as goal
-
-abbrev pub invariant-loop-place : goal.invariant-loop-place
-invariant-loop-place l = (k d : ℕ) → k < l.place → IsValidUse l.self l.body (get_or (kind_uses l.kind) k d)
