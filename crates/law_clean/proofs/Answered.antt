@@ -440,7 +440,7 @@ module _ (program : Program) (policy : Policy) (budget : ℕ) (h : List ℕ) (p 
             | inr leads ↦ absurd (true≢false (sym leads.1 ∙ no leads.0))
           ]
 
-      same_edges : found_edges program plan logs xs p k j ≡ found_edges program plan logs (all_seen program plan budget h) p k j
+      same_edges : (found_edges program plan logs xs p k j).found ≡ (found_edges program plan logs (all_seen program plan budget h) p k j).found
       same_edges = elim (part_of q place) [
         | inl event ↦
             event_found program policy budget h p k j y v whole at there o inside clear own_is event.0 (place ∙ ap (λ z. Some z) event.1) event.2 (subst (λ z. IsIn far o (here z).edge) event.1 inn) (event_le event.0)
@@ -449,7 +449,7 @@ module _ (program : Program) (policy : Policy) (budget : ℕ) (h : List ℕ) (p 
             inside_found program policy budget h p k j y v whole at there o inside clear own_is span.0 span.1 (place ∙ ap (λ z. Some z) span.2) span.3 (subst (λ z. IsIn far o (here z).edge) span.2 inn)
       ]
 
-      edges_are : found_edges program plan logs xs p k j ≡ option_map (λ es. Ok es) (edges program plan budget s p k j)
+      edges_are : (found_edges program plan logs xs p k j).found ≡ option_map (λ es. Ok es) (edges program plan budget s p k j)
       edges_are = same_edges ∙ clean_edges_found program policy budget h whole.last p k j y q v whole.runs at place there within is_clean_so
 
       some_edges : (es : List FlowEdge) × (edges program plan budget s p k j ≡ Some es)
@@ -461,14 +461,14 @@ module _ (program : Program) (policy : Policy) (budget : ℕ) (h : List ℕ) (p 
             (_, ap (edges_in program plan (splits program plan budget s) k j) at ∙ ap (edges_if program plan (splits program plan budget s) y) (place ∙ ap (λ z. Some z) span.2) ∙ ap (option_map (model_edges_of_nested plan (splits program plan budget s))) span.3)
       ]
 
-      clean_answer : (t : Item) → item_of y q ≡ t ∷ [] → with_edges program plan budget logs Rec Rs p k j t (found_edges program plan logs xs p k j) ≡ by_part program plan budget h p k j first y (Some q)
+      clean_answer : (t : Item) → item_of y q ≡ t ∷ [] → with_edges program plan budget logs Rec Rs p k j t (found_edges program plan logs xs p k j).found ≡ by_part program plan budget h p k j first y (Some q)
       clean_answer t it =
           let es = some_edges in
           ap (with_edges program plan budget logs Rec Rs p k j t) (edges_are ∙ ap (option_map (λ fs. Ok fs)) es.1)
           ∙ sym (ap₂ (λ ts fs. first_item ts (unwrap_or fs [])) it es.1) ∙ sym (is_so q is_clean_so)
 
     decide : (q : Part) (t : Item) → part_at y k j ≡ Some q → IsHere q t → (z : Option ℕ) → o ≡ z
-        → (if is_unclean program plan budget logs Rec Rs p k j xs z t then unclean_or p z no_item else with_edges program plan budget logs Rec Rs p k j t (found_edges program plan logs xs p k j))
+        → (if is_unclean program plan budget logs Rec Rs p k j xs z t then unclean_or p z no_item else with_edges program plan budget logs Rec Rs p k j t (found_edges program plan logs xs p k j).found)
         ≡ by_part program plan budget h p k j first y (Some q)
     decide q t place here_is None e =
         let le : (here q).edge ≤ far = (edge_between q place).1 in
@@ -489,7 +489,7 @@ module _ (program : Program) (policy : Policy) (budget : ℕ) (h : List ℕ) (p 
         f = raced u e
 
         by : (b : Bool) → is_unclean program plan budget logs Rec Rs p k j xs (Some u) t ≡ b
-            → (if b then unclean (edge p u) else with_edges program plan budget logs Rec Rs p k j t (found_edges program plan logs xs p k j)) ≡ by_part program plan budget h p k j first y (Some q)
+            → (if b then unclean (edge p u) else with_edges program plan budget logs Rec Rs p k j t (found_edges program plan logs xs p k j).found) ≡ by_part program plan budget h p k j first y (Some q)
         by true is = elim (either (nat_le u (edge_of_item program plan budget logs Rec Rs p k j xs t)) (is_sync_item t && leads_from_race program Rec Rs (edge p (edge_of_item program plan budget logs Rec Rs p k j xs t))) is) [
           | inl le ↦ sym (late q place u e (let l : u ≤ edge_of_item program plan budget logs Rec Rs p k j xs t = leb-true u (edge_of_item program plan budget logs Rec Rs p k j xs t) le in let a = at_edge in omega (arith, l, a)))
           | inr lead ↦

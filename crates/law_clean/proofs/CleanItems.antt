@@ -339,7 +339,7 @@ module _ (program : Program) (policy : Policy) (budget : ℕ) (h : List ℕ) (p 
           number_of (nested m) = m
 
       pub event_found : ((f : TracedEvent) → slice_get y.trace.events n ≡ Some f → is_some f.event.number ≡ true → (edge_of_event y n < far) × (leads_from_race program Rec Rs (edge p (edge_of_event y n)) ≡ false))
-          → found_edges program plan logs xs p k j ≡ found_edges program plan logs (all_seen program plan budget h) p k j
+          → (found_edges program plan logs xs p k j).found ≡ (found_edges program plan logs (all_seen program plan budget h) p k j).found
       event_found ends =
           event_edges_same program policy budget h whole.last v whole.runs xs p k j y at (event_in n place lt is)
           (λ q i b. keeps (edge_of_event y n) is le q i (subst (λ z. EdgeBefore program Rec (edge q i) (edge p z)) here_is b))
@@ -372,15 +372,15 @@ module _ (program : Program) (policy : Policy) (budget : ℕ) (h : List ℕ) (p 
     ]
 
     pub inside_found : (m : ℕ) (i : Span) → part_at y k j ≡ Some (nested m) → slice_get y.spans m ≡ Some i → IsIn far o (left_edge (get_or logs.lists p []) m)
-        → found_edges program plan logs xs p k j ≡ found_edges program plan logs (all_seen program plan budget h) p k j
+        → (found_edges program plan logs xs p k j).found ≡ (found_edges program plan logs (all_seen program plan budget h) p k j).found
     inside_found m i place at_m is = elim own_is.kind [
       | inl none ↦
           let whole' : HasWholeItems (splits program plan budget s) y p = items_whole program plan budget h p y v at in
           let item_is : slice_get (get_or (seen_of y).items k []) j ≡ Some (item.Nested m i.block i.values (is_some i.closed)) = nested_at y (splits program plan budget s) p k j m i whole' place at_m in
           let mine : seen_at xs p ≡ seen_of y = own_is.begun.seen_is ∙ ap (λ (z : Split). seen_of z) none.1 in
-          ap (edges_if program plan logs xs p k j) (ap (λ (q : Seen). slice_get (get_or q.items k []) j) mine ∙ item_is)
-          ∙ ap (λ q. Some (Ok (edges_of_nested program plan q p k j m i.block i.values (block_kind plan i.block)))) (mine ∙ sym fy.seen_is)
-          ∙ sym (ap (edges_if program plan logs (all_seen program plan budget h) p k j) (ap (λ (q : Seen). slice_get (get_or q.items k []) j) fy.seen_is ∙ item_is))
+          ap (λ o. (edges_if program plan logs xs p k j o).found) (ap (λ (q : Seen). slice_get (get_or q.items k []) j) mine ∙ item_is)
+          ∙ ap (λ q. Some (Ok (edges_of_nested program plan q p k j m i.block i.values (block_kind plan i.block)).found)) (mine ∙ sym fy.seen_is)
+          ∙ sym (ap (λ o. (edges_if program plan logs (all_seen program plan budget h) p k j o).found) (ap (λ (q : Seen). slice_get (get_or q.items k []) j) fy.seen_is ∙ item_is))
       | inr found ↦ (let l = left_own m i at_m found.0 found.1 found.2 is in
           inside_edges_same program policy budget h whole.last v whole.runs xs p k j y at own_is.begun m l.0
           (nested_back program policy budget own_is.begun.before own_is.begun.rest p v own_is.begun.split y own_is.begun.there at' k j m l.0 l.1 l.2 place) l.1 l.2)

@@ -1,6 +1,6 @@
 -- The edges of an event of a clean past: the search by the whole logs, over what the processes have after beginnings of
 -- the schedule, finds those that it finds over what they have at the end.
-use Rattle.std.proofs.Common.{◌≡◌, ℕ, true, zero, suc, ◌+◌, List, [], ◌∷◌, ◌++◌, length, Option, Some, None, Ok, refl, ap, ap₂, sym, subst, ◌∙◌, arith}
+use Rattle.std.proofs.Common.{◌≡◌, ℕ, true, zero, suc, ◌+◌, List, [], ◌∷◌, ◌++◌, length, Option, Some, None, Result, Ok, Err, refl, ap, ap₂, sym, subst, ◌∙◌, arith}
 use Rattle.std.proofs.lemmas.Option.{none-some}
 use Rattle.std.specs.Prelude.{is_some, slice_get, zip, get_or}
 use Rattle.ppd_ast.specs.declared.plan.Plan.{Plan}
@@ -14,6 +14,7 @@ use Rattle.ppd_sem.specs.declared.event.Access.{Access}
 use Rattle.ppd_sem.specs.declared.event.Spot.{Spot}
 use Rattle.ppd_sem.specs.declared.event.Spot.TheVariants.{Local, Shared}
 use Rattle.ppd_model.specs.declared.flow.EdgeKind.TheVariants.{Control}
+use Rattle.ppd_model.specs.declared.flow.FlowEdge.{FlowEdge}
 use Rattle.ppd_model.specs.declared.flow.Item.TheVariants as item
 use Rattle.ppd_model.specs.declared.trace.TracedEvent.{TracedEvent}
 use Rattle.ppd_model.specs.Earlier.{AreEarlier, EachNamesEarlier}
@@ -28,10 +29,12 @@ use Rattle.ppd_model.specs.Story.{story, told}
 use Rattle.ppd_model.specs.World.{World}
 use Rattle.ppd_model.proofs.Earlier.{name_earlier}
 use Rattle.ppd_flow_model.specs.Control.{control_origin}
-use Rattle.ppd_flow_model.specs.Found.{and_more, before_others, edges_if, event_edges, found_edges, pair_edges, read_edge, read_edges, read_if, sync_edges}
+use Rattle.ppd_flow_model.specs.Found.{and_more, before_others, edges_if, event_edges, found_edges, last_edges, pair_edges, read_edge, read_edges, read_if, sync_edges, with_edge}
 use Rattle.ppd_flow_model.specs.Locals.{local_origin}
+use Rattle.ppd_flow_model.specs.Looked.{Looked}
 use Rattle.ppd_flow_model.specs.Own.{read_from}
 use Rattle.ppd_flow_model.specs.Seen.{Seen, seen_of}
+use Rattle.ppd_flow_model.specs.Shared.{Missing}
 use Rattle.law_flow_shared.specs.Edges.SharedEdges.{all_seen}
 use Rattle.law_flow_shared.proofs.Edges.StepEvents.Processes.{Facts, facts}
 use Rattle.law_flow_shared.proofs.Edges.StepEvents.Timeline.{did}
@@ -51,6 +54,23 @@ each_at p k (y ∷ es) zero e h f =
     let same : y ≡ e = ap (λ (o : Option TracedEvent). elim o [ None ↦ y | Some z ↦ z ]) f in
     subst (λ (z : TracedEvent). length z.event.reads ≡ length z.writers) same (same_many p k y.event.reads y.writers h.0.writers)
 each_at p k (y ∷ es) (suc n) e h f = each_at p (k + 1) es n e h.1 f
+
+-- the same is found where the same is found of the parts
+with_both : {q q' : Result FlowEdge Missing} (r r' : Looked (ℕ × ℕ) (Result (List FlowEdge) Missing)) → q ≡ q' → r.found ≡ r'.found
+    → (before_others q r).found ≡ (before_others q' r').found
+with_both {q = q} {q' = q'} r r' e f = ap (λ (z : Result FlowEdge Missing). (before_others z r).found) e ∙ by q'
+  where
+    by : (z : Result FlowEdge Missing) → (before_others z r).found ≡ (before_others z r').found
+    by (Ok x) = ap (with_edge x) f
+    by (Err m) = refl
+
+more_both : {q q' : Result (List FlowEdge) Missing} (r r' : Looked (ℕ × ℕ) (List FlowEdge)) → q ≡ q' → r.found ≡ r'.found
+    → (and_more q r).found ≡ (and_more q' r').found
+more_both {q = q} {q' = q'} r r' e f = ap (λ (z : Result (List FlowEdge) Missing). (and_more z r).found) e ∙ by q'
+  where
+    by : (z : Result (List FlowEdge) Missing) → (and_more z r).found ≡ (and_more z r').found
+    by (Ok es) = ap (λ fs. Ok (es ++ fs)) f
+    by (Err m) = refl
 
 module _ (program : Program) (policy : Policy) (budget : ℕ) (h : List ℕ) (w : World) (v : IsValid program)
     (r : run program (plan_of program policy) budget h ≡ Some w) (xs : List Seen) (p k j : ℕ) (y : Split)
@@ -79,43 +99,43 @@ module _ (program : Program) (policy : Policy) (budget : ℕ) (h : List ℕ) (w 
 
   -- one read of the event
   one_read : (e : TracedEvent) → slice_get b.split.trace.events place.number ≡ Some e → (i : ℕ) (a : Access) (t : Tag) → slice_get (zip e.event.reads e.writers) i ≡ Some (a, t) → (s : Spot) → a.spot ≡ s
-      → read_edge program plan logs xs p k j a s ≡ read_edge program plan logs all p k j a s
+      → (read_edge program plan logs xs p k j a s).found ≡ (read_edge program plan logs all p k j a s).found
   one_read e is i a t z (Local frame c) spot =
-      ap (λ q. Ok (read_from a (local_origin program plan q p k j frame c))) b.seen_is
+      ap (λ q. Ok (read_from a (local_origin program plan q p k j frame c).found)) b.seen_is
       ∙ ap (λ o. Ok (read_from a o)) (local_same program policy budget b.before b.rest p v b.split y b.there at' k j place.number place.placed e is i frame c a t z spot)
-      ∙ sym (ap (λ q. Ok (read_from a (local_origin program plan q p k j frame c))) fy.seen_is)
+      ∙ sym (ap (λ q. Ok (read_from a (local_origin program plan q p k j frame c).found)) fy.seen_is)
   one_read e is i a t z (Shared c) spot = ap (read_if a) (shared_same program policy budget h w v r xs p k j y at place c keeps)
 
   all_reads : (e : TracedEvent) → slice_get b.split.trace.events place.number ≡ Some e → (as' : List Access) (ws : List Tag) → length as' ≡ length ws
       → ((i : ℕ) (a : Access) (t : Tag) → slice_get (zip as' ws) i ≡ Some (a, t) → (m : ℕ) × (slice_get (zip e.event.reads e.writers) m ≡ Some (a, t)))
-      → read_edges program plan logs xs p k j as' ≡ read_edges program plan logs all p k j as'
+      → (read_edges program plan logs xs p k j as').found ≡ (read_edges program plan logs all p k j as').found
   all_reads e is [] ws same among = refl
   all_reads e is (a ∷ as') [] same among = absurd (let z : suc (length as') ≡ 0 = same in omega (arith, z))
   all_reads e is (a ∷ as') (t ∷ ws) same among =
       let m = among 0 a t refl in
-      ap₂ before_others (one_read e is m.0 a t m.1 a.spot refl)
+      with_both (read_edges program plan logs xs p k j as') (read_edges program plan logs all p k j as') (one_read e is m.0 a t m.1 a.spot refl)
       (all_reads e is as' ws (let z : suc (length as') ≡ suc (length ws) = same in omega (arith, z)) (λ i c u g. among (suc i) c u g))
 
-  sync_same : (e : TracedEvent) → slice_get b.split.trace.events place.number ≡ Some e → (o : Option ℕ) → e.event.number ≡ o → sync_edges program logs xs p k j o ≡ sync_edges program logs all p k j o
+  sync_same : (e : TracedEvent) → slice_get b.split.trace.events place.number ≡ Some e → (o : Option ℕ) → e.event.number ≡ o → (sync_edges program logs xs p k j o).found ≡ (sync_edges program logs all p k j o).found
   sync_same e is None number = refl
   sync_same e is (Some i) number = ap pair_edges (pair_same program policy budget h w v r xs p k j y at place (keeps_ends e is (ap is_some number)))
 
-  event_same : (e : TracedEvent) → slice_get b.split.trace.events place.number ≡ Some e → event_edges program plan logs xs p k j e.event ≡ event_edges program plan logs all p k j e.event
+  event_same : (e : TracedEvent) → slice_get b.split.trace.events place.number ≡ Some e → (event_edges program plan logs xs p k j e.event).found ≡ (event_edges program plan logs all p k j e.event).found
   event_same e is =
       let fx : Facts program plan budget b.before v p b.split = facts program plan budget b.before v p b.split b.there in
       let many : length e.event.reads ≡ length e.writers =
       each_at p 0 b.split.trace.events place.number e (subst (EachNamesEarlier p 0) (sym fx.events_are) (name_earlier program plan budget (story program plan budget b.before) p (did (told program plan budget b.before) p))) is in
-      ap₂ and_more (all_reads e is e.event.reads e.writers many (λ i a t g. (i, g)))
+      more_both (last_edges program plan logs xs p k j e.event) (last_edges program plan logs all p k j e.event) (all_reads e is e.event.reads e.writers many (λ i a t g. (i, g)))
       (ap₂ (λ es o. es ++ bare_edge Control o ∷ []) (sync_same e is e.event.number refl)
-      (ap (λ q. control_origin program plan q p k j e.event.stmt) b.seen_is
+      (ap (λ q. (control_origin program plan q p k j e.event.stmt).found) b.seen_is
       ∙ control_same program policy budget b.before b.rest p v b.split y b.there at' k j place.number place.placed e is
-      ∙ sym (ap (λ q. control_origin program plan q p k j e.event.stmt) fy.seen_is)))
+      ∙ sym (ap (λ q. (control_origin program plan q p k j e.event.stmt).found) fy.seen_is)))
 
-  pub event_edges_same : found_edges program plan logs xs p k j ≡ found_edges program plan logs all p k j
+  pub event_edges_same : (found_edges program plan logs xs p k j).found ≡ (found_edges program plan logs all p k j).found
   event_edges_same =
       let s = slice_get_there b.split.trace.events place.number place.within in
       let mine : slice_get (get_or (seen_of b.split).items k []) j ≡ Some (item.Own s.0.event) = item_is program policy budget b.before b.rest p v b.split y b.there at' k j place.number place.placed s.0 s.1 in
       let both : slice_get (get_or (seen_of b.split).items k []) j ≡ slice_get (get_or (seen_of y).items k []) j = item_same program policy budget b.before b.rest p v b.split y b.there at' k j place.number place.placed s.0 s.1 in
-      ap (edges_if program plan logs xs p k j) (ap (λ (q : Seen). slice_get (get_or q.items k []) j) b.seen_is ∙ mine)
+      ap (λ o. (edges_if program plan logs xs p k j o).found) (ap (λ (q : Seen). slice_get (get_or q.items k []) j) b.seen_is ∙ mine)
       ∙ ap (λ z. Some z) (event_same s.0 s.1)
-      ∙ sym (ap (edges_if program plan logs all p k j) (ap (λ (q : Seen). slice_get (get_or q.items k []) j) fy.seen_is ∙ sym both ∙ mine))
+      ∙ sym (ap (λ o. (edges_if program plan logs all p k j o).found) (ap (λ (q : Seen). slice_get (get_or q.items k []) j) fy.seen_is ∙ sym both ∙ mine))

@@ -1,7 +1,7 @@
 -- The search for shared writes and pairs by the whole logs, over what processes have in their intervals after
 -- beginnings of the schedule: it finds what it finds over what they have at the end, where each edge before the place,
 -- and each that ends before its synchronization, had ended.
-use Rattle.std.proofs.Common.{◌≡◌, ℕ, ◌<◌, ◌≤◌, arith, Bool, true, false, List, [], ◌∷◌, ◌++◌, length, Option, Some, None, refl, ap, ap₂, sym, subst, ◌∙◌, inl, inr, ◌⊎◌, append_assoc, if◌then◌else◌}
+use Rattle.std.proofs.Common.{◌≡◌, ℕ, ◌<◌, ◌≤◌, arith, Bool, true, false, List, [], ◌∷◌, ◌++◌, length, Option, Some, None, Result, refl, ap, ap₂, sym, subst, ◌∙◌, inl, inr, ◌⊎◌, append_assoc, if◌then◌else◌}
 use Rattle.std.proofs.lemmas.Bool.{cases_lt, or_right}
 use Rattle.std.proofs.lemmas.List.Sums.{fold-append}
 use Rattle.std.proofs.lemmas.Option.{none-some}
@@ -20,6 +20,7 @@ use Rattle.ppd_graph.specs.Partners.{pairs_of}
 use Rattle.ppd_graph.specs.Times.{ArePartners, node_of, pair_at}
 use Rattle.ppd_graph.proofs.Leads.{partners_found}
 use Rattle.ppd_model.specs.declared.graph.EdgeId.{EdgeId}
+use Rattle.ppd_model.specs.declared.flow.Origin.{Origin}
 use Rattle.ppd_model.specs.declared.flow.Origin.TheVariants as origin
 use Rattle.ppd_model.specs.declared.tracing.Taken.{Taken}
 use Rattle.ppd_model.specs.FlowbackEdges.{part_at}
@@ -40,7 +41,10 @@ use Rattle.ppd_model.proofs.RecordedSyncs.{record_syncs}
 use Rattle.ppd_model.proofs.Tested.{In, here}
 use Rattle.ppd_flow_model.specs.Ends.{edge_at, end_interval, end_item}
 use Rattle.ppd_flow_model.specs.Seen.{Seen, seen_of}
-use Rattle.ppd_flow_model.specs.Shared.{greater, greatest, greatest_before, is_before_in, origin_in, own_or, pair_origin, pair_place, seen_at, shared_origin, written_at, written_or_start, writing}
+use Rattle.ppd_flow_model.specs.declared.walked.Walked.{Walked}
+use Rattle.ppd_flow_model.specs.declared.walked.Walked.TheVariants.{Stopped, Passed, Found}
+use Rattle.ppd_flow_model.specs.Looked.{Looked, look_map}
+use Rattle.ppd_flow_model.specs.Shared.{Missing, greater, greatest, greatest_before, is_before_in, origin_in, own_or, pair_origin, pair_place, seen_at, shared_origin, written_at, written_or_start, writing}
 use Rattle.ppd_flow_model.specs.Walk.{walk}
 use Rattle.law_flow_shared.proofs.Vocabulary.Events.{synchronizes}
 use Rattle.law_flow_shared.specs.Edges.SharedEdges.{all_seen}
@@ -142,7 +146,7 @@ module _ (program : Program) (policy : Policy) (budget : ℕ) (g rest : List ℕ
   -- where an edge ends, and the walk from there
   pub ends_same : (i : ℕ) → i < edge_in program plan budget g q
       → (end_item entries (seen_of x) i ≡ end_item entries (seen_of y) i)
-      × ((c : ℕ) → walk (seen_of x) c (end_interval entries i) (end_item entries (seen_of x) i) ≡ walk (seen_of y) c (end_interval entries i) (end_item entries (seen_of y) i))
+      × ((c : ℕ) → (walk (seen_of x) c (end_interval entries i) (end_item entries (seen_of x) i)).found ≡ (walk (seen_of y) c (end_interval entries i) (end_item entries (seen_of y) i)).found)
   ends_same i lt =
       let e : Ended i = ended i lt in
       let r : RecordsAccesses (story program plan budget (g ++ rest)) q entries = fy.records in
@@ -151,7 +155,7 @@ module _ (program : Program) (policy : Policy) (budget : ℕ) (g rest : List ℕ
       subst (λ z. part_at y (end_interval entries z) (end_item entries (seen_of y) z) ≡ Some (own e.number)) e.counted ends.there in
       let s = end_same program policy budget g rest q v x y at_g at entries i e.number there e.within in (
         s.0,
-        λ c. ap (walk (seen_of x) c (end_interval entries i)) s.0
+        λ c. ap (λ z. (walk (seen_of x) c (end_interval entries i) z).found) s.0
             ∙ sym (walk_same program policy budget g rest q v x y at_g at c (end_interval entries i) (end_item entries (seen_of y) i) e.number s.1 e.within),
       )
 
@@ -192,9 +196,8 @@ module _ (program : Program) (policy : Policy) (budget : ℕ) (h : List ℕ) (w 
   record EndsAlike (l : List ℕ) (q i : ℕ) (s : Seen) : Type 0 where
     pub item : end_item (get_or (closed_logs program (plan_of program policy) budget l).lists q []) s i
         ≡ end_item (get_or (closed_logs program (plan_of program policy) budget l).lists q []) (seen_at (all_seen program (plan_of program policy) budget l) q) i
-    pub walks : (c : ℕ) → walk s c (end_interval (get_or (closed_logs program (plan_of program policy) budget l).lists q []) i) (end_item (get_or (closed_logs program (plan_of program policy) budget l).lists q []) s i)
-        ≡ walk (seen_at (all_seen program (plan_of program policy) budget l) q) c (end_interval (get_or (closed_logs program (plan_of program policy) budget l).lists q []) i)
-        (end_item (get_or (closed_logs program (plan_of program policy) budget l).lists q []) (seen_at (all_seen program (plan_of program policy) budget l) q) i)
+    pub walks : (c : ℕ) → (walk s c (end_interval (get_or (closed_logs program (plan_of program policy) budget l).lists q []) i) (end_item (get_or (closed_logs program (plan_of program policy) budget l).lists q []) s i)).found
+        ≡ (walk (seen_at (all_seen program (plan_of program policy) budget l) q) c (end_interval (get_or (closed_logs program (plan_of program policy) budget l).lists q []) i) (end_item (get_or (closed_logs program (plan_of program policy) budget l).lists q []) (seen_at (all_seen program (plan_of program policy) budget l) q) i)).found
 
   ends_alike : (g rest : List ℕ) (q i : ℕ) (x : Split) → slice_get (splits program (plan_of program policy) budget (story program (plan_of program policy) budget g)) q ≡ Some x
       → i < edge_in program (plan_of program policy) budget g q → EndsAlike (g ++ rest) q i (seen_of x)
@@ -212,7 +215,7 @@ module _ (program : Program) (policy : Policy) (budget : ℕ) (h : List ℕ) (w 
       let es : List Entry = get_or (closed_logs program (plan_of program policy) budget (g ++ rest)).lists q [] in
       record {
         item = e.0 ∙ ap (λ z. end_item es z i) (sym f.seen_is);
-        walks = λ c. e.1 c ∙ ap (λ z. walk z c (end_interval es i) (end_item es z i)) (sym f.seen_is);
+        walks = λ c. e.1 c ∙ ap (λ z. (walk z c (end_interval es i) (end_item es z i)).found) (sym f.seen_is);
       }
 
   end_kept : (q i : ℕ) → HasEnded q i → EndsAlike h q i (seen_at xs q)
@@ -222,7 +225,7 @@ module _ (program : Program) (policy : Policy) (budget : ℕ) (h : List ℕ) (w 
   record PlaceAlike (l : List ℕ) (q k j : ℕ) (s : Seen) : Type 0 where
     pub edge : edge_at (get_or (closed_logs program (plan_of program policy) budget l).lists q []) s k j
         ≡ edge_at (get_or (closed_logs program (plan_of program policy) budget l).lists q []) (seen_at (all_seen program (plan_of program policy) budget l) q) k j
-    pub walks : (c : ℕ) → walk s c k j ≡ walk (seen_at (all_seen program (plan_of program policy) budget l) q) c k j
+    pub walks : (c : ℕ) → (walk s c k j).found ≡ (walk (seen_at (all_seen program (plan_of program policy) budget l) q) c k j).found
 
   place_alike : (g rest : List ℕ) (q k j n : ℕ) (x y : Split) → slice_get (splits program (plan_of program policy) budget (story program (plan_of program policy) budget g)) q ≡ Some x
       → slice_get (splits program (plan_of program policy) budget (story program (plan_of program policy) budget (g ++ rest))) q ≡ Some y
@@ -232,7 +235,7 @@ module _ (program : Program) (policy : Policy) (budget : ℕ) (h : List ℕ) (w 
       let es : List Entry = get_or (closed_logs program (plan_of program policy) budget (g ++ rest)).lists q [] in
       record {
         edge = edge_same program policy budget g rest q v x y at_g at es k j (own n) place ∙ ap (λ z. edge_at es z k j) (sym f.seen_is);
-        walks = λ c. sym (walk_same program policy budget g rest q v x y at_g at c k j n place lt) ∙ ap (λ z. walk z c k j) (sym f.seen_is);
+        walks = λ c. sym (walk_same program policy budget g rest q v x y at_g at c k j n place lt) ∙ ap (λ z. (walk z c k j).found) (sym f.seen_is);
       }
 
   place_kept : (q k j : ℕ) (y : Split) → slice_get (splits program (plan_of program policy) budget (story program (plan_of program policy) budget h)) q ≡ Some y → HasPlace q k j → PlaceAlike h q k j (seen_at xs q)
@@ -252,12 +255,19 @@ module _ (program : Program) (policy : Policy) (budget : ℕ) (h : List ℕ) (w 
 
     -- a shared read there is found to be written where the whole says
     pub shared_same : (c : ℕ) → ((q i : ℕ) → EdgeBefore program Rec (edge q i) (edge p here_in) → HasEnded q i)
-        → shared_origin program logs xs p k j c ≡ shared_origin program logs all p k j c
+        → (shared_origin program logs xs p k j c).found ≡ (shared_origin program logs all p k j c).found
     shared_same c keeps =
-        ap₂ (λ z i. own_or p z (origin_in (written_or_start program logs xs c (greatest_before program logs (edge p i) c)))) (alike.walks c) alike.edge
-        ∙ ap (λ z. own_or p (walk (seen_at all p) c k j) (origin_in z)) (by (greatest_before program logs (edge p here_in) c) refl)
+        ap₂ (λ z i. (own_or p z (look_map origin_in (written_or_start program logs xs c (greatest_before program logs (edge p i) c)))).found) (alike.walks c) alike.edge
+        ∙ own_same (walk (seen_at all p) c k j).found (look_map origin_in (written_or_start program logs xs c (greatest_before program logs (edge p here_in) c)))
+        (look_map origin_in (written_or_start program logs all c (greatest_before program logs (edge p here_in) c)))
+        (ap origin_in (by (greatest_before program logs (edge p here_in) c) refl))
       where
-        by : (o : Option EdgeId) → greatest_before program logs (edge p here_in) c ≡ o → written_or_start program logs xs c o ≡ written_or_start program logs all c o
+        own_same : (u : Walked) (r s : Looked (ℕ × ℕ) (Result Origin Missing)) → r.found ≡ s.found → (own_or p u r).found ≡ (own_or p u s).found
+        own_same (Found m i t) r s e = refl
+        own_same Stopped r s e = e
+        own_same Passed r s e = e
+
+        by : (o : Option EdgeId) → greatest_before program logs (edge p here_in) c ≡ o → (written_or_start program logs xs c o).found ≡ (written_or_start program logs all c o).found
         by None e = refl
         by (Some b) e =
             let m : In b (filter (λ a. is_before_in program logs a (edge p here_in)) (writing logs c)) =
@@ -270,12 +280,12 @@ module _ (program : Program) (policy : Policy) (budget : ℕ) (h : List ℕ) (w 
     partners = partners_found program Rec (λ a b s e f. (are_counted program (plan_of program policy) budget h).once a b s e f)
 
     -- and so is the pair of a synchronization there
-    pub pair_same : ((q i : ℕ) → Before program Rec (node q i) (node p here_in) → HasEnded q i) → pair_origin program logs xs p k j ≡ pair_origin program logs all p k j
+    pub pair_same : ((q i : ℕ) → Before program Rec (node q i) (node p here_in) → HasEnded q i) → (pair_origin program logs xs p k j).found ≡ (pair_origin program logs all p k j).found
     pair_same keeps =
-        ap (λ i. pair_place logs xs (pair_at (pairs_of program (record_in logs)) (node p i))) alike.edge
+        ap (λ i. (pair_place logs xs (pair_at (pairs_of program (record_in logs)) (node p i))).found) alike.edge
         ∙ by (pair_at (pairs_of program (record_in logs)) (node p here_in)) refl
       where
-        by : (o : Paired) → pair_at (pairs_of program (record_in logs)) (node p here_in) ≡ o → pair_place logs xs o ≡ pair_place logs all o
+        by : (o : Paired) → pair_at (pairs_of program (record_in logs)) (node p here_in) ≡ o → (pair_place logs xs o).found ≡ (pair_place logs all o).found
         by Nothing e = refl
         by Initial e = refl
         by (Node b) e =

@@ -80,7 +80,7 @@ module _ (program : Program) (plan : Plan) (budget : ℕ) (h : List ℕ) (w : Wo
         subst (λ l. IsCleanAt program plan budget at.sooner l p) at.schedule_is (subst (λ e. IsClear e) (sym edge_is) clear)
 
     pub clean_origin : IsClear (edge_of_event read.split read.number)
-        → shared_origin program (closed_logs program plan budget h) (all_seen program plan budget h) p k j c ≡ Ok (option_map_or (ref (splits program plan budget s)) tag origin.Initial)
+        → (shared_origin program (closed_logs program plan budget h) (all_seen program plan budget h) p k j c).found ≡ Ok (option_map_or (ref (splits program plan budget s)) tag origin.Initial)
     clean_origin clear =
         let m = steps_access program plan budget at.sooner p at.later c false at.needs in
         let lt : c < length program.starts = accesses_there program plan budget (at.sooner ++ p ∷ at.later) p m.0 (record { edge = edge_in program plan budget at.sooner p; cell = c; writes = false }) v m.1 in
@@ -97,7 +97,7 @@ pub clean_edges_found : (program : Program) (policy : Policy) (budget : ℕ) (h 
     → p < length (story program (plan_of program policy) budget h).steps
     → (lies (get_or (closed_logs program (plan_of program policy) budget h).lists p []) x part).edge ≤ length (filter_map sync_of (get_or (story program (plan_of program policy) budget h).steps p []))
     → is_clean program (story program (plan_of program policy) budget h) p (lies (get_or (closed_logs program (plan_of program policy) budget h).lists p []) x part) ≡ true
-    → found_edges program (plan_of program policy) (closed_logs program (plan_of program policy) budget h) (all_seen program (plan_of program policy) budget h) p k j
+    → (found_edges program (plan_of program policy) (closed_logs program (plan_of program policy) budget h) (all_seen program (plan_of program policy) budget h) p k j).found
     ≡ option_map (λ es. Ok es) (edges program (plan_of program policy) budget (story program (plan_of program policy) budget h) p k j)
 clean_edges_found program policy budget h w p k j x part v r there place lt le clean =
     all_edges program (plan_of program policy) budget h v p k j x there (own_parts program policy budget h p k j x v there)

@@ -117,7 +117,7 @@ module _ (program : Program) (policy : Policy) (budget : ℕ) (g rest : List ℕ
     parts : HasOwnParts program plan whole y p k j
     parts = own_parts program policy budget (g ++ rest) p k j y v at
 
-    pub inside_same : edges_of_nested program plan (seen_of x) p k j m i.block i.values (block_kind plan i.block) ≡ edges_of_nested program plan (seen_of y) p k j m i.block i.values (block_kind plan i.block)
+    pub inside_same : (edges_of_nested program plan (seen_of x) p k j m i.block i.values (block_kind plan i.block)).found ≡ (edges_of_nested program plan (seen_of y) p k j m i.block i.values (block_kind plan i.block)).found
     inside_same = parts_g.inside m i place is ∙ model_same m i is ∙ sym (parts.inside m i place' is')
 
     pub here_is : slice_get (get_or (seen_of x).items k []) j ≡ Some (item.Nested m i.block i.values (is_some i.closed))
@@ -131,14 +131,14 @@ pub inside_edges_same : (program : Program) (policy : Policy) (budget : ℕ) (h 
     (r : run program (plan_of program policy) budget h ≡ Some w) (xs : List Seen) (p k j : ℕ) (y : Split)
     → slice_get (splits program (plan_of program policy) budget (story program (plan_of program policy) budget h)) p ≡ Some y
     → (b : IsBegun program policy budget h w v r xs p) (m : ℕ) (i : Span) → part_at b.split k j ≡ Some (nested m) → slice_get b.split.spans m ≡ Some i → is_some i.closed ≡ true
-    → found_edges program (plan_of program policy) (closed_logs program (plan_of program policy) budget h) xs p k j
-    ≡ found_edges program (plan_of program policy) (closed_logs program (plan_of program policy) budget h) (all_seen program (plan_of program policy) budget h) p k j
+    → (found_edges program (plan_of program policy) (closed_logs program (plan_of program policy) budget h) xs p k j).found
+    ≡ (found_edges program (plan_of program policy) (closed_logs program (plan_of program policy) budget h) (all_seen program (plan_of program policy) budget h) p k j).found
 inside_edges_same program policy budget h w v r xs p k j y at b m i place is closed =
-    ap (edges_if program plan logs xs p k j) (ap (λ (q : Seen). slice_get (get_or q.items k []) j) b.seen_is ∙ here_is program policy budget b.before b.rest p v b.split y b.there at' k j m i place is closed)
-    ∙ ap (λ q. Some (Ok (edges_of_nested program plan q p k j m i.block i.values (block_kind plan i.block)))) b.seen_is
+    ap (λ o. (edges_if program plan logs xs p k j o).found) (ap (λ (q : Seen). slice_get (get_or q.items k []) j) b.seen_is ∙ here_is program policy budget b.before b.rest p v b.split y b.there at' k j m i place is closed)
+    ∙ ap (λ q. Some (Ok (edges_of_nested program plan q p k j m i.block i.values (block_kind plan i.block)).found)) b.seen_is
     ∙ ap (λ es. Some (Ok es)) (inside_same program policy budget b.before b.rest p v b.split y b.there at' k j m i place is closed)
-    ∙ ap (λ q. Some (Ok (edges_of_nested program plan q p k j m i.block i.values (block_kind plan i.block)))) (sym fy.seen_is)
-    ∙ sym (ap (edges_if program plan logs all p k j) (ap (λ (q : Seen). slice_get (get_or q.items k []) j) fy.seen_is ∙ there_is program policy budget b.before b.rest p v b.split y b.there at' k j m i place is closed))
+    ∙ ap (λ q. Some (Ok (edges_of_nested program plan q p k j m i.block i.values (block_kind plan i.block)).found)) (sym fy.seen_is)
+    ∙ sym (ap (λ o. (edges_if program plan logs all p k j o).found) (ap (λ (q : Seen). slice_get (get_or q.items k []) j) fy.seen_is ∙ there_is program policy budget b.before b.rest p v b.split y b.there at' k j m i place is closed))
   where
     plan : Plan
     plan = plan_of program policy

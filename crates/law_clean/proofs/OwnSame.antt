@@ -120,19 +120,19 @@ module _ (program : Program) (policy : Policy) (budget : ℕ) (g rest : List ℕ
 
   -- a local read
   pub local_same : (i frame c : ℕ) (a : Access) (w : Tag) → slice_get (zip e.event.reads e.writers) i ≡ Some (a, w) → a.spot ≡ Local frame c
-      → local_origin program plan (seen_of x) p k j frame c ≡ local_origin program plan (seen_of y) p k j frame c
+      → (local_origin program plan (seen_of x) p k j frame c).found ≡ (local_origin program plan (seen_of y) p k j frame c).found
   local_same i frame c a w z spot =
       let early : IsEarlier p n w = subst (λ s. IsEarlierAt p n s w) spot (tag_at p n e.event.reads e.writers i a w names.writers z) in
       parts_g.locals n i frame c e a w place is z spot ∙ kept w early
       ∙ sym (parts.locals n i frame c f a w place' later.1 (ap (λ (t : TracedEvent). slice_get (zip t.event.reads t.writers) i) later.2 ∙ z) spot)
 
   -- control
-  pub control_same : control_origin program plan (seen_of x) p k j e.event.stmt ≡ control_origin program plan (seen_of y) p k j e.event.stmt
+  pub control_same : (control_origin program plan (seen_of x) p k j e.event.stmt).found ≡ (control_origin program plan (seen_of y) p k j e.event.stmt).found
   control_same =
       parts_g.control n e place is ∙ parents e.parent names.parent
       ∙ ap (λ o. option_map_or (ref whole) o origin.Entry) (sym (ap (λ (t : TracedEvent). t.parent) later.2))
       ∙ sym (parts.control n f place' later.1)
-      ∙ ap (λ (t : TracedEvent). control_origin program plan (seen_of y) p k j t.event.stmt) later.2
+      ∙ ap (λ (t : TracedEvent). (control_origin program plan (seen_of y) p k j t.event.stmt).found) later.2
     where
       parents : (w : Tag) → IsEarlier p n w → option_map_or (ref now) w origin.Entry ≡ option_map_or (ref whole) w origin.Entry
       parents None h = refl

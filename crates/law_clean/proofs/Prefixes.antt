@@ -186,7 +186,7 @@ module _ (program : Program) (policy : Policy) (budget : ℕ) (g rest : List ℕ
             begins_sync entries i (first_edge entries (end_interval entries i)) (get_or (seen_of x).items (end_interval entries i) []) (get_or (seen_of y).items (end_interval entries i) []) (begins (end_interval entries i) s there) (omega (arith, less, all))
 
   -- the walk from a place
-  pub walk_same : (c k j n : ℕ) → part_at x k j ≡ Some (own n) → n < length x.trace.events → walk (seen_of y) c k j ≡ walk (seen_of x) c k j
+  pub walk_same : (c k j n : ℕ) → part_at x k j ≡ Some (own n) → n < length x.trace.events → (walk (seen_of y) c k j).found ≡ (walk (seen_of x) c k j).found
   walk_same c k j n e lt =
       let fx : Facts program plan budget g v p x = facts program plan budget g v p x at_g in
       let fy : Facts program plan budget (g ++ rest) v p y = facts program plan budget (g ++ rest) v p y at in
@@ -195,4 +195,4 @@ module _ (program : Program) (policy : Policy) (budget : ℕ) (g rest : List ℕ
       let ax : IsAt x (get_or (closed_logs program plan budget g).lists p []) n k j = at_place x (get_or (closed_logs program plan budget g).lists p []) fx.told_by k j n e lt in
       let ay : IsAt y (get_or (closed_logs program plan budget (g ++ rest)).lists p []) n k j =
       at_place y (get_or (closed_logs program plan budget (g ++ rest)).lists p []) fy.told_by k j n (part_kept program policy budget g rest p v x y at_g at k j (own n) e) (slice_get_below y.trace.events n kept.0 kept.1) in
-      walk_equal program policy budget g rest p v x y at_g at c n (omega (arith, lt)) (walk (seen_of x) c k j) (walk (seen_of y) c k j) (ax.walks c) (ay.walks c)
+      walk_equal program policy budget g rest p v x y at_g at c n (omega (arith, lt)) (walk (seen_of x) c k j).found (walk (seen_of y) c k j).found (ax.walks c) (ay.walks c)

@@ -16,6 +16,7 @@ use Rattle.ppd_model.specs.Story.{story}
 use Rattle.ppd_model.proofs.Items.{items_whole}
 use Rattle.ppd_flow_model.specs.declared.walked.Walked.{Walked}
 use Rattle.ppd_flow_model.specs.declared.walked.Walked.TheVariants.{Stopped, Passed, Found}
+use Rattle.ppd_flow_model.specs.Looked.{Looked}
 use Rattle.ppd_flow_model.specs.Shared.{Missing, own_or}
 use Rattle.law_flow_shared.proofs.Vocabulary.Events.{AreQuiet, IsLastSync, IsLastWriter, IsQuiet, IsWalk, synchronizes, written_by}
 use Rattle.law_flow_shared.proofs.Edges.Back.Walked.{IsFoundAt, found_is, not_found}
@@ -77,8 +78,8 @@ module _ (program : Program) (policy : Policy) (budget : ℕ) (g rest : List ℕ
             slice_get_below y.trace.events m f.0 f.1
 
     -- the search goes on, or finds, as before
-    pub walk_kept : (w w' : Walked) (r : Result Origin Missing) → IsWalk x c 0 n w → IsWalk y c 0 n w' → own_or p w' r ≡ own_or p w r
-    walk_kept (Found k i u) w' r h h' = ap (λ z. own_or p z r) (found_kept k i u w' h h')
+    pub walk_kept : (w w' : Walked) (r : Looked (ℕ × ℕ) (Result Origin Missing)) → IsWalk x c 0 n w → IsWalk y c 0 n w' → (own_or p w' r).found ≡ (own_or p w r).found
+    walk_kept (Found k i u) w' r h h' = ap (λ z. (own_or p z r).found) (found_kept k i u w' h h')
     walk_kept Passed w' r h h' = not_found y c n p w' r h' (λ m u l. no_passed (found_is x c n m u (writer_kept y.trace.events x.trace.events n there c 0 m u l) Passed h).is)
       where
         no_passed : {k i : ℕ} {u : ℤ} → Passed ≡ Found k i u → ⊥

@@ -65,8 +65,8 @@ CleanEdgesAreFound =
     ≤ length (filter_map sync_of (get_or (story program (plan_of program policy) budget h).steps p []))
     → is_clean program (story program (plan_of program policy) budget h) p
     (lies (get_or (closed_logs program (plan_of program policy) budget h).lists p []) x part) ≡ true
-    → found_edges program (plan_of program policy) (closed_logs program (plan_of program policy) budget h)
-    (all_seen program (plan_of program policy) budget h) p k j
+    → (found_edges program (plan_of program policy) (closed_logs program (plan_of program policy) budget h)
+    (all_seen program (plan_of program policy) budget h) p k j).found
     ≡ option_map (λ es. Ok es)
     (edges program (plan_of program policy) budget (story program (plan_of program policy) budget h) p k j)
 

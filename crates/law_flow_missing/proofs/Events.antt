@@ -11,8 +11,9 @@ use Rattle.ppd_model.specs.declared.flow.Item.{Item}
 use Rattle.ppd_model.specs.declared.flow.Item.TheVariants as item
 use Rattle.ppd_flow_model.specs.declared.walked.Walked.{Walked}
 use Rattle.ppd_flow_model.specs.declared.walked.Walked.TheVariants.{Stopped, Passed, Found}
+use Rattle.ppd_flow_model.specs.Looked.{Looked, after_replay}
 use Rattle.ppd_flow_model.specs.Seen.{Seen, place_of}
-use Rattle.ppd_flow_model.specs.Walk.{back, back_from, back_over, backwards, found_or, inside, is_shared, onward, over_event, value_to, walk, walk_out}
+use Rattle.ppd_flow_model.specs.Walk.{back, back_from, back_over, backwards, found_if, inside, is_shared, or_rest, over_event, value_to, walk, walk_out}
 use Rattle.law_flow_missing.specs.Missing.{events_among, events_in, events_to}
 
 or_none : (a b : Bool) → (a || b) ≡ false → (a ≡ false) × (b ≡ false)
@@ -98,84 +99,79 @@ module _ (c : ℕ) where
   earlier f es fs h = list_any-append f es fs ∙ ap (λ a. a || list_any f fs) h
 
   -- of these events and then of those
-  tells_both : (es fs : List Event) (u w : Walked) → Tells es u → Tells fs w → Tells (es ++ fs) (onward w u)
-  tells_both es fs u (Found k i v) t s = tt
-  tells_both es fs u Stopped t s = (
+  tells_both : (es fs : List Event) (rest : Looked ℕ Walked) (w : Walked) → Tells es rest.found → Tells fs w
+      → Tells (es ++ fs) (or_rest w rest).found
+  tells_both es fs rest (Found k i v) t s = tt
+  tells_both es fs rest Stopped t s = (
     later is_sync es fs s.0,
     ap any_write (fold-append after_event [] es fs ∙ a_sync (since_sync es) fs s.0) ∙ s.1,
   )
-  tells_both es fs (Found k i v) Passed t s = tt
-  tells_both es fs Stopped Passed t s = (
-    earlier is_sync es fs t.0,
-    ap any_write (fold-append after_event [] es fs ∙ no_sync (since_sync es) fs s.0)
-        ∙ neither _ (since_sync es) fs t.1 s.1,
-  )
-  tells_both es fs Passed Passed t s = (neither is_sync es fs t.0 s.0, neither _ es fs t.1 s.1)
+  tells_both es fs rest Passed t s = by rest.found t
+    where
+      by : (u : Walked) → Tells es u → Tells (es ++ fs) u
+      by (Found k i v) t' = tt
+      by Stopped t' = (
+        earlier is_sync es fs t'.0,
+        ap any_write (fold-append after_event [] es fs ∙ no_sync (since_sync es) fs s.0)
+            ∙ neither _ (since_sync es) fs t'.1 s.1,
+      )
+      by Passed t' = (neither is_sync es fs t'.0 s.0, neither _ es fs t'.1 s.1)
 
   -- of one event more
-  one_event : (k i : ℕ) (e : Event) → Tells (e ∷ []) (over_event c k i e Passed)
+  one_event : (k i : ℕ) (e : Event) → Tells (e ∷ []) (over_event c k i e)
   one_event k i e = by (is_sync e) refl
     where
-      wrote : (o : Option ℤ) → value_to c e.writes ≡ o → is_sync e ≡ false → Tells (e ∷ []) (found_or k i o Passed)
+      wrote : (o : Option ℤ) → value_to c e.writes ≡ o → is_sync e ≡ false → Tells (e ∷ []) (found_if k i o)
       wrote None h s = (ap (λ b. b || false) s, ap (λ b. b || false) (unwritten e.writes h))
       wrote (Some v) h s = tt
 
       by : (b : Bool) → is_sync e ≡ b
-          → Tells (e ∷ []) (if b then Stopped else found_or k i (value_to c e.writes) Passed)
+          → Tells (e ∷ []) (if b then Stopped else found_if k i (value_to c e.writes))
       by true s =
           (ap (λ b. b || false) s, ap (λ b. any_write (if b then [] else e ∷ [])) s)
       by false s = wrote (value_to c e.writes) refl s
 
-  event_onward : (k i : ℕ) (e : Event) (rest : Walked)
-      → over_event c k i e rest ≡ onward (over_event c k i e Passed) rest
-  event_onward k i e rest = by (is_sync e) (value_to c e.writes)
-    where
-      by : (b : Bool) (o : Option ℤ) → (if b then Stopped else found_or k i o rest)
-          ≡ onward (if b then Stopped else found_or k i o Passed) rest
-      by true o = refl
-      by false None = refl
-      by false (Some v) = refl
-
   -- ---- over items
 
-  module _ (inner : ℕ → Walked) (events : ℕ → List Event) (told : (m : ℕ) → Tells (events m) (inner m)) where
+  module _ (inner : ℕ → Looked ℕ Walked) (events : ℕ → List Event)
+      (told : (m : ℕ) → Tells (events m) (inner m).found) where
     over : (k i : ℕ) (ts : List Item) (before : List (ℕ × Item)) (es : List Event)
-        → Tells es (back_over inner c k before)
-        → Tells (es ++ events_among events ts) (back_over inner c k (backwards i ts before))
-    over k i [] before es t = subst (λ fs. Tells fs (back_over inner c k before)) (sym (append-nil es)) t
+        → Tells es (back_over inner c k before).found
+        → Tells (es ++ events_among events ts) (back_over inner c k (backwards i ts before)).found
+    over k i [] before es t = subst (λ fs. Tells fs (back_over inner c k before).found) (sym (append-nil es)) t
     over k i (item.Own e ∷ ts) before es t =
-        subst (λ fs. Tells fs (back_over inner c k (backwards (i + 1) ts ((i, item.Own e) ∷ before))))
+        subst (λ fs. Tells fs (back_over inner c k (backwards (i + 1) ts ((i, item.Own e) ∷ before))).found)
         (append_assoc es (e ∷ []) (events_among events ts))
         (over k (i + 1) ts ((i, item.Own e) ∷ before) (es ++ e ∷ [])
-        (subst (Tells (es ++ e ∷ [])) (sym (event_onward k i e (back_over inner c k before)))
-        (tells_both es (e ∷ []) (back_over inner c k before) (over_event c k i e Passed) t (one_event k i e))))
+        (tells_both es (e ∷ []) (back_over inner c k before) (over_event c k i e) t (one_event k i e)))
     over k i (item.Nested m b values closed ∷ ts) before es t =
-        subst (λ fs. Tells fs (back_over inner c k (backwards (i + 1) ts ((i, item.Nested m b values closed) ∷ before))))
+        subst (λ fs. Tells fs
+        (back_over inner c k (backwards (i + 1) ts ((i, item.Nested m b values closed) ∷ before))).found)
         (append_assoc es (events m) (events_among events ts))
         (over k (i + 1) ts ((i, item.Nested m b values closed) ∷ before) (es ++ events m)
-        (tells_both es (events m) (back_over inner c k before) (inner m) t (told m)))
+        (tells_both es (events m) (back_over inner c k before) (inner m).found t (told m)))
 
-    over_all : (k : ℕ) (ts : List Item) → Tells (events_among events ts) (back_over inner c k (backwards 0 ts []))
+    over_all : (k : ℕ) (ts : List Item) → Tells (events_among events ts) (back_over inner c k (backwards 0 ts [])).found
     over_all k ts = over k 0 ts [] [] (refl, refl)
 
   module _ (x : Seen) where
-    over_inside : (n m : ℕ) → Tells (events_in n x m) (back n x c m)
+    over_inside : (n m : ℕ) → Tells (events_in n x m) (back n x c m).found
     over_inside zero m = (refl, refl)
     over_inside (suc n) m = over_all (back n x c) (events_in n x) (over_inside n) m (get_or x.items m [])
 
-    over_out : (k j : ℕ) (ms : List ℕ) → Tells (events_to x k j ms) (walk_out (inside x c) x c k j ms)
+    over_out : (k j : ℕ) (ms : List ℕ) → Tells (events_to x k j ms) (walk_out (inside x c) x c k j ms).found
     over_out k j [] =
         over_all (inside x c) (events_in (length x.items) x) (over_inside (length x.items)) k (take j (get_or x.items k []))
     over_out k j (m ∷ ms) =
         tells_both (events_to x m (place_of k (get_or x.items m [])) ms)
         (events_among (events_in (length x.items) x) (take j (get_or x.items k [])))
-        (walk_out (inside x c) x c m (place_of k (get_or x.items m [])) ms)
-        (back_over (inside x c) c k (back_from j (get_or x.items k [])))
+        (after_replay m (walk_out (inside x c) x c m (place_of k (get_or x.items m [])) ms))
+        (back_over (inside x c) c k (back_from j (get_or x.items k []))).found
         (over_out m (place_of k (get_or x.items m [])) ms)
         (over_all (inside x c) (events_in (length x.items) x) (over_inside (length x.items)) k
         (take j (get_or x.items k [])))
 
-    pub walk_tells : (k j : ℕ) → Tells (events_before x k j) (walk x c k j)
+    pub walk_tells : (k j : ℕ) → Tells (events_before x k j) (walk x c k j).found
     walk_tells k j = over_out k j (get_or x.rounds k [])
 
   -- a walk that finds no write

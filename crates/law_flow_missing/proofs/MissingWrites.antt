@@ -7,7 +7,8 @@ use Rattle.ppd_ast.specs.declared.plan.Plan.{Plan}
 use Rattle.ppd_ast.specs.declared.program.Program.{Program}
 use Rattle.ppd_entry.specs.declared.entry.Logs.{Logs}
 use Rattle.ppd_flow_model.specs.Ends.{end_interval, end_item}
-use Rattle.ppd_flow_model.specs.Found.{and_more, before_others, edges_if, item_edges, read_edge, read_edges, read_if}
+use Rattle.ppd_flow_model.specs.Found.{and_more, before_others, edges_if, item_edges, last_edges, read_edge, read_edges, read_if, with_edge}
+use Rattle.ppd_flow_model.specs.Looked.{Looked, look_map}
 use Rattle.ppd_flow_model.specs.Seen.{Seen}
 use Rattle.ppd_flow_model.specs.Shared.{Missing, edge_of_place, greater, greatest_before, greatest_writing, is_before_in, missing, origin_in, own_or, seen_at, shared_origin, walk_in, writing, writing_from, writing_in, written_at, written_or_start}
 use Rattle.ppd_flow_model.specs.Walk.{walk}
@@ -108,7 +109,7 @@ module _ (program : Program) (plan : Plan) (logs : Logs) (xs : List Seen)
   sets = edge_sets_in logs
 
   -- the walk over the edge found no write
-  of_edge : (c : ℕ) (a : EdgeId) → Writes c sets a → is_found c (walk_in logs xs c a) ≡ false
+  of_edge : (c : ℕ) (a : EdgeId) → Writes c sets a → is_found c (walk_in logs xs c a).found ≡ false
       → IsMissingWrite logs xs (missing logs c a)
   of_edge c a h f =
       let x = seen_at xs a.process in
@@ -121,11 +122,11 @@ module _ (program : Program) (plan : Plan) (logs : Logs) (xs : List Seen)
         ends = e.ends;
         recorded = e.writes;
         unwritten = subst (λ i. any_write c (events_of xs es (edge a.process i)) ≡ false) (sym e.before)
-            (none_written c (events_before x (end_interval es a.edge) (end_item es x a.edge)) (walk_in logs xs c a) f
+            (none_written c (events_before x (end_interval es a.edge) (end_item es x a.edge)) (walk_in logs xs c a).found f
             (walk_tells c x (end_interval es a.edge) (end_item es x a.edge)));
       }
 
-  at_walk : (c : ℕ) (a : EdgeId) (w : Walked) (m : Missing) → Writes c sets a → walk_in logs xs c a ≡ w
+  at_walk : (c : ℕ) (a : EdgeId) (w : Walked) (m : Missing) → Writes c sets a → (walk_in logs xs c a).found ≡ w
       → written_at logs c a w ≡ Err m → IsMissingWrite logs xs m
   at_walk c a (Found k i v) m h w e = absurd (cc e)
   at_walk c a Stopped m h w e =
@@ -134,11 +135,11 @@ module _ (program : Program) (plan : Plan) (logs : Logs) (xs : List Seen)
       let is : missing logs c a ≡ m = cc e in subst (IsMissingWrite logs xs) is (of_edge c a h (ap (is_found c) w))
 
   at_best : (c : ℕ) (best : Option EdgeId) (m : Missing) → If (Writes c sets) best
-      → written_or_start program logs xs c best ≡ Err m → IsMissingWrite logs xs m
+      → (written_or_start program logs xs c best).found ≡ Err m → IsMissingWrite logs xs m
   at_best c None m h e = absurd (cc e)
-  at_best c (Some a) m h e = at_walk c a (walk_in logs xs c a) m h refl e
+  at_best c (Some a) m h e = at_walk c a (walk_in logs xs c a).found m h refl e
 
-  last_missing : (c : ℕ) (m : Missing) → written_or_start program logs xs c (greatest_writing program logs c)
+  last_missing : (c : ℕ) (m : Missing) → (written_or_start program logs xs c (greatest_writing program logs c)).found
       ≡ Err m → IsMissingWrite logs xs m
   last_missing c m e =
       at_best c (greatest_writing program logs c) m
@@ -148,12 +149,13 @@ module _ (program : Program) (plan : Plan) (logs : Logs) (xs : List Seen)
   without_value (Ok w) m e = absurd (cc e)
   without_value (Err n) m e = let is : n ≡ m = cc e in ap (λ u. Err u) is
 
-  not_own : (p : ℕ) (w : Walked) (r : Result Origin Missing) (m : Missing) → own_or p w r ≡ Err m → r ≡ Err m
+  not_own : (p : ℕ) (w : Walked) (r : Looked (ℕ × ℕ) (Result Origin Missing)) (m : Missing)
+      → (own_or p w r).found ≡ Err m → r.found ≡ Err m
   not_own p (Found k i v) r m e = absurd (cc e)
   not_own p Stopped r m e = e
   not_own p Passed r m e = e
 
-  origin_missing : (p k j c : ℕ) (m : Missing) → shared_origin program logs xs p k j c ≡ Err m → IsMissingWrite logs xs m
+  origin_missing : (p k j c : ℕ) (m : Missing) → (shared_origin program logs xs p k j c).found ≡ Err m → IsMissingWrite logs xs m
   origin_missing p k j c m e =
       let best = greatest_before program logs (edge_of_place logs xs p k j) c in
       at_best c best m
@@ -161,47 +163,51 @@ module _ (program : Program) (plan : Plan) (logs : Logs) (xs : List Seen)
       (filter (λ a. is_before_in program logs a (edge_of_place logs xs p k j)) (writing logs c)) tt
       (each_kept (Writes c sets) (λ a. is_before_in program logs a (edge_of_place logs xs p k j)) (writing logs c)
       (all_write c sets)))
-      (without_value (written_or_start program logs xs c best) m
-      (not_own p (walk (seen_at xs p) c k j) (origin_in (written_or_start program logs xs c best)) m e))
+      (without_value (written_or_start program logs xs c best).found m
+      (not_own p (walk (seen_at xs p) c k j).found (look_map origin_in (written_or_start program logs xs c best)) m e))
 
   -- ---- the edges of an item
 
   module _ (p k j : ℕ) where
-    of_read : (a : Access) (s : Spot) (m : Missing) → read_edge program plan logs xs p k j a s ≡ Err m
+    of_read : (a : Access) (s : Spot) (m : Missing) → (read_edge program plan logs xs p k j a s).found ≡ Err m
         → IsMissingWrite logs xs m
     of_read a (Local frame c) m e = absurd (cc e)
-    of_read a (Shared c) m e = origin_missing p k j c m (by (shared_origin program logs xs p k j c) e)
+    of_read a (Shared c) m e = origin_missing p k j c m (by (shared_origin program logs xs p k j c).found e)
       where
         by : (r : Result Origin Missing) → read_if a r ≡ Err m → r ≡ Err m
         by (Ok from) f = absurd (cc f)
         by (Err n) f = let is : n ≡ m = cc f in ap (λ u. Err u) is
 
-    of_reads : (reads : List Access) (m : Missing) → read_edges program plan logs xs p k j reads ≡ Err m
+    of_reads : (reads : List Access) (m : Missing) → (read_edges program plan logs xs p k j reads).found ≡ Err m
         → IsMissingWrite logs xs m
     of_reads [] m e = absurd (cc e)
     of_reads (a ∷ reads) m e =
-        by (read_edge program plan logs xs p k j a a.spot) (read_edges program plan logs xs p k j reads)
+        by (read_edge program plan logs xs p k j a a.spot).found (read_edges program plan logs xs p k j reads)
         (of_read a a.spot m) (of_reads reads m) e
       where
-        by : (r : Result FlowEdge Missing) (rs : Result (List FlowEdge) Missing) → (r ≡ Err m → IsMissingWrite logs xs m)
-            → (rs ≡ Err m → IsMissingWrite logs xs m) → before_others r rs ≡ Err m → IsMissingWrite logs xs m
-        by (Ok x) (Ok ys) f g h = absurd (cc h)
-        by (Ok x) (Err n) f g h = let is : n ≡ m = cc h in g (ap (λ u. Err u) is)
+        others : (x : FlowEdge) (rs : Result (List FlowEdge) Missing) → with_edge x rs ≡ Err m → rs ≡ Err m
+        others x (Ok ys) h = absurd (cc h)
+        others x (Err n) h = let is : n ≡ m = cc h in ap (λ u. Err u) is
+
+        by : (r : Result FlowEdge Missing) (rs : Looked (ℕ × ℕ) (Result (List FlowEdge) Missing))
+            → (r ≡ Err m → IsMissingWrite logs xs m) → (rs.found ≡ Err m → IsMissingWrite logs xs m)
+            → (before_others r rs).found ≡ Err m → IsMissingWrite logs xs m
+        by (Ok x) rs f g h = g (others x rs.found h)
         by (Err n) rs f g h = let is : n ≡ m = cc h in f (ap (λ u. Err u) is)
 
-    with_more : (r : Result (List FlowEdge) Missing) (more : List FlowEdge) (m : Missing) → and_more r more ≡ Err m
-        → r ≡ Err m
+    with_more : (r : Result (List FlowEdge) Missing) (more : Looked (ℕ × ℕ) (List FlowEdge)) (m : Missing)
+        → (and_more r more).found ≡ Err m → r ≡ Err m
     with_more (Ok es) more m e = absurd (cc e)
     with_more (Err n) more m e = let is : n ≡ m = cc e in ap (λ u. Err u) is
 
-    of_item : (t : Item) (m : Missing) → item_edges program plan logs xs p k j t ≡ Err m → IsMissingWrite logs xs m
-    of_item (item.Own ev) m e = of_reads ev.reads m (with_more (read_edges program plan logs xs p k j ev.reads) _ m e)
+    of_item : (t : Item) (m : Missing) → (item_edges program plan logs xs p k j t).found ≡ Err m → IsMissingWrite logs xs m
+    of_item (item.Own ev) m e = of_reads ev.reads m (with_more (read_edges program plan logs xs p k j ev.reads).found (last_edges program plan logs xs p k j ev) m e)
     of_item (item.Nested n b values closed) m e = absurd (cc e)
 
-    of_there : (t : Option Item) (m : Missing) → edges_if program plan logs xs p k j t ≡ Some (Err m)
+    of_there : (t : Option Item) (m : Missing) → (edges_if program plan logs xs p k j t).found ≡ Some (Err m)
         → IsMissingWrite logs xs m
     of_there None m e = absurd (cc e)
-    of_there (Some t) m e = let is : item_edges program plan logs xs p k j t ≡ Err m = cc e in of_item t m is
+    of_there (Some t) m e = let is : (item_edges program plan logs xs p k j t).found ≡ Err m = cc e in of_item t m is
 
 pub missing_writes_are_told : MissingWritesAreTold
 missing_writes_are_told program plan logs xs accepted = record {

@@ -76,9 +76,10 @@ pub record IsMissingWrite (logs : Logs) (xs : List Seen) (m : Missing) : Type 0 
 
 -- so it is with each write that a search misses
 pub record AreMissingWrites (program : Program) (plan : Plan) (logs : Logs) (xs : List Seen) : Type 0 where
-  pub origins : (p k j c : ℕ) (m : Missing) → shared_origin program logs xs p k j c ≡ Err m → IsMissingWrite logs xs m
-  pub last : (c : ℕ) (m : Missing) → found_last program logs xs c ≡ Err m → IsMissingWrite logs xs m
-  pub edges : (p k j : ℕ) (m : Missing) → found_edges program plan logs xs p k j ≡ Some (Err m)
+  pub origins : (p k j c : ℕ) (m : Missing) → (shared_origin program logs xs p k j c).found ≡ Err m
+      → IsMissingWrite logs xs m
+  pub last : (c : ℕ) (m : Missing) → (found_last program logs xs c).found ≡ Err m → IsMissingWrite logs xs m
+  pub edges : (p k j : ℕ) (m : Missing) → (found_edges program plan logs xs p k j).found ≡ Some (Err m)
       → IsMissingWrite logs xs m
 
 -- the index refuses none of these logs

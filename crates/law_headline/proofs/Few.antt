@@ -10,10 +10,10 @@ use Rattle.law_flow_shared.specs.Costs.Bounds.{EdgesCostLittle, LastCostsLittle,
 use Rattle.law_flow_shared.specs.Edges.Assembled.{EdgesAreFound}
 use Rattle.law_flow_shared.specs.Edges.SharedEdges.{LastWritesAreFound, all_seen}
 use Rattle.ppd_session.specs.Answers.{answer_if}
-use Rattle.ppd_flow_model.specs.Found.{edges_replays, found_edges}
+use Rattle.ppd_flow_model.specs.Found.{found_edges}
 use Rattle.ppd_flow_model.specs.Seen.{Seen}
 use Rattle.ppd_flow_model.specs.Spans.{steps_of_span}
-use Rattle.ppd_flow_model.specs.Shared.{found_last, last_replays}
+use Rattle.ppd_flow_model.specs.Shared.{found_last}
 use Rattle.ppd_flow_past.specs.declared.flow_error.FlowError.{FlowError}
 use Rattle.ppd_flow_past.specs.ByReplays.{first_failed, unless_kept}
 use Rattle.ppd_flow_past.specs.Pasts.{items_kept}
@@ -75,11 +75,11 @@ IsBy x ms answer before after found =
 
 abbrev HasAnswered : (p k j before after : ℕ) → List FlowEdge → Kept → Type 0
 HasAnswered p k j before after found x =
-    IsBy x (edges_replays x.program x.plan x.logs (seens_of x) p k j) (answer_if (found_edges x.program x.plan x.logs (seens_of x) p k j)) before after found
+    IsBy x (found_edges x.program x.plan x.logs (seens_of x) p k j).replays (answer_if (found_edges x.program x.plan x.logs (seens_of x) p k j).found) before after found
 
 abbrev HasAnsweredLast : (c before after : ℕ) → ℤ × Origin → Kept → Type 0
 HasAnsweredLast c before after found x =
-    IsBy x (last_replays x.program x.logs (seens_of x) c) (answer_of (found_last x.program x.logs (seens_of x) c)) before after found
+    IsBy x (found_last x.program x.logs (seens_of x) c).replays (answer_of (found_last x.program x.logs (seens_of x) c).found) before after found
 
 module _ (r : Run) (valid : IsValid r.program) (whole : IsWhole r.program (plan_in r) r.budget r.schedule) (free : races r.program (plan_in r) r.budget r.schedule ≡ []) where
   abbrev xs : List Split
@@ -109,12 +109,12 @@ module _ (r : Run) (valid : IsValid r.program) (whole : IsWhole r.program (plan_
           → (found ≡ es) × (after ≤ before + 2 * (length es + 1) * near_steps r.program (plan_in r) r.budget (story_in r r.schedule) p k j)
       at_split g y e =
           let parts = own r.program r.policy r.budget r.schedule p k j y valid e in
-          let is : found_edges r.program (plan_in r) (logs_in r) (all_seen r.program (plan_in r) r.budget r.schedule) p k j ≡ Some (Ok es) =
+          let is : (found_edges r.program (plan_in r) (logs_in r) (all_seen r.program (plan_in r) r.budget r.schedule) p k j).found ≡ Some (Ok es) =
           found_law r.program (plan_in r) r.budget r.schedule whole.last valid whole.runs free p k j y e parts ∙ ap (option_map (λ ds. Ok ds)) has in
-          let same : edges_replays r.program (plan_in r) (logs_in r) (seens r.program (plan_in r) r.budget (logs_in r)) p k j ≡ edges_replays r.program (plan_in r) (logs_in r) (all_seen r.program (plan_in r) r.budget r.schedule) p k j =
-          ap (λ s. edges_replays r.program (plan_in r) (logs_in r) s p k j) seen_there in (
-            same_found found es (sym g.1 ∙ (ap (λ s. answer_if (found_edges r.program (plan_in r) (logs_in r) s p k j)) seen_there ∙ ap answer_if is)),
-            rise before after _ _ _ g.2 (cost (edges_replays r.program (plan_in r) (logs_in r) (seens r.program (plan_in r) r.budget (logs_in r)) p k j) ∙ ap (steps_of_all xs) same)
+          let same : (found_edges r.program (plan_in r) (logs_in r) (seens r.program (plan_in r) r.budget (logs_in r)) p k j).replays ≡ (found_edges r.program (plan_in r) (logs_in r) (all_seen r.program (plan_in r) r.budget r.schedule) p k j).replays =
+          ap (λ s. (found_edges r.program (plan_in r) (logs_in r) s p k j).replays) seen_there in (
+            same_found found es (sym g.1 ∙ (ap (λ s. answer_if (found_edges r.program (plan_in r) (logs_in r) s p k j).found) seen_there ∙ ap answer_if is)),
+            rise before after _ _ _ g.2 (cost (found_edges r.program (plan_in r) (logs_in r) (seens r.program (plan_in r) r.budget (logs_in r)) p k j).replays ∙ ap (steps_of_all xs) same)
                 (little r.program (plan_in r) r.budget r.schedule whole.last p k j y es valid whole.runs free e parts has),
           )
 
@@ -133,10 +133,10 @@ module _ (r : Run) (valid : IsValid r.program) (whole : IsWhole r.program (plan_
         → (found ≡ last r.program (plan_in r) r.budget (story_in r r.schedule) c) × (after ≤ before + last_steps r.program (plan_in r) r.budget (story_in r r.schedule) c)
     few_for_last found_law little c before after found lt g =
         let is = found_law r.program (plan_in r) r.budget r.schedule whole.last valid whole.runs free c lt in
-        let same : last_replays r.program (logs_in r) (seens r.program (plan_in r) r.budget (logs_in r)) c ≡ last_replays r.program (logs_in r) (all_seen r.program (plan_in r) r.budget r.schedule) c =
-        ap (λ s. last_replays r.program (logs_in r) s c) seen_there in (
-          same_found found (last r.program (plan_in r) r.budget (story_in r r.schedule) c) (sym g.1 ∙ (ap (λ s. answer_of (found_last r.program (logs_in r) s c)) seen_there ∙ ap answer_of is)),
-          rise before after _ _ _ g.2 (cost (last_replays r.program (logs_in r) (seens r.program (plan_in r) r.budget (logs_in r)) c) ∙ ap (steps_of_all xs) same)
+        let same : (found_last r.program (logs_in r) (seens r.program (plan_in r) r.budget (logs_in r)) c).replays ≡ (found_last r.program (logs_in r) (all_seen r.program (plan_in r) r.budget r.schedule) c).replays =
+        ap (λ s. (found_last r.program (logs_in r) s c).replays) seen_there in (
+          same_found found (last r.program (plan_in r) r.budget (story_in r r.schedule) c) (sym g.1 ∙ (ap (λ s. answer_of (found_last r.program (logs_in r) s c).found) seen_there ∙ ap answer_of is)),
+          rise before after _ _ _ g.2 (cost (found_last r.program (logs_in r) (seens r.program (plan_in r) r.budget (logs_in r)) c).replays ∙ ap (steps_of_all xs) same)
               (little r.program (plan_in r) r.budget r.schedule whole.last c valid whole.runs free lt),
         )
 

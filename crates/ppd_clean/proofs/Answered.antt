@@ -82,11 +82,11 @@ module _ (past : Past) (is : IsPast past) (races : List Race) (races_are : races
         ≡ sought.by_item past.program.now past.plan.now past.budget past.logs.now (record_in past.logs.now) races a.process a.interval a.item z xs o
     item_is e None = ap (reached_from past a) e
     item_is e (Some t) =
-        ap₂ (λ b (x : CleanOr). if b then x else with_edges t (found_edges past.program.now past.plan.now past.logs.now xs a.process a.interval a.item))
+        ap₂ (λ b (x : CleanOr). if b then x else with_edges t (found_edges past.program.now past.plan.now past.logs.now xs a.process a.interval a.item).found)
         (ap (is_unclean_at past a t (edge_of_item past a (seen_at xs a.process) t)) e ∙ unclean_is z t) (ap (λ w. unclean_or a.process w no_item) e ∙ none_is z)
         ∙ ap (λ (x : CleanOr). if sought.is_unclean past.program.now past.plan.now past.budget past.logs.now (record_in past.logs.now) races a.process a.interval a.item xs z t
         then unclean_or a.process z no_item else x)
-        (edges_are t (found_edges past.program.now past.plan.now past.logs.now xs a.process a.interval a.item))
+        (edges_are t (found_edges past.program.now past.plan.now past.logs.now xs a.process a.interval a.item).found)
 
   -- ---- the logs that are cut
 

@@ -5,7 +5,7 @@ use Rattle.ppd_clean.specs.Answers.{AreEdges, edges_in, of_flow}
 use Rattle.ppd_clean.proofs.Found.{one_fails}
 use Rattle.ppd_flow.specs.Answers.{IsEdges, answer_if}
 use Rattle.law_flow_missing.specs.Missing.{write_at}
-use Rattle.ppd_flow_model.specs.Found.{edges_replays}
+use Rattle.ppd_flow_model.specs.Found.{found_edges}
 use Rattle.ppd_flow_model.specs.Shared.{Missing}
 use Rattle.ppd_flow_past.specs.declared.flow_error.FlowError.{FlowError}
 use Rattle.ppd_flow_past.specs.declared.flow_error.FlowError.TheVariants as flow_error
@@ -15,7 +15,7 @@ use Rattle.ppd_model.specs.declared.flow.FlowEdge.{FlowEdge}
 
 module _ (past : Past) (a : Asked) where
   abbrev replays : List (ℕ × ℕ)
-  replays = edges_replays past.program.now past.plan.now past.logs.now (seens_in past) a.process a.interval a.item
+  replays = (found_edges past.program.now past.plan.now past.logs.now (seens_in past) a.process a.interval a.item).replays
 
   ok_edges : (x : Option (Result (List FlowEdge) Missing)) (es : List FlowEdge) → answer_if x ≡ Ok es → x ≡ Some (Ok es)
   ok_edges None es e = absurd (cc e)

@@ -32,7 +32,7 @@ module _ (program : Program) (plan : Plan) (budget : ℕ) (logs : Logs) (races :
   seens o = sought.seens program plan budget logs (record_in logs) races p k j o
 
   of_edges : (o : Option ℕ) (t : Item) (r : Option (Result (List FlowEdge) Missing))
-      → found_edges program plan logs (seens o) p k j ≡ r
+      → (found_edges program plan logs (seens o) p k j).found ≡ r
       → sought.with_edges program plan budget logs (record_in logs) races p k j t r ≡ unwritten m
       → IsMissingWrite logs (seens o) m
   of_edges o t None e f = absurd (cc f)
@@ -59,10 +59,10 @@ module _ (program : Program) (plan : Plan) (budget : ℕ) (logs : Logs) (races :
       by : (b : Bool)
           → (if b then unclean_or p o no_item
           else sought.with_edges program plan budget logs (record_in logs) races p k j t
-          (found_edges program plan logs (seens o) p k j)) ≡ unwritten m
+          (found_edges program plan logs (seens o) p k j).found) ≡ unwritten m
           → IsMissingWrite logs (seens o) m
       by true g = absurd (never_unclean o g)
-      by false g = of_edges o t (found_edges program plan logs (seens o) p k j) refl g
+      by false g = of_edges o t (found_edges program plan logs (seens o) p k j).found refl g
 
   of_first : (z : Option ℕ) → sought.from_first program plan budget logs (record_in logs) races p k j z ≡ unwritten m
       → IsMissingWrite logs (seens z) m

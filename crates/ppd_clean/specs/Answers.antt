@@ -107,7 +107,7 @@ answer_at past a xs None = reached_from past a a.first
 answer_at past a xs (Some t) =
     if is_unclean past a (seen_at xs a.process) t then unclean_or a.process a.first no_item
     else with_edges t
-    (found_edges past.program.now past.plan.now past.logs.now xs a.process a.interval a.item)
+    (found_edges past.program.now past.plan.now past.logs.now xs a.process a.interval a.item).found
 
 -- the item that replays give
 abbrev pub item_at : Asked → List Seen → Option Item
@@ -141,7 +141,7 @@ AreItems past a (Err (error.Unclean e)) = ⊥
 
 abbrev pub edges_in : Past → Asked → Option (Result (List FlowEdge) Missing)
 edges_in past a =
-    found_edges past.program.now past.plan.now past.logs.now (seens_in past) a.process a.interval a.item
+    (found_edges past.program.now past.plan.now past.logs.now (seens_in past) a.process a.interval a.item).found
 
 abbrev pub AreEdges : Past → Asked → Result (List FlowEdge) CleanError → Type 0
 AreEdges past a (Ok es) = edges_in past a ≡ Some (Ok es)

@@ -20,9 +20,9 @@ use Rattle.ppd_flow_past.specs.declared.past.Past.{Past}
 use Rattle.ppd_flow_past.specs.ByReplays.{cost, steps_to_replay}
 use Rattle.ppd_flow_past.specs.Honest.{ReplaysAreSeen}
 use Rattle.ppd_flow_past.specs.SeenBy.{own_steps_of, steps_in as replayed_steps}
-use Rattle.ppd_flow_model.specs.Found.{edges_replays}
+use Rattle.ppd_flow_model.specs.Found.{found_edges}
 use Rattle.ppd_flow_model.specs.Seen.{Seen}
-use Rattle.ppd_flow_model.specs.Shared.{last_replays}
+use Rattle.ppd_flow_model.specs.Shared.{found_last}
 use Rattle.law_flow_own.specs.Assembled.{EdgesAreFound, HasOwnParts}
 use Rattle.law_flow_own.specs.SharedEdges.{all_seen}
 use Rattle.ppd_flow_shared.specs.SharedCells.{IsLastFound, seens_in}
@@ -57,13 +57,13 @@ pub costs_last : ReplaysAreSeen → LastCostsLittle → (past : Past) (c n m : �
     → IsLastFound past c n m res → CostsLast past c n m res
 costs_last law little past c n m res v f policy h answer r lt is =
     let g : IsLastFound past c n m (Ok answer) = subst (λ (z : Result (ℤ × Origin) FlowError). IsLastFound past c n m z) is f in
-    let same : last_replays past.program.now past.logs.now (seens_in past) c ≡ last_replays past.program.now (closed_logs past.program.now past.plan.now past.budget h) (all_seen past.program.now past.plan.now past.budget h) c =
-    ap (λ (l : Logs). last_replays past.program.now l (seens_in past) c) r.logs_are
-    ∙ ap (λ (xs : List Seen). last_replays past.program.now (closed_logs past.program.now past.plan.now past.budget h) xs c) (seens_are law past policy h v r) in
-    let total : cost past (last_replays past.program.now past.logs.now (seens_in past) c)
-    ≤ steps_of_all (splits_in past h) (last_replays past.program.now (closed_logs past.program.now past.plan.now past.budget h) (all_seen past.program.now past.plan.now past.budget h) c) =
-    subst (λ (ms : List (ℕ × ℕ)). cost past (last_replays past.program.now past.logs.now (seens_in past) c) ≤ steps_of_all (splits_in past h) ms) same
-    (cost_within law past policy h v r (last_replays past.program.now past.logs.now (seens_in past) c)) in
+    let same : (found_last past.program.now past.logs.now (seens_in past) c).replays ≡ (found_last past.program.now (closed_logs past.program.now past.plan.now past.budget h) (all_seen past.program.now past.plan.now past.budget h) c).replays =
+    ap (λ (l : Logs). (found_last past.program.now l (seens_in past) c).replays) r.logs_are
+    ∙ ap (λ (xs : List Seen). (found_last past.program.now (closed_logs past.program.now past.plan.now past.budget h) xs c).replays) (seens_are law past policy h v r) in
+    let total : cost past (found_last past.program.now past.logs.now (seens_in past) c).replays
+    ≤ steps_of_all (splits_in past h) (found_last past.program.now (closed_logs past.program.now past.plan.now past.budget h) (all_seen past.program.now past.plan.now past.budget h) c).replays =
+    subst (λ (ms : List (ℕ × ℕ)). cost past (found_last past.program.now past.logs.now (seens_in past) c).replays ≤ steps_of_all (splits_in past h) ms) same
+    (cost_within law past policy h v r (found_last past.program.now past.logs.now (seens_in past) c).replays) in
     let le = little past.program.now past.plan.now past.budget h r.whole.last c v r.whole.runs r.no_race lt in
     let rose = g.2 in
     omega (arith, total, le, rose)
@@ -82,13 +82,13 @@ costs_edges law found own little past p k j n m res v f policy h x es r at is =
     subst (λ (pl : Plan). slice_get (splits past.program.now pl past.budget (story past.program.now pl past.budget h)) p ≡ Some x
     → HasOwnParts past.program.now pl (splits past.program.now pl past.budget (story past.program.now pl past.budget h)) x p k j)
     (sym r.plan_is) (λ e. own past.program.now policy past.budget h p k j x v e) at in
-    let same : edges_replays past.program.now past.plan.now past.logs.now (seens_in past) p k j ≡ edges_replays past.program.now past.plan.now (closed_logs past.program.now past.plan.now past.budget h) (all_seen past.program.now past.plan.now past.budget h) p k j =
-    ap (λ (l : Logs). edges_replays past.program.now past.plan.now l (seens_in past) p k j) r.logs_are
-    ∙ ap (λ (xs : List Seen). edges_replays past.program.now past.plan.now (closed_logs past.program.now past.plan.now past.budget h) xs p k j) (seens_are law past policy h v r) in
-    let total : cost past (edges_replays past.program.now past.plan.now past.logs.now (seens_in past) p k j)
-    ≤ steps_of_all (splits_in past h) (edges_replays past.program.now past.plan.now (closed_logs past.program.now past.plan.now past.budget h) (all_seen past.program.now past.plan.now past.budget h) p k j) =
-    subst (λ (ms : List (ℕ × ℕ)). cost past (edges_replays past.program.now past.plan.now past.logs.now (seens_in past) p k j) ≤ steps_of_all (splits_in past h) ms) same
-    (cost_within law past policy h v r (edges_replays past.program.now past.plan.now past.logs.now (seens_in past) p k j)) in
+    let same : (found_edges past.program.now past.plan.now past.logs.now (seens_in past) p k j).replays ≡ (found_edges past.program.now past.plan.now (closed_logs past.program.now past.plan.now past.budget h) (all_seen past.program.now past.plan.now past.budget h) p k j).replays =
+    ap (λ (l : Logs). (found_edges past.program.now past.plan.now l (seens_in past) p k j).replays) r.logs_are
+    ∙ ap (λ (xs : List Seen). (found_edges past.program.now past.plan.now (closed_logs past.program.now past.plan.now past.budget h) xs p k j).replays) (seens_are law past policy h v r) in
+    let total : cost past (found_edges past.program.now past.plan.now past.logs.now (seens_in past) p k j).replays
+    ≤ steps_of_all (splits_in past h) (found_edges past.program.now past.plan.now (closed_logs past.program.now past.plan.now past.budget h) (all_seen past.program.now past.plan.now past.budget h) p k j).replays =
+    subst (λ (ms : List (ℕ × ℕ)). cost past (found_edges past.program.now past.plan.now past.logs.now (seens_in past) p k j).replays ≤ steps_of_all (splits_in past h) ms) same
+    (cost_within law past policy h v r (found_edges past.program.now past.plan.now past.logs.now (seens_in past) p k j).replays) in
     rise n m _ _ _ g.2 total (little past.program.now past.plan.now past.budget h r.whole.last p k j x es v r.whole.runs r.no_race at parts' there)
   where
     rise : (a b c d z : ℕ) → b ≡ a + c → c ≤ d → d ≤ z → b ≤ a + z

@@ -5,21 +5,21 @@ use Rattle.ppd_ast.specs.declared.program.Program.{Program}
 use Rattle.ppd_flow.specs.Far.{RoseWithin, far_in, far_of_item, far_of_pair, far_of_reads, far_of_reads_at, far_of_spot, far_of_sync, process_of}
 use Rattle.ppd_flow_local.specs.declared.search.Place.{Place}
 use Rattle.ppd_flow_local.specs.declared.search.Search.{Search}
-use Rattle.ppd_flow_model.specs.Control.{control_replays}
 use Rattle.ppd_flow_model.specs.Ends.{end_interval, end_item}
-use Rattle.ppd_flow_model.specs.Found.{edges_replays, if_found, item_replays, read_edge, read_edges, read_replays, reads_replays, sync_replays}
+use Rattle.ppd_flow_model.specs.Found.{and_more, before_others, edges_if, found_edges, last_edges, read_edge, read_edges, sync_edges}
+use Rattle.ppd_flow_model.specs.Looked.{Looked, look_map}
 use Rattle.ppd_flow_model.specs.Seen.{Seen}
-use Rattle.ppd_flow_model.specs.Shared.{Missing, edge_of_place, greatest_before, of_process, pair_of, place_replays, seen_at, start_replays, unless_found}
-use Rattle.ppd_flow_model.specs.Walk.{walk, walk_replays}
+use Rattle.ppd_flow_model.specs.Shared.{Missing, edge_of_place, greatest_before, in_process, of_process, origin_in, own_or, pair_of, pair_place, seen_at, written_or_start}
+use Rattle.ppd_flow_model.specs.Walk.{walk}
 use Rattle.ppd_flow_model.specs.declared.walked.Walked.{Walked}
 use Rattle.ppd_flow_model.specs.declared.walked.Walked.TheVariants.{Found, Passed, Stopped}
 use Rattle.ppd_flow_past.proofs.Found.{costs}
 use Rattle.ppd_flow_past.proofs.Keeping.{AreFree}
-use Rattle.ppd_flow_past.specs.ByReplays.{IsFoundBy, cost, steps_to_replay}
+use Rattle.ppd_flow_past.specs.ByReplays.{cost, steps_to_replay}
 use Rattle.ppd_flow_past.specs.declared.flow_error.FlowError.{FlowError}
 use Rattle.ppd_flow_past.specs.declared.past.Past.{Past}
 use Rattle.ppd_flow_shared.proofs.SharedFound.{seen_there}
-use Rattle.ppd_flow_shared.specs.SharedCells.{edge_unless_found, seens_in}
+use Rattle.ppd_flow_shared.specs.SharedCells.{IsSought, edge_unless_found, seens_in}
 use Rattle.ppd_graph.specs.declared.paired.Paired.{Paired}
 use Rattle.ppd_graph.specs.declared.paired.Paired.TheVariants.{Initial, Node, Nothing}
 use Rattle.ppd_model.specs.declared.flow.FlowEdge.{FlowEdge}
@@ -62,10 +62,10 @@ module _ (past : Past) (p k j c : ℕ) where
   best = greatest_before past.program.now past.logs.now (edge_of_place past.logs.now (seens_in past) p k j) c
 
   abbrev Edge : Seen → Option EdgeId → Type 0
-  Edge x o = process_of (edge_unless_found (walk x c k j) best) ≡ process_of o
+  Edge x o = process_of (edge_unless_found (walk x c k j).found best) ≡ process_of o
 
   pub far_read : (x : Seen) (o : Option EdgeId) (n m : ℕ) → x ≡ seen_at (seens_in past) p
-      → IsFoundBy past (of_process p (walk_replays x c k j)) (Ok (edge_unless_found (walk x c k j) best)) n m (Ok o)
+      → IsSought past (look_map (λ w. edge_unless_found w best) (in_process p (walk x c k j))) n m (Ok o)
       → process_of o ≡ far_of_spot past.program.now past.logs.now (seens_in past) p k j (Shared c)
   far_read x o n m is f =
       sym (subst (λ y. Edge y o) is (ap (λ r. process_of (edge_in o r)) f.1))
@@ -130,9 +130,15 @@ module _ (past : Past) where
   of_free q [] h = tt
   of_free q (k ∷ ks) h = (h k, of_free q ks h)
 
-  pub found_free : {A : Type 0} (r : Result A Missing) (ms : List (ℕ × ℕ)) → AreFree past ms → AreFree past (if_found r ms)
-  found_free (Ok x) ms h = h
-  found_free (Err m) ms h = tt
+  others_free : (r : Result FlowEdge Missing) (others : Looked (ℕ × ℕ) (Result (List FlowEdge) Missing))
+      → AreFree past others.replays → AreFree past (before_others r others).replays
+  others_free (Ok e) others h = h
+  others_free (Err m) others h = tt
+
+  more_free : (r : Result (List FlowEdge) Missing) (more : Looked (ℕ × ℕ) (List FlowEdge))
+      → AreFree past more.replays → AreFree past (and_more r more).replays
+  more_free (Ok es) more h = h
+  more_free (Err m) more h = tt
 
   module _ (p k j : ℕ) (own : IsFree past p) where
     abbrev xs : List Seen
@@ -142,53 +148,52 @@ module _ (past : Past) where
     abbrev replayed_for : ℕ → EdgeId → List ℕ
     replayed_for c a =
         end_interval (get_or past.logs.now.lists a.process []) a.edge
-        ∷ walk_replays (seen_at xs a.process) c (end_interval (get_or past.logs.now.lists a.process []) a.edge)
-        (end_item (get_or past.logs.now.lists a.process []) (seen_at xs a.process) a.edge)
+        ∷ (walk (seen_at xs a.process) c (end_interval (get_or past.logs.now.lists a.process []) a.edge) (end_item (get_or past.logs.now.lists a.process []) (seen_at xs a.process) a.edge)).replays
 
     edge_free : (c : ℕ) (w : Walked) (o : Option EdgeId) → AreFreeOf past (process_of (edge_unless_found w o))
-        → AreFree past (unless_found w (start_replays past.logs.now xs c o))
+        → AreFree past (own_or p w (look_map origin_in (written_or_start past.program.now past.logs.now xs c o))).replays
     edge_free c (Found m i v) o h = tt
     edge_free c Stopped None h = tt
     edge_free c Stopped (Some a) h = of_free a.process (replayed_for c a) h.0
     edge_free c Passed None h = tt
     edge_free c Passed (Some a) h = of_free a.process (replayed_for c a) h.0
 
-    read_free : (spot : Spot) → AreFreeOf past (far_of_spot past.program.now past.logs.now xs p k j spot)
-        → AreFree past (read_replays past.program.now past.plan.now past.logs.now xs p k j spot)
-    read_free (Local frame c) h = of_free p _ own
-    read_free (Shared c) h = both (of_process p (walk_replays (seen_at xs p) c k j)) _ (of_free p _ own) (edge_free c (walk (seen_at xs p) c k j) (greatest_before past.program.now past.logs.now (edge_of_place past.logs.now xs p k j) c) h)
+    read_free : (a : Access) (spot : Spot) → AreFreeOf past (far_of_spot past.program.now past.logs.now xs p k j spot)
+        → AreFree past (read_edge past.program.now past.plan.now past.logs.now xs p k j a spot).replays
+    read_free a (Local frame c) h = of_free p _ own
+    read_free a (Shared c) h = both (of_process p (walk (seen_at xs p) c k j).replays) _ (of_free p _ own) (edge_free c (walk (seen_at xs p) c k j).found (greatest_before past.program.now past.logs.now (edge_of_place past.logs.now xs p k j) c) h)
 
     reads_free : (reads : List Access) → AreFreeOf past (far_of_reads past.program.now past.logs.now xs p k j reads)
-        → AreFree past (reads_replays past.program.now past.plan.now past.logs.now xs p k j reads)
+        → AreFree past (read_edges past.program.now past.plan.now past.logs.now xs p k j reads).replays
     reads_free [] h = tt
     reads_free (a ∷ as') h =
         let first : List ℕ = far_of_spot past.program.now past.logs.now xs p k j a.spot in
         let others : List ℕ = far_of_reads past.program.now past.logs.now xs p k j as' in
-        both (read_replays past.program.now past.plan.now past.logs.now xs p k j a.spot) _ (read_free a.spot (front first others h))
-        (found_free (read_edge past.program.now past.plan.now past.logs.now xs p k j a a.spot) _ (reads_free as' (behind first others h)))
+        both (read_edge past.program.now past.plan.now past.logs.now xs p k j a a.spot).replays _ (read_free a a.spot (front first others h))
+        (others_free (read_edge past.program.now past.plan.now past.logs.now xs p k j a a.spot).found (read_edges past.program.now past.plan.now past.logs.now xs p k j as') (reads_free as' (behind first others h)))
 
-    pair_free : (pair : Paired) → AreFreeOf past (far_of_pair pair) → AreFree past (place_replays past.logs.now pair)
+    pair_free : (pair : Paired) → AreFreeOf past (far_of_pair pair) → AreFree past (pair_place past.logs.now xs pair).replays
     pair_free Nothing h = tt
     pair_free Initial h = tt
     pair_free (Node a) h = (h.0 _, tt)
 
     sync_free : (number : Option ℕ) → AreFreeOf past (far_of_sync past.program.now past.logs.now xs p k j number)
-        → AreFree past (sync_replays past.program.now past.logs.now xs p k j number)
+        → AreFree past (sync_edges past.program.now past.logs.now xs p k j number).replays
     sync_free None h = tt
     sync_free (Some number) h = pair_free (pair_of past.program.now past.logs.now xs p k j) h
 
     item_free : (t : Option Item) → AreFreeOf past (far_of_item past.program.now past.logs.now xs p k j t)
-        → AreFree past (item_replays past.program.now past.plan.now past.logs.now xs p k j t)
+        → AreFree past (edges_if past.program.now past.plan.now past.logs.now xs p k j t).replays
     item_free None h = tt
     item_free (Some (item.Nested m b values closed)) h = of_free p _ own
     item_free (Some (item.Own e)) h =
         let reads : List ℕ = far_of_reads past.program.now past.logs.now xs p k j e.reads in
         let sync : List ℕ = far_of_sync past.program.now past.logs.now xs p k j e.number in
-        both (reads_replays past.program.now past.plan.now past.logs.now xs p k j e.reads) _ (reads_free e.reads (front reads sync h))
-        (found_free (read_edges past.program.now past.plan.now past.logs.now xs p k j e.reads) _
-        (both (sync_replays past.program.now past.logs.now xs p k j e.number) _ (sync_free e.number (behind reads sync h)) (of_free p _ own)))
+        both (read_edges past.program.now past.plan.now past.logs.now xs p k j e.reads).replays _ (reads_free e.reads (front reads sync h))
+        (more_free (read_edges past.program.now past.plan.now past.logs.now xs p k j e.reads).found (last_edges past.program.now past.plan.now past.logs.now xs p k j e)
+        (both (sync_edges past.program.now past.logs.now xs p k j e.number).replays _ (sync_free e.number (behind reads sync h)) (of_free p _ own)))
 
     -- so nothing is replayed for the edges of an item
     pub edges_free : AreFreeOf past (far_in past p k j)
-        → AreFree past (edges_replays past.program.now past.plan.now past.logs.now xs p k j)
+        → AreFree past (found_edges past.program.now past.plan.now past.logs.now xs p k j).replays
     edges_free h = (own k, item_free (slice_get (get_or (seen_at xs p).items k []) j) h)

@@ -11,7 +11,7 @@ use Rattle.ppd_flow_past.specs.ByReplays.{AreReplayed, IsFoundBy, steps_to_repla
 use Rattle.ppd_flow_past.specs.SeenBy.{items_in}
 use Rattle.ppd_flow_past.proofs.Found.{found_err, found_given, found_then}
 use Rattle.ppd_flow_local.specs.Asked.{IsAsked}
-use Rattle.ppd_flow_model.specs.Found.{edges_if, item_edges, item_replays}
+use Rattle.ppd_flow_model.specs.Found.{edges_if, item_edges}
 use Rattle.ppd_flow_model.specs.Seen.{Seen}
 use Rattle.ppd_flow_model.specs.Shared.{seen_at}
 use Rattle.ppd_flow_shared.specs.SharedCells.{answer_of, seens_in}
@@ -41,10 +41,10 @@ items_or d (Err e) = d
 
 module _ (past : Past) (p k j n m : ℕ) where
   abbrev replays_of : Option Item → List (ℕ × ℕ)
-  replays_of o = item_replays past.program.now past.plan.now past.logs.now (seens_in past) p k j o
+  replays_of o = (edges_if past.program.now past.plan.now past.logs.now (seens_in past) p k j o).replays
 
   abbrev answer_for : Option Item → Result (List FlowEdge) FlowError
-  answer_for o = answer_if (edges_if past.program.now past.plan.now past.logs.now (seens_in past) p k j o)
+  answer_for o = answer_if (edges_if past.program.now past.plan.now past.logs.now (seens_in past) p k j o).found
 
   abbrev there : Option Item
   there = slice_get (get_or (seen_at (seens_in past) p).items k []) j
@@ -64,7 +64,7 @@ module _ (past : Past) (p k j n m : ℕ) where
         moved None (Err NoEvent) m (ap (λ (ts : List Item). slice_get ts j) items_are ∙ slice_get_past items j h) (got.0, refl)
 
     pub an_item : (t : Item) (l : ℕ) (r : Result (List FlowEdge) FlowError) → slice_get items j ≡ Some t
-        → IsFoundBy past (replays_of (Some t)) (answer_of (item_edges past.program.now past.plan.now past.logs.now (seens_in past) p k j t)) m l r
+        → IsFoundBy past (replays_of (Some t)) (answer_of (item_edges past.program.now past.plan.now past.logs.now (seens_in past) p k j t).found) m l r
         → IsEdges past p k j n l r
     an_item t l r e f =
         moved (Some t) r l (ap (λ (ts : List Item). slice_get ts j) items_are ∙ e)
@@ -90,7 +90,7 @@ module _ (past : Past) (p k j n m : ℕ) where
         (found_given past p k [] (answer_for None) n n (Err NoEvent) given.0 (refl, refl))
 
     pub an_item_given : (t : Item) (l : ℕ) (r : Result (List FlowEdge) FlowError) → slice_get items j ≡ Some t
-        → IsFoundBy past (replays_of (Some t)) (answer_of (item_edges past.program.now past.plan.now past.logs.now (seens_in past) p k j t)) n l r
+        → IsFoundBy past (replays_of (Some t)) (answer_of (item_edges past.program.now past.plan.now past.logs.now (seens_in past) p k j t).found) n l r
         → IsEdges past p k j n (l + steps_to_replay past p k) r
     an_item_given t l r e f =
         moved (Some t) r (l + steps_to_replay past p k) (ap (λ (ts : List Item). slice_get ts j) given_are ∙ e)

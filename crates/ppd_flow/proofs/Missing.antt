@@ -36,7 +36,7 @@ pub edges_missed : (past : Past) (p k j before after : ℕ) (r : Result (List Fl
     → IsEdges past p k j before after r → IsCauseOfSets past r
 edges_missed past p k j before after (Err (Sets q n c)) f = λ indexed.
     (missing_writes_are_told past.program.now past.plan.now past.logs.now (seens_in past) indexed).edges p k j (write_at q n c)
-    (missed_edges q n c (found_edges past.program.now past.plan.now past.logs.now (seens_in past) p k j) f.1)
+    (missed_edges q n c (found_edges past.program.now past.plan.now past.logs.now (seens_in past) p k j).found f.1)
 edges_missed past p k j before after (Err (Diverged q n)) f = tt
 edges_missed past p k j before after (Err NoEvent) f = tt
 edges_missed past p k j before after (Err Memory) f = tt
@@ -46,7 +46,7 @@ pub last_missed : (past : Past) (cell before after : ℕ) (r : Result (ℤ × Or
     → IsLastFound past cell before after r → IsCauseOfSets past r
 last_missed past cell before after (Err (Sets q n c)) f = λ indexed.
     (missing_writes_are_told past.program.now past.plan.now past.logs.now (seens_in past) indexed).last cell (write_at q n c)
-    (missed q n c (found_last past.program.now past.logs.now (seens_in past) cell) f.1)
+    (missed q n c (found_last past.program.now past.logs.now (seens_in past) cell).found f.1)
 last_missed past cell before after (Err (Diverged q n)) f = tt
 last_missed past cell before after (Err NoEvent) f = tt
 last_missed past cell before after (Err Memory) f = tt

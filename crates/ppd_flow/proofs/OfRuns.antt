@@ -26,7 +26,7 @@ use Rattle.ppd_flow_past.specs.declared.past.Past.{Past}
 use Rattle.ppd_flow_past.specs.ByReplays.{IsFoundBy, failure_or, first_failed_in}
 use Rattle.ppd_flow_past.specs.Honest.{IsSeen, ReplaysAreSeen}
 use Rattle.ppd_flow_past.specs.SeenBy.{failed_at, failed_in, seen_by}
-use Rattle.ppd_flow_model.specs.Found.{edges_replays, found_edges}
+use Rattle.ppd_flow_model.specs.Found.{found_edges}
 use Rattle.ppd_flow_model.specs.Seen.{Seen, seen_of}
 use Rattle.ppd_flow_model.specs.Shared.{Missing, found_last}
 use Rattle.law_flow_own.specs.Assembled.{EdgesAreFound, HasOwnParts}
@@ -113,23 +113,23 @@ if_there None = refl
 if_there (Some es) = refl
 
 pub gives_last : ReplaysAreSeen → LastWritesAreFound → (past : Past) (c n m : ℕ) (ms : List (ℕ × ℕ)) (res : Result (ℤ × Origin) FlowError) → IsValid past.program.now
-    → IsFoundBy past ms (answer_of (found_last past.program.now past.logs.now (seens_in past) c)) n m res → GivesLast past c res
+    → IsFoundBy past ms (answer_of (found_last past.program.now past.logs.now (seens_in past) c).found) n m res → GivesLast past c res
 gives_last law found past c n m ms res v f policy h r lt =
-    let logs : found_last past.program.now past.logs.now (seens_in past) c ≡ found_last past.program.now (closed_logs past.program.now past.plan.now past.budget h) (all_seen past.program.now past.plan.now past.budget h) c =
-    ap (λ (l : Logs). found_last past.program.now l (seens_in past) c) r.logs_are
-    ∙ ap (λ (xs : List Seen). found_last past.program.now (closed_logs past.program.now past.plan.now past.budget h) xs c) (seens_are law past policy h v r) in
+    let logs : (found_last past.program.now past.logs.now (seens_in past) c).found ≡ (found_last past.program.now (closed_logs past.program.now past.plan.now past.budget h) (all_seen past.program.now past.plan.now past.budget h) c).found =
+    ap (λ (l : Logs). (found_last past.program.now l (seens_in past) c).found) r.logs_are
+    ∙ ap (λ (xs : List Seen). (found_last past.program.now (closed_logs past.program.now past.plan.now past.budget h) xs c).found) (seens_are law past policy h v r) in
     let is = found past.program.now past.plan.now past.budget h r.whole.last v r.whole.runs r.no_race c lt in
-    answered law past policy h v r ms (answer_of (found_last past.program.now past.logs.now (seens_in past) c))
+    answered law past policy h v r ms (answer_of (found_last past.program.now past.logs.now (seens_in past) c).found)
     (Ok (last past.program.now past.plan.now past.budget (story_in past h) c)) n m res
     (ap (λ (z : Result (ℤ × Origin) Missing). answer_of z) (logs ∙ is)) f
 
 pub answers_of_runs : ReplaysAreSeen → EdgesAreFound → AnswersAreOfRuns
 answers_of_runs law found past policy h p k j before after x res v r f at own =
-    let logs : found_edges past.program.now past.plan.now past.logs.now (seens_in past) p k j ≡ found_edges past.program.now past.plan.now (closed_logs past.program.now past.plan.now past.budget h) (all_seen past.program.now past.plan.now past.budget h) p k j =
-    ap (λ (l : Logs). found_edges past.program.now past.plan.now l (seens_in past) p k j) r.logs_are
-    ∙ ap (λ (xs : List Seen). found_edges past.program.now past.plan.now (closed_logs past.program.now past.plan.now past.budget h) xs p k j) (seens_are law past policy h v r) in
+    let logs : (found_edges past.program.now past.plan.now past.logs.now (seens_in past) p k j).found ≡ (found_edges past.program.now past.plan.now (closed_logs past.program.now past.plan.now past.budget h) (all_seen past.program.now past.plan.now past.budget h) p k j).found =
+    ap (λ (l : Logs). (found_edges past.program.now past.plan.now l (seens_in past) p k j).found) r.logs_are
+    ∙ ap (λ (xs : List Seen). (found_edges past.program.now past.plan.now (closed_logs past.program.now past.plan.now past.budget h) xs p k j).found) (seens_are law past policy h v r) in
     let is = found past.program.now past.plan.now past.budget h r.whole.last v r.whole.runs r.no_race p k j x at own in
-    answered law past policy h v r (edges_replays past.program.now past.plan.now past.logs.now (seens_in past) p k j) (answer_if (found_edges past.program.now past.plan.now past.logs.now (seens_in past) p k j))
+    answered law past policy h v r (found_edges past.program.now past.plan.now past.logs.now (seens_in past) p k j).replays (answer_if (found_edges past.program.now past.plan.now past.logs.now (seens_in past) p k j).found)
     (ok_or (edges past.program.now past.plan.now past.budget (story_in past h) p k j) NoEvent) before after res
     (ap (λ (z : Option (Result (List FlowEdge) Missing)). answer_if z) (logs ∙ is) ∙ if_there (edges past.program.now past.plan.now past.budget (story_in past h) p k j)) f
 

@@ -32,7 +32,7 @@ abbrev pub far_of_spot : Program → Logs → List Seen → (p k j : ℕ) → Sp
 far_of_spot program logs xs p k j (Local frame c) = []
 far_of_spot program logs xs p k j (Shared c) =
     process_of
-    (edge_unless_found (walk (seen_at xs p) c k j)
+    (edge_unless_found (walk (seen_at xs p) c k j).found
     (greatest_before program logs (edge_of_place logs xs p k j) c))
 
 abbrev pub far_of_reads : Program → Logs → List Seen → (p k j : ℕ) → List Access → List ℕ

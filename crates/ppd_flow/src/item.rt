@@ -1,14 +1,14 @@
-ghost use Rattle.std.specs.Prelude.{◌≡◌, ◌+◌, ◌<◌, length, IfSome, Ok, Some, option_copied};
-ghost use Rattle.ppd_flow.specs.Answers.{IsEdges, pair_edge_at, pair_replays_at};
+ghost use Rattle.std.specs.Prelude.{◌≡◌, ◌+◌, ◌<◌, length, IfSome, option_copied};
+ghost use Rattle.ppd_flow.specs.Answers.{IsEdges, pair_edge_at};
 ghost use Rattle.ppd_flow.specs.Missing.{IsCauseOfSets};
 ghost use Rattle.ppd_flow.specs.Runs.{CostsEdges, GivesEdges};
 ghost use Rattle.ppd_flow_local.specs.Searches.{IsPlace, IsSearch};
 ghost use Rattle.ppd_model.specs.declared.flow.EdgeKind.TheVariants as edge_kind;
 ghost use Rattle.ppd_model.specs.FlowbackEdges.{bare_edge};
-ghost use Rattle.ppd_flow_past.specs.ByReplays.{AreReplayed, IsFoundBy, steps_to_replay};
+ghost use Rattle.ppd_flow_past.specs.ByReplays.{AreReplayed, steps_to_replay};
 ghost use Rattle.ppd_flow_past.specs.Pasts.{IsPast};
-ghost use Rattle.ppd_flow_model.specs.Found.{event_edges as event_edges_of, event_replays, item_edges as item_edges_of, item_replays};
-ghost use Rattle.ppd_flow_shared.specs.SharedCells.{answer_of, seens_in};
+ghost use Rattle.ppd_flow_model.specs.Found.{event_edges as event_edges_of, item_edges as item_edges_of};
+ghost use Rattle.ppd_flow_shared.specs.SharedCells.{IsAnswerTo, IsSought, seens_in};
 ghost use Rattle.ppd_flow_shared.specs.Tabled.{IsOfInterval, IsTabled};
 
 use crate::reads::read_edges;
@@ -43,8 +43,7 @@ fn pair_edge<L: Ledger>(
 ) -> Result<Option<FlowEdge>, FlowError>
     requires past { IsSearch search.now }
     requires place { IsPlace search.now place.now }
-    ensures { IsFoundBy search.now.past.now (pair_replays_at search.now place.now number)
-        (Ok (pair_edge_at search.now place.now number)) steps.old steps.new result }
+    ensures { IsSought search.now.past.now (pair_edge_at search.now place.now number) steps.old steps.new result }
 {
     if number.is_none() {
         return Ok(None);
@@ -76,12 +75,9 @@ fn event_edges<L: Ledger>(
 ) -> Result<Seq<FlowEdge>, FlowError>
     requires past { IsSearch search.now }
     requires place { IsPlace search.now place.now }
-    ensures { IsFoundBy search.now.past.now
-        (event_replays search.now.past.now.program.now search.now.past.now.plan.now search.now.past.now.logs.now
+    ensures { IsAnswerTo search.now.past.now
+        (event_edges_of search.now.past.now.program.now search.now.past.now.plan.now search.now.past.now.logs.now
         (seens_in search.now.past.now) search.now.process place.now.interval place.now.item event.now)
-        (answer_of (event_edges_of search.now.past.now.program.now search.now.past.now.plan.now
-        search.now.past.now.logs.now (seens_in search.now.past.now) search.now.process place.now.interval
-        place.now.item event.now))
         steps.old steps.new result }
 {
     let mut edges = read_edges(search, place, event.reads.as_slice(), steps)?;
@@ -101,12 +97,9 @@ fn item_edges<L: Ledger>(
     requires past { IsSearch search.now }
     requires place { IsPlace search.now place.now }
     requires item { place.now.item < length place.now.items.now }
-    ensures { IsFoundBy search.now.past.now
-        (item_replays search.now.past.now.program.now search.now.past.now.plan.now search.now.past.now.logs.now
-        (seens_in search.now.past.now) search.now.process place.now.interval place.now.item (Some item.now))
-        (answer_of (item_edges_of search.now.past.now.program.now search.now.past.now.plan.now
-        search.now.past.now.logs.now (seens_in search.now.past.now) search.now.process place.now.interval
-        place.now.item item.now))
+    ensures { IsAnswerTo search.now.past.now
+        (item_edges_of search.now.past.now.program.now search.now.past.now.plan.now search.now.past.now.logs.now
+        (seens_in search.now.past.now) search.now.process place.now.interval place.now.item item.now)
         steps.old steps.new result }
 {
     match item {

@@ -1,8 +1,7 @@
 ghost use Rattle.std.specs.Prelude.{◌≡◌};
-ghost use Rattle.ppd_flow.specs.Answers.{reads_at, reads_replays_at, spot_origin, spot_replays};
+ghost use Rattle.ppd_flow.specs.Answers.{reads_at, spot_origin};
 ghost use Rattle.ppd_flow_local.specs.Searches.{IsPlace, IsSearch};
-ghost use Rattle.ppd_flow_past.specs.ByReplays.{IsFoundBy};
-ghost use Rattle.ppd_flow_shared.specs.SharedCells.{answer_of};
+ghost use Rattle.ppd_flow_shared.specs.SharedCells.{IsAnswerTo};
 
 use ppd_ast::{Seq, Steps};
 use ppd_flow_local::{LocalCell, Place, Search, push_read};
@@ -21,8 +20,7 @@ fn read_origin<L: Ledger>(
 ) -> Result<Origin, FlowError>
     requires past { IsSearch search.now }
     requires place { IsPlace search.now place.now }
-    ensures { IsFoundBy search.now.past.now (spot_replays search.now place.now spot)
-        (answer_of (spot_origin search.now place.now spot)) steps.old steps.new result }
+    ensures { IsAnswerTo search.now.past.now (spot_origin search.now place.now spot) steps.old steps.new result }
 {
     match spot {
         Spot::Local { frame, cell } => {
@@ -50,8 +48,7 @@ pub(crate) fn read_edges<L: Ledger>(
 ) -> Result<Seq<FlowEdge>, FlowError>
     requires past { IsSearch search.now }
     requires place { IsPlace search.now place.now }
-    ensures { IsFoundBy search.now.past.now (reads_replays_at search.now place.now reads.now)
-        (answer_of (reads_at search.now place.now reads.now)) steps.old steps.new result }
+    ensures { IsAnswerTo search.now.past.now (reads_at search.now place.now reads.now) steps.old steps.new result }
 {
     let mut edges = Seq::new(search.alloc);
     for read in reads {

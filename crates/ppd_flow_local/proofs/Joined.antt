@@ -7,7 +7,7 @@ use Rattle.ppd_flow_tables.specs.ByReplays.{IsFoundBy}
 use Rattle.ppd_flow_tables.proofs.Found.{found_err, found_none, found_then}
 use Rattle.ppd_model.specs.declared.flow.Origin.{Origin}
 use Rattle.std.specs.Option.{option_or}
-use Rattle.ppd_flow_model.specs.Seen.{unless}
+use Rattle.ppd_flow_model.specs.Looked.{Looked, known, look_both, look_map, look_or, or_look, unless}
 use Rattle.ppd_flow_model.specs.Shared.{of_process}
 use Rattle.ppd_flow_local.specs.declared.search.Search.{Search}
 use Rattle.ppd_flow_local.specs.Searches.{IsFound}
@@ -23,63 +23,78 @@ the_ok x (Err e) = x
 abbrev ok_of : {A : Type 0} → A → Result A FlowError
 ok_of x = Ok x
 
+-- the second, which is looked for after the first
+abbrev pub after_look : {A B : Type 0} → Looked ℕ A → Looked ℕ B → Looked ℕ B
+after_look a b = look_both (λ x y. y) a b
+
 module _ (s : Search) where
   -- what was given is what is to be found
-  pub is_given : {A : Type 0} (ms : List ℕ) (x y : A) (n m : ℕ) → IsFound s ms x n m (Ok y) → x ≡ y
-  is_given {A = A} ms x y n m f = ap (the_ok {A = A} x) f.1
+  pub is_given : {A : Type 0} (a : Looked ℕ A) (y : A) (n m : ℕ) → IsFound s a n m (Ok y) → a.found ≡ y
+  is_given {A = A} a y n m f = ap (the_ok {A = A} a.found) f.1
 
   -- nothing is replayed
-  pub nothing : {A : Type 0} (x y : A) (n : ℕ) → x ≡ y → IsFound s [] x n n (Ok y)
-  nothing {A = A} x y n e = subst (λ (z : A). IsFound s [] x n n (Ok z)) e (found_none s.past.now x n)
+  pub nothing : {A : Type 0} (x y : A) (n : ℕ) → x ≡ y → IsFound s (known x) n n (Ok y)
+  nothing {A = A} x y n e = subst (λ (z : A). IsFound s (known x) n n (Ok z)) e (found_none s.past.now x n)
 
   -- another value that is found with it
-  pub and_so : {A B : Type 0} (ms : List ℕ) (x x' : A) (y y' : B) (n m : ℕ) → IsFound s ms x n m (Ok x') → y ≡ y' → IsFound s ms y n m (Ok y')
-  and_so {A = A} {B = B} ms x x' y y' n m f e = (f.0, ap (λ (z : B). ok_of z) e, f.2)
+  pub and_so : {A B : Type 0} (a : Looked ℕ A) (x : A) (y y' : B) (n m : ℕ) → IsFound s a n m (Ok x) → y ≡ y'
+      → IsFound s (look_map (λ z. y) a) n m (Ok y')
+  and_so {A = A} {B = B} a x y y' n m f e = (f.0, ap (λ (z : B). ok_of z) e, f.2)
 
   -- the first replays gave their answer, and then these gave theirs
-  pub joined : {A B : Type 0} (ms ns : List ℕ) (x x' : A) (y : B) (n m o : ℕ) (r : Result B FlowError)
-      → IsFound s ms x n m (Ok x') → IsFound s ns y m o r → IsFound s (ms ++ ns) y n o r
-  joined {A = A} {B = B} ms ns x x' y n m o r f g =
-      subst (λ ks. IsFoundBy {A = B} s.past.now ks (Ok y) n o r) (sym (of_both s.process ms ns))
-      (found_then s.past.now (of_process s.process ms) (of_process s.process ns) (Ok x) (Ok y) x' n m o r f g)
+  pub joined : {A B : Type 0} (a : Looked ℕ A) (b : Looked ℕ B) (x : A) (n m o : ℕ) (r : Result B FlowError)
+      → IsFound s a n m (Ok x) → IsFound s b m o r → IsFound s (after_look a b) n o r
+  joined {A = A} {B = B} a b x n m o r f g =
+      subst (λ ks. IsFoundBy {A = B} s.past.now ks (Ok b.found) n o r) (sym (of_both s.process a.replays b.replays))
+      (found_then s.past.now (of_process s.process a.replays) (of_process s.process b.replays) (Ok a.found) (Ok b.found) x
+      n m o r f g)
 
   -- one failed, and the others were not begun
-  pub failed : {A B : Type 0} (ms ns : List ℕ) (x : A) (y : B) (n m : ℕ) (e : FlowError)
-      → IsFound s ms x n m (Err e) → IsFound s (ms ++ ns) y n m (Err e)
-  failed {A = A} {B = B} ms ns x y n m e f =
-      subst (λ ks. IsFoundBy {A = B} s.past.now ks (Ok y) n m (Err e)) (sym (of_both s.process ms ns))
-      (found_err s.past.now (of_process s.process ms) (of_process s.process ns) x (Ok y) n m e f)
+  pub failed : {A B : Type 0} (a : Looked ℕ A) (b : Looked ℕ B) (n m : ℕ) (e : FlowError)
+      → IsFound s a n m (Err e) → IsFound s (after_look a b) n m (Err e)
+  failed {A = A} {B = B} a b n m e f =
+      subst (λ ks. IsFoundBy {A = B} s.past.now ks (Ok b.found) n m (Err e)) (sym (of_both s.process a.replays b.replays))
+      (found_err s.past.now (of_process s.process a.replays) (of_process s.process b.replays) a.found (Ok b.found) n m e f)
 
   -- it failed
-  pub failed_alone : {A B : Type 0} (ms : List ℕ) (x : A) (y : B) (n m : ℕ) (e : FlowError) → IsFound s ms x n m (Err e) → IsFound s ms y n m (Err e)
-  failed_alone ms x y n m NoEvent f = absurd (cc f.1)
-  failed_alone ms x y n m (Sets p k c) f = absurd (cc f.1)
-  failed_alone ms x y n m (Diverged p k) f = f
-  failed_alone ms x y n m Memory f = tt
+  pub failed_alone : {A B : Type 0} (a : Looked ℕ A) (y : B) (n m : ℕ) (e : FlowError) → IsFound s a n m (Err e)
+      → IsFound s (look_map (λ z. y) a) n m (Err e)
+  failed_alone a y n m NoEvent f = absurd (cc f.1)
+  failed_alone a y n m (Sets p k c) f = absurd (cc f.1)
+  failed_alone a y n m (Diverged p k) f = f
+  failed_alone a y n m Memory f = tt
 
   -- ---- an origin, or else what is found by further replays
 
-  none_is : (ms : List ℕ) (o : Option Origin) (n m : ℕ) → IsFound s ms o n m (Ok None) → o ≡ None
-  none_is ms o n m f = is_given ms o None n m f
+  pub else_origin : (a : Looked ℕ (Option Origin)) (b : Looked ℕ Origin) (n m k : ℕ) (r : Result Origin FlowError)
+      → IsFound s a n m (Ok None) → IsFound s b m k r → IsFound s (look_or a b) n k r
+  else_origin a b n m k r f g =
+      subst (λ z. IsFound s (record { found = unwrap_or z b.found; replays = a.replays ++ unless z b.replays }) n k r)
+      (sym (is_given a None n m f)) (joined a b None n m k r f g)
 
-  pub else_origin : (ms ns : List ℕ) (o : Option Origin) (y : Origin) (n m k : ℕ) (r : Result Origin FlowError)
-      → IsFound s ms o n m (Ok None) → IsFound s ns y m k r → IsFound s (ms ++ unless o ns) (unwrap_or o y) n k r
-  else_origin ms ns o y n m k r f g =
-      subst (λ z. IsFound s (ms ++ unless z ns) (unwrap_or z y) n k r) (sym (none_is ms o n m f)) (joined ms ns o None y n m k r f g)
+  pub origin_failed : (a : Looked ℕ (Option Origin)) (b : Looked ℕ Origin) (n m : ℕ) (e : FlowError)
+      → IsFound s a n m (Err e) → IsFound s (look_or a b) n m (Err e)
+  origin_failed a b n m e f = failed a (record { found = unwrap_or a.found b.found; replays = unless a.found b.replays }) n m e f
 
-  pub else_either : (ms ns : List ℕ) (o y : Option Origin) (n m k : ℕ) (r : Result (Option Origin) FlowError)
-      → IsFound s ms o n m (Ok None) → IsFound s ns y m k r → IsFound s (ms ++ unless o ns) (option_or o y) n k r
-  else_either ms ns o y n m k r f g =
-      subst (λ z. IsFound s (ms ++ unless z ns) (option_or z y) n k r) (sym (none_is ms o n m f)) (joined ms ns o None y n m k r f g)
+  pub else_either : (a b : Looked ℕ (Option Origin)) (n m k : ℕ) (r : Result (Option Origin) FlowError)
+      → IsFound s a n m (Ok None) → IsFound s b m k r → IsFound s (or_look a b) n k r
+  else_either a b n m k r f g =
+      subst (λ z. IsFound s (record { found = option_or z b.found; replays = a.replays ++ unless z b.replays }) n k r)
+      (sym (is_given a None n m f)) (joined a b None n m k r f g)
 
-  pub some_either : (ms ns : List ℕ) (o y : Option Origin) (x : Origin) (n m : ℕ) → IsFound s ms o n m (Ok (Some x))
-      → IsFound s (ms ++ unless o ns) (option_or o y) n m (Ok (Some x))
-  some_either ms ns o y x n m f =
-      subst (λ z. IsFound s (ms ++ unless z ns) (option_or z y) n m (Ok (Some x))) (sym (is_given ms o (Some x) n m f))
-      (joined ms [] o (Some x) (Some x) n m m (Ok (Some x)) f (nothing (Some x) (Some x) m refl))
+  pub some_either : (a b : Looked ℕ (Option Origin)) (x : Origin) (n m : ℕ) → IsFound s a n m (Ok (Some x))
+      → IsFound s (or_look a b) n m (Ok (Some x))
+  some_either a b x n m f =
+      subst (λ z. IsFound s (record { found = option_or z b.found; replays = a.replays ++ unless z b.replays }) n m (Ok (Some x)))
+      (sym (is_given a (Some x) n m f)) (joined a (known (Some x)) (Some x) n m m (Ok (Some x)) f (nothing (Some x) (Some x) m refl))
+
+  pub either_failed : (a b : Looked ℕ (Option Origin)) (n m : ℕ) (e : FlowError)
+      → IsFound s a n m (Err e) → IsFound s (or_look a b) n m (Err e)
+  either_failed a b n m e f = failed a (record { found = option_or a.found b.found; replays = unless a.found b.replays }) n m e f
 
   -- where the origin is known without replays
-  pub after_none : {A : Type 0} (ms ns : List ℕ) (v v' : A) (o : Option Origin) (y : Origin) (n m k : ℕ) (r : Result Origin FlowError)
-      → o ≡ None → IsFound s ms v n m (Ok v') → IsFound s ns y m k r → IsFound s (ms ++ unless o ns) (unwrap_or o y) n k r
-  after_none ms ns v v' o y n m k r e f g =
-      subst (λ z. IsFound s (ms ++ unless z ns) (unwrap_or z y) n k r) (sym e) (joined ms ns v v' y n m k r f g)
+  pub after_none : {A : Type 0} (a : Looked ℕ A) (v : A) (o : Option Origin) (b : Looked ℕ Origin) (n m k : ℕ)
+      (r : Result Origin FlowError) → o ≡ None → IsFound s a n m (Ok v) → IsFound s b m k r
+      → IsFound s (after_look a (look_or (known o) b)) n k r
+  after_none a v o b n m k r e f g =
+      subst (λ z. IsFound s (after_look a (look_or (known z) b)) n k r) (sym e) (joined a b v n m k r f g)

@@ -6,11 +6,12 @@ use Rattle.std.specs.Prelude.{ℤ, min, pos}
 use Rattle.ppd_model.specs.declared.flow.FlowEdge.{FlowEdge}
 use Rattle.ppd_model.specs.declared.flow.Origin.{Origin}
 use Rattle.ppd_flow_tables.specs.FlowError.{FlowError}
-use Rattle.ppd_flow_model.specs.Own.{left_edges, left_replays}
-use Rattle.ppd_flow_model.specs.Locals.{local_origin, local_replays}
+use Rattle.ppd_flow_model.specs.Own.{left_edges}
+use Rattle.ppd_flow_model.specs.Locals.{local_origin}
+use Rattle.ppd_flow_model.specs.Looked.{Looked, look_map}
 use Rattle.ppd_flow_local.specs.declared.search.Search.{Search}
 use Rattle.ppd_flow_local.specs.Searches.{IsFound, left_from, plan_in, program_in, seen}
-use Rattle.ppd_flow_local.proofs.Joined.{and_so, failed, failed_alone, is_given, joined, nothing}
+use Rattle.ppd_flow_local.proofs.Joined.{after_look, and_so, failed, failed_alone, is_given, joined, nothing}
 
 -- these edges, and then those of the answer
 abbrev pub prefixed : List FlowEdge → Result (List FlowEdge) FlowError → Result (List FlowEdge) FlowError
@@ -25,88 +26,85 @@ dropped : {A : Type 0} (xs : List A) (i : ℕ) (d x : A) → i < length xs → x
 dropped xs i d x h e = drop-cons xs i d h ∙ (ap (λ y. y ∷ drop (suc i) xs) (sym e) ∙ ap (λ n. x ∷ drop n xs) (sym (add-one i)))
 
 module _ (s : Search) (k j frame : ℕ) where
-  abbrev pub all_replays : List ℕ → List ℤ → List ℕ
-  all_replays cs vs = left_replays (program_in s) (plan_in s) (seen s) s.process k j frame cs vs
-
-  abbrev pub all_edges : List ℕ → List ℤ → List FlowEdge
+  abbrev pub all_edges : List ℕ → List ℤ → Looked ℕ (List FlowEdge)
   all_edges cs vs = left_edges (program_in s) (plan_in s) (seen s) s.process k j frame cs vs
 
-  abbrev pub cell_replays : ℕ → List ℕ
-  cell_replays c = local_replays (program_in s) (plan_in s) (seen s) s.process k (j + 1) frame c
-
-  abbrev pub cell_origin : ℕ → Origin
+  abbrev pub cell_origin : ℕ → Looked ℕ Origin
   cell_origin c = local_origin (program_in s) (plan_in s) (seen s) s.process k (j + 1) frame c
 
   abbrev pub cell_edge : ℕ → ℤ → Origin → FlowEdge
   cell_edge c v o = left_from (record { frame = frame; cell = c }) v o
 
-  with_first : (ms : List ℕ) (e e' : FlowEdge) (es : List FlowEdge) (n o : ℕ) (r : Result (List FlowEdge) FlowError) → e ≡ e'
-      → IsFound s ms es n o r → IsFound s ms (e ∷ es) n o (prefixed (e' ∷ []) r)
-  with_first ms e e' es n o (Ok xs) same f =
-      and_so s ms es xs (e ∷ es) (e' ∷ xs) n o f
-      (ap (λ (y : FlowEdge). y ∷ es) same ∙ ap (λ (ys : List FlowEdge). e' ∷ ys) (is_given s ms es xs n o f))
-  with_first ms e e' es n o (Err x) same f = failed_alone s ms es (e ∷ es) n o x f
+  with_first : (a : Looked ℕ (List FlowEdge)) (e e' : FlowEdge) (n o : ℕ) (r : Result (List FlowEdge) FlowError) → e ≡ e'
+      → IsFound s a n o r → IsFound s (look_map (λ more. e ∷ more) a) n o (prefixed (e' ∷ []) r)
+  with_first a e e' n o (Ok xs) same f =
+      and_so s a xs (e ∷ a.found) (e' ∷ xs) n o f
+      (ap (λ (y : FlowEdge). y ∷ a.found) same ∙ ap (λ (ys : List FlowEdge). e' ∷ ys) (is_given s a xs n o f))
+  with_first a e e' n o (Err x) same f = failed_alone s a (e ∷ a.found) n o x f
 
   -- one more edge, and then the rest
-  pub goes_on : (c : ℕ) (v : ℤ) (cs : List ℕ) (vs : List ℤ) (e' : FlowEdge) (from : Origin) (n m o : ℕ) (r : Result (List FlowEdge) FlowError)
-      → e' ≡ cell_edge c v from → IsFound s (cell_replays c) (cell_origin c) n m (Ok from) → IsFound s (all_replays cs vs) (all_edges cs vs) m o r
-      → IsFound s (all_replays (c ∷ cs) (v ∷ vs)) (all_edges (c ∷ cs) (v ∷ vs)) n o (prefixed (e' ∷ []) r)
+  goes_on : (c : ℕ) (v : ℤ) (cs : List ℕ) (vs : List ℤ) (e' : FlowEdge) (from : Origin) (n m o : ℕ) (r : Result (List FlowEdge) FlowError)
+      → e' ≡ cell_edge c v from → IsFound s (cell_origin c) n m (Ok from) → IsFound s (all_edges cs vs) m o r
+      → IsFound s (all_edges (c ∷ cs) (v ∷ vs)) n o (prefixed (e' ∷ []) r)
   goes_on c v cs vs e' from n m o r same f g =
-      with_first (cell_replays c ++ all_replays cs vs) (cell_edge c v (cell_origin c)) e' (all_edges cs vs) n o r
-      (ap (λ z. cell_edge c v z) (is_given s (cell_replays c) (cell_origin c) from n m f) ∙ sym same)
-      (joined s (cell_replays c) (all_replays cs vs) (cell_origin c) from (all_edges cs vs) n m o r f g)
+      with_first (after_look (cell_origin c) (all_edges cs vs)) (cell_edge c v (cell_origin c).found) e' n o r
+      (ap (λ z. cell_edge c v z) (is_given s (cell_origin c) from n m f) ∙ sym same)
+      (joined s (cell_origin c) (all_edges cs vs) from n m o r f g)
 
-  pub fails : (c : ℕ) (v : ℤ) (cs : List ℕ) (vs : List ℤ) (n m : ℕ) (x : FlowError)
-      → IsFound s (cell_replays c) (cell_origin c) n m (Err x) → IsFound s (all_replays (c ∷ cs) (v ∷ vs)) (all_edges (c ∷ cs) (v ∷ vs)) n m (Err x)
-  fails c v cs vs n m x f = failed s (cell_replays c) (all_replays cs vs) (cell_origin c) (all_edges (c ∷ cs) (v ∷ vs)) n m x f
+  fails : (c : ℕ) (v : ℤ) (cs : List ℕ) (vs : List ℤ) (n m : ℕ) (x : FlowError)
+      → IsFound s (cell_origin c) n m (Err x) → IsFound s (all_edges (c ∷ cs) (v ∷ vs)) n m (Err x)
+  fails c v cs vs n m x f =
+      failed s (cell_origin c) (look_map (λ more. cell_edge c v (cell_origin c).found ∷ more) (all_edges cs vs)) n m x f
 
   -- ---- in the lists, from number i on
 
-  no_replays : (cs : List ℕ) → all_replays cs [] ≡ []
+  no_replays : (cs : List ℕ) → (all_edges cs []).replays ≡ []
   no_replays [] = refl
   no_replays (c ∷ cs) = refl
 
-  no_edges : (cs : List ℕ) → all_edges cs [] ≡ []
+  no_edges : (cs : List ℕ) → (all_edges cs []).found ≡ []
   no_edges [] = refl
   no_edges (c ∷ cs) = refl
 
   module _ (cs : List ℕ) (vs : List ℤ) (i n l : ℕ) (es : List FlowEdge)
-      (so : (o : ℕ) (r : Result (List FlowEdge) FlowError) → IsFound s (all_replays (drop i cs) (drop i vs)) (all_edges (drop i cs) (drop i vs)) l o r
-      → IsFound s (all_replays cs vs) (all_edges cs vs) n o (prefixed es r)) where
+      (so : (o : ℕ) (r : Result (List FlowEdge) FlowError) → IsFound s (all_edges (drop i cs) (drop i vs)) l o r
+      → IsFound s (all_edges cs vs) n o (prefixed es r)) where
     rest_by : (ds : List ℕ) (ws : List ℤ) (o : ℕ) (r : Result (List FlowEdge) FlowError) → drop i cs ≡ ds → drop i vs ≡ ws
-        → IsFound s (all_replays ds ws) (all_edges ds ws) l o r → IsFound s (all_replays (drop i cs) (drop i vs)) (all_edges (drop i cs) (drop i vs)) l o r
+        → IsFound s (all_edges ds ws) l o r → IsFound s (all_edges (drop i cs) (drop i vs)) l o r
     rest_by ds ws o r a b f =
-        subst (λ (z : List ℕ). IsFound s (all_replays z (drop i vs)) (all_edges z (drop i vs)) l o r) (sym a)
-        (subst (λ (z : List ℤ). IsFound s (all_replays ds z) (all_edges ds z) l o r) (sym b) f)
+        subst (λ (z : List ℕ). IsFound s (all_edges z (drop i vs)) l o r) (sym a)
+        (subst (λ (z : List ℤ). IsFound s (all_edges ds z) l o r) (sym b) f)
 
     pub next_left : (c : ℕ) (v : ℤ) (e : FlowEdge) (from : Origin) (now : List FlowEdge) (m : ℕ) → i < length cs → i < length vs → c ≡ get_or cs i 0 → v ≡ get_or vs i (pos 0)
-        → now ≡ es ++ e ∷ [] → e ≡ cell_edge c v from → IsFound s (cell_replays c) (cell_origin c) l m (Ok from)
-        → (o : ℕ) (r : Result (List FlowEdge) FlowError) → IsFound s (all_replays (drop (i + 1) cs) (drop (i + 1) vs)) (all_edges (drop (i + 1) cs) (drop (i + 1) vs)) m o r
-        → IsFound s (all_replays cs vs) (all_edges cs vs) n o (prefixed now r)
+        → now ≡ es ++ e ∷ [] → e ≡ cell_edge c v from → IsFound s (cell_origin c) l m (Ok from)
+        → (o : ℕ) (r : Result (List FlowEdge) FlowError) → IsFound s (all_edges (drop (i + 1) cs) (drop (i + 1) vs)) m o r
+        → IsFound s (all_edges cs vs) n o (prefixed now r)
     next_left c v e from now m hc hv ec ev push same f o r g =
-        subst (λ (z : List FlowEdge). IsFound s (all_replays cs vs) (all_edges cs vs) n o (prefixed z r)) (sym push)
-        (subst (λ z. IsFound s (all_replays cs vs) (all_edges cs vs) n o z) (sym (prefixed_both es (e ∷ []) r))
+        subst (λ (z : List FlowEdge). IsFound s (all_edges cs vs) n o (prefixed z r)) (sym push)
+        (subst (λ z. IsFound s (all_edges cs vs) n o z) (sym (prefixed_both es (e ∷ []) r))
         (so o (prefixed (e ∷ []) r) (rest_by _ _ o (prefixed (e ∷ []) r) (dropped cs i 0 c hc ec) (dropped vs i (pos 0) v hv ev)
         (goes_on c v (drop (i + 1) cs) (drop (i + 1) vs) e from l m o r same f g))))
 
     pub fails_left : (c : ℕ) (v : ℤ) (x : FlowError) (m : ℕ) → i < length cs → i < length vs → c ≡ get_or cs i 0 → v ≡ get_or vs i (pos 0)
-        → IsFound s (cell_replays c) (cell_origin c) l m (Err x) → IsFound s (all_replays cs vs) (all_edges cs vs) n m (Err x)
+        → IsFound s (cell_origin c) l m (Err x) → IsFound s (all_edges cs vs) n m (Err x)
     fails_left c v x m hc hv ec ev f =
         so m (Err x) (rest_by _ _ m (Err x) (dropped cs i 0 c hc ec) (dropped vs i (pos 0) v hv ev) (fails c v (drop (i + 1) cs) (drop (i + 1) vs) l m x f))
 
-    over : (ms : List ℕ) (xs : List FlowEdge) → ms ≡ [] → xs ≡ [] → IsFound s ms xs l l (Ok [])
-    over ms xs a b =
-        subst (λ (z : List ℕ). IsFound s z xs l l (Ok [])) (sym a) (subst (λ (z : List FlowEdge). IsFound s [] z l l (Ok [])) (sym b) (nothing s [] [] l refl))
+    over : (a : Looked ℕ (List FlowEdge)) → a.replays ≡ [] → a.found ≡ [] → IsFound s a l l (Ok [])
+    over a none no =
+        subst (λ (z : List ℕ). IsFound s (record a { replays = z }) l l (Ok [])) (sym none) (nothing s a.found [] l no)
 
-    whole : IsFound s (all_replays (drop i cs) (drop i vs)) (all_edges (drop i cs) (drop i vs)) l l (Ok []) → IsFound s (all_replays cs vs) (all_edges cs vs) n l (Ok es)
-    whole f = subst (λ (z : List FlowEdge). IsFound s (all_replays cs vs) (all_edges cs vs) n l (Ok z)) (append-nil es) (so l (Ok []) f)
+    whole : IsFound s (all_edges (drop i cs) (drop i vs)) l l (Ok []) → IsFound s (all_edges cs vs) n l (Ok es)
+    whole f = subst (λ (z : List FlowEdge). IsFound s (all_edges cs vs) n l (Ok z)) (append-nil es) (so l (Ok []) f)
 
-    pub all_left : min (length cs) (length vs) ≤ i → IsFound s (all_replays cs vs) (all_edges cs vs) n l (Ok es)
+    pub all_left : min (length cs) (length vs) ≤ i → IsFound s (all_edges cs vs) n l (Ok es)
     all_left h = elim (cases_lt i (length cs)) [
       | inl short ↦
           let none : drop i vs ≡ [] = drop_all i vs (omega (arith, h, short)) in
-          whole (over _ _ (ap (λ (z : List ℤ). all_replays (drop i cs) z) none ∙ no_replays (drop i cs)) (ap (λ (z : List ℤ). all_edges (drop i cs) z) none ∙ no_edges (drop i cs)))
+          whole (over (all_edges (drop i cs) (drop i vs)) (ap (λ (z : List ℤ). (all_edges (drop i cs) z).replays) none ∙ no_replays (drop i cs))
+          (ap (λ (z : List ℤ). (all_edges (drop i cs) z).found) none ∙ no_edges (drop i cs)))
       | inr long ↦
           let none : drop i cs ≡ [] = drop_all i cs long in
-          whole (over _ _ (ap (λ (z : List ℕ). all_replays z (drop i vs)) none) (ap (λ (z : List ℕ). all_edges z (drop i vs)) none))
+          whole (over (all_edges (drop i cs) (drop i vs)) (ap (λ (z : List ℕ). (all_edges z (drop i vs)).replays) none)
+          (ap (λ (z : List ℕ). (all_edges z (drop i vs)).found) none))
     ]

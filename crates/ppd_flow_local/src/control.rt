@@ -1,9 +1,9 @@
-ghost use Rattle.std.specs.Prelude.{◌≡◌, [], IfOk, slice_get, take, option_and_then};
+ghost use Rattle.std.specs.Prelude.{◌≡◌, IfOk, slice_get, take, option_and_then};
 ghost use Rattle.ppd_ast.specs.declared.plan.BlockKind.TheVariants as block;
 ghost use Rattle.ppd_ast.specs.Lookups.{kind_of};
 ghost use Rattle.ppd_flow_local.specs.Searches.{IsControlFound, IsFound, IsPlace, IsSearch, plan_in, program_in, seen};
 ghost use Rattle.std.specs.Option.{option_or};
-ghost use Rattle.ppd_flow_model.specs.Control.{call_or_entry as call_or_entry_of, call_replays, control_above as control_above_of, control_above_replays, control_in as control_in_of, last_test as last_test_among, leaf_call_at, test_of_run as test_of_run_by, test_round as test_round_by};
+ghost use Rattle.ppd_flow_model.specs.Control.{call_or_entry as call_or_entry_of, control_above as control_above_of, control_in as control_in_of, last_test as last_test_among, leaf_call_at, test_of_run as test_of_run_by, test_round as test_round_by};
 ghost use Rattle.ppd_flow_model.specs.Seen.{kind_at};
 
 use crate::search::{Place, Search};
@@ -109,8 +109,8 @@ impl<'a> Search<'a> {
     ) -> Result<Origin, FlowError>
         requires { IsSearch self.now }
         ensures { let kind = kind_at (plan_in self.now) (seen self.now) interval in
-            IsFound self.now (call_replays (seen self.now) interval kind)
-            (call_or_entry_of (seen self.now) self.now.process interval kind) steps.old steps.new result }
+            IsFound self.now (call_or_entry_of (seen self.now) self.now.process interval kind)
+            steps.old steps.new result }
     {
         match self.kind(interval) {
             BlockKind::Function(_) => self.call_of(interval, steps),
@@ -127,8 +127,6 @@ impl<'a> Search<'a> {
     ) -> Result<Origin, FlowError>
         requires { IsSearch self.now }
         ensures { IsFound self.now
-            (control_above_replays (program_in self.now) (plan_in self.now) (seen self.now) self.now.process interval
-            (block.Loop stmt))
             (control_above_of (program_in self.now) (plan_in self.now) (seen self.now) self.now.process interval
             (block.Loop stmt))
             steps.old steps.new result }
@@ -155,8 +153,6 @@ impl<'a> Search<'a> {
         requires { IsSearch self.now }
         ensures { let kind = kind_at (plan_in self.now) (seen self.now) interval in
             IsFound self.now
-            (control_above_replays (program_in self.now) (plan_in self.now) (seen self.now) self.now.process interval
-            kind)
             (control_above_of (program_in self.now) (plan_in self.now) (seen self.now) self.now.process interval kind)
             steps.old steps.new result }
     {

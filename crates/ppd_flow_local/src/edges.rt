@@ -1,11 +1,12 @@
 ghost use Rattle.std.specs.Prelude.{◌≡◌, ◌<◌, ◌-◌, ◌∷◌, ◌++◌, [], get_or, length, pos, ℕ};
 ghost use Rattle.ppd_ast.specs.declared.plan.BlockKind.TheVariants as blocks;
-ghost use Rattle.ppd_flow_local.specs.Searches.{IsFound, IsItemPlace, IsSearch, left_origin_at, left_replays_at, plan_in, program_in, seen};
+ghost use Rattle.ppd_flow_local.specs.Searches.{IsFound, IsItemPlace, IsSearch, left_origin_at, plan_in, program_in, seen};
 ghost use Rattle.ppd_model.specs.declared.flow.EdgeKind.TheVariants as edge_kind;
 ghost use Rattle.ppd_model.specs.declared.flow.Origin.TheVariants as origin;
 ghost use Rattle.ppd_model.specs.FlowbackEdges.{bare_edge};
 ghost use Rattle.ppd_sem.specs.Blocks.{block_kind as kind_of_block};
-ghost use Rattle.ppd_flow_model.specs.Own.{edges_of_nested, left_edges as left_edges_of, left_replays, nested_replays, returned_edges as returned_edges_of, returned_replays};
+ghost use Rattle.ppd_flow_model.specs.Own.{edges_of_nested, left_edges as left_edges_of, returned_edges as returned_edges_of};
+ghost use Rattle.ppd_flow_model.specs.Looked.{look_map};
 
 use crate::scan::LocalCell;
 use crate::search::{Place, Search};
@@ -40,8 +41,7 @@ impl<'a> Search<'a> {
     ) -> Result<Origin, FlowError>
         requires past { IsSearch self.now }
         requires item { IsItemPlace self.now place.now }
-        ensures { IsFound self.now (left_replays_at self.now place.now wanted)
-            (left_origin_at self.now place.now wanted) steps.old steps.new result }
+        ensures { IsFound self.now (left_origin_at self.now place.now wanted) steps.old steps.new result }
     {
         let after = Place {
             interval: place.interval,
@@ -63,8 +63,6 @@ impl<'a> Search<'a> {
         requires past { IsSearch self.now }
         requires item { IsItemPlace self.now place.now }
         ensures { IsFound self.now
-            (left_replays (program_in self.now) (plan_in self.now) (seen self.now) self.now.process
-            place.now.interval place.now.item frame cells.now values.now)
             (left_edges_of (program_in self.now) (plan_in self.now) (seen self.now) self.now.process
             place.now.interval place.now.item frame cells.now values.now)
             steps.old steps.new result }
@@ -92,8 +90,6 @@ impl<'a> Search<'a> {
         requires past { IsSearch self.now }
         requires item { IsItemPlace self.now place.now }
         ensures { (m : ℕ) → IsFound self.now
-            (nested_replays (program_in self.now) (plan_in self.now) (seen self.now) self.now.process
-            place.now.interval place.now.item m block values.now (blocks.Loop stmt))
             (edges_of_nested (program_in self.now) (plan_in self.now) (seen self.now) self.now.process
             place.now.interval place.now.item m block values.now (blocks.Loop stmt))
             steps.old steps.new result }
@@ -114,8 +110,8 @@ impl<'a> Search<'a> {
         steps: &mut Steps<L>,
     ) -> Result<Seq<FlowEdge>, FlowError>
         requires { IsSearch self.now }
-        ensures { IsFound self.now (returned_replays interval values.now)
-            (returned_edges_of (seen self.now) self.now.process interval values.now) steps.old steps.new result }
+        ensures { IsFound self.now (returned_edges_of (seen self.now) self.now.process interval values.now)
+            steps.old steps.new result }
     {
         let mut edges = Seq::new(self.alloc);
         let Some(value) = values.first().copied() else {
@@ -141,9 +137,10 @@ impl<'a> Search<'a> {
         steps: &mut Steps<L>,
     ) -> Result<Seq<FlowEdge>, FlowError>
         requires { IsSearch self.now }
-        ensures { IsFound self.now (returned_replays interval values.now)
-            (returned_edges_of (seen self.now) self.now.process interval values.now
-            ++ bare_edge edge_kind.Control (origin.Item self.now.process place.now.interval (place.now.item - 1)) ∷ [])
+        ensures { let call = origin.Item self.now.process place.now.interval (place.now.item - 1) in
+            IsFound self.now
+            (look_map (λ brought. brought ++ bare_edge edge_kind.Control call ∷ [])
+            (returned_edges_of (seen self.now) self.now.process interval values.now))
             steps.old steps.new result }
     {
         let call = number(place.item.saturating_sub(1))?;
@@ -169,8 +166,6 @@ impl<'a> Search<'a> {
         requires past { IsSearch self.now }
         requires item { IsItemPlace self.now place.now }
         ensures { IsFound self.now
-            (nested_replays (program_in self.now) (plan_in self.now) (seen self.now) self.now.process
-            place.now.interval place.now.item interval block values.now (kind_of_block (plan_in self.now) block))
             (edges_of_nested (program_in self.now) (plan_in self.now) (seen self.now) self.now.process
             place.now.interval place.now.item interval block values.now (kind_of_block (plan_in self.now) block))
             steps.old steps.new result }

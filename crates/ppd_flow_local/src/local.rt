@@ -1,7 +1,8 @@
-ghost use Rattle.std.specs.Prelude.{◌≡◌, ◌<◌, ◌∷◌, length, reverse, slice_get, Some, IfOk, get_or, []};
+ghost use Rattle.std.specs.Prelude.{◌≡◌, ◌<◌, length, reverse, slice_get, Some, IfOk, get_or, []};
 ghost use Rattle.ppd_flow_local.specs.Scans.{scanned as scan_by};
-ghost use Rattle.ppd_flow_local.specs.Searches.{IsFound, IsLocalFound, IsPlace, IsSearch, plan_in, program_in, seen, written_in, written_replays};
-ghost use Rattle.ppd_flow_model.specs.Locals.{above_replays, in_loops as in_loops_of, local_above as local_above_of, local_in as local_in_of, local_in_replays, local_outside as local_outside_of, loop_replays, outer_frame as outer_frame_of, outside_replays, parameter as parameter_of, parameter_replays, scan as scan_of, writer_at as writer_in, writer_replays};
+ghost use Rattle.ppd_flow_local.specs.Searches.{IsFound, IsLocalFound, IsPlace, IsSearch, plan_in, program_in, seen, written_in};
+ghost use Rattle.ppd_flow_model.specs.Locals.{in_loops as in_loops_of, local_above as local_above_of, local_in as local_in_of, local_outside as local_outside_of, outer_frame as outer_frame_of, parameter as parameter_of, scan as scan_of, writer_at as writer_in};
+ghost use Rattle.ppd_flow_model.specs.Looked.{after_replay};
 ghost use Rattle.ppd_flow_model.specs.Seen.{kind_at, outer_of as outer_at, outer_place as outer_place_of};
 
 use crate::scan::{LocalCell, Scan, has_cell};
@@ -53,8 +54,8 @@ impl<'a> Search<'a> {
         steps: &mut Steps<L>,
     ) -> Result<Option<Origin>, FlowError>
         requires { IsSearch self.now }
-        ensures { IsFound self.now (writer_replays writer)
-            (writer_in (seen self.now) self.now.process interval writer) steps.old steps.new result }
+        ensures { IsFound self.now (writer_in (seen self.now) self.now.process interval writer)
+            steps.old steps.new result }
     {
         match writer {
             Writer::Before => Ok(None),
@@ -74,8 +75,8 @@ impl<'a> Search<'a> {
         requires { IsSearch self.now }
         ensures { let items = get_or (seen self.now).items interval [] in
             let writer = (scan_of (program_in self.now) (plan_in self.now) 0 cell items).writer in
-            IsFound self.now (interval ∷ writer_replays writer)
-            (writer_in (seen self.now) self.now.process interval writer) steps.old steps.new result }
+            IsFound self.now (after_replay interval (writer_in (seen self.now) self.now.process interval writer))
+            steps.old steps.new result }
     {
         let items = self.items(interval, steps)?;
         let writer = self.last_writer(interval, items.as_slice(), cell)?;
@@ -91,8 +92,6 @@ impl<'a> Search<'a> {
     ) -> Result<Option<Origin>, FlowError>
         requires { IsSearch self.now }
         ensures { IsFound self.now
-            (loop_replays (program_in self.now) (plan_in self.now) (seen self.now) self.now.process cell
-            (reverse loops.now))
             (in_loops_of (program_in self.now) (plan_in self.now) (seen self.now) self.now.process cell
             (reverse loops.now))
             steps.old steps.new result }
@@ -116,8 +115,8 @@ impl<'a> Search<'a> {
         steps: &mut Steps<L>,
     ) -> Result<Option<Origin>, FlowError>
         requires { IsSearch self.now }
-        ensures { IsFound self.now (written_replays self.now cell (reverse loops.now) writer)
-            (written_in self.now interval cell (reverse loops.now) writer) steps.old steps.new result }
+        ensures { IsFound self.now (written_in self.now interval cell (reverse loops.now) writer)
+            steps.old steps.new result }
     {
         match self.in_loops(loops, cell, steps)? {
             None => self.writer_at(interval, writer, steps),
@@ -135,8 +134,6 @@ impl<'a> Search<'a> {
         requires past { IsSearch self.now }
         requires place { IsPlace self.now place.now }
         ensures { IsFound self.now
-            (local_in_replays (program_in self.now) (plan_in self.now) (seen self.now) self.now.process
-            place.now.interval place.now.item wanted.frame wanted.cell)
             (local_in_of (program_in self.now) (plan_in self.now) (seen self.now) self.now.process
             place.now.interval place.now.item wanted.frame wanted.cell)
             steps.old steps.new result }
@@ -165,7 +162,7 @@ impl<'a> Search<'a> {
     ) -> Result<Origin, FlowError>
         requires { IsSearch self.now }
         ensures { let kind = kind_at (plan_in self.now) (seen self.now) interval in
-            IsFound self.now (parameter_replays (plan_in self.now) (seen self.now) interval cell kind)
+            IsFound self.now
             (parameter_of (plan_in self.now) (seen self.now) self.now.process interval cell kind)
             steps.old steps.new result }
     {
@@ -190,8 +187,6 @@ impl<'a> Search<'a> {
         requires past { IsSearch self.now }
         requires place { IsPlace self.now place.now }
         ensures { IsFound self.now
-            (outside_replays (program_in self.now) (plan_in self.now) (seen self.now) self.now.process
-            place.now.interval place.now.item wanted.frame wanted.cell)
             (local_outside_of (program_in self.now) (plan_in self.now) (seen self.now) self.now.process
             place.now.interval place.now.item wanted.frame wanted.cell)
             steps.old steps.new result }
@@ -214,11 +209,9 @@ impl<'a> Search<'a> {
             let item = outer_place_of (seen self.now) interval in
             let frame = outer_frame_of (program_in self.now) (plan_in self.now) (seen self.now) interval in
             IsFound self.now
-            (outer
-            ∷ outside_replays (program_in self.now) (plan_in self.now) (seen self.now) self.now.process outer item
-            frame cell)
+            (after_replay outer
             (local_outside_of (program_in self.now) (plan_in self.now) (seen self.now) self.now.process outer item
-            frame cell)
+            frame cell))
             steps.old steps.new result }
     {
         let outer = self.outer(interval);
@@ -242,7 +235,6 @@ impl<'a> Search<'a> {
         requires { IsSearch self.now }
         ensures { let kind = kind_at (plan_in self.now) (seen self.now) interval in
             IsFound self.now
-            (above_replays (program_in self.now) (plan_in self.now) (seen self.now) self.now.process interval cell kind)
             (local_above_of (program_in self.now) (plan_in self.now) (seen self.now) self.now.process interval cell
             kind)
             steps.old steps.new result }

@@ -1,7 +1,8 @@
-ghost use Rattle.std.specs.Prelude.{◌≡◌, ◌≤◌, ◌∷◌, [], length, option_copied, take, IfOk, IfSome, get_or};
+ghost use Rattle.std.specs.Prelude.{◌≡◌, ◌≤◌, [], length, option_copied, take, IfOk, IfSome, get_or};
 ghost use Rattle.ppd_flow_local.specs.Searches.{IsFound, IsPlace, IsSearch, plan_in, program_in, seen};
 ghost use Rattle.ppd_model.specs.declared.flow.Origin.TheVariants as origin;
 ghost use Rattle.ppd_flow_model.specs.Locals.{leaf_at as leaf_among};
+ghost use Rattle.ppd_flow_model.specs.Looked.{after_replay, known};
 ghost use Rattle.ppd_flow_model.specs.Own.{frame_at as frame_at_place};
 ghost use Rattle.ppd_flow_model.specs.Seen.{call_of as call_at, kind_at, last_item as last_item_at, outer_of as outer_at, place_of as place_among};
 ghost use Rattle.ppd_flow_tables.specs.Tabled.{IsOfInterval};
@@ -124,7 +125,8 @@ impl<'a> Search<'a> {
         steps: &mut Steps<L>,
     ) -> Result<Items<'a>, FlowError>
         requires { IsSearch self.now }
-        ensures { IsFound self.now (interval ∷ []) (get_or (seen self.now).items interval []) steps.old steps.new result }
+        ensures { IsFound self.now (after_replay interval (known (get_or (seen self.now).items interval [])))
+            steps.old steps.new result }
     {
         interval_items(self.alloc, self.past, self.process, interval, steps)
     }
@@ -136,7 +138,7 @@ impl<'a> Search<'a> {
         steps: &mut Steps<L>,
     ) -> Result<Origin, FlowError>
         requires { IsSearch self.now }
-        ensures { IsFound self.now (interval ∷ []) (last_item_at (seen self.now) self.now.process interval)
+        ensures { IsFound self.now (last_item_at (seen self.now) self.now.process interval)
             steps.old steps.new result }
     {
         let items = self.items(interval, steps)?;
@@ -151,8 +153,8 @@ impl<'a> Search<'a> {
         steps: &mut Steps<L>,
     ) -> Result<Origin, FlowError>
         requires { IsSearch self.now }
-        ensures { IsFound self.now (outer_at (seen self.now) interval ∷ [])
-            (call_at (seen self.now) self.now.process interval) steps.old steps.new result }
+        ensures { IsFound self.now (call_at (seen self.now) self.now.process interval)
+            steps.old steps.new result }
     {
         let outer = self.outer(interval);
         let items = self.items(outer, steps)?;

@@ -1,4 +1,4 @@
--- The control parent of a statement at a place in an interval, and the intervals that are replayed to find it.
+-- The control parent of a statement at a place in an interval, with the intervals that are replayed to find it.
 -- The items of the interval itself are there; no list of replays names it.
 use Rattle.ppd_ast.specs.Lookups.{kind_of}
 use Rattle.ppd_ast.specs.declared.plan.BlockKind.{BlockKind}
@@ -8,7 +8,8 @@ use Rattle.ppd_ast.specs.declared.program.Kind.{Kind}
 use Rattle.ppd_ast.specs.declared.program.Kind.TheVariants as kind
 use Rattle.ppd_ast.specs.declared.program.Program.{Program}
 use Rattle.ppd_flow_model.specs.Locals.{begins_leaf, frame_in, leaf_at}
-use Rattle.ppd_flow_model.specs.Seen.{Seen, call_of, kind_at, outer_of, outer_place, unless}
+use Rattle.ppd_flow_model.specs.Looked.{Looked, after_replay, known, look_or}
+use Rattle.ppd_flow_model.specs.Seen.{Seen, call_of, kind_at, outer_of, outer_place}
 use Rattle.ppd_flow_model.specs.declared.last_test.LastTest.{LastTest}
 use Rattle.ppd_flow_model.specs.declared.leaf_call.LeafCall.{LeafCall}
 use Rattle.ppd_model.specs.FullTrace.{is_passed}
@@ -18,7 +19,7 @@ use Rattle.ppd_model.specs.declared.flow.Origin.{Origin}
 use Rattle.ppd_model.specs.declared.flow.Origin.TheVariants as origin
 use Rattle.ppd_sem.specs.declared.event.Event.{Event}
 use Rattle.std.specs.Option.{option_or}
-use Rattle.std.specs.Prelude.{List, None, Option, Some, [], fold, get_or, if◌then◌else◌, is_some, nat_eq, not, option_and_then, option_map, slice_get, take, unwrap_or, ℕ, ◌&&◌, ◌+◌, ◌∷◌}
+use Rattle.std.specs.Prelude.{List, None, Option, Some, [], fold, get_or, if◌then◌else◌, is_some, nat_eq, not, option_and_then, option_map, slice_get, take, ℕ, ◌&&◌, ◌+◌}
 
 -- ---- the latest test among the first items of an interval
 
@@ -82,43 +83,23 @@ control_in program plan x p k j s =
 -- ---- outside it
 
 -- the call that began interval k, one of a function; else the process
-abbrev pub call_or_entry : Seen → ℕ → ℕ → BlockKind → Origin
+abbrev pub call_or_entry : Seen → ℕ → ℕ → BlockKind → Looked ℕ Origin
 call_or_entry x p k (block.Function f) = call_of x p k
-call_or_entry x p k kind = origin.Entry
+call_or_entry x p k kind = known origin.Entry
 
 -- the parent of statement s in interval k before place j, or what began the interval; no loop is round a
 -- loop of the same activation
-abbrev pub control_outside : Program → Plan → Seen → ℕ → ℕ → ℕ → ℕ → Origin
+abbrev pub control_outside : Program → Plan → Seen → ℕ → ℕ → ℕ → ℕ → Looked ℕ Origin
 control_outside program plan x p k j s =
-    unwrap_or (control_in program plan x p k j s) (call_or_entry x p k (kind_at plan x k))
+    look_or (known (control_in program plan x p k j s)) (call_or_entry x p k (kind_at plan x k))
 
 -- what let interval k run: for a loop what let its first test run
-abbrev pub control_above : Program → Plan → Seen → ℕ → ℕ → BlockKind → Origin
+abbrev pub control_above : Program → Plan → Seen → ℕ → ℕ → BlockKind → Looked ℕ Origin
 control_above program plan x p k (block.Loop l) =
-    control_outside program plan x p (outer_of x k) (outer_place x k) l
+    after_replay (outer_of x k) (control_outside program plan x p (outer_of x k) (outer_place x k) l)
 control_above program plan x p k kind = call_or_entry x p k kind
 
 -- the control parent of statement s at place j of interval k of process p
-abbrev pub control_origin : Program → Plan → Seen → ℕ → ℕ → ℕ → ℕ → Origin
+abbrev pub control_origin : Program → Plan → Seen → ℕ → ℕ → ℕ → ℕ → Looked ℕ Origin
 control_origin program plan x p k j s =
-    unwrap_or (control_in program plan x p k j s) (control_above program plan x p k (kind_at plan x k))
-
--- ---- the intervals that are replayed, in order
-
--- for the call that began interval k
-abbrev pub call_replays : Seen → ℕ → BlockKind → List ℕ
-call_replays x k (block.Function f) = outer_of x k ∷ []
-call_replays x k kind = []
-
--- for what let interval k run
-abbrev pub control_above_replays : Program → Plan → Seen → ℕ → ℕ → BlockKind → List ℕ
-control_above_replays program plan x p k (block.Loop l) =
-    outer_of x k
-    ∷ unless (control_in program plan x p (outer_of x k) (outer_place x k) l)
-    (call_replays x (outer_of x k) (kind_at plan x (outer_of x k)))
-control_above_replays program plan x p k kind = call_replays x k kind
-
--- for the control parent of statement s at place j of interval k of process p
-abbrev pub control_replays : Program → Plan → Seen → ℕ → ℕ → ℕ → ℕ → List ℕ
-control_replays program plan x p k j s =
-    unless (control_in program plan x p k j s) (control_above_replays program plan x p k (kind_at plan x k))
+    look_or (known (control_in program plan x p k j s)) (control_above program plan x p k (kind_at plan x k))

@@ -4,6 +4,7 @@ pub use Rattle.ppd_graph.specs.LogRecord
 pub use Rattle.ppd_graph.specs.declared.paired.Paired
 pub use Rattle.ppd_graph.specs.Partners
 pub use Rattle.ppd_graph.specs.Times
+pub mod Looked
 pub mod Seen
 pub mod Spans
 pub mod Locals

@@ -1,6 +1,6 @@
--- The last write of a local cell before a place in an interval, and the intervals that are replayed to find it.
+-- The last write of a local cell before a place in an interval, with the intervals that are replayed to find it.
 -- The items of the interval itself are there; no list of replays names it.
-use Rattle.std.specs.Prelude.{ℕ, ◌+◌, nat_eq, ℤ, Bool, true, false, not, ◌&&◌, List, [], ◌∷◌, ◌++◌, fold, take, get_or, Option, Some, None, is_some, unwrap_or, if◌then◌else◌}
+use Rattle.std.specs.Prelude.{ℕ, ◌+◌, nat_eq, ℤ, Bool, true, false, not, ◌&&◌, List, [], ◌∷◌, fold, take, get_or, Option, Some, None, is_some, if◌then◌else◌}
 use Rattle.std.specs.List.{list_any}
 use Rattle.ppd_ast.specs.declared.plan.BlockKind.{BlockKind}
 use Rattle.ppd_ast.specs.declared.plan.BlockKind.TheVariants as block
@@ -20,13 +20,13 @@ use Rattle.ppd_model.specs.declared.flow.Item.{Item}
 use Rattle.ppd_model.specs.declared.flow.Item.TheVariants as item
 use Rattle.ppd_model.specs.declared.flow.Origin.{Origin}
 use Rattle.ppd_model.specs.declared.flow.Origin.TheVariants as origin
-use Rattle.std.specs.Option.{option_or}
 use Rattle.ppd_model.specs.NearIntervals.{is_in}
 use Rattle.ppd_model.specs.Synchronizations.{is_number}
 use Rattle.ppd_flow_model.specs.declared.leaf_call.LeafCall.{LeafCall}
 use Rattle.ppd_flow_model.specs.declared.writer.Writer.{Writer}
 use Rattle.ppd_flow_model.specs.declared.writer.Writer.TheVariants.{Before, Fresh, At, Of}
-use Rattle.ppd_flow_model.specs.Seen.{Seen, call_of, kind_at, last_item, outer_of, outer_place, unless}
+use Rattle.ppd_flow_model.specs.Looked.{Looked, after_replay, known, look_map, look_or, or_look}
+use Rattle.ppd_flow_model.specs.Seen.{Seen, call_of, kind_at, last_item, outer_of, outer_place}
 
 -- ---- activations without an interval of their own
 
@@ -129,90 +129,47 @@ outer_frame program plan x m =
 -- ---- within an interval and its loops
 
 -- where the writer among the items of interval m is, if there is one
-abbrev pub writer_at : Seen → ℕ → ℕ → Writer → Option Origin
-writer_at x p m Before = None
-writer_at x p m Fresh = Some origin.Initial
-writer_at x p m (At i) = Some (origin.Item p m i)
-writer_at x p m (Of k) = Some (last_item x p k)
+abbrev pub writer_at : Seen → ℕ → ℕ → Writer → Looked ℕ (Option Origin)
+writer_at x p m Before = known None
+writer_at x p m Fresh = known (Some origin.Initial)
+writer_at x p m (At i) = known (Some (origin.Item p m i))
+writer_at x p m (Of k) = look_map (λ from. Some from) (last_item x p k)
 
 -- the write in the first of these loops in which the cell is written
-abbrev pub in_loops : Program → Plan → Seen → ℕ → ℕ → List ℕ → Option Origin
-in_loops program plan x p c [] = None
+abbrev pub in_loops : Program → Plan → Seen → ℕ → ℕ → List ℕ → Looked ℕ (Option Origin)
+in_loops program plan x p c [] = known None
 in_loops program plan x p c (m ∷ ms) =
-    option_or (writer_at x p m (scan program plan 0 c (get_or x.items m [])).writer) (in_loops program plan x p c ms)
+    or_look (after_replay m (writer_at x p m (scan program plan 0 c (get_or x.items m [])).writer))
+    (in_loops program plan x p c ms)
 
 -- the last write in interval k before place j
-abbrev pub local_in : Program → Plan → Seen → ℕ → ℕ → ℕ → ℕ → ℕ → Option Origin
+abbrev pub local_in : Program → Plan → Seen → ℕ → ℕ → ℕ → ℕ → ℕ → Looked ℕ (Option Origin)
 local_in program plan x p k j frame c =
     let s = scan program plan frame c (take j (get_or x.items k [])) in
-    option_or (in_loops program plan x p c s.loops) (writer_at x p k s.writer)
+    or_look (in_loops program plan x p c s.loops) (writer_at x p k s.writer)
 
 -- ---- outside it
 
 -- the call, for a parameter of interval k, one of a function; else the start value
-abbrev pub parameter : Plan → Seen → ℕ → ℕ → ℕ → BlockKind → Origin
+abbrev pub parameter : Plan → Seen → ℕ → ℕ → ℕ → BlockKind → Looked ℕ Origin
 parameter plan x p k c (block.Function f) =
-    if is_in c (prelog_cells plan (get_or x.blocks k 0)) then call_of x p k else origin.Initial
-parameter plan x p k c kind = origin.Initial
+    if is_in c (prelog_cells plan (get_or x.blocks k 0)) then call_of x p k else known origin.Initial
+parameter plan x p k c kind = known origin.Initial
 
 -- the last write in interval k before place j, or what the interval began with; block loops do not stand in
 -- one another, so no loop is round a loop of the same activation
-abbrev pub local_outside : Program → Plan → Seen → ℕ → ℕ → ℕ → ℕ → ℕ → Origin
+abbrev pub local_outside : Program → Plan → Seen → ℕ → ℕ → ℕ → ℕ → ℕ → Looked ℕ Origin
 local_outside program plan x p k j frame c =
-    unwrap_or (local_in program plan x p k j frame c) (parameter plan x p k c (kind_at plan x k))
+    look_or (local_in program plan x p k j frame c) (parameter plan x p k c (kind_at plan x k))
 
 -- what the cell had when interval k began: for a loop the last write before it
-abbrev pub local_above : Program → Plan → Seen → ℕ → ℕ → ℕ → BlockKind → Origin
+abbrev pub local_above : Program → Plan → Seen → ℕ → ℕ → ℕ → BlockKind → Looked ℕ Origin
 local_above program plan x p k c (block.Loop l) =
-    local_outside program plan x p (outer_of x k) (outer_place x k) (outer_frame program plan x k) c
+    after_replay (outer_of x k)
+    (local_outside program plan x p (outer_of x k) (outer_place x k) (outer_frame program plan x k) c)
 local_above program plan x p k c kind = parameter plan x p k c kind
 
 -- the last write of local cell c of this frame before place j of interval k of process p
-abbrev pub local_origin : Program → Plan → Seen → ℕ → ℕ → ℕ → ℕ → ℕ → Origin
+abbrev pub local_origin : Program → Plan → Seen → ℕ → ℕ → ℕ → ℕ → ℕ → Looked ℕ Origin
 local_origin program plan x p k j frame c =
-    unwrap_or (local_in program plan x p k j frame c) (local_above program plan x p k c (kind_at plan x k))
-
--- ---- the intervals that are replayed, in order
-
--- the interval whose last item is the writer
-abbrev pub writer_replays : Writer → List ℕ
-writer_replays (Of m) = m ∷ []
-writer_replays w = []
-
--- the loops through the first in which the cell is written
-abbrev pub loop_replays : Program → Plan → Seen → ℕ → ℕ → List ℕ → List ℕ
-loop_replays program plan x p c [] = []
-loop_replays program plan x p c (m ∷ ms) =
-    let w = (scan program plan 0 c (get_or x.items m [])).writer in
-    m ∷ writer_replays w ++ unless (writer_at x p m w) (loop_replays program plan x p c ms)
-
--- for the last write in interval k before place j
-abbrev pub local_in_replays : Program → Plan → Seen → ℕ → ℕ → ℕ → ℕ → ℕ → List ℕ
-local_in_replays program plan x p k j frame c =
-    let s = scan program plan frame c (take j (get_or x.items k [])) in
-    loop_replays program plan x p c s.loops
-    ++ unless (in_loops program plan x p c s.loops) (writer_replays s.writer)
-
--- for a parameter of interval k, or a start value
-abbrev pub parameter_replays : Plan → Seen → ℕ → ℕ → BlockKind → List ℕ
-parameter_replays plan x k c (block.Function f) =
-    if is_in c (prelog_cells plan (get_or x.blocks k 0)) then outer_of x k ∷ [] else []
-parameter_replays plan x k c kind = []
-
--- for the last write in interval k before place j, or what the interval began with
-abbrev pub outside_replays : Program → Plan → Seen → ℕ → ℕ → ℕ → ℕ → ℕ → List ℕ
-outside_replays program plan x p k j frame c =
-    local_in_replays program plan x p k j frame c
-    ++ unless (local_in program plan x p k j frame c) (parameter_replays plan x k c (kind_at plan x k))
-
--- for what the cell had when interval k began
-abbrev pub above_replays : Program → Plan → Seen → ℕ → ℕ → ℕ → BlockKind → List ℕ
-above_replays program plan x p k c (block.Loop l) =
-    outer_of x k ∷ outside_replays program plan x p (outer_of x k) (outer_place x k) (outer_frame program plan x k) c
-above_replays program plan x p k c kind = parameter_replays plan x k c kind
-
--- for the last write of local cell c of this frame before place j of interval k of process p
-abbrev pub local_replays : Program → Plan → Seen → ℕ → ℕ → ℕ → ℕ → ℕ → List ℕ
-local_replays program plan x p k j frame c =
-    local_in_replays program plan x p k j frame c
-    ++ unless (local_in program plan x p k j frame c) (above_replays program plan x p k c (kind_at plan x k))
+    look_or (local_in program plan x p k j frame c) (local_above program plan x p k c (kind_at plan x k))

@@ -1,5 +1,5 @@
 -- What the replays of a process's intervals give, and where an interval stands among the others.
-use Rattle.std.specs.Prelude.{ℕ, ◌-◌, nat_eq, Bool, false, List, [], ◌∷◌, map, get_or, length, position, Option, is_some, unwrap_or, if◌then◌else◌}
+use Rattle.std.specs.Prelude.{ℕ, ◌-◌, nat_eq, Bool, false, List, [], ◌∷◌, map, get_or, length, position, unwrap_or}
 use Rattle.ppd_ast.specs.declared.plan.BlockKind.{BlockKind}
 use Rattle.ppd_ast.specs.declared.plan.Plan.{Plan}
 use Rattle.ppd_sem.specs.Blocks.{block_kind}
@@ -8,6 +8,7 @@ use Rattle.ppd_model.specs.declared.flow.Item.TheVariants as item
 use Rattle.ppd_model.specs.declared.flow.Origin.{Origin}
 use Rattle.ppd_model.specs.declared.flow.Origin.TheVariants as origin
 use Rattle.ppd_model.specs.Intervals.{Split, items_of}
+use Rattle.ppd_flow_model.specs.Looked.{Looked, after_replay, known}
 
 -- what is seen of a process: of each of its intervals the items, the block, and the intervals round it
 -- with the innermost first
@@ -51,15 +52,9 @@ abbrev pub outer_place : Seen → ℕ → ℕ
 outer_place x m = place_of m (get_or x.items (outer_of x m) [])
 
 -- the call that began interval m, one of a function: it stands straight before the interval
-abbrev pub call_of : Seen → ℕ → ℕ → Origin
-call_of x p m = origin.Item p (outer_of x m) (outer_place x m - 1)
+abbrev pub call_of : Seen → ℕ → ℕ → Looked ℕ Origin
+call_of x p m = after_replay (outer_of x m) (known (origin.Item p (outer_of x m) (outer_place x m - 1)))
 
 -- the last item of interval m
-abbrev pub last_item : Seen → ℕ → ℕ → Origin
-last_item x p m = origin.Item p m (length (get_or x.items m []) - 1)
-
--- ---- what is replayed
-
--- these intervals are replayed where the origin was not found before them
-abbrev pub unless : Option Origin → List ℕ → List ℕ
-unless o ms = if is_some o then [] else ms
+abbrev pub last_item : Seen → ℕ → ℕ → Looked ℕ Origin
+last_item x p m = after_replay m (known (origin.Item p m (length (get_or x.items m []) - 1)))

@@ -1,5 +1,5 @@
 -- The search for where a shared cell was written: in the internal edge of the place, else in the greatest edge
--- before it that writes the cell; and for the pair of a synchronization.
+-- before it that writes the cell; and for the pair of a synchronization. Each says which intervals it replays.
 use Rattle.std.specs.Prelude.{ℕ, ◌+◌, ℤ, pos, Bool, List, [], ◌∷◌, ◌++◌, filter, fold, get_or, map, Option, Some, None, Result, Ok, Err, if◌then◌else◌}
 use Rattle.ppd_ast.specs.declared.program.Program.{Program}
 use Rattle.ppd_ast.specs.Members.{has}
@@ -18,14 +18,23 @@ use Rattle.ppd_model.specs.RecordedSets.{record_in}
 use Rattle.ppd_flow_model.specs.declared.walked.Walked.{Walked}
 use Rattle.ppd_flow_model.specs.declared.walked.Walked.TheVariants.{Found}
 use Rattle.ppd_flow_model.specs.Ends.{edge_at, end_interval, end_item, ending}
+use Rattle.ppd_flow_model.specs.Looked.{Looked, known, look_map, look_then, after_replay}
 use Rattle.ppd_flow_model.specs.Seen.{Seen}
-use Rattle.ppd_flow_model.specs.Walk.{walk, walk_replays}
+use Rattle.ppd_flow_model.specs.Walk.{walk}
 
 -- ---- processes
 
 -- what is seen of process p, and nothing past the processes
 abbrev pub seen_at : List Seen → ℕ → Seen
 seen_at xs p = get_or xs p (record { items = []; blocks = []; rounds = [] })
+
+-- these intervals of process p, each by its process and its number
+abbrev pub of_process : ℕ → List ℕ → List (ℕ × ℕ)
+of_process p ks = map (λ k. (p, k)) ks
+
+-- what is looked for in process p
+abbrev pub in_process : {A : Type 0} → ℕ → Looked ℕ A → Looked (ℕ × ℕ) A
+in_process p x = record { found = x.found; replays = of_process p x.replays }
 
 -- ---- the edges that write a cell
 
@@ -79,12 +88,13 @@ abbrev pub missing : Logs → ℕ → EdgeId → Missing
 missing logs c a =
     record { process = a.process; entry = ending a.edge (get_or logs.lists a.process []); cell = c }
 
--- the walk for the cell from the end of an edge
-abbrev pub walk_in : Logs → List Seen → ℕ → EdgeId → Walked
+-- the walk for the cell from the end of an edge: the interval in which it ends is replayed first
+abbrev pub walk_in : Logs → List Seen → ℕ → EdgeId → Looked ℕ Walked
 walk_in logs xs c a =
     let entries = get_or logs.lists a.process [] in
     let x = seen_at xs a.process in
-    walk x c (end_interval entries a.edge) (end_item entries x a.edge)
+    let k = end_interval entries a.edge in
+    after_replay k (walk x c k (end_item entries x a.edge))
 
 -- the value and the place of the write that the walk in edge a found
 abbrev pub written_at : Logs → ℕ → EdgeId → Walked → Result (ℤ × Origin) Missing
@@ -92,12 +102,13 @@ written_at logs c a (Found k i v) = Ok (v, origin.Item a.process k i)
 written_at logs c a w = Err (missing logs c a)
 
 -- the last write of the cell in an edge that writes it
-abbrev pub written_in : Logs → List Seen → ℕ → EdgeId → Result (ℤ × Origin) Missing
-written_in logs xs c a = written_at logs c a (walk_in logs xs c a)
+abbrev pub written_in : Logs → List Seen → ℕ → EdgeId → Looked (ℕ × ℕ) (Result (ℤ × Origin) Missing)
+written_in logs xs c a = look_map (written_at logs c a) (in_process a.process (walk_in logs xs c a))
 
 -- the last write in this edge, and the start value where there is none
-abbrev pub written_or_start : Program → Logs → List Seen → ℕ → Option EdgeId → Result (ℤ × Origin) Missing
-written_or_start program logs xs c None = Ok (get_or program.starts c (pos 0), origin.Initial)
+abbrev pub written_or_start : Program → Logs → List Seen → ℕ → Option EdgeId
+    → Looked (ℕ × ℕ) (Result (ℤ × Origin) Missing)
+written_or_start program logs xs c None = known (Ok (get_or program.starts c (pos 0), origin.Initial))
 written_or_start program logs xs c (Some a) = written_in logs xs c a
 
 -- ---- a shared read, and the last value
@@ -108,22 +119,23 @@ origin_in (Ok w) = Ok w.1
 origin_in (Err m) = Err m
 
 -- what the walk of process p found, and otherwise this
-abbrev pub own_or : ℕ → Walked → Result Origin Missing → Result Origin Missing
-own_or p (Found k i v) otherwise = Ok (origin.Item p k i)
+abbrev pub own_or : ℕ → Walked → Looked (ℕ × ℕ) (Result Origin Missing) → Looked (ℕ × ℕ) (Result Origin Missing)
+own_or p (Found k i v) otherwise = known (Ok (origin.Item p k i))
 own_or p w otherwise = otherwise
 
 -- the internal edge of a place of process p
 abbrev pub edge_of_place : Logs → List Seen → ℕ → ℕ → ℕ → EdgeId
 edge_of_place logs xs p k j = edge p (edge_at (get_or logs.lists p []) (seen_at xs p) k j)
 
--- where shared cell c was written that is read at place j of interval k of process p
-abbrev pub shared_origin : Program → Logs → List Seen → ℕ → ℕ → ℕ → ℕ → Result Origin Missing
+-- where shared cell c was written that is read at place j of interval k of process p, whose items are there
+abbrev pub shared_origin : Program → Logs → List Seen → ℕ → ℕ → ℕ → ℕ → Looked (ℕ × ℕ) (Result Origin Missing)
 shared_origin program logs xs p k j c =
-    own_or p (walk (seen_at xs p) c k j)
-    (origin_in (written_or_start program logs xs c (greatest_before program logs (edge_of_place logs xs p k j) c)))
+    look_then (in_process p (walk (seen_at xs p) c k j)) (λ w. own_or p w
+    (look_map origin_in
+    (written_or_start program logs xs c (greatest_before program logs (edge_of_place logs xs p k j) c))))
 
 -- the last value of shared cell c, and where it was written
-abbrev pub found_last : Program → Logs → List Seen → ℕ → Result (ℤ × Origin) Missing
+abbrev pub found_last : Program → Logs → List Seen → ℕ → Looked (ℕ × ℕ) (Result (ℤ × Origin) Missing)
 found_last program logs xs c = written_or_start program logs xs c (greatest_writing program logs c)
 
 -- ---- pairs
@@ -133,58 +145,16 @@ abbrev pub pair_of : Program → Logs → List Seen → ℕ → ℕ → ℕ → 
 pair_of program logs xs p k j =
     pair_at (pairs_of program (record_in logs)) (node p (edge_at (get_or logs.lists p []) (seen_at xs p) k j))
 
--- where a pair is an item: where the edge that it ends does
-abbrev pub pair_place : Logs → List Seen → Paired → Option Origin
-pair_place logs xs Nothing = None
-pair_place logs xs Initial = Some origin.Initial
+-- where a pair is an item: where the edge that it ends does, by the replay of the interval there
+abbrev pub pair_place : Logs → List Seen → Paired → Looked (ℕ × ℕ) (Option Origin)
+pair_place logs xs Nothing = known None
+pair_place logs xs Initial = known (Some origin.Initial)
 pair_place logs xs (Node a) =
     let entries = get_or logs.lists a.process [] in
-    Some (origin.Item a.process (end_interval entries a.sync) (end_item entries (seen_at xs a.process) a.sync))
+    let k = end_interval entries a.sync in
+    after_replay (a.process, k)
+    (known (Some (origin.Item a.process k (end_item entries (seen_at xs a.process) a.sync))))
 
 -- the pair of the synchronization at place j of interval k of process p, if it has one
-abbrev pub pair_origin : Program → Logs → List Seen → ℕ → ℕ → ℕ → Option Origin
+abbrev pub pair_origin : Program → Logs → List Seen → ℕ → ℕ → ℕ → Looked (ℕ × ℕ) (Option Origin)
 pair_origin program logs xs p k j = pair_place logs xs (pair_of program logs xs p k j)
-
--- ---- the intervals that are replayed, in order, each by its process and its number
-
--- these intervals of process p
-abbrev pub of_process : ℕ → List ℕ → List (ℕ × ℕ)
-of_process p ks = map (λ k. (p, k)) ks
-
--- for the last write in an edge: the interval in which it ends, and those of the walk from there
-abbrev pub written_replays : Logs → List Seen → ℕ → EdgeId → List (ℕ × ℕ)
-written_replays logs xs c a =
-    let entries = get_or logs.lists a.process [] in
-    let x = seen_at xs a.process in
-    let k = end_interval entries a.edge in
-    of_process a.process (k ∷ walk_replays x c k (end_item entries x a.edge))
-
--- the same of an edge that is there
-abbrev pub start_replays : Logs → List Seen → ℕ → Option EdgeId → List (ℕ × ℕ)
-start_replays logs xs c None = []
-start_replays logs xs c (Some a) = written_replays logs xs c a
-
--- no more where the walk found a write
-abbrev pub unless_found : Walked → List (ℕ × ℕ) → List (ℕ × ℕ)
-unless_found (Found k i v) more = []
-unless_found w more = more
-
--- for a shared read at place j of interval k of process p, whose items are there
-abbrev pub shared_replays : Program → Logs → List Seen → ℕ → ℕ → ℕ → ℕ → List (ℕ × ℕ)
-shared_replays program logs xs p k j c =
-    of_process p (walk_replays (seen_at xs p) c k j)
-    ++ unless_found (walk (seen_at xs p) c k j)
-    (start_replays logs xs c (greatest_before program logs (edge_of_place logs xs p k j) c))
-
--- for the last value of a cell
-abbrev pub last_replays : Program → Logs → List Seen → ℕ → List (ℕ × ℕ)
-last_replays program logs xs c = start_replays logs xs c (greatest_writing program logs c)
-
--- for the place of a pair: the interval in which its edge ends
-abbrev pub place_replays : Logs → Paired → List (ℕ × ℕ)
-place_replays logs (Node a) = (a.process, end_interval (get_or logs.lists a.process []) a.sync) ∷ []
-place_replays logs pair = []
-
--- for a pair
-abbrev pub pair_replays : Program → Logs → List Seen → ℕ → ℕ → ℕ → List (ℕ × ℕ)
-pair_replays program logs xs p k j = place_replays logs (pair_of program logs xs p k j)

@@ -8,11 +8,11 @@ use Rattle.ppd_model.specs.declared.flow.Origin.{Origin}
 use Rattle.ppd_model.specs.declared.graph.EdgeId.{EdgeId}
 use Rattle.ppd_flow_tables.specs.FlowError.{FlowError}
 use Rattle.ppd_flow_tables.specs.Past.{Past}
-use Rattle.ppd_flow_tables.specs.ByReplays.{AreReplayed, IsFoundBy, steps_to_replay}
+use Rattle.ppd_flow_tables.specs.ByReplays.{AreReplayed, steps_to_replay}
 use Rattle.ppd_flow_model.specs.Ends.{first_edge, sync_item}
-use Rattle.ppd_flow_model.specs.Shared.{greatest_writing, start_replays, written_or_start}
+use Rattle.ppd_flow_model.specs.Shared.{greatest_writing, written_or_start}
 use Rattle.ppd_flow_shared.specs.declared.last.LastEdge.{LastEdge}
-use Rattle.ppd_flow_shared.specs.SharedCells.{IsLastFound, answer_of, last_edge, seens_in, with_end}
+use Rattle.ppd_flow_shared.specs.SharedCells.{IsAnswerTo, IsLastFound, last_edge, seens_in, with_end}
 use Rattle.ppd_flow_shared.proofs.SharedFound.{Before, written_from_items}
 
 module _ (past : Past) (c : ℕ) where
@@ -22,8 +22,7 @@ module _ (past : Past) (c : ℕ) where
   -- the last write in this edge, which is there, is found, but for the steps of the interval in which the edge ends
   abbrev IsFrom : Option EdgeId → LastEdge → (n o : ℕ) → Result (ℤ × Origin) FlowError → Type 0
   IsFrom a l n o r =
-      IsFoundBy past (start_replays past.logs.now (seens_in past) c a)
-      (answer_of (written_or_start past.program.now past.logs.now (seens_in past) c a)) n
+      IsAnswerTo past (written_or_start past.program.now past.logs.now (seens_in past) c a) n
       (o + steps_to_replay past l.edge.process l.interval) r
 
   module _ (items : List Item) (j n o : ℕ) (r : Result (ℤ × Origin) FlowError) where

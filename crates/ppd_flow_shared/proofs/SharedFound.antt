@@ -13,11 +13,12 @@ use Rattle.ppd_flow_tables.proofs.Found.{err_any, found_err, found_given, found_
 use Rattle.ppd_flow_model.specs.declared.walked.Walked.{Walked}
 use Rattle.ppd_flow_model.specs.declared.walked.Walked.TheVariants.{Stopped, Passed, Found}
 use Rattle.ppd_flow_model.specs.Ends.{end_interval, end_item}
+use Rattle.ppd_flow_model.specs.Looked.{Looked, look_map, look_then, after_replay}
 use Rattle.ppd_flow_model.specs.Seen.{Seen}
-use Rattle.ppd_flow_model.specs.Shared.{Missing, of_process, own_or, seen_at, unless_found, written_at, written_in, written_replays}
-use Rattle.ppd_flow_model.specs.Walk.{walk, walk_replays}
+use Rattle.ppd_flow_model.specs.Shared.{Missing, in_process, of_process, own_or, seen_at, written_at, written_in}
+use Rattle.ppd_flow_model.specs.Walk.{walk}
 use Rattle.ppd_flow_shared.specs.declared.edge_end.EdgeEnd.{EdgeEnd}
-use Rattle.ppd_flow_shared.specs.SharedCells.{IsWalked, answer_of, edge_end_of, edge_unless_found, seens_in}
+use Rattle.ppd_flow_shared.specs.SharedCells.{IsAnswerTo, IsSought, IsWalked, answer_of, edge_end_of, edge_unless_found, seens_in}
 
 -- ---- answers
 
@@ -60,11 +61,12 @@ module _ (past : Past) where
     module _ (c : ℕ) where
       abbrev Whole : Seen → ℕ → ℕ → Result (ℤ × Origin) FlowError → Type 0
       Whole y n q r =
-          IsFoundBy past ((e.process, k) ∷ of_process e.process (walk_replays y c k (end_item entries y e.edge)))
-          (answer_of (written_at past.logs.now c e (walk y c k (end_item entries y e.edge)))) n q r
+          IsAnswerTo past
+          (look_map (written_at past.logs.now c e)
+          (in_process e.process (after_replay k (walk y c k (end_item entries y e.edge))))) n q r
 
       as_written : (n q : ℕ) (r : Result (ℤ × Origin) FlowError) → Whole (seen_in past e.process) n q r
-          → IsFoundBy past (written_replays past.logs.now xs c e) (answer_of (written_in past.logs.now xs c e)) n q r
+          → IsAnswerTo past (written_in past.logs.now xs c e) n q r
       as_written n q r f = subst (λ y. Whole y n q r) (sym (seen_there e.process)) f
 
       abbrev x : Seen
@@ -72,109 +74,105 @@ module _ (past : Past) where
 
       abbrev pub Before : ℕ → ℕ → ℕ → ℕ → Result (ℤ × Origin) FlowError → Type 0
       Before m j n q r =
-          IsFoundBy past (of_process e.process (walk_replays x c m j))
-          (answer_of (written_at past.logs.now c e (walk x c m j))) n q r
+          IsAnswerTo past (look_map (written_at past.logs.now c e) (in_process e.process (walk x c m j))) n q r
 
       -- the walk from where the edge ends, by its replay
       pub written_from_end : (end : EdgeEnd) (n o q : ℕ) (r : Result (ℤ × Origin) FlowError)
           → IsFoundBy past ((e.process, k) ∷ []) (Ok (edge_end_of past e)) n o (Ok end)
           → Before end.interval end.place o q r
-          → IsFoundBy past (written_replays past.logs.now xs c e) (answer_of (written_in past.logs.now xs c e)) n q r
+          → IsAnswerTo past (written_in past.logs.now xs c e) n q r
       written_from_end end n o q r f g =
           let is : edge_end_of past e ≡ end = ap (end_or end) f.1 in
           let j = end_item entries x e.edge in
           as_written n q r
-          (found_then past ((e.process, k) ∷ []) (of_process e.process (walk_replays x c k j)) (Ok (edge_end_of past e))
-          (answer_of (written_at past.logs.now c e (walk x c k j))) end n o q r f
+          (found_then past ((e.process, k) ∷ []) (of_process e.process (walk x c k j).replays) (Ok (edge_end_of past e))
+          (answer_of (written_at past.logs.now c e (walk x c k j).found)) end n o q r f
           (subst (λ (u : EdgeEnd). Before u.interval u.place o q r) (sym is) g))
 
       -- or by its items, which are there
       pub written_from_items : (n o : ℕ) (r : Result (ℤ × Origin) FlowError) → failed_in past e.process k ≡ None
           → Before k (end_item entries x e.edge) n o r
-          → IsFoundBy past (written_replays past.logs.now xs c e) (answer_of (written_in past.logs.now xs c e)) n
-          (o + steps_to_replay past e.process k) r
+          → IsAnswerTo past (written_in past.logs.now xs c e) n (o + steps_to_replay past e.process k) r
       written_from_items n o r fine g =
           let j = end_item entries x e.edge in
           as_written n (o + steps_to_replay past e.process k) r
-          (found_given past e.process k (of_process e.process (walk_replays x c k j))
-          (answer_of (written_at past.logs.now c e (walk x c k j))) n o r fine g)
+          (found_given past e.process k (of_process e.process (walk x c k j).replays)
+          (answer_of (written_at past.logs.now c e (walk x c k j).found)) n o r fine g)
 
   -- ---- a shared read
 
-  module _ (p c i j : ℕ) (rest : List (ℕ × ℕ)) (other : Result Origin Missing) where
+  module _ (p c i j : ℕ) (other : Looked (ℕ × ℕ) (Result Origin Missing)) where
     abbrev Read : Seen → ℕ → ℕ → Result Origin FlowError → Type 0
     Read y n q r =
-        IsFoundBy past (of_process p (walk_replays y c i j) ++ unless_found (walk y c i j) rest)
-        (answer_of (own_or p (walk y c i j) other)) n q r
+        IsAnswerTo past (look_then (in_process p (walk y c i j)) (λ w. own_or p w other)) n q r
 
     at_there : (n q : ℕ) (r : Result Origin FlowError) → Read (seen_in past p) n q r → Read (seen_at xs p) n q r
     at_there n q r f = subst (λ y. Read y n q r) (sym (seen_there p)) f
 
-    abbrev here : Seen
-    here = seen_in past p
-
-    abbrev w0 : Walked
-    w0 = walk here c i j
+    abbrev here : Looked ℕ Walked
+    here = walk (seen_in past p) c i j
 
     -- after the walk, which found this
-    after_walk : (w : Walked) (n q : ℕ) (r : Result Origin FlowError) → w0 ≡ w
-        → IsFoundBy past (of_process p (walk_replays here c i j) ++ unless_found w rest) (answer_of
-        (own_or p w other)) n q r
+    after_walk : (w : Walked) (n q : ℕ) (r : Result Origin FlowError) → here.found ≡ w
+        → IsFoundBy past (of_process p here.replays ++ (own_or p w other).replays) (answer_of
+        (own_or p w other).found) n q r
         → Read (seen_at xs p) n q r
     after_walk w n q r is f =
         at_there n q r
-        (subst (λ u. IsFoundBy past (of_process p (walk_replays here c i j) ++ unless_found u rest) (answer_of
-        (own_or p u other)) n q r) (sym is) f)
+        (subst (λ u. IsFoundBy past (of_process p here.replays ++ (own_or p u other).replays) (answer_of
+        (own_or p u other).found) n q r) (sym is) f)
 
     pub read_failed : (n q : ℕ) (u : FlowError)
         → IsWalked past p c i j n q (Err u)
         → Read (seen_at xs p) n q (Err u)
     read_failed n q u f =
         at_there n q (Err u)
-        (found_err past (of_process p (walk_replays here c i j)) (unless_found w0 rest) w0 (answer_of
-        (own_or p w0 other)) n q u f)
+        (found_err past (of_process p here.replays) (own_or p here.found other).replays here.found (answer_of
+        (own_or p here.found other).found) n q u f)
 
     pub read_own : (m t : ℕ) (v : ℤ) (n q : ℕ)
         → IsWalked past p c i j n q (Ok (Found m t v))
         → Read (seen_at xs p) n q (Ok (origin.Item p m t))
     read_own m t v n q f =
-        let is : w0 ≡ Found m t v = ap (walked_or (Found m t v)) f.1 in
-        let alone : of_process p (walk_replays here c i j) ++ []
-        ≡ of_process p (walk_replays here c i j) = append-nil (of_process p (walk_replays here c i j)) in
+        let is : here.found ≡ Found m t v = ap (walked_or (Found m t v)) f.1 in
+        let alone : of_process p here.replays ++ [] ≡ of_process p here.replays = append-nil (of_process p here.replays) in
         after_walk (Found m t v) n q (Ok (origin.Item p m t)) is
         (subst (λ ks. IsFoundBy past ks (Ok (origin.Item p m t)) n q (Ok (origin.Item p m t))) (sym alone)
         (f.0, refl, f.2))
 
     pub read_stopped : (n m q : ℕ) (r : Result Origin FlowError)
         → IsWalked past p c i j n m (Ok Stopped)
-        → IsFoundBy past rest (answer_of other) m q r → Read (seen_at xs p) n q r
+        → IsAnswerTo past other m q r → Read (seen_at xs p) n q r
     read_stopped n m q r f g =
         after_walk Stopped n q r (ap (walked_or Stopped) f.1)
-        (found_then past (of_process p (walk_replays here c i j)) rest (Ok w0) (answer_of other) Stopped n m q r f g)
+        (found_then past (of_process p here.replays) other.replays (Ok here.found) (answer_of other.found) Stopped n m q r
+        f g)
 
     pub read_passed : (n m q : ℕ) (r : Result Origin FlowError)
         → IsWalked past p c i j n m (Ok Passed)
-        → IsFoundBy past rest (answer_of other) m q r → Read (seen_at xs p) n q r
+        → IsAnswerTo past other m q r → Read (seen_at xs p) n q r
     read_passed n m q r f g =
         after_walk Passed n q r (ap (walked_or Passed) f.1)
-        (found_then past (of_process p (walk_replays here c i j)) rest (Ok w0) (answer_of other) Passed n m q r f g)
+        (found_then past (of_process p here.replays) other.replays (Ok here.found) (answer_of other.found) Passed n m q r
+        f g)
 
 -- ---- the edge before that of a place in which a cell was written
 
 module _ (past : Past) (p c i j : ℕ) (best : Option EdgeId) where
-  abbrev in_past : Seen
-  in_past = seen_in past p
+  abbrev far : Looked ℕ Walked
+  far = walk (seen_in past p) c i j
 
   abbrev Far : ℕ → ℕ → Result (Option EdgeId) FlowError → Type 0
-  Far n m r = IsFoundBy past (of_process p (walk_replays in_past c i j)) (Ok (edge_unless_found (walk in_past c i j) best)) n m r
+  Far n m r =
+      IsSought past (look_map (λ w. edge_unless_found w best) (in_process p (walk (seen_in past p) c i j))) n m r
 
   -- what the walk found leaves this edge
   pub far_found : (w : Walked) (o : Option EdgeId) (n m : ℕ) → IsWalked past p c i j n m (Ok w) → edge_unless_found w best ≡ o
       → Far n m (Ok o)
   far_found w o n m f e =
-      let is : walk in_past c i j ≡ w = ap (walked_or w) f.1 in
+      let is : far.found ≡ w = ap (walked_or w) f.1 in
       (f.0, ap (λ (u : Walked). Ok (edge_unless_found u best)) is ∙ ap (λ (x : Option EdgeId). Ok x) e, f.2)
 
   pub far_failed : (n m : ℕ) (e : FlowError) → IsWalked past p c i j n m (Err e) → Far n m (Err e)
   far_failed n m e f =
-      err_any past (of_process p (walk_replays in_past c i j)) (walk in_past c i j) (Ok (edge_unless_found (walk in_past c i j) best)) n m e f
+      err_any past (of_process p far.replays) far.found (Ok (edge_unless_found far.found best)) n m e f

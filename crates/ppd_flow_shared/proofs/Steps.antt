@@ -1,13 +1,14 @@
 -- The steps of a walk, by what the replays on its way answer.
+use Rattle.ppd_flow_model.specs.Looked.{Looked}
 use Rattle.ppd_flow_model.specs.Seen.{Seen, place_of}
-use Rattle.ppd_flow_model.specs.Shared.{of_process}
-use Rattle.ppd_flow_model.specs.Walk.{back, back_from, back_replays, backwards, if_passed, onward, walk, walk_replays}
+use Rattle.ppd_flow_model.specs.Shared.{in_process, of_process}
+use Rattle.ppd_flow_model.specs.Walk.{at_item, back, back_from, backwards, onward, walk}
 use Rattle.ppd_flow_model.specs.declared.walked.Walked.{Walked}
 use Rattle.ppd_flow_model.specs.declared.walked.Walked.TheVariants.{Passed}
 use Rattle.ppd_flow_shared.proofs.Leads.{Leads, lead_ended, lead_failed, lead_on}
-use Rattle.ppd_flow_shared.proofs.Over.{one_more, one_over, one_replays, out_parts, out_replays_parts, over, replays, replays_parts, walk_parts}
-use Rattle.ppd_flow_shared.specs.Items.{at_item, before_inner, before_inner_replays, is_passed, item_replays, out_of, out_of_replays}
-use Rattle.ppd_flow_shared.specs.SharedCells.{IsWalked}
+use Rattle.ppd_flow_shared.proofs.Over.{one_more, out_parts, over, walk_parts}
+use Rattle.ppd_flow_shared.specs.Items.{before_inner, is_passed, out_of}
+use Rattle.ppd_flow_shared.specs.SharedCells.{IsSought, IsWalked}
 use Rattle.ppd_flow_tables.proofs.Found.{found_err, found_none, found_then}
 use Rattle.ppd_flow_tables.proofs.Parents.{round_goes_on, round_is_before}
 use Rattle.ppd_flow_tables.specs.ByReplays.{IsFoundBy}
@@ -16,7 +17,7 @@ use Rattle.ppd_flow_tables.specs.Past.{Past}
 use Rattle.ppd_flow_tables.specs.SeenBy.{items_in, seen_in}
 use Rattle.ppd_flow_tables.specs.Stops.{ArePassed}
 use Rattle.ppd_model.specs.declared.flow.Item.{Item}
-use Rattle.std.proofs.Common.{Err, List, None, Ok, Result, Some, [], ap, arith, false, length, subst, suc, sym, take, true, ℕ, ◌++◌, ◌+◌, ◌-◌, ◌<◌, ◌∙◌, ◌∷◌, ◌≡◌}
+use Rattle.std.proofs.Common.{Err, List, None, Ok, Result, Some, [], ap, arith, false, length, subst, suc, sym, take, true, ℕ, ◌+◌, ◌-◌, ◌<◌, ◌∙◌, ◌∷◌, ◌≡◌}
 use Rattle.std.proofs.lemmas.List.{take_all}
 use Rattle.std.specs.Option.{option_map_or}
 use Rattle.std.specs.Prelude.{get_or, slice_get}
@@ -34,99 +35,85 @@ module _ (past : Past) (p c : ℕ) where
       → get_or x.items m [] ≡ items
   items_are m items n o f = ap items_or f.1
 
+  -- over these items of interval k
+  abbrev Over : (depth k : ℕ) → List (ℕ × Item) → ℕ → ℕ → Result Walked FlowError → Type 0
+  Over depth k ts n o r = IsSought past (in_process p (over x depth c k ts)) n o r
+
   -- ---- a whole interval
 
   whole_next : (d m : ℕ) (items : List Item) (n o q : ℕ) (r : Result Walked FlowError)
       → IsFoundBy past ((p, m) ∷ []) (Ok (items_in past p m)) n o (Ok items)
-      → IsFoundBy past (of_process p (replays x d c m (backwards 0 items []))) (Ok (over x d c m
-      (backwards 0 items []))) o q r
-      → IsFoundBy past (of_process p (back_replays (suc d) x c m)) (Ok (back (suc d) x c m)) n q r
+      → Over d m (backwards 0 items []) o q r
+      → IsSought past (in_process p (back (suc d) x c m)) n q r
   whole_next d m items n o q r f g =
-      found_then past ((p, m) ∷ []) (of_process p (replays x d c m (backwards 0 (get_or x.items m []) [])))
-      (Ok (items_in past p m)) (Ok (back (suc d) x c m)) items n o q r f
-      (subst (λ ts. IsFoundBy past (of_process p (replays x d c m (backwards 0 ts []))) (Ok (over x d c m
-      (backwards 0 ts []))) o q r)
-      (sym (items_are m items n o f)) g)
+      found_then past ((p, m) ∷ []) (of_process p (over x d c m (backwards 0 (get_or x.items m []) [])).replays)
+      (Ok (items_in past p m)) (Ok (back (suc d) x c m).found) items n o q r f
+      (subst (λ ts. Over d m (backwards 0 ts []) o q r) (sym (items_are m items n o f)) g)
 
   pub whole_ok : (depth m : ℕ) (items : List Item) (n o q : ℕ) (r : Result Walked FlowError) → (depth ≡ 0 → ⊥)
       → IsFoundBy past ((p, m) ∷ []) (Ok (items_in past p m)) n o (Ok items)
-      → IsFoundBy past (of_process p (replays x (depth - 1) c m (back_from (length items) items))) (Ok (over x (depth - 1) c m
-      (back_from (length items) items))) o q r
-      → IsFoundBy past (of_process p (back_replays depth x c m)) (Ok (back depth x c m)) n q r
+      → IsSought past (in_process p (over x (depth - 1) c m (back_from (length items) items))) o q r
+      → IsSought past (in_process p (back depth x c m)) n q r
   whole_ok depth m items n o q r some f g =
       let is : depth ≡ suc (depth - 1) = omega (arith, some) in
-      subst (λ d. IsFoundBy past (of_process p (back_replays d x c m)) (Ok (back d x c m)) n q r) (sym is)
+      subst (λ d. IsSought past (in_process p (back d x c m)) n q r) (sym is)
       (whole_next (depth - 1) m items n o q r f
-      (subst (λ ts. IsFoundBy past (of_process p (replays x (depth - 1) c m (backwards 0 ts []))) (Ok (over x
-      (depth - 1) c m (backwards 0 ts []))) o q r) (take_all (length items) items (omega arith)) g))
+      (subst (λ ts. Over (depth - 1) m (backwards 0 ts []) o q r) (take_all (length items) items (omega arith)) g))
 
   pub whole_err : (depth m n o : ℕ) (e : FlowError) → (depth ≡ 0 → ⊥)
       → IsFoundBy {A = List Item} past ((p, m) ∷ []) (Ok (items_in past p m)) n o (Err e)
-      → IsFoundBy {A = Walked} past (of_process p (back_replays depth x c m)) (Ok (back depth x c m)) n o (Err e)
+      → IsSought past (in_process p (back depth x c m)) n o (Err e)
   whole_err depth m n o e some f =
       let is : depth ≡ suc (depth - 1) = omega (arith, some) in
-      subst (λ d. IsFoundBy {A = Walked} past (of_process p (back_replays d x c m)) (Ok (back d x c m)) n o (Err e))
-      (sym is)
-      (found_err past ((p, m) ∷ []) (of_process p (replays x (depth - 1) c m (backwards 0 (get_or x.items m []) [])))
-      (items_in past p m) (Ok (back (suc (depth - 1)) x c m)) n o e f)
+      subst (λ d. IsSought past (in_process p (back d x c m)) n o (Err e)) (sym is)
+      (found_err past ((p, m) ∷ [])
+      (of_process p (over x (depth - 1) c m (backwards 0 (get_or x.items m []) [])).replays)
+      (items_in past p m) (Ok (back (suc (depth - 1)) x c m).found) n o e f)
 
   -- ---- the items of an interval
 
-  module _ (depth k : ℕ) (items : List Item) (ms : List ℕ) (v : Walked) (before : ℕ) where
+  module _ (depth k : ℕ) (items : List Item) (whole : Looked ℕ Walked) (before : ℕ) where
     abbrev Left : ℕ → ℕ → Type 0
-    Left left s = Leads past p ms v before (replays x depth c k (back_from left items)) (over x depth c k
-        (back_from left items)) s
+    Left left s = Leads past p whole before (over x depth c k (back_from left items)) s
 
     -- items that are passed may be left out
     pub items_jump : (i j s : ℕ) → ArePassed c items i j → Left j s → Left i s
     items_jump i j s passed leads after r g =
         leads after r
-        (subst (λ js. IsFoundBy past (of_process p js) (Ok (over x depth c k (back_from j items))) s after r)
-        (sym (passed.replays (back depth x c) (back_replays depth x c) k))
-        (subst (λ u. IsFoundBy past (of_process p (replays x depth c k (back_from i items))) (Ok u) s after r)
-        (sym (passed.walked (back depth x c) k)) g))
+        (subst (λ (w : Looked ℕ Walked). IsSought past (in_process p w) s after r)
+        (sym (passed.walked (back depth x c) k)) g)
 
     module _ (i s : ℕ) (t : Item) (leads : Left (i + 1) s) (there : slice_get items i ≡ Some t) where
-      parted : Leads past p ms v before
-          (item_replays x depth c t ++ if_passed (at_item x depth c k i t) (replays x depth c k (back_from i items)))
-          (onward (at_item x depth c k i t) (over x depth c k (back_from i items))) s
+      parted : Leads past p whole before
+          (onward (at_item (back depth x c) c k i t) (over x depth c k (back_from i items))) s
       parted after r g =
-          let first : back_from (i + 1) items ≡ (i, t) ∷ back_from i items = one_more items i t there in
-          let ks : replays x depth c k (back_from (i + 1) items)
-          ≡ item_replays x depth c t ++ if_passed (at_item x depth c k i t) (replays x depth c k (back_from i items)) =
-          ap (replays x depth c k) first ∙ one_replays x depth c k i t (back_from i items) in
-          let w : over x depth c k (back_from (i + 1) items)
-          ≡ onward (at_item x depth c k i t) (over x depth c k (back_from i items)) =
-          ap (over x depth c k) first ∙ one_over x depth c k i t (back_from i items) in
-          leads after r (subst (λ js. IsFoundBy past (of_process p js) (Ok (over x depth c k
-          (back_from (i + 1) items))) s after r) (sym ks)
-          (subst (λ u. IsFoundBy past (of_process p (item_replays x depth c t ++ if_passed (at_item x depth c k i t)
-          (replays x depth c k (back_from i items)))) (Ok u) s after r) (sym w) g))
+          leads after r
+          (subst (λ (w : Looked ℕ Walked). IsSought past (in_process p w) s after r)
+          (sym (ap (over x depth c k) (one_more items i t there))) g)
 
       pub item_failed : (m : ℕ) (e : FlowError)
-          → IsFoundBy {A = Walked} past (of_process p (item_replays x depth c t)) (Ok (at_item x depth c k i t)) s m
-          (Err e)
-          → IsFoundBy {A = Walked} past (of_process p ms) (Ok v) before m (Err e)
+          → IsSought past (in_process p (at_item (back depth x c) c k i t)) s m (Err e)
+          → IsSought past (in_process p whole) before m (Err e)
       item_failed m e f =
-          lead_failed past p (item_replays x depth c t) (replays x depth c k (back_from i items))
-          (at_item x depth c k i t) (over x depth c k (back_from i items)) s m ms v before parted e f
+          lead_failed past p (at_item (back depth x c) c k i t) (over x depth c k (back_from i items)) s m whole before
+          parted e f
 
       pub item_ended : (m : ℕ) (u : Walked) → is_passed u ≡ false
-          → IsFoundBy past (of_process p (item_replays x depth c t)) (Ok (at_item x depth c k i t)) s m (Ok u)
-          → IsFoundBy past (of_process p ms) (Ok v) before m (Ok u)
+          → IsSought past (in_process p (at_item (back depth x c) c k i t)) s m (Ok u)
+          → IsSought past (in_process p whole) before m (Ok u)
       item_ended m u not f =
-          lead_ended past p (item_replays x depth c t) (replays x depth c k (back_from i items))
-          (at_item x depth c k i t) (over x depth c k (back_from i items)) s m ms v before parted u not f
+          lead_ended past p (at_item (back depth x c) c k i t) (over x depth c k (back_from i items)) s m whole before
+          parted u not f
 
       pub item_passed : (m : ℕ) (u : Walked) → is_passed u ≡ true
-          → IsFoundBy past (of_process p (item_replays x depth c t)) (Ok (at_item x depth c k i t)) s m (Ok u)
+          → IsSought past (in_process p (at_item (back depth x c) c k i t)) s m (Ok u)
           → Left i m
       item_passed m u so f =
-          lead_on past p (item_replays x depth c t) (replays x depth c k (back_from i items))
-          (at_item x depth c k i t) (over x depth c k (back_from i items)) s m ms v before parted u so f
+          lead_on past p (at_item (back depth x c) c k i t) (over x depth c k (back_from i items)) s m whole before parted
+          u so f
 
     -- none is left
-    pub items_passed : (s : ℕ) → Left 0 s → IsFoundBy past (of_process p ms) (Ok v) before s (Ok Passed)
+    pub items_passed : (s : ℕ) → Left 0 s → IsSought past (in_process p whole) before s (Ok Passed)
     items_passed s leads = leads s (Ok Passed) (found_none past Passed s)
 
   -- ---- outward
@@ -134,20 +121,17 @@ module _ (past : Past) (p c : ℕ) where
   pub before_ok : (depth m k at : ℕ) (items first : List Item) (n o q : ℕ) (r : Result Walked FlowError)
       → depth ≡ length x.items → at ≡ place_of k items → first ≡ take at items
       → IsFoundBy past ((p, m) ∷ []) (Ok (items_in past p m)) n o (Ok items)
-      → IsFoundBy past (of_process p (replays x depth c m (backwards 0 first []))) (Ok (over x depth c m
-      (backwards 0 first []))) o q r
-      → IsFoundBy past (of_process p (before_inner_replays x c m k)) (Ok (before_inner x c m k)) n q r
+      → IsSought past (in_process p (over x depth c m (backwards 0 first []))) o q r
+      → IsSought past (in_process p (before_inner x c m k)) n q r
   before_ok depth m k at items first n o q r deep place front f g =
       let is : get_or x.items m [] ≡ items = items_are m items n o f in
       let firsts : first ≡ take (place_of k (get_or x.items m [])) (get_or x.items m []) =
       front ∙ ap (λ j. take j items) place ∙ ap (λ ts. take (place_of k ts) ts) (sym is) in
-      found_then past ((p, m) ∷ []) (of_process p (replays x (length x.items) c m (back_from (place_of k
-      (get_or x.items m [])) (get_or x.items m []))))
-      (Ok (items_in past p m)) (Ok (before_inner x c m k)) items n o q r f
-      (subst (λ ts. IsFoundBy past (of_process p (replays x (length x.items) c m (backwards 0 ts []))) (Ok (over x
-      (length x.items) c m (backwards 0 ts []))) o q r) firsts
-      (subst (λ d. IsFoundBy past (of_process p (replays x d c m (backwards 0 first []))) (Ok (over x d c m
-      (backwards 0 first []))) o q r) deep g))
+      found_then past ((p, m) ∷ []) (of_process p (over x (length x.items) c m (back_from (place_of k
+      (get_or x.items m [])) (get_or x.items m []))).replays)
+      (Ok (items_in past p m)) (Ok (before_inner x c m k).found) items n o q r f
+      (subst (λ ts. Over (length x.items) m (backwards 0 ts []) o q r) firsts
+      (subst (λ d. Over d m (backwards 0 first []) o q r) deep g))
 
   pub outer_below : (k m : ℕ) → Some m ≡ slice_get (get_or x.rounds k []) 0 → m < k
   outer_below k m e = round_is_before (get_or past.cut.now.lists p []) k m (sym e)
@@ -158,104 +142,78 @@ module _ (past : Past) (p c : ℕ) where
   round_none : (k : ℕ) → None ≡ slice_get (get_or x.rounds k []) 0 → get_or x.rounds k [] ≡ []
   round_none k e = round_goes_on (get_or past.cut.now.lists p []) k ∙ ap (λ o. option_map_or (λ m. m ∷ get_or x.rounds m []) o []) (sym e)
 
-  module _ (ms : List ℕ) (v : Walked) (before : ℕ) where
+  module _ (whole : Looked ℕ Walked) (before : ℕ) where
     abbrev Out : ℕ → ℕ → Type 0
-    Out k s = Leads past p ms v before (out_of_replays x c k (get_or x.rounds k [])) (out_of x c k (get_or x.rounds k [])) s
+    Out k s = Leads past p whole before (out_of x c k (get_or x.rounds k [])) s
 
     module _ (k s m : ℕ) (leads : Out k s) (outer : Some m ≡ slice_get (get_or x.rounds k []) 0) where
-      out_parted : Leads past p ms v before
-          (before_inner_replays x c m k ++ if_passed (before_inner x c m k) (out_of_replays x c m (get_or x.rounds m [])))
-          (onward (before_inner x c m k) (out_of x c m (get_or x.rounds m []))) s
+      abbrev more : Looked ℕ Walked
+      more = out_of x c m (get_or x.rounds m [])
+
+      out_parted : Leads past p whole before (onward (before_inner x c m k) (out_of x c m (get_or x.rounds m []))) s
       out_parted after r g =
           leads after r
-          (subst (λ js. IsFoundBy past (of_process p js) (Ok (out_of x c k (get_or x.rounds k []))) s after r)
-          (sym (ap (out_of_replays x c k) (round_next k m outer) ∙ out_replays_parts x c k m (get_or x.rounds m [])))
-          (subst (λ u. IsFoundBy past (of_process p (before_inner_replays x c m k ++ if_passed
-          (before_inner x c m k) (out_of_replays x c m (get_or x.rounds m [])))) (Ok u) s after r)
-          (sym (ap (out_of x c k) (round_next k m outer) ∙ out_parts x c k m (get_or x.rounds m []))) g))
+          (subst (λ (w : Looked ℕ Walked). IsSought past (in_process p w) s after r)
+          (sym (ap (out_of x c k) (round_next k m outer) ∙ out_parts x c k m (get_or x.rounds m []))) g)
 
       pub out_failed : (o : ℕ) (e : FlowError)
-          → IsFoundBy {A = Walked} past (of_process p (before_inner_replays x c m k)) (Ok
-          (before_inner x c m k)) s o (Err e)
-          → IsFoundBy {A = Walked} past (of_process p ms) (Ok v) before o (Err e)
-      out_failed o e f =
-          lead_failed past p (before_inner_replays x c m k) (out_of_replays x c m (get_or x.rounds m []))
-          (before_inner x c m k)
-          (out_of x c m (get_or x.rounds m [])) s o ms v before out_parted e f
+          → IsSought past (in_process p (before_inner x c m k)) s o (Err e)
+          → IsSought past (in_process p whole) before o (Err e)
+      out_failed o e f = lead_failed past p (before_inner x c m k) more s o whole before out_parted e f
 
       pub out_ended : (o : ℕ) (u : Walked) → is_passed u ≡ false
-          → IsFoundBy past (of_process p (before_inner_replays x c m k)) (Ok (before_inner x c m k)) s o (Ok u)
-          → IsFoundBy past (of_process p ms) (Ok v) before o (Ok u)
-      out_ended o u not f =
-          lead_ended past p (before_inner_replays x c m k) (out_of_replays x c m (get_or x.rounds m [])) (before_inner x c m k)
-          (out_of x c m (get_or x.rounds m [])) s o ms v before out_parted u not f
+          → IsSought past (in_process p (before_inner x c m k)) s o (Ok u)
+          → IsSought past (in_process p whole) before o (Ok u)
+      out_ended o u not f = lead_ended past p (before_inner x c m k) more s o whole before out_parted u not f
 
       pub out_passed : (o : ℕ) (u : Walked) → is_passed u ≡ true
-          → IsFoundBy past (of_process p (before_inner_replays x c m k)) (Ok (before_inner x c m k)) s o (Ok u)
+          → IsSought past (in_process p (before_inner x c m k)) s o (Ok u)
           → Out m o
-      out_passed o u so f =
-          lead_on past p (before_inner_replays x c m k) (out_of_replays x c m (get_or x.rounds m [])) (before_inner x c m k)
-          (out_of x c m (get_or x.rounds m [])) s o ms v before out_parted u so f
+      out_passed o u so f = lead_on past p (before_inner x c m k) more s o whole before out_parted u so f
 
     pub out_done : (k s : ℕ) → None ≡ slice_get (get_or x.rounds k []) 0 → Out k s
-        → IsFoundBy past (of_process p ms) (Ok v) before s (Ok Passed)
+        → IsSought past (in_process p whole) before s (Ok Passed)
     out_done k s none leads =
-        (subst (λ ks. Leads past p ms v before (out_of_replays x c k ks) (out_of x c k ks) s)
-        (round_none k none) leads) s (Ok Passed) (found_none past Passed s)
+        (subst (λ ks. Leads past p whole before (out_of x c k ks) s) (round_none k none) leads) s (Ok Passed)
+        (found_none past Passed s)
 
   -- ---- a walk from a place
 
   module _ (k j depth : ℕ) (items first : List Item) (deep : depth ≡ length x.items) (is : items
       ≡ get_or x.items k []) (front : first ≡ take j items) (n : ℕ) where
-    abbrev here : List ℕ
-    here = replays x (length x.items) c k (back_from j (get_or x.items k []))
+    abbrev here : Looked ℕ Walked
+    here = over x (length x.items) c k (back_from j (get_or x.items k []))
 
-    abbrev found : Walked
-    found = over x (length x.items) c k (back_from j (get_or x.items k []))
+    abbrev farther : Looked ℕ Walked
+    farther = out_of x c k (get_or x.rounds k [])
 
     firsts : first ≡ take j (get_or x.items k [])
     firsts = front ∙ ap (take j) is
 
-    at_first : (o : ℕ) (r : Result Walked FlowError)
-        → IsFoundBy past (of_process p (replays x depth c k (backwards 0 first []))) (Ok (over x depth c k
-        (backwards 0 first []))) n o r
-        → IsFoundBy past (of_process p here) (Ok found) n o r
+    at_first : (o : ℕ) (r : Result Walked FlowError) → Over depth k (backwards 0 first []) n o r
+        → IsSought past (in_process p here) n o r
     at_first o r f =
-        subst (λ ts. IsFoundBy past (of_process p (replays x (length x.items) c k (backwards 0 ts []))) (Ok (over x
-        (length x.items) c k (backwards 0 ts []))) n o r) firsts
-        (subst (λ d. IsFoundBy past (of_process p (replays x d c k (backwards 0 first []))) (Ok (over x d c k
-        (backwards 0 first []))) n o r) deep f)
+        subst (λ ts. Over (length x.items) k (backwards 0 ts []) n o r) firsts
+        (subst (λ d. Over d k (backwards 0 first []) n o r) deep f)
 
-    all_of_it : Leads past p (walk_replays x c k j) (walk x c k j) n
-        (here ++ if_passed found (out_of_replays x c k (get_or x.rounds k []))) (onward found (out_of x c k (get_or x.rounds k []))) n
+    all_of_it : Leads past p (walk x c k j) n (onward here farther) n
     all_of_it after r g =
-        subst (λ js. IsFoundBy past (of_process p js) (Ok (walk x c k j)) n after r) (sym (replays_parts x c k j
-        (get_or x.rounds k [])))
-        (subst (λ u. IsFoundBy past (of_process p (here ++ if_passed found (out_of_replays x c k (get_or x.rounds k []))))
-        (Ok u) n after r)
-        (sym (walk_parts x c k j (get_or x.rounds k []))) g)
+        subst (λ (w : Looked ℕ Walked). IsSought past (in_process p w) n after r)
+        (sym (walk_parts x c k j (get_or x.rounds k []))) g
 
     pub walk_failed : (o : ℕ) (e : FlowError)
-        → IsFoundBy {A = Walked} past (of_process p (replays x depth c k (backwards 0 first []))) (Ok
-        (over x depth c k (backwards 0 first []))) n o (Err e)
+        → IsSought past (in_process p (over x depth c k (backwards 0 first []))) n o (Err e)
         → IsWalked past p c k j n o (Err e)
-    walk_failed o e f =
-        lead_failed past p here (out_of_replays x c k (get_or x.rounds k [])) found (out_of x c k (get_or x.rounds k [])) n o
-        (walk_replays x c k j) (walk x c k j) n all_of_it e (at_first o (Err e) f)
+    walk_failed o e f = lead_failed past p here farther n o (walk x c k j) n all_of_it e (at_first o (Err e) f)
 
     pub walk_ended : (o : ℕ) (u : Walked) → is_passed u ≡ false
-        → IsFoundBy past (of_process p (replays x depth c k (backwards 0 first []))) (Ok (over x depth c k
-        (backwards 0 first []))) n o (Ok u)
+        → IsSought past (in_process p (over x depth c k (backwards 0 first []))) n o (Ok u)
         → IsWalked past p c k j n o (Ok u)
-    walk_ended o u not f =
-        lead_ended past p here (out_of_replays x c k (get_or x.rounds k [])) found (out_of x c k (get_or x.rounds k [])) n o
-        (walk_replays x c k j) (walk x c k j) n all_of_it u not (at_first o (Ok u) f)
+    walk_ended o u not f = lead_ended past p here farther n o (walk x c k j) n all_of_it u not (at_first o (Ok u) f)
 
     pub walk_outward : (o q : ℕ) (u : Walked) (r : Result Walked FlowError) → is_passed u ≡ true
-        → IsFoundBy past (of_process p (replays x depth c k (backwards 0 first []))) (Ok (over x depth c k
-        (backwards 0 first []))) n o (Ok u)
-        → IsFoundBy past (of_process p (out_of_replays x c k (get_or x.rounds k []))) (Ok (out_of x c k (get_or x.rounds k []))) o q r
+        → IsSought past (in_process p (over x depth c k (backwards 0 first []))) n o (Ok u)
+        → IsSought past (in_process p (out_of x c k (get_or x.rounds k []))) o q r
         → IsWalked past p c k j n q r
     walk_outward o q u r so f g =
-        (lead_on past p here (out_of_replays x c k (get_or x.rounds k [])) found (out_of x c k (get_or x.rounds k [])) n o
-        (walk_replays x c k j) (walk x c k j) n all_of_it u so (at_first o (Ok u) f)) q r g
+        (lead_on past p here farther n o (walk x c k j) n all_of_it u so (at_first o (Ok u) f)) q r g

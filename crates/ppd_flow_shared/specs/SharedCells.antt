@@ -12,9 +12,10 @@ use Rattle.ppd_flow_tables.specs.ByReplays.{AreReplayed, IsFoundBy}
 use Rattle.ppd_flow_tables.specs.Pasts.{IsPast}
 use Rattle.ppd_flow_tables.specs.SeenBy.{items_in, seen_by, seen_in}
 use Rattle.ppd_flow_model.specs.Ends.{end_interval, end_item}
+use Rattle.ppd_flow_model.specs.Looked.{Looked}
 use Rattle.ppd_flow_model.specs.Seen.{Seen}
-use Rattle.ppd_flow_model.specs.Shared.{Missing, found_last, greatest_writing, last_replays, of_process}
-use Rattle.ppd_flow_model.specs.Walk.{walk, walk_replays}
+use Rattle.ppd_flow_model.specs.Shared.{Missing, found_last, greatest_writing, in_process}
+use Rattle.ppd_flow_model.specs.Walk.{walk}
 use Rattle.ppd_flow_model.specs.declared.walked.Walked.{Walked}
 use Rattle.ppd_flow_model.specs.declared.walked.Walked.TheVariants.{Found}
 pub use Rattle.ppd_flow_tables.specs.declared.block.BlockTables.{BlockTables}
@@ -29,6 +30,16 @@ seens_in past = map (λ entries. seen_by past.program.now past.plan.now past.bud
 abbrev pub answer_of : {A : Type 0} → Result A Missing → Result A FlowError
 answer_of (Ok x) = Ok x
 answer_of (Err m) = Err (Sets m.process m.entry m.cell)
+
+-- what this search finds, by the intervals that it replays
+abbrev pub IsSought : {A : Type 0} → Past → Looked (ℕ × ℕ) A → (before after : ℕ) → Result A FlowError → Type 0
+IsSought past search before after result = IsFoundBy past search.replays (Ok search.found) before after result
+
+-- the same, or the write that is missing
+abbrev pub IsAnswerTo : {A : Type 0} → Past → Looked (ℕ × ℕ) (Result A Missing) → (before after : ℕ)
+    → Result A FlowError → Type 0
+IsAnswerTo past search before after result =
+    IsFoundBy past search.replays (answer_of search.found) before after result
 
 -- want of memory is answered, or this
 abbrev pub IsMemoryOr : {A : Type 0} → Result A FlowError → Result A FlowError → Type 0
@@ -80,11 +91,9 @@ pub record AreItemsOfLast (past : Past) (c : ℕ) (edge : LastEdge) (items : Lis
 -- the last value of cell c with the write of it, found by the replays that the search for that write needs
 abbrev pub IsLastFound : Past → (c before after : ℕ) → Result (ℤ × Origin) FlowError → Type 0
 IsLastFound past c before after result =
-    IsFoundBy past (last_replays past.program.now past.logs.now (seens_in past) c)
-    (answer_of (found_last past.program.now past.logs.now (seens_in past) c)) before after result
+    IsAnswerTo past (found_last past.program.now past.logs.now (seens_in past) c) before after result
 
 -- what a walk for cell c finds from place j in interval k of process p back, found by its replays
 abbrev pub IsWalked : Past → (p c k j before after : ℕ) → Result Walked FlowError → Type 0
 IsWalked past p c k j before after result =
-    IsFoundBy past (of_process p (walk_replays (seen_in past p) c k j)) (Ok (walk (seen_in past p) c k j)) before after
-    result
+    IsSought past (in_process p (walk (seen_in past p) c k j)) before after result

@@ -1,6 +1,5 @@
 ghost use Rattle.std.specs.Prelude.{◌≡◌};
 ghost use Rattle.ppd_flow_model.specs.Walk.{is_shared as is_shared_cell, over_event as over_event_of, value_to as value_written};
-ghost use Rattle.ppd_flow_model.specs.declared.walked.Walked.TheVariants.{Passed};
 
 use ppd_flow_model::Walked;
 use ppd_sem::{Access, Event, Spot};
@@ -28,7 +27,7 @@ fn value_to(cell: u16, accesses: &[Access]) -> Option<i64>
 
 /// What an event is to the walk: a synchronization, a write of the cell, or neither.
 pub(crate) fn over_event(cell: u16, interval: u32, item: u32, event: &Event) -> Walked
-    ensures { result ≡ over_event_of cell interval item event.now Passed }
+    ensures { result ≡ over_event_of cell interval item event.now }
 {
     if event.number.is_some() {
         return Walked::Stopped;

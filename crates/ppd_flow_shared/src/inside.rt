@@ -1,8 +1,8 @@
-ghost use Rattle.std.specs.Prelude.{◌≡◌, Ok, get_or, []};
-ghost use Rattle.ppd_flow_tables.specs.ByReplays.{IsFoundBy};
-ghost use Rattle.ppd_flow_model.specs.Shared.{of_process};
-ghost use Rattle.ppd_flow_model.specs.Walk.{back, back_from, back_over, back_replays, over_replays};
-ghost use Rattle.ppd_flow_shared.specs.Items.{at_item, is_passed as is_start, item_replays, seen_for};
+ghost use Rattle.std.specs.Prelude.{◌≡◌, get_or, []};
+ghost use Rattle.ppd_flow_model.specs.Shared.{in_process};
+ghost use Rattle.ppd_flow_model.specs.Walk.{at_item, back, back_from, back_over};
+ghost use Rattle.ppd_flow_shared.specs.Items.{is_passed as is_start, seen_for};
+ghost use Rattle.ppd_flow_shared.specs.SharedCells.{IsSought};
 ghost use Rattle.ppd_flow_tables.specs.Tabled.{IsTabled};
 
 use crate::event::over_event;
@@ -33,12 +33,9 @@ pub(crate) fn over_items<L: Ledger>(
 ) -> Result<Walked, FlowError>
     requires past { IsTabled search.now.past.now search.now.tables }
     requires items { items.now ≡ get_or (seen_for search.now).items interval [] }
-    ensures { IsFoundBy search.now.past.now
-        (of_process search.now.process
-        (over_replays (back depth (seen_for search.now) search.now.cell)
-        (back_replays depth (seen_for search.now) search.now.cell) search.now.cell interval
-        (back_from place items.now)))
-        (Ok (back_over (back depth (seen_for search.now) search.now.cell) search.now.cell interval
+    ensures { IsSought search.now.past.now
+        (in_process search.now.process
+        (back_over (back depth (seen_for search.now) search.now.cell) search.now.cell interval
         (back_from place items.now)))
         steps.old steps.new result }
 {
@@ -69,9 +66,9 @@ fn over_item<L: Ledger>(
     steps: &mut Steps<L>,
 ) -> Result<Walked, FlowError>
     requires { IsTabled search.now.past.now search.now.tables }
-    ensures { IsFoundBy search.now.past.now
-        (of_process search.now.process (item_replays (seen_for search.now) depth search.now.cell item.now))
-        (Ok (at_item (seen_for search.now) depth search.now.cell place.0 place.1 item.now))
+    ensures { IsSought search.now.past.now
+        (in_process search.now.process
+        (at_item (back depth (seen_for search.now) search.now.cell) search.now.cell place.0 place.1 item.now))
         steps.old steps.new result }
 {
     match item {
@@ -92,9 +89,8 @@ fn over_interval<L: Ledger>(
     steps: &mut Steps<L>,
 ) -> Result<Walked, FlowError>
     requires { IsTabled search.now.past.now search.now.tables }
-    ensures { IsFoundBy search.now.past.now
-        (of_process search.now.process (back_replays depth (seen_for search.now) search.now.cell interval))
-        (Ok (back depth (seen_for search.now) search.now.cell interval))
+    ensures { IsSought search.now.past.now
+        (in_process search.now.process (back depth (seen_for search.now) search.now.cell interval))
         steps.old steps.new result }
 {
     if depth == 0 {

@@ -1,8 +1,7 @@
-ghost use Rattle.std.specs.Prelude.{◌≡◌, Ok, get_or, []};
-ghost use Rattle.ppd_flow_tables.specs.ByReplays.{IsFoundBy};
-ghost use Rattle.ppd_flow_model.specs.Shared.{of_process};
-ghost use Rattle.ppd_flow_shared.specs.SharedCells.{IsWalked};
-ghost use Rattle.ppd_flow_shared.specs.Items.{before_inner, before_inner_replays, out_of, out_of_replays, seen_for};
+ghost use Rattle.std.specs.Prelude.{◌≡◌, get_or, []};
+ghost use Rattle.ppd_flow_model.specs.Shared.{in_process};
+ghost use Rattle.ppd_flow_shared.specs.SharedCells.{IsSought, IsWalked};
+ghost use Rattle.ppd_flow_shared.specs.Items.{before_inner, out_of, seen_for};
 ghost use Rattle.ppd_flow_tables.specs.Tabled.{IsTabled};
 
 use crate::inside::{is_passed, over_items};
@@ -21,9 +20,8 @@ fn over_before<L: Ledger>(
     steps: &mut Steps<L>,
 ) -> Result<Walked, FlowError>
     requires { IsTabled search.now.past.now search.now.tables }
-    ensures { IsFoundBy search.now.past.now
-        (of_process search.now.process (before_inner_replays (seen_for search.now) search.now.cell outer inner))
-        (Ok (before_inner (seen_for search.now) search.now.cell outer inner))
+    ensures { IsSought search.now.past.now
+        (in_process search.now.process (before_inner (seen_for search.now) search.now.cell outer inner))
         steps.old steps.new result }
 {
     let depth = count_of(search.past, search.process);
@@ -40,10 +38,9 @@ fn outward<L: Ledger>(
     steps: &mut Steps<L>,
 ) -> Result<Walked, FlowError>
     requires { IsTabled search.now.past.now search.now.tables }
-    ensures { IsFoundBy search.now.past.now
-        (of_process search.now.process (out_of_replays (seen_for search.now) search.now.cell interval
-        (get_or (seen_for search.now).rounds interval [])))
-        (Ok (out_of (seen_for search.now) search.now.cell interval (get_or (seen_for search.now).rounds interval [])))
+    ensures { IsSought search.now.past.now
+        (in_process search.now.process
+        (out_of (seen_for search.now) search.now.cell interval (get_or (seen_for search.now).rounds interval [])))
         steps.old steps.new result }
 {
     let mut inner = interval;

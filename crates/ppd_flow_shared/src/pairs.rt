@@ -1,8 +1,7 @@
-ghost use Rattle.std.specs.Prelude.{◌≡◌, IfOk, Ok, Some};
-ghost use Rattle.ppd_flow_tables.specs.ByReplays.{IsFoundBy};
+ghost use Rattle.std.specs.Prelude.{◌≡◌, IfOk, Some};
 ghost use Rattle.ppd_flow_tables.specs.SeenBy.{items_in};
-ghost use Rattle.ppd_flow_model.specs.Shared.{pair_of as pair_of_place, pair_origin as pair_origin_of, pair_replays};
-ghost use Rattle.ppd_flow_shared.specs.SharedCells.{IsNodeFound, seens_in};
+ghost use Rattle.ppd_flow_model.specs.Shared.{pair_of as pair_of_place, pair_origin as pair_origin_of};
+ghost use Rattle.ppd_flow_shared.specs.SharedCells.{IsNodeFound, IsSought, seens_in};
 ghost use Rattle.ppd_flow_tables.specs.Tabled.{IsTabled};
 
 use crate::edge_end::edge_end;
@@ -84,11 +83,9 @@ pub fn pair_origin<L: Ledger>(
 ) -> Result<Option<Origin>, FlowError>
     requires past { IsTabled past.now tables.now }
     requires items { items.now ≡ items_in past.now place.process place.interval }
-    ensures { IsFoundBy past.now
-        (pair_replays past.now.program.now past.now.logs.now (seens_in past.now) place.process place.interval
+    ensures { IsSought past.now
+        (pair_origin_of past.now.program.now past.now.logs.now (seens_in past.now) place.process place.interval
         place.item)
-        (Ok (pair_origin_of past.now.program.now past.now.logs.now (seens_in past.now) place.process place.interval
-        place.item))
         steps.old steps.new result }
 {
     match pair_of(past, tables, place, items)? {

@@ -1,10 +1,10 @@
-ghost use Rattle.std.specs.Prelude.{◌≡◌, IfOk, Ok, get_or, []};
-ghost use Rattle.ppd_flow_tables.specs.ByReplays.{IsFoundBy};
+ghost use Rattle.std.specs.Prelude.{◌≡◌, IfOk, get_or, []};
 ghost use Rattle.ppd_flow_tables.specs.Pasts.{IsPast};
-ghost use Rattle.ppd_flow_model.specs.Shared.{edge_of_place, greatest_before as greatest_before_of, of_process, origin_in, shared_origin as shared_origin_of, shared_replays, start_replays, written_or_start as written_or_start_of};
-ghost use Rattle.ppd_flow_model.specs.Walk.{walk as walk_from, walk_replays};
+ghost use Rattle.ppd_flow_model.specs.Looked.{look_map};
+ghost use Rattle.ppd_flow_model.specs.Shared.{edge_of_place, greatest_before as greatest_before_of, in_process, origin_in, shared_origin as shared_origin_of, written_or_start as written_or_start_of};
+ghost use Rattle.ppd_flow_model.specs.Walk.{walk as walk_from};
 ghost use Rattle.ppd_flow_shared.specs.Items.{seen_for};
-ghost use Rattle.ppd_flow_shared.specs.SharedCells.{IsLastFound, answer_of, edge_unless_found, seens_in};
+ghost use Rattle.ppd_flow_shared.specs.SharedCells.{IsAnswerTo, IsLastFound, IsSought, edge_unless_found, seens_in};
 ghost use Rattle.ppd_flow_tables.specs.Tabled.{IsTabled};
 
 use crate::search::CellSearch;
@@ -61,12 +61,12 @@ impl<'a> CellSearch<'a> {
     ) -> Result<Option<EdgeId>, FlowError>
         requires past { IsTabled self.now.past.now self.now.tables }
         requires items { items.now ≡ get_or (seen_for self.now).items interval [] }
-        ensures { IsFoundBy self.now.past.now
-            (of_process self.now.process (walk_replays (seen_for self.now) self.now.cell interval place))
-            (Ok (edge_unless_found (walk_from (seen_for self.now) self.now.cell interval place)
+        ensures { IsSought self.now.past.now
+            (look_map (λ walked. edge_unless_found walked
             (greatest_before_of self.now.past.now.program.now self.now.past.now.logs.now
             (edge_of_place self.now.past.now.logs.now (seens_in self.now.past.now) self.now.process interval place)
-            self.now.cell)))
+            self.now.cell))
+            (in_process self.now.process (walk_from (seen_for self.now) self.now.cell interval place)))
             steps.old steps.new result }
     {
         let walked = self.walk(interval, items, place, steps)?;
@@ -89,16 +89,12 @@ impl<'a> CellSearch<'a> {
     ) -> Result<Origin, FlowError>
         requires past { IsTabled self.now.past.now self.now.tables }
         requires items { items.now ≡ get_or (seen_for self.now).items interval [] }
-        ensures { IsFoundBy self.now.past.now
-            (start_replays self.now.past.now.logs.now (seens_in self.now.past.now) self.now.cell
-            (greatest_before_of self.now.past.now.program.now self.now.past.now.logs.now
-            (edge_of_place self.now.past.now.logs.now (seens_in self.now.past.now) self.now.process interval place)
-            self.now.cell))
-            (answer_of (origin_in (written_or_start_of self.now.past.now.program.now self.now.past.now.logs.now
+        ensures { IsAnswerTo self.now.past.now
+            (look_map origin_in (written_or_start_of self.now.past.now.program.now self.now.past.now.logs.now
             (seens_in self.now.past.now) self.now.cell
             (greatest_before_of self.now.past.now.program.now self.now.past.now.logs.now
             (edge_of_place self.now.past.now.logs.now (seens_in self.now.past.now) self.now.process interval place)
-            self.now.cell))))
+            self.now.cell)))
             steps.old steps.new result }
     {
         let best = self.edge_before(interval, items, place)?;
@@ -124,11 +120,9 @@ impl<'a> CellSearch<'a> {
     ) -> Result<Origin, FlowError>
         requires past { IsTabled self.now.past.now self.now.tables }
         requires items { items.now ≡ get_or (seen_for self.now).items interval [] }
-        ensures { IsFoundBy self.now.past.now
-            (shared_replays self.now.past.now.program.now self.now.past.now.logs.now (seens_in self.now.past.now)
-            self.now.process interval place self.now.cell)
-            (answer_of (shared_origin_of self.now.past.now.program.now self.now.past.now.logs.now
-            (seens_in self.now.past.now) self.now.process interval place self.now.cell))
+        ensures { IsAnswerTo self.now.past.now
+            (shared_origin_of self.now.past.now.program.now self.now.past.now.logs.now
+            (seens_in self.now.past.now) self.now.process interval place self.now.cell)
             steps.old steps.new result }
     {
         let walked = self.walk(interval, items, place, steps)?;

@@ -1,10 +1,10 @@
 ghost use Rattle.std.specs.Prelude.{◌≡◌, get_or, pos, []};
-ghost use Rattle.ppd_flow_tables.specs.ByReplays.{IsFoundBy};
 ghost use Rattle.ppd_model.specs.HappenedBefore.{edge as edge_of};
-ghost use Rattle.ppd_flow_model.specs.Shared.{of_process, start_replays, written_at, written_in as written_in_edge, written_or_start as written_or_start_of, written_replays};
-ghost use Rattle.ppd_flow_model.specs.Walk.{walk as walk_from, walk_replays};
+ghost use Rattle.ppd_flow_model.specs.Looked.{look_map};
+ghost use Rattle.ppd_flow_model.specs.Shared.{in_process, written_at, written_in as written_in_edge, written_or_start as written_or_start_of};
+ghost use Rattle.ppd_flow_model.specs.Walk.{walk as walk_from};
 ghost use Rattle.ppd_flow_shared.specs.Items.{seen_for};
-ghost use Rattle.ppd_flow_shared.specs.SharedCells.{IsMemoryOr, answer_of, seens_in};
+ghost use Rattle.ppd_flow_shared.specs.SharedCells.{IsAnswerTo, IsMemoryOr, answer_of, seens_in};
 ghost use Rattle.ppd_flow_tables.specs.Tabled.{IsTabled};
 
 use crate::edge_end::edge_end;
@@ -60,10 +60,9 @@ pub(crate) fn written_before<L: Ledger>(
 ) -> Result<(i64, Origin), FlowError>
     requires past { IsTabled search.now.past.now search.now.tables }
     requires items { items.now ≡ get_or (seen_for search.now).items interval [] }
-    ensures { IsFoundBy search.now.past.now
-        (of_process search.now.process (walk_replays (seen_for search.now) search.now.cell interval place))
-        (answer_of (written_at search.now.past.now.logs.now search.now.cell (edge_of search.now.process edge)
-        (walk_from (seen_for search.now) search.now.cell interval place)))
+    ensures { IsAnswerTo search.now.past.now
+        (look_map (written_at search.now.past.now.logs.now search.now.cell (edge_of search.now.process edge))
+        (in_process search.now.process (walk_from (seen_for search.now) search.now.cell interval place)))
         steps.old steps.new result }
 {
     let edge = EdgeId {
@@ -81,9 +80,8 @@ fn written_in<L: Ledger>(
     steps: &mut Steps<L>,
 ) -> Result<(i64, Origin), FlowError>
     requires { IsTabled search.now.past.now search.now.tables }
-    ensures { IsFoundBy search.now.past.now
-        (written_replays search.now.past.now.logs.now (seens_in search.now.past.now) search.now.cell edge)
-        (answer_of (written_in_edge search.now.past.now.logs.now (seens_in search.now.past.now) search.now.cell edge))
+    ensures { IsAnswerTo search.now.past.now
+        (written_in_edge search.now.past.now.logs.now (seens_in search.now.past.now) search.now.cell edge)
         steps.old steps.new result }
 {
     let end = edge_end(search.alloc, search.past, &search.tables, edge, steps)?;
@@ -120,10 +118,9 @@ pub(crate) fn written_or_start<L: Ledger>(
     steps: &mut Steps<L>,
 ) -> Result<(i64, Origin), FlowError>
     requires { IsTabled search.now.past.now search.now.tables }
-    ensures { IsFoundBy search.now.past.now
-        (start_replays search.now.past.now.logs.now (seens_in search.now.past.now) search.now.cell edge)
-        (answer_of (written_or_start_of search.now.past.now.program.now search.now.past.now.logs.now
-        (seens_in search.now.past.now) search.now.cell edge))
+    ensures { IsAnswerTo search.now.past.now
+        (written_or_start_of search.now.past.now.program.now search.now.past.now.logs.now
+        (seens_in search.now.past.now) search.now.cell edge)
         steps.old steps.new result }
 {
     match edge {

@@ -10,7 +10,8 @@ use Rattle.ppd_model.specs.declared.flow.Item.TheVariants as item
 use Rattle.ppd_sem.specs.declared.event.Event.{Event}
 use Rattle.ppd_flow_model.specs.declared.walked.Walked.{Walked}
 use Rattle.ppd_flow_model.specs.declared.walked.Walked.TheVariants.{Stopped, Passed}
-use Rattle.ppd_flow_model.specs.Walk.{back_from, back_over, backwards, found_or, if_passed, over_event, over_replays, value_to}
+use Rattle.ppd_flow_model.specs.Looked.{Looked, known}
+use Rattle.ppd_flow_model.specs.Walk.{back_from, back_over, backwards, found_if, onward, over_event, value_to}
 use Rattle.ppd_flow_tables.specs.declared.marks.Mark.TheVariants as mark
 use Rattle.ppd_flow_tables.specs.declared.place_table.PlaceTable.{PlaceTable}
 use Rattle.ppd_flow_tables.specs.Listed.{IsLastUnder}
@@ -20,27 +21,21 @@ use Rattle.ppd_flow_tables.proofs.EdgePlaces.{none_marked}
 
 -- ---- one item
 
-module _ (inner : ℕ → Walked) (touched : ℕ → List ℕ) (c k : ℕ) where
-  event_walked : (i : ℕ) (e : Event) (rest : Walked) → is_some e.number ≡ false → is_some (value_to c e.writes) ≡ false
-      → over_event c k i e rest ≡ rest
-  event_walked i e rest none other = by (is_some e.number) (value_to c e.writes) none other
+module _ (inner : ℕ → Looked ℕ Walked) (c k : ℕ) where
+  event_walked : (i : ℕ) (e : Event) → is_some e.number ≡ false → is_some (value_to c e.writes) ≡ false
+      → over_event c k i e ≡ Passed
+  event_walked i e none other = by (is_some e.number) (value_to c e.writes) none other
     where
-      by : (b : Bool) (v : Option ℤ) → b ≡ false → is_some v ≡ false → (if b then Stopped else found_or k i v rest)
-          ≡ rest
+      by : (b : Bool) (v : Option ℤ) → b ≡ false → is_some v ≡ false → (if b then Stopped else found_if k i v) ≡ Passed
       by true v f g = absurd (true≢false f)
       by false None f g = refl
       by false (Some v) f g = absurd (true≢false g)
 
   one_walked : (i : ℕ) (t : Item) (rest : List (ℕ × Item)) → is_border t ≡ false → writes_cell c t ≡ false
       → back_over inner c k ((i, t) ∷ rest) ≡ back_over inner c k rest
-  one_walked i (item.Own e) rest none other = event_walked i e (back_over inner c k rest) none other
+  one_walked i (item.Own e) rest none other =
+      ap (λ (w : Walked). onward (known w) (back_over inner c k rest)) (event_walked i e none other)
   one_walked i (item.Nested m b values closed) rest none other = absurd (true≢false none)
-
-  one_replayed : (i : ℕ) (t : Item) (rest : List (ℕ × Item)) → is_border t ≡ false → writes_cell c t ≡ false
-      → over_replays inner touched c k ((i, t) ∷ rest) ≡ over_replays inner touched c k rest
-  one_replayed i (item.Own e) rest none other =
-      ap (λ w. if_passed w (over_replays inner touched c k rest)) (event_walked i e Passed none other)
-  one_replayed i (item.Nested m b values closed) rest none other = absurd (true≢false none)
 
 -- ---- the first items, the last first
 
@@ -101,9 +96,7 @@ module _ (c : ℕ) (items : List Item) (i : ℕ) where
   are_passed j within before clear = record {
     within = within;
     before = before;
-    walked = λ inner k. clear_over (back_over inner c k) (one_walked inner (λ m. []) c k) j before clear;
-    replays = λ inner touched k. clear_over (over_replays inner touched c k) (one_replayed inner touched c k) j before
-        clear;
+    walked = λ inner k. clear_over (back_over inner c k) (one_walked inner c k) j before clear;
   }
 
 -- ---- the last stop

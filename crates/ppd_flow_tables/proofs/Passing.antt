@@ -2,7 +2,7 @@
 use Rattle.std.proofs.Common.{◌≡◌, ℕ, zero, suc, ◌≤◌, ◌⊎◌, inl, inr, List, [], ap, ◌∙◌, sym, arith, length, take}
 use Rattle.std.proofs.lemmas.List.{take_all}
 use Rattle.std.specs.Prelude.{min}
-use Rattle.ppd_flow_model.specs.Walk.{back_over, backwards, over_replays}
+use Rattle.ppd_flow_model.specs.Walk.{back_over, backwards}
 use Rattle.ppd_flow_tables.specs.Stops.{ArePassed}
 use Rattle.ppd_model.specs.declared.flow.Item.{Item}
 
@@ -13,7 +13,6 @@ same_items c items i j within before e = record {
   within = within;
   before = before;
   walked = λ inner k. ap (λ (ts : List Item). back_over inner c k (backwards 0 ts [])) e;
-  replays = λ inner touched k. ap (λ (ts : List Item). over_replays inner touched c k (backwards 0 ts [])) e;
 }
 
 -- no items are passed but those that are not there

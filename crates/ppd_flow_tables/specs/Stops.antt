@@ -3,7 +3,8 @@ use Rattle.std.specs.Prelude.{◌≡◌, ℕ, ◌+◌, ◌≤◌, Bool, true, fa
 use Rattle.ppd_model.specs.declared.flow.Item.{Item}
 use Rattle.ppd_model.specs.declared.flow.Item.TheVariants as item
 use Rattle.ppd_flow_model.specs.declared.walked.Walked.{Walked}
-use Rattle.ppd_flow_model.specs.Walk.{back_from, back_over, over_replays, value_to}
+use Rattle.ppd_flow_model.specs.Looked.{Looked}
+use Rattle.ppd_flow_model.specs.Walk.{back_from, back_over, value_to}
 
 -- an inner interval, or an event with a number
 abbrev pub is_border : Item → Bool
@@ -25,10 +26,8 @@ after (Some i) = i + 1
 pub record ArePassed (c : ℕ) (items : List Item) (i j : ℕ) : Type 0 where
   pub within : i ≤ length items
   pub before : i ≤ j
-  pub walked : (inner : ℕ → Walked) (k : ℕ)
+  pub walked : (inner : ℕ → Looked ℕ Walked) (k : ℕ)
       → back_over inner c k (back_from j items) ≡ back_over inner c k (back_from i items)
-  pub replays : (inner : ℕ → Walked) (touched : ℕ → List ℕ) (k : ℕ)
-      → over_replays inner touched c k (back_from j items) ≡ over_replays inner touched c k (back_from i items)
 
 -- the later of two places, if there is one
 abbrev pub IsLater : (a b result : Option ℕ) → Type 0

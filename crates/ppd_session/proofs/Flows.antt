@@ -11,7 +11,7 @@ use Rattle.ppd_flow_past.specs.declared.flow_error.FlowError.TheVariants as flow
 use Rattle.ppd_flow_past.specs.declared.past.Past.{Past}
 use Rattle.ppd_flow_past.specs.ByReplays.{IsFoundBy, first_failed, first_failed_in}
 use Rattle.ppd_flow_past.specs.SeenBy.{seen_by}
-use Rattle.ppd_flow_model.specs.Found.{edges_replays, found_edges}
+use Rattle.ppd_flow_model.specs.Found.{found_edges}
 use Rattle.ppd_session.specs.Known.{Flow, flow_by, unless_failed}
 use Rattle.ppd_session.specs.Sessions.{known_by}
 use Rattle.ppd_session.specs.Texts.{flow_at, told_at}
@@ -20,10 +20,10 @@ use Rattle.ppd_session.proofs.Tables.{flow_inside}
 
 module _ (past : Past) (uncut : past.cut.now ≡ past.logs.now) (q k j : ℕ) where
   abbrev replays : List (ℕ × ℕ)
-  replays = edges_replays past.program.now past.plan.now past.logs.now (seens_in past) q k j
+  replays = (found_edges past.program.now past.plan.now past.logs.now (seens_in past) q k j).replays
 
   abbrev answer : Flow
-  answer = answer_if (found_edges past.program.now past.plan.now past.logs.now (seens_in past) q k j)
+  answer = answer_if (found_edges past.program.now past.plan.now past.logs.now (seens_in past) q k j).found
 
   abbrev known : Flow
   known = flow_by past.program.now past.plan.now past.budget past.logs.now q k j
@@ -32,8 +32,8 @@ module _ (past : Past) (uncut : past.cut.now ≡ past.logs.now) (q k j : ℕ) wh
   pub same : unless_failed (first_failed_in past replays) answer ≡ known
   same =
       ap (λ (l : Logs). unless_failed
-      (first_failed past.program.now past.plan.now past.budget l (edges_replays past.program.now past.plan.now past.logs.now (map (λ entries. seen_by past.program.now past.plan.now past.budget entries) l.lists) q k j))
-      (answer_if (found_edges past.program.now past.plan.now past.logs.now (map (λ entries. seen_by past.program.now past.plan.now past.budget entries) l.lists) q k j))) uncut
+      (first_failed past.program.now past.plan.now past.budget l (found_edges past.program.now past.plan.now past.logs.now (map (λ entries. seen_by past.program.now past.plan.now past.budget entries) l.lists) q k j).replays)
+      (answer_if (found_edges past.program.now past.plan.now past.logs.now (map (λ entries. seen_by past.program.now past.plan.now past.budget entries) l.lists) q k j).found)) uncut
 
   by_failure : (o : Option At) → first_failed_in past replays ≡ o → known ≡ unless_failed o answer
   by_failure o e = sym same ∙ ap (λ (f : Option At). unless_failed f answer) e

@@ -15,9 +15,9 @@ use Rattle.ppd_flow.proofs.OwnParts.{own_parts}
 use Rattle.ppd_flow.specs.Answers.{answer_if}
 use Rattle.ppd_flow.specs.SharedCells.{answer_of}
 use Rattle.ppd_flow.specs.SharedEdges.{all_seen}
-use Rattle.ppd_flow_model.specs.Found.{edges_if, edges_replays, found_edges}
+use Rattle.ppd_flow_model.specs.Found.{edges_if, found_edges}
 use Rattle.ppd_flow_model.specs.Seen.{Seen, seen_of}
-use Rattle.ppd_flow_model.specs.Shared.{found_last, last_replays, seen_at}
+use Rattle.ppd_flow_model.specs.Shared.{found_last, seen_at}
 use Rattle.ppd_flow_past.proofs.Replays.{replays_give_intervals}
 use Rattle.ppd_flow_past.proofs.Runs.{replays_are_seen}
 use Rattle.ppd_flow_past.proofs.SeenWords.{failure_of}
@@ -187,8 +187,8 @@ module _ (program : Program) (policy : Policy) (budget : ℕ) (h : List ℕ) (va
 
     same_last : (c : ℕ) → c < length program.starts → last_by program plan budget logs c ≡ last_told program plan budget (story program plan budget h) c
     same_last c lt =
-        ap (λ o. unless_failed o (answer_of (found_last program logs (seens program plan budget logs) c))) (never (last_replays program logs (seens program plan budget logs) c))
-        ∙ (ap (λ xs. answer_of (found_last program logs xs c)) (sym all_there)
+        ap (λ o. unless_failed o (answer_of (found_last program logs (seens program plan budget logs) c).found)) (never (found_last program logs (seens program plan budget logs) c).replays)
+        ∙ (ap (λ xs. answer_of (found_last program logs xs c).found) (sym all_there)
         ∙ ap answer_of (last_found program plan budget h whole.last valid whole.runs free c lt))
 
     -- the edges that are found are those of the run
@@ -207,18 +207,18 @@ module _ (program : Program) (policy : Policy) (budget : ℕ) (h : List ℕ) (va
     answered (Some es) = refl
 
     found_there : (p k j : ℕ) (o : Option Split) → slice_get (splits program plan budget (story program plan budget h)) p ≡ o
-        → answer_if (found_edges program plan logs (all_seen program plan budget h) p k j) ≡ flow_told program plan budget (story program plan budget h) p k j
+        → answer_if (found_edges program plan logs (all_seen program plan budget h) p k j).found ≡ flow_told program plan budget (story program plan budget h) p k j
     found_there p k j (Some x) e =
         ap answer_if (assembled program plan budget h whole.last valid whole.runs free p k j x e (own_parts program policy budget h p k j x valid e))
         ∙ answered (edges program plan budget (story program plan budget h) p k j)
     found_there p k j None e =
-        ap (λ i. answer_if (edges_if program plan logs (all_seen program plan budget h) p k j i)) (no_item (all_seen program plan budget h) p k j (no_split (splits program plan budget (story program plan budget h)) p e))
+        ap (λ i. answer_if (edges_if program plan logs (all_seen program plan budget h) p k j i).found) (no_item (all_seen program plan budget h) p k j (no_split (splits program plan budget (story program plan budget h)) p e))
         ∙ ap (λ s. ok_or (edges_in program plan (splits program plan budget (story program plan budget h)) k j s) NoEvent) (sym e)
 
     same_flow : (p k j : ℕ) → flow_by program plan budget logs p k j ≡ flow_told program plan budget (story program plan budget h) p k j
     same_flow p k j =
-        ap (λ o. unless_failed o (answer_if (found_edges program plan logs (seens program plan budget logs) p k j))) (never (edges_replays program plan logs (seens program plan budget logs) p k j))
-        ∙ (ap (λ xs. answer_if (found_edges program plan logs xs p k j)) (sym all_there)
+        ap (λ o. unless_failed o (answer_if (found_edges program plan logs (seens program plan budget logs) p k j).found)) (never (found_edges program plan logs (seens program plan budget logs) p k j).replays)
+        ∙ (ap (λ xs. answer_if (found_edges program plan logs xs p k j).found) (sym all_there)
         ∙ found_there p k j (slice_get (splits program plan budget (story program plan budget h)) p) refl)
 
   same_flows : IsWhole program plan budget h → (rs : List Race) → rs ≡ races program plan budget h

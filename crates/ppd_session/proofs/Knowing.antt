@@ -15,8 +15,8 @@ use Rattle.ppd_entry.specs.declared.entry.Entry.{Entry}
 use Rattle.ppd_entry.specs.declared.entry.Logs.{Logs}
 use Rattle.ppd_flow.specs.Answers.{answer_if}
 use Rattle.ppd_flow.specs.SharedCells.{answer_of as answer_found}
-use Rattle.ppd_flow_model.specs.Found.{edges_if, edges_replays, found_edges}
-use Rattle.ppd_flow_model.specs.Shared.{Missing, found_last, last_replays, seen_at}
+use Rattle.ppd_flow_model.specs.Found.{edges_if, found_edges}
+use Rattle.ppd_flow_model.specs.Shared.{Missing, found_last, seen_at}
 use Rattle.ppd_flow_past.proofs.SeenWords.{failure_of}
 use Rattle.ppd_flow_past.specs.ByReplays.{failure_or, first_failed}
 use Rattle.ppd_flow_past.specs.Laws.{replay_of}
@@ -123,22 +123,22 @@ module _ (program : Program) (plan : Plan) (budget : ℕ) (logs : Logs) where
   module _ (indexed_so : AreIndexed program plan logs) where
     last_known : (c : ℕ) → IsFoundOrNot program plan budget logs (known []) (last_by program plan budget logs c)
     last_known c =
-        found_or_not (last_replays program logs (seens program plan budget logs) c) (found_last program logs (seens program plan budget logs) c)
+        found_or_not (found_last program logs (seens program plan budget logs) c).replays (found_last program logs (seens program plan budget logs) c).found
         ((missing_writes_are_told program plan logs (seens program plan budget logs) indexed_so).last c)
 
     -- of an item that is there
     flow_known : (q k j : ℕ) (items : List Item) → get_or (seen_at (seens program plan budget logs) q).items k [] ≡ items → j < length items
         → IsFoundOrNot program plan budget logs (known []) (flow_by program plan budget logs q k j)
-    flow_known q k j items e lt = by (found_edges program plan logs (seens program plan budget logs) q k j) refl
+    flow_known q k j items e lt = by (found_edges program plan logs (seens program plan budget logs) q k j).found refl
       where
         there : (t : Item) × (slice_get (get_or (seen_at (seens program plan budget logs) q).items k []) j ≡ Some t)
         there = let t = slice_get_there items j lt in (t.0, ap (λ (is : List Item). slice_get is j) e ∙ t.1)
 
-        by : (o : Option (Result (List FlowEdge) Missing)) → found_edges program plan logs (seens program plan budget logs) q k j ≡ o
-            → IsFoundOrNot program plan budget logs (known []) (unless_failed (first_failed program plan budget logs (edges_replays program plan logs (seens program plan budget logs) q k j)) (answer_if o))
-        by None f = absurd (let some = ap (edges_if program plan logs (seens program plan budget logs) q k j) there.1 in cc (f, some))
+        by : (o : Option (Result (List FlowEdge) Missing)) → (found_edges program plan logs (seens program plan budget logs) q k j).found ≡ o
+            → IsFoundOrNot program plan budget logs (known []) (unless_failed (first_failed program plan budget logs (found_edges program plan logs (seens program plan budget logs) q k j).replays) (answer_if o))
+        by None f = absurd (let some = ap (λ o. (edges_if program plan logs (seens program plan budget logs) q k j o).found) there.1 in cc (f, some))
         by (Some found) f =
-            found_or_not (edges_replays program plan logs (seens program plan budget logs) q k j) found
+            found_or_not (found_edges program plan logs (seens program plan budget logs) q k j).replays found
             (λ m g. (missing_writes_are_told program plan logs (seens program plan budget logs) indexed_so).edges q k j m (f ∙ ap Some g))
 
     flow_at_item : (q k j : ℕ) (items : List Item) → told_at (known []) q k ≡ Some (Ok items) → j < length items

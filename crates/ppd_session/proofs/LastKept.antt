@@ -8,7 +8,7 @@ use Rattle.ppd_flow_past.specs.declared.flow_error.FlowError.TheVariants as flow
 use Rattle.ppd_flow_past.specs.declared.past.Past.{Past}
 use Rattle.ppd_flow_past.specs.ByReplays.{failure_or, first_failed_in}
 use Rattle.ppd_flow_past.specs.SeenBy.{failed_in}
-use Rattle.ppd_flow_model.specs.Shared.{greatest_writing, start_replays}
+use Rattle.ppd_flow_model.specs.Shared.{greatest_writing, written_or_start}
 use Rattle.ppd_session.specs.Known.{last_by}
 use Rattle.ppd_session.specs.Sessions.{IsCause, IsWhy, known_by, unfound}
 use Rattle.ppd_session.specs.Texts.{failure_at}
@@ -26,7 +26,7 @@ first_fails p (Some n) rest at e = e
 module _ (past : Past) (uncut : past.cut.now ≡ past.logs.now) (c : ℕ) (l : LastEdge) where
   replays_fail : (at : At) (o : Option EdgeId) → option_map (with_end past) o ≡ Some l
       → first_failed_in past ((l.edge.process, l.interval) ∷ []) ≡ Some at
-      → first_failed_in past (start_replays past.logs.now (seens_in past) c o) ≡ Some at
+      → first_failed_in past (written_or_start past.program.now past.logs.now (seens_in past) c o).replays ≡ Some at
   replays_fail at None e f = absurd (none-some l e)
   replays_fail at (Some a) e f =
       let is : with_end past a ≡ l = same_Some (with_end past a) l e in

@@ -12,7 +12,7 @@ use Rattle.ppd_flow_past.specs.declared.flow_error.FlowError.TheVariants as flow
 use Rattle.ppd_flow_past.specs.declared.past.Past.{Past}
 use Rattle.ppd_flow_past.specs.ByReplays.{IsFoundBy, first_failed, first_failed_in}
 use Rattle.ppd_flow_past.specs.SeenBy.{seen_by}
-use Rattle.ppd_flow_model.specs.Shared.{found_last, last_replays}
+use Rattle.ppd_flow_model.specs.Shared.{found_last}
 use Rattle.ppd_session.specs.Known.{Last, last_by, unless_failed}
 use Rattle.ppd_session.specs.Sessions.{IsLineOf, IsWhy, error_of, unfound}
 use Rattle.ppd_session.specs.Texts.{lasts_text}
@@ -26,10 +26,10 @@ use Rattle.ppd_session.proofs.KnownWords.{of_cells}
 
 module _ (past : Past) (uncut : past.cut.now ≡ past.logs.now) (c : ℕ) where
   abbrev replays : List (ℕ × ℕ)
-  replays = last_replays past.program.now past.logs.now (seens_in past) c
+  replays = (found_last past.program.now past.logs.now (seens_in past) c).replays
 
   abbrev answer : Last
-  answer = answer_of (found_last past.program.now past.logs.now (seens_in past) c)
+  answer = answer_of (found_last past.program.now past.logs.now (seens_in past) c).found
 
   abbrev known : Last
   known = last_by past.program.now past.plan.now past.budget past.logs.now c
@@ -38,8 +38,8 @@ module _ (past : Past) (uncut : past.cut.now ≡ past.logs.now) (c : ℕ) where
   same : unless_failed (first_failed_in past replays) answer ≡ known
   same =
       ap (λ (l : Logs). unless_failed
-      (first_failed past.program.now past.plan.now past.budget l (last_replays past.program.now past.logs.now (map (λ entries. seen_by past.program.now past.plan.now past.budget entries) l.lists) c))
-      (answer_of (found_last past.program.now past.logs.now (map (λ entries. seen_by past.program.now past.plan.now past.budget entries) l.lists) c))) uncut
+      (first_failed past.program.now past.plan.now past.budget l (found_last past.program.now past.logs.now (map (λ entries. seen_by past.program.now past.plan.now past.budget entries) l.lists) c).replays)
+      (answer_of (found_last past.program.now past.logs.now (map (λ entries. seen_by past.program.now past.plan.now past.budget entries) l.lists) c).found)) uncut
 
   known_by_failure : (o : Option At) → first_failed_in past replays ≡ o → known ≡ unless_failed o answer
   known_by_failure o e = sym same ∙ ap (λ (f : Option At). unless_failed f answer) e

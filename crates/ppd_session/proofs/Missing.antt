@@ -9,8 +9,8 @@ use Rattle.ppd_entry.specs.declared.entry.At.{At}
 use Rattle.ppd_entry.specs.declared.entry.Logs.{Logs}
 use Rattle.ppd_flow.specs.Answers.{answer_if}
 use Rattle.ppd_flow.proofs.Missing.{missed, missed_edges}
-use Rattle.ppd_flow_model.specs.Found.{edges_replays, found_edges}
-use Rattle.ppd_flow_model.specs.Shared.{Missing, found_last, last_replays}
+use Rattle.ppd_flow_model.specs.Found.{found_edges}
+use Rattle.ppd_flow_model.specs.Shared.{Missing, found_last}
 use Rattle.ppd_flow_past.specs.declared.flow_error.FlowError.{FlowError}
 use Rattle.ppd_flow_past.specs.declared.flow_error.FlowError.TheVariants as flow_error
 use Rattle.ppd_flow_past.specs.ByReplays.{first_failed}
@@ -108,14 +108,14 @@ module _ (program : Program) (plan : Plan) (budget : ℕ) (logs : Logs) (races :
   of_flow : (p k j : ℕ) → flow_by program plan budget logs p k j ≡ Err (flow_error.Sets q n c) → Wanted
   of_flow p k j e =
       (missing_writes_are_told program plan logs (seens program plan budget logs) indexed).edges p k j (write_at q n c)
-      (by_edges (first_failed program plan budget logs (edges_replays program plan logs (seens program plan budget logs) p k j))
-      (found_edges program plan logs (seens program plan budget logs) p k j) e)
+      (by_edges (first_failed program plan budget logs (found_edges program plan logs (seens program plan budget logs) p k j).replays)
+      (found_edges program plan logs (seens program plan budget logs) p k j).found e)
 
   of_last : (cell : ℕ) → last_by program plan budget logs cell ≡ Err (flow_error.Sets q n c) → Wanted
   of_last cell e =
       (missing_writes_are_told program plan logs (seens program plan budget logs) indexed).last cell (write_at q n c)
-      (by_last (first_failed program plan budget logs (last_replays program logs (seens program plan budget logs) cell))
-      (found_last program logs (seens program plan budget logs) cell) e)
+      (by_last (first_failed program plan budget logs (found_last program logs (seens program plan budget logs) cell).replays)
+      (found_last program logs (seens program plan budget logs) cell).found e)
 
   flow_missing : (p k j : ℕ) → flow_at known p k j ≡ Err (flow_error.Sets q n c) → Wanted
   flow_missing p k j =

@@ -9,9 +9,9 @@ use Rattle.ppd_entry.specs.declared.entry.Entry.{Entry}
 use Rattle.ppd_entry.specs.declared.entry.Logs.{Logs}
 pub use Rattle.ppd_flow.specs.Answers.{answer_if}
 use Rattle.ppd_flow.specs.SharedCells.{answer_of}
-use Rattle.ppd_flow_model.specs.Found.{edges_replays, found_edges}
+use Rattle.ppd_flow_model.specs.Found.{found_edges}
 pub use Rattle.ppd_flow_model.specs.Seen.{Seen}
-use Rattle.ppd_flow_model.specs.Shared.{found_last, last_replays}
+use Rattle.ppd_flow_model.specs.Shared.{found_last}
 use Rattle.ppd_flow_past.specs.ByReplays.{first_failed}
 pub use Rattle.ppd_flow_past.specs.SeenBy.{told_by}
 use Rattle.ppd_flow_past.specs.SeenBy.{seen_by}
@@ -120,17 +120,14 @@ unless_failed (Some at) found = Err (flow_error.Diverged at.process at.entry)
 -- the last value of a cell by the replays that the search for its last write needs
 abbrev pub last_by : Program → Plan → ℕ → Logs → ℕ → Last
 last_by program plan budget logs c =
-    unless_failed
-    (first_failed program plan budget logs (last_replays program logs (seens program plan budget logs) c))
-    (answer_of (found_last program logs (seens program plan budget logs) c))
+    let search = found_last program logs (seens program plan budget logs) c in
+    unless_failed (first_failed program plan budget logs search.replays) (answer_of search.found)
 
 -- the edges of item j of interval k of process p by the replays that the search for them needs
 abbrev pub flow_by : Program → Plan → ℕ → Logs → ℕ → ℕ → ℕ → Flow
 flow_by program plan budget logs p k j =
-    unless_failed
-    (first_failed program plan budget logs
-    (edges_replays program plan logs (seens program plan budget logs) p k j))
-    (answer_if (found_edges program plan logs (seens program plan budget logs) p k j))
+    let search = found_edges program plan logs (seens program plan budget logs) p k j in
+    unless_failed (first_failed program plan budget logs search.replays) (answer_if search.found)
 
 -- what is known of logs that have these races: the intervals of their entries, and by replay their items, the last
 -- values of shared cells and the edges of items

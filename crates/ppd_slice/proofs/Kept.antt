@@ -8,7 +8,7 @@ use Rattle.ppd_entry.specs.declared.entry.At.{At}
 use Rattle.ppd_flow.specs.Answers.{IsEdges}
 use Rattle.ppd_flow.specs.Far.{RoseWithin, far_in}
 use Rattle.ppd_flow.proofs.FarProcesses.{AreFreeOf, IsFree, edges_free}
-use Rattle.ppd_flow_model.specs.Found.{edges_replays}
+use Rattle.ppd_flow_model.specs.Found.{found_edges}
 use Rattle.ppd_flow_past.specs.declared.flow_error.FlowError.{FlowError}
 use Rattle.ppd_flow_past.specs.declared.flow_error.FlowError.TheVariants.{Diverged, NoEvent, Sets, Memory}
 use Rattle.ppd_flow_past.specs.declared.past.Past.{Past}
@@ -181,7 +181,7 @@ module _ (past : Past) where
 
       pub asked_free : (es : List FlowEdge) → IsEdges known a.process a.interval a.item n m (Ok es) → m ≡ n
       asked_free es f =
-          let none = costs_nothing known (edges_replays past.program.now past.plan.now past.logs.now (seens_in past) a.process a.interval a.item)
+          let none = costs_nothing known (found_edges past.program.now past.plan.now past.logs.now (seens_in past) a.process a.interval a.item).replays
           (edges_free known a.process a.interval a.item (free a.process own) (free_of (far_in past a.process a.interval a.item) far)) in
           let rose = f.2 in
           omega (arith, none, rose)

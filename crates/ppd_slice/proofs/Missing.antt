@@ -10,7 +10,7 @@ use Rattle.ppd_flow_past.specs.declared.flow_error.FlowError.TheVariants.{Diverg
 use Rattle.ppd_flow_past.specs.declared.past.Past.{Past}
 use Rattle.ppd_flow_past.specs.ByReplays.{first_failed_in}
 use Rattle.law_flow_missing.specs.Missing.{write_at}
-use Rattle.ppd_flow_model.specs.Found.{edges_replays, found_edges}
+use Rattle.ppd_flow_model.specs.Found.{found_edges}
 use Rattle.ppd_flow_model.specs.Shared.{Missing}
 use Rattle.ppd_flow.specs.SharedCells.{seens_in}
 use Rattle.ppd_slice_search.specs.declared.reached.ItemAt.{ItemAt}
@@ -31,8 +31,8 @@ slice_missed past a (Err (Sets q n c)) f = λ indexed.
     (write_at q n c)
     (found_missing
     (first_failed_in past
-    (edges_replays past.program.now past.plan.now past.logs.now (seens_in past) b.process b.interval b.item))
-    (found_edges past.program.now past.plan.now past.logs.now (seens_in past) b.process b.interval b.item) q n c f.1.1)
+    (found_edges past.program.now past.plan.now past.logs.now (seens_in past) b.process b.interval b.item).replays)
+    (found_edges past.program.now past.plan.now past.logs.now (seens_in past) b.process b.interval b.item).found q n c f.1.1)
 slice_missed past a (Err (Diverged q n)) f = tt
 slice_missed past a (Err NoEvent) f = tt
 slice_missed past a (Err Memory) f = tt

@@ -10,7 +10,7 @@ use Rattle.ppd_entry.specs.declared.entry.At.{At}
 use Rattle.ppd_flow.specs.Answers.{answer_if}
 use Rattle.ppd_flow.specs.Runs.{IsOfRun, splits_in, story_in}
 use Rattle.ppd_flow.proofs.OfRuns.{answered, gives_edges, seens_are}
-use Rattle.ppd_flow_model.specs.Found.{edges_if as found_if, edges_replays, found_edges}
+use Rattle.ppd_flow_model.specs.Found.{edges_if as found_if, found_edges}
 use Rattle.ppd_flow_model.specs.Seen.{seen_of}
 use Rattle.ppd_flow_model.specs.Shared.{Missing, seen_at}
 use Rattle.ppd_flow_past.specs.declared.flow_error.FlowError.{FlowError}
@@ -100,10 +100,10 @@ module _ (law : ReplaysAreSeen) (found : EdgesAreFound) (own : AllOwnPartsAreFou
 
   module _ (b : ItemAt) where
     abbrev found_there : Option (Result (List FlowEdge) Missing)
-    found_there = found_edges past.program.now past.plan.now past.logs.now (seens_in past) b.process b.interval b.item
+    found_there = (found_edges past.program.now past.plan.now past.logs.now (seens_in past) b.process b.interval b.item).found
 
     abbrev needed : List (ℕ × ℕ)
-    needed = edges_replays past.program.now past.plan.now past.logs.now (seens_in past) b.process b.interval b.item
+    needed = (found_edges past.program.now past.plan.now past.logs.now (seens_in past) b.process b.interval b.item).replays
 
     -- of a process of the run
     there : (x : Split) → slice_get (splits_in past h) b.process ≡ Some x → (o : Option (Result (List FlowEdge) Missing)) → found_there ≡ o → answer_if o ≡ ok_or (of_run b) NoEvent
@@ -119,7 +119,7 @@ module _ (law : ReplaysAreSeen) (found : EdgesAreFound) (own : AllOwnPartsAreFou
     nowhere at =
         let gone : get_or (seen_at (seens_in past) b.process).items b.interval [] ≡ [] =
         ap (λ xs. get_or (seen_at xs b.process).items b.interval []) (seens_are law past policy h v r) ∙ no_items (splits_in past h) b.process b.interval at in
-        ap (λ o. found_if past.program.now past.plan.now past.logs.now (seens_in past) b.process b.interval b.item o)
+        ap (λ o. (found_if past.program.now past.plan.now past.logs.now (seens_in past) b.process b.interval b.item o).found)
         (ap (λ (is : List Item). slice_get is b.item) gone ∙ no_item b.item)
 
     answer_is : answer_if found_there ≡ ok_or (of_run b) NoEvent

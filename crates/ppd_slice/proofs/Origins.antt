@@ -5,7 +5,8 @@ use Rattle.ppd_flow.specs.Far.{far_in, far_of_item, far_of_pair, far_of_reads, f
 use Rattle.ppd_flow.specs.SharedCells.{answer_of, edge_unless_found, seens_in}
 use Rattle.ppd_flow_model.specs.Control.{control_origin}
 use Rattle.ppd_flow_model.specs.Ends.{end_interval, end_item}
-use Rattle.ppd_flow_model.specs.Found.{and_more, before_others, edges_if, event_edges, item_edges, pair_edges, read_edge, read_edges, read_if, sync_edges}
+use Rattle.ppd_flow_model.specs.Found.{and_more, before_others, edges_if, event_edges, item_edges, last_edges, pair_edges, read_edge, read_edges, read_if, sync_edges, with_edge}
+use Rattle.ppd_flow_model.specs.Looked.{Looked, look_map}
 use Rattle.ppd_flow_model.specs.Seen.{Seen}
 use Rattle.ppd_flow_model.specs.Shared.{Missing, edge_of_place, greatest_before, origin_in, own_or, pair_of, pair_place, seen_at, walk_in, written_at, written_or_start}
 use Rattle.ppd_flow_model.specs.Walk.{walk}
@@ -96,47 +97,50 @@ module _ (past : Past) (p k j q : ℕ) where
     by_walk b Passed f s = absurd (cc)
 
     by_edge : (w : Walked) (o : Option EdgeId)
-        → read_if a (own_or p w (origin_in (written_or_start past.program.now past.logs.now xs c o))) ≡ Ok e
+        → read_if a (own_or p w (look_map origin_in (written_or_start past.program.now past.logs.now xs c o))).found ≡ Ok e
         → IsIn q (process_of (edge_unless_found w o)) → FromThere e
     by_edge (Found m i v) o f s = absurd s
     by_edge Stopped None f s = absurd s
-    by_edge Stopped (Some b) f s = by_walk b (walk_in past.logs.now xs c b) f s
+    by_edge Stopped (Some b) f s = by_walk b (walk_in past.logs.now xs c b).found f s
     by_edge Passed None f s = absurd s
-    by_edge Passed (Some b) f s = by_walk b (walk_in past.logs.now xs c b) f s
+    by_edge Passed (Some b) f s = by_walk b (walk_in past.logs.now xs c b).found f s
 
   of_read : (a : Access) (spot : Spot) (e : FlowEdge)
-      → read_edge past.program.now past.plan.now past.logs.now xs p k j a spot ≡ Ok e
+      → (read_edge past.program.now past.plan.now past.logs.now xs p k j a spot).found ≡ Ok e
       → IsIn q (far_of_spot past.program.now past.logs.now xs p k j spot) → FromThere e
   of_read a (Local frame c) e f s = absurd s
   of_read a (Shared c) e f s =
-      by_edge a c e (walk (seen_at xs p) c k j) (greatest_before past.program.now past.logs.now (edge_of_place past.logs.now xs p k j) c) f s
+      by_edge a c e (walk (seen_at xs p) c k j).found (greatest_before past.program.now past.logs.now (edge_of_place past.logs.now xs p k j) c) f s
 
   of_reads : (reads : List Access) (es : List FlowEdge)
-      → read_edges past.program.now past.plan.now past.logs.now xs p k j reads ≡ Ok es
+      → (read_edges past.program.now past.plan.now past.logs.now xs p k j reads).found ≡ Ok es
       → IsIn q (far_of_reads past.program.now past.logs.now xs p k j reads) → HasOrigin q es
   of_reads [] es f s = absurd s
   of_reads (a ∷ as') es f s =
-      by (read_edge past.program.now past.plan.now past.logs.now xs p k j a a.spot) refl
-      (read_edges past.program.now past.plan.now past.logs.now xs p k j as') refl f
+      by (read_edge past.program.now past.plan.now past.logs.now xs p k j a a.spot).found refl
+      (read_edges past.program.now past.plan.now past.logs.now xs p k j as').found refl f
       (in_either (far_of_spot past.program.now past.logs.now xs p k j a.spot) (far_of_reads past.program.now past.logs.now xs p k j as') q s)
       (of_reads as')
     where
-      by : (r : Result FlowEdge Missing) → read_edge past.program.now past.plan.now past.logs.now xs p k j a a.spot ≡ r
-          → (rs : Result (List FlowEdge) Missing) → read_edges past.program.now past.plan.now past.logs.now xs p k j as' ≡ rs
-          → before_others r rs ≡ Ok es
+      others : Looked (ℕ × ℕ) (Result (List FlowEdge) Missing)
+      others = read_edges past.program.now past.plan.now past.logs.now xs p k j as'
+
+      by : (r : Result FlowEdge Missing) → (read_edge past.program.now past.plan.now past.logs.now xs p k j a a.spot).found ≡ r
+          → (rs : Result (List FlowEdge) Missing) → (read_edges past.program.now past.plan.now past.logs.now xs p k j as').found ≡ rs
+          → (before_others r others).found ≡ Ok es
           → IsIn q (far_of_spot past.program.now past.logs.now xs p k j a.spot) ⊎ IsIn q (far_of_reads past.program.now past.logs.now xs p k j as')
-          → ((fs : List FlowEdge) → read_edges past.program.now past.plan.now past.logs.now xs p k j as' ≡ Ok fs
+          → ((fs : List FlowEdge) → (read_edges past.program.now past.plan.now past.logs.now xs p k j as').found ≡ Ok fs
           → IsIn q (far_of_reads past.program.now past.logs.now xs p k j as') → HasOrigin q fs)
           → HasOrigin q es
       by (Ok e) g (Ok fs) h t (inl m) go =
           let there = of_read a a.spot e g m in
-          subst (HasOrigin q) (same_ok _ _ t) (of_first q there.0 there.1 e fs there.2)
-      by (Ok e) g (Ok fs) h t (inr m) go = subst (HasOrigin q) (same_ok _ _ t) (of_rest q e fs (go fs h m))
-      by (Ok e) g (Err x) h t m go = absurd (cc)
+          subst (HasOrigin q) (same_ok (e ∷ fs) es (sym (ap (with_edge e) h) ∙ t)) (of_first q there.0 there.1 e fs there.2)
+      by (Ok e) g (Ok fs) h t (inr m) go = subst (HasOrigin q) (same_ok (e ∷ fs) es (sym (ap (with_edge e) h) ∙ t)) (of_rest q e fs (go fs h m))
+      by (Ok e) g (Err x) h t m go = absurd (cc (sym (ap (with_edge e) h) ∙ t))
       by (Err x) g rs h t m go = absurd (cc)
 
   -- so does the edge of a pair
-  of_pair : (pair : Paired) → IsIn q (far_of_pair pair) → HasOrigin q (pair_edges (pair_place past.logs.now xs pair))
+  of_pair : (pair : Paired) → IsIn q (far_of_pair pair) → HasOrigin q (pair_edges (pair_place past.logs.now xs pair).found)
   of_pair Nothing s = absurd s
   of_pair Initial s = absurd s
   of_pair (Node a) (inl e) =
@@ -145,32 +149,36 @@ module _ (past : Past) (p k j q : ℕ) where
   of_pair (Node a) (inr m) = absurd m
 
   of_sync : (number : Option ℕ) → IsIn q (far_of_sync past.program.now past.logs.now xs p k j number)
-      → HasOrigin q (sync_edges past.program.now past.logs.now xs p k j number)
+      → HasOrigin q (sync_edges past.program.now past.logs.now xs p k j number).found
   of_sync None s = absurd s
   of_sync (Some number) s = of_pair (pair_of past.program.now past.logs.now xs p k j) s
 
   module _ (es : List FlowEdge) where
-    of_event : (e : Event) → event_edges past.program.now past.plan.now past.logs.now xs p k j e ≡ Ok es
+    of_event : (e : Event) → (event_edges past.program.now past.plan.now past.logs.now xs p k j e).found ≡ Ok es
         → IsIn q (far_of_item past.program.now past.logs.now xs p k j (Some (item.Own e))) → HasOrigin q es
     of_event e f s =
-        by (sync_edges past.program.now past.logs.now xs p k j e.number)
-        (bare_edge Control (control_origin past.program.now past.plan.now (seen_at xs p) p k j e.stmt) ∷ [])
-        (read_edges past.program.now past.plan.now past.logs.now xs p k j e.reads) refl f
+        by (read_edges past.program.now past.plan.now past.logs.now xs p k j e.reads).found refl f
         (in_either (far_of_reads past.program.now past.logs.now xs p k j e.reads) (far_of_sync past.program.now past.logs.now xs p k j e.number) q s)
         (of_sync e.number)
       where
-        by : (syncs control : List FlowEdge) (r : Result (List FlowEdge) Missing)
-            → read_edges past.program.now past.plan.now past.logs.now xs p k j e.reads ≡ r
-            → and_more r (syncs ++ control) ≡ Ok es
+        syncs : List FlowEdge
+        syncs = (sync_edges past.program.now past.logs.now xs p k j e.number).found
+
+        control : List FlowEdge
+        control = bare_edge Control (control_origin past.program.now past.plan.now (seen_at xs p) p k j e.stmt) ∷ []
+
+        by : (r : Result (List FlowEdge) Missing)
+            → (read_edges past.program.now past.plan.now past.logs.now xs p k j e.reads).found ≡ r
+            → (and_more r (last_edges past.program.now past.plan.now past.logs.now xs p k j e)).found ≡ Ok es
             → IsIn q (far_of_reads past.program.now past.logs.now xs p k j e.reads) ⊎ IsIn q (far_of_sync past.program.now past.logs.now xs p k j e.number)
             → (IsIn q (far_of_sync past.program.now past.logs.now xs p k j e.number) → HasOrigin q syncs)
             → HasOrigin q es
-        by syncs control (Ok fs) g t (inl m) pair = subst (HasOrigin q) (same_ok _ _ t) (of_front q fs (syncs ++ control) (of_reads e.reads fs g m))
-        by syncs control (Ok fs) g t (inr m) pair =
-            subst (HasOrigin q) (same_ok _ _ t) (of_behind q fs (syncs ++ control) (of_front q syncs control (pair m)))
-        by syncs control (Err x) g t m pair = absurd (cc)
+        by (Ok fs) g t (inl m) pair = subst (HasOrigin q) (same_ok (fs ++ (syncs ++ control)) es t) (of_front q fs (syncs ++ control) (of_reads e.reads fs g m))
+        by (Ok fs) g t (inr m) pair =
+            subst (HasOrigin q) (same_ok (fs ++ (syncs ++ control)) es t) (of_behind q fs (syncs ++ control) (of_front q syncs control (pair m)))
+        by (Err x) g t m pair = absurd (cc)
 
-    of_item : (t : Item) → item_edges past.program.now past.plan.now past.logs.now xs p k j t ≡ Ok es
+    of_item : (t : Item) → (item_edges past.program.now past.plan.now past.logs.now xs p k j t).found ≡ Ok es
         → IsIn q (far_of_item past.program.now past.logs.now xs p k j (Some t)) → HasOrigin q es
     of_item (item.Own e) f s = of_event e f s
     of_item (item.Nested m b values closed) f s = absurd s
@@ -183,10 +191,10 @@ module _ (past : Past) (p k j q : ℕ) where
         as_missing (Err x) = Ok fs
     answered (Err m) f = absurd (cc)
 
-    of_answer : (o : Option Item) → answer_if (edges_if past.program.now past.plan.now past.logs.now xs p k j o) ≡ Ok es
+    of_answer : (o : Option Item) → answer_if (edges_if past.program.now past.plan.now past.logs.now xs p k j o).found ≡ Ok es
         → IsIn q (far_of_item past.program.now past.logs.now xs p k j o) → HasOrigin q es
     of_answer None f s = absurd s
-    of_answer (Some t) f s = of_item t (answered (item_edges past.program.now past.plan.now past.logs.now xs p k j t) f) s
+    of_answer (Some t) f s = of_item t (answered (item_edges past.program.now past.plan.now past.logs.now xs p k j t).found f) s
 
     unfailed : (o : Option At) (r : Result (List FlowEdge) FlowError) → unless_failed o r ≡ Ok es → r ≡ Ok es
     unfailed None r f = f
@@ -196,4 +204,4 @@ module _ (past : Past) (p k j q : ℕ) where
     pub from_far : flow_of past (at p k j) ≡ Ok es → IsIn q (far_in past p k j) → HasOrigin q es
     from_far f s =
         of_answer (slice_get (get_or (seen_at xs p).items k []) j)
-        (unfailed (first_failed_in past (replays past (at p k j))) (answer_if (edges_if past.program.now past.plan.now past.logs.now xs p k j (slice_get (get_or (seen_at xs p).items k []) j))) f) s
+        (unfailed (first_failed_in past (replays past (at p k j))) (answer_if (edges_if past.program.now past.plan.now past.logs.now xs p k j (slice_get (get_or (seen_at xs p).items k []) j)).found) f) s

@@ -41,7 +41,7 @@ module _ (r : Recording) (q k j : ℕ) where
 
   module _ (indexed : AreIndexed r.program r.plan r.logs) where
     abbrev found_of : Option Item → Option (Result (List FlowEdge) Missing)
-    found_of o = edges_if r.program r.plan r.logs (cut_seens r q k j) q k j o
+    found_of o = (edges_if r.program r.plan r.logs (cut_seens r q k j) q k j o).found
 
     abbrev with_found : Item → Option (Result (List FlowEdge) Missing) → CleanOr
     with_found t o = with_edges r.program r.plan r.header.budget r.logs (record_in r.logs) (races_among (edges_of_logs r.program r.logs)) q k j t o
@@ -56,11 +56,11 @@ module _ (r : Recording) (q k j : ℕ) where
       item_found None at = ends_before late at refl
       item_found (Some t) at = by (is_item_raced r q k j t) refl
         where
-          edges : is_item_raced r q k j t ≡ false → IsCleanBy r q k j (with_found t (found_edges r.program r.plan r.logs (cut_seens r q k j) q k j))
-          edges whole = subst (λ o. IsCleanBy r q k j (with_found t (found_of o))) (sym at) (some_edges t at whole (item_edges r.program r.plan r.logs (cut_seens r q k j) q k j t) refl)
+          edges : is_item_raced r q k j t ≡ false → IsCleanBy r q k j (with_found t (found_edges r.program r.plan r.logs (cut_seens r q k j) q k j).found)
+          edges whole = subst (λ o. IsCleanBy r q k j (with_found t (found_of o))) (sym at) (some_edges t at whole (item_edges r.program r.plan r.logs (cut_seens r q k j) q k j t).found refl)
 
           by : (b : Bool) → is_item_raced r q k j t ≡ b
-              → IsCleanBy r q k j (if b then unclean_or q (first_raced_of r q k) no_item else with_found t (found_edges r.program r.plan r.logs (cut_seens r q k j) q k j))
+              → IsCleanBy r q k j (if b then unclean_or q (first_raced_of r q k) no_item else with_found t (found_edges r.program r.plan r.logs (cut_seens r q k j) q k j).found)
           by true f = is_raced late t at f refl
           by false f = edges f
 

@@ -14,7 +14,7 @@ use Rattle.ppd_flow_past.specs.declared.flow_error.FlowError.TheVariants as flow
 use Rattle.ppd_flow_past.specs.declared.past.Past.{Past}
 use Rattle.ppd_flow_past.specs.ByReplays.{cost, failure_or, first_failed_in}
 use Rattle.ppd_flow_past.specs.SeenBy.{failed_in, items_in}
-use Rattle.ppd_flow_model.specs.Found.{edges_replays, found_edges}
+use Rattle.ppd_flow_model.specs.Found.{found_edges}
 use Rattle.ppd_whole.specs.SharedCells.{seens_in}
 use Rattle.ppd_slice_search.specs.declared.reached.ItemAt.{ItemAt}
 use Rattle.ppd_slice_search.specs.declared.reached.Reached.{Reached}
@@ -52,8 +52,8 @@ module _ (past : Past) (uncut : past.cut.now ≡ past.logs.now) where
 
   same_flow : (a : ItemAt) → flow_of past a ≡ flow_by past.program.now past.plan.now past.budget past.logs.now a.process a.interval a.item
   same_flow a =
-      same_unless (first_failed_in past (edges_replays past.program.now past.plan.now past.logs.now (seens_in past) a.process a.interval a.item))
-      (answer_if (found_edges past.program.now past.plan.now past.logs.now (seens_in past) a.process a.interval a.item))
+      same_unless (first_failed_in past (found_edges past.program.now past.plan.now past.logs.now (seens_in past) a.process a.interval a.item).replays)
+      (answer_if (found_edges past.program.now past.plan.now past.logs.now (seens_in past) a.process a.interval a.item).found)
       ∙ same_logs past uncut a.process a.interval a.item
 
   -- an item that is there is told

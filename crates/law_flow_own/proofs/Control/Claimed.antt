@@ -42,7 +42,7 @@ module _ (program : Program) (policy : Policy) (budget : ℕ) (h : List ℕ) (p 
   xs = splits program plan budget s
 
   abbrev pub Found : ℕ → ℕ → ℕ → Option EventId → Type 0
-  Found k j st parent = control_origin program plan (seen_of y) p k j st ≡ option_map_or (ref xs) parent origin.Entry
+  Found k j st parent = (control_origin program plan (seen_of y) p k j st).found ≡ option_map_or (ref xs) parent origin.Entry
 
   -- ---- what is claimed of a part
 

@@ -132,7 +132,7 @@ module _ (program : Program) (policy : Policy) (p : ℕ) (y : Split) (whole : Ar
     outer_place_is = ap (λ k. place_of l.interval (get_or (seen_of y).items k [])) (outer_is n inner l (o ∷ os) at)
         ∙ place_is l.interval o (numbers os) at.span at.there out
 
-    call_is : call_of (seen_of y) p l.interval ≡ origin.Item p o.interval (length o.parts - 1)
+    call_is : (call_of (seen_of y) p l.interval).found ≡ origin.Item p o.interval (length o.parts - 1)
     call_is = ap (λ k. origin.Item p k (outer_place (seen_of y) l.interval - 1)) (outer_is n inner l (o ∷ os) at)
         ∙ ap (λ j. origin.Item p o.interval (j - 1)) outer_place_is
 
@@ -141,7 +141,7 @@ module _ (program : Program) (policy : Policy) (p : ℕ) (y : Split) (whole : Ar
   begun_is : (n : ℕ) (inner : List Part) (signs : List Sign) (l : Place) (ls : List Place) (r : Run) (rs : List Run)
       → AllAt y n inner (l ∷ ls) → AreSeen plan y.trace.events signs (l ∷ ls) (r ∷ rs) → EndsInProcess (r ∷ rs)
       → (kind : BlockKind) → r.kind ≡ kind
-      → call_or_entry (seen_of y) p l.interval kind ≡ begun_by program policy p r rs kind
+      → (call_or_entry (seen_of y) p l.interval kind).found ≡ begun_by program policy p r rs kind
   begun_is n inner signs l [] r [] at seen ends (block.Function f) e = absurd (not_process f ends.0 (sym e ∙ ends.1))
     where
       not_process : (f b : ℕ) → block.Function f ≡ block.Process b → ⊥
@@ -160,7 +160,7 @@ module _ (program : Program) (policy : Policy) (p : ℕ) (y : Split) (whole : Ar
   above_is : (n : ℕ) (inner : List Part) (signs : List Sign) (l : Place) (ls : List Place) (r : Run) (rs : List Run)
       → AllAt y n inner (l ∷ ls) → AreSeen plan y.trace.events signs (l ∷ ls) (r ∷ rs) → EndsInProcess (r ∷ rs)
       → (kind : BlockKind) → r.kind ≡ kind
-      → control_above program plan (seen_of y) p l.interval kind ≡ above_over program policy p r rs kind
+      → (control_above program plan (seen_of y) p l.interval kind).found ≡ above_over program policy p r rs kind
   above_is n inner signs l [] r [] at seen ends (block.Loop m) e = absurd (not_process m ends.0 (sym e ∙ ends.1))
     where
       not_process : (f b : ℕ) → block.Loop f ≡ block.Process b → ⊥
@@ -180,10 +180,10 @@ module _ (program : Program) (policy : Policy) (p : ℕ) (y : Split) (whole : Ar
       (sight_length y.trace.events o.parts sight seen.1.0.is ∙ sym seen.0.place_is) in
       let kind : kind_at plan (seen_of y) o.interval ≡ q.kind = kind_is l.interval (nested l.interval ∷ [])
       (numbers os) o at.1.0 ∙ sym seen.1.0.kind_is in
-      ap (λ k. control_outside program plan (seen_of y) p k (outer_place (seen_of y) l.interval) m) outer
-      ∙ ap (λ j. control_outside program plan (seen_of y) p o.interval j m) place
-      ∙ ap (λ f. unwrap_or f (call_or_entry (seen_of y) p o.interval (kind_at plan (seen_of y) o.interval))) inside
-      ∙ ap (λ b. unwrap_or (found_over program policy p o.interval m sight) (call_or_entry (seen_of y) p o.interval b))
+      ap (λ k. (control_outside program plan (seen_of y) p k (outer_place (seen_of y) l.interval) m).found) outer
+      ∙ ap (λ j. (control_outside program plan (seen_of y) p o.interval j m).found) place
+      ∙ ap (λ f. unwrap_or f (call_or_entry (seen_of y) p o.interval (kind_at plan (seen_of y) o.interval)).found) inside
+      ∙ ap (λ b. unwrap_or (found_over program policy p o.interval m sight) (call_or_entry (seen_of y) p o.interval b).found)
       kind
       ∙ ap (λ c. unwrap_or (found_over program policy p o.interval m sight) c)
       (begun_is l.interval (nested l.interval ∷ []) (None ∷ []) o os q rs at.1 seen.1 ends q.kind refl)
@@ -199,17 +199,17 @@ module _ (program : Program) (policy : Policy) (p : ℕ) (y : Split) (whole : Ar
 
   pub control_is : (n : ℕ) (l : Place) (ls : List Place) (r : Run) (rs : List Run) → AllAt y n [] (l ∷ ls)
       → AreSeen plan y.trace.events [] (l ∷ ls) (r ∷ rs) → EndsInProcess (r ∷ rs) → (st : ℕ)
-      → control_origin program plan (seen_of y) p l.interval (length l.parts) st ≡ control_over program policy p
+      → (control_origin program plan (seen_of y) p l.interval (length l.parts) st).found ≡ control_over program policy p
       (r ∷ rs) st
   control_is n l ls r rs at seen ends st =
       let sight : List Sign = seen.0.sight in
       let kind : kind_at plan (seen_of y) l.interval ≡ r.kind = kind_is n [] (numbers ls) l at.0
       ∙ sym seen.0.kind_is in
       let same : sight ≡ r.sight = sym (seen.0.sight_is ∙ append-nil sight) in
-      ap (λ f. unwrap_or f (control_above program plan (seen_of y) p l.interval (kind_at plan (seen_of y) l.interval)))
+      ap (λ f. unwrap_or f (control_above program plan (seen_of y) p l.interval (kind_at plan (seen_of y) l.interval)).found)
       (found_is n [] (numbers ls) l at.0 l.interval st sight seen.0.is)
       ∙ ap (λ b. unwrap_or (found_over program policy p l.interval st sight)
-      (control_above program plan (seen_of y) p l.interval b)) kind
+      (control_above program plan (seen_of y) p l.interval b).found) kind
       ∙ ap (λ c. unwrap_or (found_over program policy p l.interval st sight) c)
       (above_is n [] [] l ls r rs at seen ends r.kind refl)
       ∙ ap (λ k. unwrap_or (found_over program policy p k st sight) (above_over program policy p r rs r.kind))

@@ -144,7 +144,7 @@ module _ (program : Program) (policy : Policy) (budget : ℕ) (h : List ℕ) (p 
   same_parent t ts (a ∷ as') = refl
 
   abbrev pub Found : ℕ → ℕ → ℕ → Option EventId → Type 0
-  Found k j st parent = control_origin program plan (seen_of y) p k j st ≡ option_map_or (ref xs) parent origin.Entry
+  Found k j st parent = (control_origin program plan (seen_of y) p k j st).found ≡ option_map_or (ref xs) parent origin.Entry
 
   pub head_runs : (n : ℕ) (l : Place) (ls : List Place) (rs : List Run) (st : ℕ) (parent : Option EventId)
       → AllAt y n [] (l ∷ ls) → AreSeen plan y.trace.events [] (l ∷ ls) rs → EndsInProcess rs

@@ -85,7 +85,7 @@ module _ (program : Program) (policy : Policy) (v : IsValid program) (story : St
       (tags_of (top_tags x.trace.activations) x.trace.answers
       (event_of program (plan_of program policy) x.trace.proc taken x.trace.proc.todo).reads)) i ≡ Some (a, w)
       → a.spot ≡ Local fr c
-      → Says y p (local_origin program (plan_of program policy) (seen_of y) p l.interval (length l.parts) fr c) w
+      → Says y p (local_origin program (plan_of program policy) (seen_of y) p l.interval (length l.parts) fr c).found w
   read_says x taken l ls h m tagged from tells i a w fr c read local =
       let s : Proc = x.trace.proc in
       let reads : List Access = (event_of program plan s taken s.todo).reads in
@@ -104,8 +104,8 @@ module _ (program : Program) (policy : Policy) (v : IsValid program) (story : St
       let size : cells_in s.frames k ≡ length (top_frame s.frames).cells = top_size s.frames k (omega (arith, top)) in
       let tag : w ≡ local_tag x.trace.activations k c =
       one.1 ∙ top_reads x.trace.activations [] fr c ∙ ap (λ n. local_tag x.trace.activations n c) last in
-      subst (λ t. Says y p (local_origin program plan (seen_of y) p l.interval (length l.parts) fr c) t) (sym tag)
-      (subst (λ n. Says y p (local_origin program plan (seen_of y) p l.interval (length l.parts) n c)
+      subst (λ t. Says y p (local_origin program plan (seen_of y) p l.interval (length l.parts) fr c).found t) (sym tag)
+      (subst (λ n. Says y p (local_origin program plan (seen_of y) p l.interval (length l.parts) n c).found
       (local_tag x.trace.activations k c)) frame_is
       (origin_at program plan p y whole (cells_in s.frames) (local_tag x.trace.activations) x l ls m.stands from tells
       o refl c (subst (λ n. c < n) (sym size) in_frame.1)))
@@ -120,7 +120,7 @@ module _ (program : Program) (policy : Policy) (v : IsValid program) (story : St
         (tags_of (top_tags x.trace.activations) x.trace.answers
         (event_of program (plan_of program policy) x.trace.proc taken x.trace.proc.todo).reads)) i ≡ Some (a, w)
         → a.spot ≡ Local fr c
-        → Says y p (local_origin program (plan_of program policy) (seen_of y) p interval item fr c) w
+        → Says y p (local_origin program (plan_of program policy) (seen_of y) p interval item fr c).found w
 
   read_at : program.functions + p < length program.bodies → (x : Split) (taken : Taken) (ls : List Level)
       (f : IsFollowed program policy v story p y whole x ls)
@@ -188,12 +188,12 @@ all_reads_found program policy budget h p k j n i y e a w fr c v at placed_at tr
     let event = event_at program policy budget h p y v at turn.before t turn.after turn.steps_are step.0 in
     let same : e ≡ traced_by program s t x.trace (event_of program plan x.trace.proc t x.trace.proc.todo) =
     some (sym traced ∙ ap (slice_get y.trace.events) step.1 ∙ event) in
-    let says : Says y p (local_origin program plan (seen_of y) p found.interval found.item fr c) w =
+    let says : Says y p (local_origin program plan (seen_of y) p found.interval found.item fr c).found w =
     found.says i a w fr c (ap (λ (z : TracedEvent). slice_get (zip z.event.reads z.writers) i) (sym same)
     ∙ read) local in
-    ap₂ (λ z q. local_origin program plan (seen_of y) p z q fr c) (mine_at.0 ∙ sym its_at.0) (mine_at.1 ∙ sym its_at.1)
+    ap₂ (λ z q. (local_origin program plan (seen_of y) p z q fr c).found) (mine_at.0 ∙ sym its_at.0) (mine_at.1 ∙ sym its_at.1)
     ∙ says_is (splits program plan budget s) y p
-    (local_origin program plan (seen_of y) p found.interval found.item fr c) w items says
+    (local_origin program plan (seen_of y) p found.interval found.item fr c).found w items says
 
 -- so are those outside loops
 pub reads_found : LocalReadsAreFound

@@ -14,6 +14,7 @@ use Rattle.ppd_model.specs.declared.flow.Origin.TheVariants as origin
 use Rattle.ppd_model.proofs.Lists.{get_mapped}
 use Rattle.ppd_flow_model.specs.declared.leaf_call.LeafCall.{LeafCall}
 use Rattle.ppd_flow_model.specs.Locals.{frame_in, leaf_at, local_above, local_in, local_origin, local_outside, outer_frame, parameter, scan}
+use Rattle.ppd_flow_model.specs.Looked.{Looked, known}
 use Rattle.ppd_flow_model.specs.Seen.{call_of, kind_at, outer_of, outer_place, seen_of}
 use Rattle.law_flow_own.specs.Places.Levels.{AreLevels, IsLater, Level, StandsIn, numbers}
 use Rattle.law_flow_own.specs.Places.Leaves.{leaf_of}
@@ -29,31 +30,34 @@ number_at program plan y l ls (Some call) = with_own (block_kind plan l.block) (
 
 module _ (program : Program) (plan : Plan) (p : ℕ) (y : Split) (whole : AreWhole y) where
   here_is : (l : Level) (outside : List ℕ) → LevelAt y l outside → (frame c : ℕ)
-      → local_in program plan (seen_of y) p l.interval (length l.parts) frame c ≡ here program plan p y l frame c
+      → (local_in program plan (seen_of y) p l.interval (length l.parts) frame c).found ≡ here program plan p y l frame c
   here_is l outside at frame c =
       ap (λ xs. of_scan program plan p y l.interval c (scan program plan frame c xs)) (first_ones y whole l outside at)
 
   -- ---- what the search finds
 
+  -- the call, where the cell is a parameter of the level's interval; else the start value
+  abbrev of_call : Level → Bool → Looked ℕ Origin
+  of_call l b = if b then call_of (seen_of y) p l.interval else known origin.Initial
+
   parameter_is : (l : Level) (outside : List ℕ) → LevelAt y l outside → (c f : ℕ)
-      → parameter plan (seen_of y) p l.interval c (block.Function f)
-      ≡ (if is_in c (prelog_cells plan l.block) then call_of (seen_of y) p l.interval else origin.Initial)
+      → parameter plan (seen_of y) p l.interval c (block.Function f) ≡ of_call l (is_in c (prelog_cells plan l.block))
   parameter_is l outside at c f =
-      ap (λ b. if is_in c (prelog_cells plan b) then call_of (seen_of y) p l.interval else origin.Initial)
+      ap (λ b. of_call l (is_in c (prelog_cells plan b)))
       (get_mapped (λ (i : Span). i.block) y.spans l.interval 0 at.span at.there ∙ at.block_is)
 
   -- before the first write in an interval other than a loop's
   unwritten_says : (x : Split) (n : ℕ) (inner : List Part) (l : Level) (ls : List Level)
       → AreLevels x.spans n inner (l ∷ ls) → IsLater x y → (c : ℕ) (w : Tag) (k : BlockKind)
-      → IsUnwritten plan p y l.block ls k c w → Says y p (parameter plan (seen_of y) p l.interval c k) w
+      → IsUnwritten plan p y l.block ls k c w → Says y p (parameter plan (seen_of y) p l.interval c k).found w
   unwritten_says x n inner l ls s h c w (block.Loop q) u = absurd u
   unwritten_says x n inner l ls s h c w (block.Process b) u = subst (Says y p origin.Initial) (sym u) refl
   unwritten_says x n inner l ls s h c w (block.Function f) u =
-      subst (λ o. Says y p o w) (sym (parameter_is l (numbers ls) (level_from x y n inner l ls s h) c f))
+      subst (λ (a : Looked ℕ Origin). Says y p a.found w) (sym (parameter_is l (numbers ls) (level_from x y n inner l ls s h) c f))
       (by (is_in c (prelog_cells plan l.block)) ls s u)
     where
       by : (b : Bool) (ls : List Level) → AreLevels x.spans n inner (l ∷ ls) → IsPassed y p b ls w
-          → Says y p (if b then call_of (seen_of y) p l.interval else origin.Initial) w
+          → Says y p (of_call l b).found w
       by false ls s u = subst (Says y p origin.Initial) (sym u) refl
       by true [] s u = absurd u
       by true (o ∷ os) s u = subst (λ r. Says y p r w) (sym (call_is y whole p l o os (level_from x y n inner l (o ∷ os) s h)
@@ -68,28 +72,28 @@ module _ (program : Program) (plan : Plan) (p : ℕ) (y : Split) (whole : AreWho
   outside_says : (x : Split) (n : ℕ) (inner : List Part) (o : Level) (os : List Level)
       → AreLevels x.spans n inner (o ∷ os) → IsLater x y → (c : ℕ) (w : Tag) (leaf : Option LeafCall)
       → IsOutside program plan p y o os leaf c w
-      → Says y p (local_outside program plan (seen_of y) p o.interval (length o.parts) (frame_in leaf) c) w
+      → Says y p (local_outside program plan (seen_of y) p o.interval (length o.parts) (frame_in leaf) c).found w
   outside_says x n inner o os s h c w leaf u =
       let at : LevelAt y o (numbers os) = level_from x y n inner o os s h in
       subst (λ r. Says y p (unwrap_or r (parameter plan (seen_of y) p o.interval c
-      (kind_at plan (seen_of y) o.interval))) w) (sym (here_is o (numbers os) at (frame_in leaf) c))
+      (kind_at plan (seen_of y) o.interval)).found) w) (sym (here_is o (numbers os) at (frame_in leaf) c))
       (subst (λ k. Says y p (unwrap_or (here program plan p y o (frame_in leaf) c)
-      (parameter plan (seen_of y) p o.interval c k)) w) (sym (kind_is plan o (numbers os) at)) (by leaf u))
+      (parameter plan (seen_of y) p o.interval c k).found) w) (sym (kind_is plan o (numbers os) at)) (by leaf u))
     where
       by : (leaf : Option LeafCall) → IsOutside program plan p y o os leaf c w
           → Says y p (unwrap_or (here program plan p y o (frame_in leaf) c)
-          (parameter plan (seen_of y) p o.interval c (block_kind plan o.block))) w
+          (parameter plan (seen_of y) p o.interval c (block_kind plan o.block)).found) w
       by None u = says_or (here program plan p y o 0 c) w
           (IsUnwritten plan p y o.block os (block_kind plan o.block) c w)
-          (parameter plan (seen_of y) p o.interval c (block_kind plan o.block)) u
+          (parameter plan (seen_of y) p o.interval c (block_kind plan o.block)).found u
           (unwritten_says x n inner o os s h c w (block_kind plan o.block))
       by (Some call) u = says_or (here program plan p y o 1 c) w ⊥
-          (parameter plan (seen_of y) p o.interval c (block_kind plan o.block)) u (λ z. absurd z)
+          (parameter plan (seen_of y) p o.interval c (block_kind plan o.block)).found u (λ z. absurd z)
 
   before_says : (x : Split) (n : ℕ) (inner : List Part) (l : Level) (ls : List Level)
       → AreLevels x.spans n inner (l ∷ ls) → IsLater x y → (c : ℕ) (w : Tag) (k : BlockKind)
       → IsBefore program plan p y l.block k ls c w
-      → Says y p (local_above program plan (seen_of y) p l.interval c k) w
+      → Says y p (local_above program plan (seen_of y) p l.interval c k).found w
   before_says x n inner l [] s h c w (block.Loop q) u = absurd u
   before_says x n inner l (o ∷ os) s h c w (block.Loop q) u =
       let at : LevelAt y l (numbers (o ∷ os)) = level_from x y n inner l (o ∷ os) s h in
@@ -102,10 +106,10 @@ module _ (program : Program) (plan : Plan) (p : ℕ) (y : Split) (whole : AreWho
       ∙ ap (λ k. frame_in (leaf_at program plan (take (length o.parts) (get_or (seen_of y).items k [])))) outer
       ∙ ap (λ xs. frame_in (leaf_at program plan xs)) (first_ones y whole o (numbers os) at_o) in
       subst (λ k. Says y p (local_outside program plan (seen_of y) p k (outer_place (seen_of y) l.interval)
-      (outer_frame program plan (seen_of y) l.interval) c) w) (sym outer)
+      (outer_frame program plan (seen_of y) l.interval) c).found w) (sym outer)
       (subst (λ j. Says y p (local_outside program plan (seen_of y) p o.interval j
-      (outer_frame program plan (seen_of y) l.interval) c) w) (sym place)
-      (subst (λ f. Says y p (local_outside program plan (seen_of y) p o.interval (length o.parts) f c) w) (sym frame)
+      (outer_frame program plan (seen_of y) l.interval) c).found w) (sym place)
+      (subst (λ f. Says y p (local_outside program plan (seen_of y) p o.interval (length o.parts) f c).found w) (sym frame)
       (outside_says x l.interval (nested l.interval ∷ []) o os s.1 h c w (leaf_of program plan y o) u)))
   before_says x n inner l ls s h c w (block.Process b) u =
       unwritten_says x n inner l ls s h c w (block.Process b) u
@@ -116,30 +120,30 @@ module _ (program : Program) (plan : Plan) (p : ℕ) (y : Split) (whole : AreWho
   pub origin_at : (Z : ℕ → ℕ) (T : ℕ → ℕ → Tag) (x : Split) (l : Level) (ls : List Level) → StandsIn x (l ∷ ls)
       → IsLater x y → LoopTells program plan p y Z T true (l ∷ ls) → (o : Option LeafCall)
       → leaf_of program plan y l ≡ o → (c : ℕ) → c < Z (number_at program plan y l ls o)
-      → Says y p (local_origin program plan (seen_of y) p l.interval (length l.parts) (frame_in o) c)
+      → Says y p (local_origin program plan (seen_of y) p l.interval (length l.parts) (frame_in o) c).found
       (T (number_at program plan y l ls o) c)
   origin_at Z T x l ls s h tells o leaf c lt =
       let at : LevelAt y l (numbers ls) = level_from x y (length x.spans) [] l ls s.levels h in
       let w : Tag = T (number_at program plan y l ls o) c in
       subst (λ r. Says y p (unwrap_or r (local_above program plan (seen_of y) p l.interval c
-      (kind_at plan (seen_of y) l.interval))) w) (sym (here_is l (numbers ls) at (frame_in o) c))
+      (kind_at plan (seen_of y) l.interval)).found) w) (sym (here_is l (numbers ls) at (frame_in o) c))
       (subst (λ k. Says y p (unwrap_or (here program plan p y l (frame_in o) c)
-      (local_above program plan (seen_of y) p l.interval c k)) w) (sym (kind_is plan l (numbers ls) at))
+      (local_above program plan (seen_of y) p l.interval c k).found) w) (sym (kind_is plan l (numbers ls) at))
       (by o leaf lt))
     where
       by : (o : Option LeafCall) → leaf_of program plan y l ≡ o → c < Z (number_at program plan y l ls o)
           → Says y p (unwrap_or (here program plan p y l (frame_in o) c)
-          (local_above program plan (seen_of y) p l.interval c (block_kind plan l.block)))
+          (local_above program plan (seen_of y) p l.interval c (block_kind plan l.block)).found)
           (T (number_at program plan y l ls o) c)
       by None leaf lt =
           let v : Tag = T (own_number program plan y l ls) c in
           says_or (here program plan p y l 0 c) v
           (IsBefore program plan p y l.block (block_kind plan l.block) ls c v)
-          (local_above program plan (seen_of y) p l.interval c (block_kind plan l.block))
+          (local_above program plan (seen_of y) p l.interval c (block_kind plan l.block)).found
           (tells.0.own_cells refl c lt)
           (before_says x (length x.spans) [] l ls s.levels h c v (block_kind plan l.block))
       by (Some call) leaf lt =
           says_or (here program plan p y l 1 c)
           (T (with_own (block_kind plan l.block) (activations program plan y ls)) c) ⊥
-          (local_above program plan (seen_of y) p l.interval c (block_kind plan l.block))
+          (local_above program plan (seen_of y) p l.interval c (block_kind plan l.block)).found
           (tells.0.leaf_cells refl call leaf c lt) (λ u. absurd u)

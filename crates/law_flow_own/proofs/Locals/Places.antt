@@ -103,7 +103,7 @@ module _ (y : Split) (whole : AreWhole y) where
 
   -- the call of a function's level is the last part of the level outside
   pub call_is : (p : ℕ) (l o : Level) (os : List Level) → LevelAt y l (numbers (o ∷ os)) → OuterAt y l.interval o
-      → call_of (seen_of y) p l.interval ≡ origin.Item p o.interval (length o.parts - 1)
+      → (call_of (seen_of y) p l.interval).found ≡ origin.Item p o.interval (length o.parts - 1)
   call_is p l o os at out =
       let outer : outer_of (seen_of y) l.interval ≡ o.interval = outer_is l (o ∷ os) at in
       ap (λ k. origin.Item p k (place_of l.interval (get_or (seen_of y).items k []) - 1)) outer

@@ -112,7 +112,7 @@ module _ (program : Program) (policy : Policy) (v : IsValid program) (story : St
 
     pub left_says : (c : ℕ) → c < cells_in s.frames (length s.frames - 1)
         → Says y p (local_origin program plan (seen_of y) p o.interval (length o.parts + 1)
-        (frame_in (leaf_of program plan y o)) c) (local_tag x.trace.activations (length s.frames - 1) c)
+        (frame_in (leaf_of program plan y o)) c).found (local_tag x.trace.activations (length s.frames - 1) c)
     left_says c lt =
         let low : number < length s.frames = omega (arith, last) in
         let low' : number < length next.trace.proc.frames = omega (arith, last, same) in
@@ -125,15 +125,15 @@ module _ (program : Program) (policy : Policy) (v : IsValid program) (story : St
         let place : length (o.parts ++ nested l.interval ∷ []) ≡ length o.parts + 1 =
         length_push o.parts (nested l.interval) in
         let got : Says y p (local_origin program plan (seen_of y) p o.interval
-        (length (o.parts ++ nested l.interval ∷ [])) (frame_in (leaf_of program plan y joint)) c)
+        (length (o.parts ++ nested l.interval ∷ [])) (frame_in (leaf_of program plan y joint)) c).found
         (local_tag next.trace.activations number c) =
         origin_at program plan p y whole (cells_in next.trace.proc.frames) (local_tag next.trace.activations) next
         joint os stands later tells (leaf_of program plan y joint) refl c lt' in
         subst (λ k. Says y p (local_origin program plan (seen_of y) p o.interval (length o.parts + 1)
-        (frame_in (leaf_of program plan y o)) c) (local_tag x.trace.activations k c)) number_is
+        (frame_in (leaf_of program plan y o)) c).found (local_tag x.trace.activations k c)) number_is
         (subst (λ w. Says y p (local_origin program plan (seen_of y) p o.interval (length o.parts + 1)
-        (frame_in (leaf_of program plan y o)) c) w) (tags.kept number c (unwritten number c) low low')
+        (frame_in (leaf_of program plan y o)) c).found w) (tags.kept number c (unwritten number c) low low')
         (subst (λ z. Says y p (local_origin program plan (seen_of y) p o.interval (length o.parts + 1)
-        (frame_in z) c) (local_tag next.trace.activations number c)) leaf
+        (frame_in z) c).found (local_tag next.trace.activations number c)) leaf
         (subst (λ j. Says y p (local_origin program plan (seen_of y) p o.interval j
-        (frame_in (leaf_of program plan y joint)) c) (local_tag next.trace.activations number c)) place got)))
+        (frame_in (leaf_of program plan y joint)) c).found (local_tag next.trace.activations number c)) place got)))

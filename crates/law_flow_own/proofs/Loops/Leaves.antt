@@ -118,7 +118,7 @@ module _ (program : Program) (policy : Policy) (v : IsValid program) (story : St
       pub levels_are : ls ≡ outer ∷ others
       pub says : (n c : ℕ) → slice_get (postlog_cells plan l.block) n ≡ Some c
           → Says y p (local_origin program plan (seen_of y) p outer.interval (length outer.parts + 1)
-          (frame_in (leaf_of program plan y outer)) c) (get_or (top_tags x.trace.activations) c None)
+          (frame_in (leaf_of program plan y outer)) c).found (get_or (top_tags x.trace.activations) c None)
 
     by_leave : (ls : List Level) → IsFollowed program policy v story p y whole x (l ∷ ls)
         → AtMoment program policy v story p y whole there_is x (l ∷ ls) → (i : Span)
@@ -182,7 +182,7 @@ module _ (program : Program) (policy : Policy) (v : IsValid program) (story : St
               top_reads x.trace.activations [] 0 c
               ∙ ap (λ m. local_tag x.trace.activations (m - 1) c) acts in
               subst (λ w. Says y p (local_origin program plan (seen_of y) p o.interval (length o.parts + 1)
-              (frame_in (leaf_of program plan y o)) c) w) (sym tag)
+              (frame_in (leaf_of program plan y o)) c).found w) (sym tag)
               (left_says program policy v story p y whole x taken l o os h hs is b ends mine tagged i i_there
               followed.stands later tells_then counted same c (subst (λ z. c < z) (sym size) below));
         }

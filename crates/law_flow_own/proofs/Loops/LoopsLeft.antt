@@ -66,7 +66,7 @@ pub record IsLeftFrom (program : Program) (plan : Plan) (xs : List Split) (y : S
   pub tag : ℕ → Tag
   pub left_are : i.left ≡ map tag (postlog_cells plan i.block)
   pub found : (n c : ℕ) → slice_get (postlog_cells plan i.block) n ≡ Some c
-      → local_origin program plan (seen_of y) p k (j + 1) (frame_at program plan (seen_of y) k j) c
+      → (local_origin program plan (seen_of y) p k (j + 1) (frame_at program plan (seen_of y) k j) c).found
       ≡ option_map_or (ref xs) (tag c) origin.Initial
 
 pub left_from : (program : Program) (policy : Policy) (budget : ℕ) (h : List ℕ) (p k j m n q : ℕ) (y : Split) (i : Span)
@@ -142,12 +142,12 @@ left_from program policy budget h p k j m n q y i value v at part there_i is_so 
       left_are = cl.left_are ∙ got.3.tags_are
           ∙ ap (λ b. map (λ d. get_or (top_tags x.trace.activations) d None) (postlog_cells plan b)) (sym cl.block_is);
       found = λ e c cell.
-          ap (λ z. local_origin program plan (seen_of y) p k (j + 1) z c) frame
-          ∙ ap₂ (λ a b. local_origin program plan (seen_of y) p a (b + 1)
-          (frame_in (leaf_of program plan y just.outer)) c) k_is j_is
+          ap (λ z. (local_origin program plan (seen_of y) p k (j + 1) z c).found) frame
+          ∙ ap₂ (λ a b. (local_origin program plan (seen_of y) p a (b + 1)
+          (frame_in (leaf_of program plan y just.outer)) c).found) k_is j_is
           ∙ says_is (splits program plan budget s) y p
           (local_origin program plan (seen_of y) p just.outer.interval (length just.outer.parts + 1)
-          (frame_in (leaf_of program plan y just.outer)) c) (get_or (top_tags x.trace.activations) c None) items
+          (frame_in (leaf_of program plan y just.outer)) c).found (get_or (top_tags x.trace.activations) c None) items
           (just.says e c (ap (λ b. slice_get (postlog_cells plan b) e) (sym cl.block_is) ∙ cell));
     }
 

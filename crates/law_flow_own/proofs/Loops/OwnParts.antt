@@ -46,7 +46,7 @@ function_left program policy budget h p m y i v at there is_so no_loop = (
 )
 
 module _ (program : Program) (plan : Plan) (xs : List Split) (y : Split) (p k j : ℕ) where
-  no_values : (frame : ℕ) (cells : List ℕ) → left_edges program plan (seen_of y) p k j frame cells [] ≡ []
+  no_values : (frame : ℕ) (cells : List ℕ) → (left_edges program plan (seen_of y) p k j frame cells []).found ≡ []
   no_values frame [] = refl
   no_values frame (c ∷ cs) = refl
 
@@ -57,8 +57,8 @@ module _ (program : Program) (plan : Plan) (xs : List Split) (y : Split) (p k j 
 
   left_same : (frame : ℕ) (tag : ℕ → Tag) (cells : List ℕ) (values : List ℤ)
       → ((n c : ℕ) → slice_get cells n ≡ Some c
-      → local_origin program plan (seen_of y) p k (j + 1) frame c ≡ option_map_or (ref xs) (tag c) origin.Initial)
-      → left_edges program plan (seen_of y) p k j frame cells values
+      → (local_origin program plan (seen_of y) p k (j + 1) frame c).found ≡ option_map_or (ref xs) (tag c) origin.Initial)
+      → (left_edges program plan (seen_of y) p k j frame cells values).found
       ≡ value_edges xs Left (map (λ c. Some (Local frame c)) cells) values (map tag cells)
   left_same frame tag [] values h = refl
   left_same frame tag (c ∷ cs) [] h = refl
@@ -94,8 +94,8 @@ module _ (program : Program) (policy : Policy) (budget : ℕ) (h : List ℕ) (p 
       by false e = absurd (none-some value (ap (λ vs. slice_get vs 0) (sym (empty e) ∙ is)))
 
   lefts : (q : ℕ) → block_kind plan i.block ≡ block.Loop q → (values : List ℤ) → i.values ≡ values
-      → left_edges program plan (seen_of y) p k j (frame_at program plan (seen_of y) k j) (postlog_cells plan i.block)
-      values
+      → (left_edges program plan (seen_of y) p k j (frame_at program plan (seen_of y) k j) (postlog_cells plan i.block)
+      values).found
       ≡ value_edges xs Left (map (λ c. Some (Local i.frame c)) (postlog_cells plan i.block)) values i.left
   lefts q kind [] is =
       no_values program plan xs y p k j (frame_at program plan (seen_of y) k j) (postlog_cells plan i.block)
@@ -109,7 +109,7 @@ module _ (program : Program) (policy : Policy) (budget : ℕ) (h : List ℕ) (p 
       ∙ ap₂ (λ f ts. value_edges xs Left (map (λ c. Some (Local f c)) (postlog_cells plan i.block)) (z ∷ zs) ts) l.frame_is (sym l.left_are)
 
   returned : is_loop (block_kind plan i.block) ≡ false → (values : List ℤ) → i.values ≡ values
-      → returned_edges (seen_of y) p m values ≡ value_edges xs Returned (None ∷ []) values i.left
+      → (returned_edges (seen_of y) p m values).found ≡ value_edges xs Returned (None ∷ []) values i.left
   returned isnt [] is = refl
   returned isnt (z ∷ zs) is =
       let is_so : is_some i.closed ≡ true = was_left z zs is in
@@ -119,7 +119,7 @@ module _ (program : Program) (policy : Policy) (budget : ℕ) (h : List ℕ) (p 
       ∙ ap (value_edges xs Returned (None ∷ []) (z ∷ zs)) (sym w.1)
 
   by_kind : (kind : BlockKind) → block_kind plan i.block ≡ kind
-      → edges_of_nested program plan (seen_of y) p k j m i.block i.values kind
+      → (edges_of_nested program plan (seen_of y) p k j m i.block i.values kind).found
       ≡ result_edges plan xs kind i ++ bare_edge Control (option_map_or (ref xs) i.control origin.Entry) ∷ []
   by_kind (block.Loop q) e =
       ap₂ (λ es o. es ++ bare_edge Control o ∷ []) (lefts q e i.values refl)
@@ -131,7 +131,7 @@ module _ (program : Program) (policy : Policy) (budget : ℕ) (h : List ℕ) (p 
       ap₂ (λ es o. es ++ bare_edge Control o ∷ []) (returned (ap is_loop e) i.values refl)
       ((controls_found program policy budget h p y v at k j).function m i part there (ap is_loop e))
 
-  pub nested_found : edges_of_nested program plan (seen_of y) p k j m i.block i.values (block_kind plan i.block)
+  pub nested_found : (edges_of_nested program plan (seen_of y) p k j m i.block i.values (block_kind plan i.block)).found
       ≡ model_nested plan xs i
   nested_found = by_kind (block_kind plan i.block) refl
 

@@ -24,7 +24,7 @@ use Rattle.law_flow_own.proofs.Vocabulary.Says.{IsUnwritten, SaysOr, activations
 -- the origin that a scan of interval k finds: in the loops since the cell's writer, or that writer
 abbrev pub of_scan : Program → Plan → ℕ → Split → ℕ → ℕ → Scan → Option Origin
 of_scan program plan p y k c s =
-    option_or (in_loops program plan (seen_of y) p c s.loops) (writer_at (seen_of y) p k s.writer)
+    option_or (in_loops program plan (seen_of y) p c s.loops).found (writer_at (seen_of y) p k s.writer).found
 
 -- what is found among a level's items
 abbrev pub here : Program → Plan → ℕ → Split → Level → ℕ → ℕ → Option Origin

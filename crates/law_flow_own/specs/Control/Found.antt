@@ -21,10 +21,11 @@ use Rattle.ppd_flow_model.specs.Control.{control_origin}
 -- loop's interval is found as that of the loop's statement; and that of any other interval is the item before it
 pub record HasFoundControl (program : Program) (plan : Plan) (xs : List Split) (x : Split) (p k j : ℕ) : Type 0 where
   pub event : (n : ℕ) (e : TracedEvent) → part_at x k j ≡ Some (own n) → slice_get x.trace.events n ≡ Some e
-      → control_origin program plan (seen_of x) p k j e.event.stmt ≡ option_map_or (ref xs) e.parent origin.Entry
+      → (control_origin program plan (seen_of x) p k j e.event.stmt).found
+      ≡ option_map_or (ref xs) e.parent origin.Entry
   pub loop : (m l : ℕ) (i : Span) → part_at x k j ≡ Some (nested m) → slice_get x.spans m ≡ Some i
       → block_kind plan i.block ≡ block.Loop l
-      → control_origin program plan (seen_of x) p k j l ≡ option_map_or (ref xs) i.control origin.Entry
+      → (control_origin program plan (seen_of x) p k j l).found ≡ option_map_or (ref xs) i.control origin.Entry
   pub function : (m : ℕ) (i : Span) → part_at x k j ≡ Some (nested m) → slice_get x.spans m ≡ Some i
       → is_loop (block_kind plan i.block) ≡ false
       → origin.Item p k (j - 1) ≡ option_map_or (ref xs) i.control origin.Entry

@@ -45,7 +45,7 @@ LocalReadsAreFound =
     → part_at y k j ≡ Some (own n) → slice_get y.trace.events n ≡ Some e
     → slice_get (zip e.event.reads e.writers) i ≡ Some (a, w) → a.spot ≡ Local frame c
     → IsOutsideLoops (plan_of program policy) y k j frame
-    → local_origin program (plan_of program policy) (seen_of y) p k j frame c
+    → (local_origin program (plan_of program policy) (seen_of y) p k j frame c).found
     ≡ option_map_or
     (ref (splits program (plan_of program policy) budget (story program (plan_of program policy) budget h))) w
     origin.Initial

@@ -24,7 +24,7 @@ ReturnsAreFound =
     → slice_get y.spans m ≡ Some i → is_some i.closed ≡ true
     → is_loop (block_kind (plan_of program policy) i.block) ≡ false
     → slice_get i.left 0 ≡ Some w
-    → last_item (seen_of y) p m
+    → (last_item (seen_of y) p m).found
     ≡ option_map_or
     (ref (splits program (plan_of program policy) budget (story program (plan_of program policy) budget h))) w
     origin.Initial

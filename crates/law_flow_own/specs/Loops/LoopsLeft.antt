@@ -30,8 +30,8 @@ LoopsLeftAreFound =
     → block_kind (plan_of program policy) i.block ≡ block.Loop q
     → slice_get (zip (postlog_cells (plan_of program policy) i.block) i.left) n ≡ Some (c, w)
     → slice_get i.values n ≡ Some value
-    → local_origin program (plan_of program policy) (seen_of y) p k (j + 1)
-    (frame_at program (plan_of program policy) (seen_of y) k j) c
+    → (local_origin program (plan_of program policy) (seen_of y) p k (j + 1)
+    (frame_at program (plan_of program policy) (seen_of y) k j) c).found
     ≡ option_map_or
     (ref (splits program (plan_of program policy) budget (story program (plan_of program policy) budget h))) w
     origin.Initial

@@ -15,7 +15,7 @@ use Rattle.ppd_model.specs.NearIntervals.{edge_of_event, is_open_at, is_open_in,
 use Rattle.ppd_model.specs.Story.{story}
 use Rattle.ppd_model.proofs.Changes.{some}
 use Rattle.ppd_flow_model.specs.Seen.{Seen}
-use Rattle.ppd_flow_model.specs.Shared.{greatest_writing, is_before_in, of_process, start_replays, writing, written_or_start, written_replays}
+use Rattle.ppd_flow_model.specs.Shared.{greatest_writing, is_before_in, of_process, writing, written_in, written_or_start}
 use Rattle.law_flow_shared.specs.Edges.SharedEdges.{all_seen}
 use Rattle.law_flow_shared.specs.Edges.Within.{cost}
 use Rattle.law_flow_shared.proofs.Edges.Near.Distinct.{not_in_list}
@@ -37,7 +37,7 @@ module _ (program : Program) (plan : Plan) (budget : ℕ) (h : List ℕ) (v : Is
   seens = all_seen program plan budget h
 
   write_little : (c : ℕ) (a : EdgeId) (from : Origin) → IsNearWrite program plan budget h v c a from
-      → steps_of_all xs (written_replays logs seens c a) ≤ sum_by (λ (i : Span). i.steps) (open_at_origin xs from)
+      → steps_of_all xs (written_in logs seens c a).replays ≤ sum_by (λ (i : Span). i.steps) (open_at_origin xs from)
   write_little c a from nw =
       let near : ℕ → Split → ℕ → Span → Bool = λ q y m i. is_open_at y (part_at y nw.interval nw.item) i in
       let little : cost nw.split.spans nw.replays ≤ sum_by (λ (i : Span). i.steps) (passing (λ m i. is_open_at nw.split (part_at nw.split nw.interval nw.item) i) 0 nw.split.spans ++ []) =
@@ -53,8 +53,8 @@ module _ (program : Program) (plan : Plan) (budget : ℕ) (h : List ℕ) (v : Is
       (subst (λ l. steps_of_all xs (of_process a.process nw.replays) ≤ sum_by (λ (i : Span). i.steps) l) (sym (opens ∙ sym (append-nil _)))
       (omega (arith, is, little)))
 
-  start_little : (c : ℕ) (o : Option EdgeId) (u : ℤ × Origin) → ((a : EdgeId) → o ≡ Some a → greatest_writing program logs c ≡ Some a) → written_or_start program logs seens c o ≡ Ok u
-      → steps_of_all xs (start_replays logs seens c o) ≤ sum_by (λ (i : Span). i.steps) (open_at_origin xs u.1)
+  start_little : (c : ℕ) (o : Option EdgeId) (u : ℤ × Origin) → ((a : EdgeId) → o ≡ Some a → greatest_writing program logs c ≡ Some a) → (written_or_start program logs seens c o).found ≡ Ok u
+      → steps_of_all xs (written_or_start program logs seens c o).replays ≤ sum_by (λ (i : Span). i.steps) (open_at_origin xs u.1)
   start_little c None u g e = omega arith
   start_little c (Some a) u g e = write_little c a u.1 (near_write program plan budget h v c a u.0 u.1 (greatest_in (is_before_in program logs) a (writing logs c) (g a refl)) e)
 

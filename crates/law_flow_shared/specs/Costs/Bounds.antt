@@ -12,8 +12,8 @@ use Rattle.ppd_model.specs.Races.{races}
 use Rattle.ppd_model.specs.Schedule.{run}
 use Rattle.ppd_model.specs.Story.{story}
 use Rattle.ppd_model.specs.World.{World}
-use Rattle.ppd_flow_model.specs.Found.{edges_replays}
-use Rattle.ppd_flow_model.specs.Shared.{last_replays}
+use Rattle.ppd_flow_model.specs.Found.{found_edges}
+use Rattle.ppd_flow_model.specs.Shared.{found_last}
 use Rattle.ppd_flow_model.specs.Spans.{steps_of_span}
 use Rattle.law_flow_shared.specs.Edges.Assembled.{HasOwnParts}
 use Rattle.law_flow_shared.specs.Edges.SharedEdges.{all_seen}
@@ -37,7 +37,7 @@ EdgesCostLittle =
     → HasOwnParts program plan (splits program plan budget (story program plan budget h)) x p k j
     → edges program plan budget (story program plan budget h) p k j ≡ Some es
     → steps_of_all (splits program plan budget (story program plan budget h))
-    (edges_replays program plan (closed_logs program plan budget h) (all_seen program plan budget h) p k j)
+    (found_edges program plan (closed_logs program plan budget h) (all_seen program plan budget h) p k j).replays
     ≤ 2 * (length es + 1) * near_steps program plan budget (story program plan budget h) p k j
 
 -- and what is replayed to find the last value of a cell has no more than those intervals that are open where it was
@@ -48,5 +48,5 @@ LastCostsLittle =
     → IsValid program → run program plan budget h ≡ Some w → races program plan budget h ≡ []
     → c < length program.starts
     → steps_of_all (splits program plan budget (story program plan budget h))
-    (last_replays program (closed_logs program plan budget h) (all_seen program plan budget h) c)
+    (found_last program (closed_logs program plan budget h) (all_seen program plan budget h) c).replays
     ≤ last_steps program plan budget (story program plan budget h) c

@@ -30,11 +30,12 @@ pub record HasOwnParts (program : Program) (plan : Plan) (xs : List Split) (x : 
   pub locals : (n i frame c : ℕ) (e : TracedEvent) (a : Access) (w : Tag) → part_at x k j ≡ Some (own n)
       → slice_get x.trace.events n ≡ Some e → slice_get (zip e.event.reads e.writers) i ≡ Some (a, w)
       → a.spot ≡ Local frame c
-      → local_origin program plan (seen_of x) p k j frame c ≡ option_map_or (ref xs) w origin.Initial
+      → (local_origin program plan (seen_of x) p k j frame c).found ≡ option_map_or (ref xs) w origin.Initial
   pub control : (n : ℕ) (e : TracedEvent) → part_at x k j ≡ Some (own n) → slice_get x.trace.events n ≡ Some e
-      → control_origin program plan (seen_of x) p k j e.event.stmt ≡ option_map_or (ref xs) e.parent origin.Entry
+      → (control_origin program plan (seen_of x) p k j e.event.stmt).found
+      ≡ option_map_or (ref xs) e.parent origin.Entry
   pub inside : (m : ℕ) (i : Span) → part_at x k j ≡ Some (nested m) → slice_get x.spans m ≡ Some i
-      → edges_of_nested program plan (seen_of x) p k j m i.block i.values (block_kind plan i.block)
+      → (edges_of_nested program plan (seen_of x) p k j m i.block i.values (block_kind plan i.block)).found
       ≡ model_edges_of_nested plan xs i
 
 -- then, in a run of a valid program without a race, the edges found are the item's, and none where there is no such
@@ -45,5 +46,5 @@ EdgesAreFound =
     → run program plan budget h ≡ Some w → races program plan budget h ≡ []
     → (p k j : ℕ) (x : Split) → slice_get (splits program plan budget (story program plan budget h)) p ≡ Some x
     → HasOwnParts program plan (splits program plan budget (story program plan budget h)) x p k j
-    → found_edges program plan (closed_logs program plan budget h) (all_seen program plan budget h) p k j
+    → (found_edges program plan (closed_logs program plan budget h) (all_seen program plan budget h) p k j).found
     ≡ option_map (λ es. Ok es) (edges program plan budget (story program plan budget h) p k j)

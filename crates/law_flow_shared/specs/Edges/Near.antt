@@ -9,7 +9,7 @@ use Rattle.ppd_model.specs.Intervals.{own, Span, Split, splits}
 use Rattle.ppd_model.specs.NearIntervals.{edge_of_event, is_in, is_open_in, near_steps, surroundings}
 use Rattle.ppd_model.specs.Story.{story}
 use Rattle.ppd_flow_model.specs.Seen.{seen_of}
-use Rattle.ppd_flow_model.specs.Walk.{walk_replays}
+use Rattle.ppd_flow_model.specs.Walk.{walk}
 use Rattle.law_flow_shared.specs.Edges.Within.{AreDistinct, cost}
 
 -- the interval is there and is open in this edge
@@ -25,7 +25,7 @@ WalksStayNear =
     (program : Program) (plan : Plan) (budget : ℕ) (h : List ℕ) (p k j n c : ℕ) (x : Split) (e : TracedEvent)
     → IsValid program → slice_get (splits program plan budget (story program plan budget h)) p ≡ Some x
     → part_at x k j ≡ Some (own n) → slice_get x.trace.events n ≡ Some e
-    → (m : ℕ) → is_in m (walk_replays (seen_of x) c k j) ≡ true
+    → (m : ℕ) → is_in m (walk (seen_of x) c k j).replays ≡ true
     → (is_in m (surroundings x k) ≡ true) ⊎ IsOpenAt x (edge_of_event x n) m
 
 -- and it replays each interval at most once, and not that of the event: with it they have no more own steps than the
@@ -35,6 +35,6 @@ WalksCostLittle =
     (program : Program) (plan : Plan) (budget : ℕ) (h : List ℕ) (p k j n c : ℕ) (x : Split) (e : TracedEvent)
     → IsValid program → slice_get (splits program plan budget (story program plan budget h)) p ≡ Some x
     → part_at x k j ≡ Some (own n) → slice_get x.trace.events n ≡ Some e
-    → AreDistinct (k ∷ walk_replays (seen_of x) c k j)
-    × (cost x.spans (k ∷ walk_replays (seen_of x) c k j)
+    → AreDistinct (k ∷ (walk (seen_of x) c k j).replays)
+    × (cost x.spans (k ∷ (walk (seen_of x) c k j).replays)
     ≤ near_steps program plan budget (story program plan budget h) p k j)

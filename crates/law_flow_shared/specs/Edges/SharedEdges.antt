@@ -47,7 +47,7 @@ SharedOriginsAreFound =
     (program : Program) (plan : Plan) (budget : ℕ) (h : List ℕ) (w : World) → IsValid program
     → run program plan budget h ≡ Some w → races program plan budget h ≡ []
     → (p k j c : ℕ) (tag : Tag) → IsSharedRead program plan budget h p k j c tag
-    → shared_origin program (closed_logs program plan budget h) (all_seen program plan budget h) p k j c
+    → (shared_origin program (closed_logs program plan budget h) (all_seen program plan budget h) p k j c).found
     ≡ Ok (option_map_or (ref (splits program plan budget (story program plan budget h))) tag origin.Initial)
 
 -- and the last value of each shared cell with the place of its last write
@@ -56,7 +56,7 @@ LastWritesAreFound =
     (program : Program) (plan : Plan) (budget : ℕ) (h : List ℕ) (w : World) → IsValid program
     → run program plan budget h ≡ Some w → races program plan budget h ≡ []
     → (c : ℕ) → c < length program.starts
-    → found_last program (closed_logs program plan budget h) (all_seen program plan budget h) c
+    → (found_last program (closed_logs program plan budget h) (all_seen program plan budget h) c).found
     ≡ Ok (last program plan budget (story program plan budget h) c)
 
 -- in each schedule of a valid program, with or without a race, the search finds the pair of each event that is a
@@ -67,6 +67,7 @@ PairsAreFound =
     → (p k j : ℕ) (x : Split) (n : ℕ) (e : TracedEvent)
     → slice_get (splits program plan budget (story program plan budget h)) p ≡ Some x
     → part_at x k j ≡ Some (own n) → slice_get x.trace.events n ≡ Some e
-    → sync_edges program (closed_logs program plan budget h) (all_seen program plan budget h) p k j e.event.number
+    → (sync_edges program (closed_logs program plan budget h) (all_seen program plan budget h) p k j
+    e.event.number).found
     ≡ model_sync_edges (splits program plan budget (story program plan budget h))
     (kind_of program e.event.stmt) e.paired

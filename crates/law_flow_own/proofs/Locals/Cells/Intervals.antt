@@ -83,7 +83,7 @@ module _ (program : Program) (plan : Plan) (p : ℕ) (y : Split) where
           returned_is false (ap (λ k. returned_to program f c k i.values) call_is ∙ h)
 
       pub here_returned : (call : ℕ) (tag : Tag) (otherwise : Type 0) → scanned.call ≡ call
-          → (returned_to program f c call i.values ≡ true → Says y p (last_item (seen_of y) p m) tag)
+          → (returned_to program f c call i.values ≡ true → Says y p (last_item (seen_of y) p m).found tag)
           → (returned_to program f c call i.values ≡ false
           → SaysOr y p (here program plan p y l f c) tag otherwise)
           → SaysOr y p (here program plan p y (put (nested m) l) f c) tag otherwise
@@ -141,13 +141,13 @@ module _ (program : Program) (plan : Plan) (p : ℕ) (y : Split) where
           → here program plan p y (put (nested m) l) f c
           ≡ option_or (here program plan p y inner 0 c) (here program plan p y l f c)
       here_loop inner number items none h =
-          let found : writer_at (seen_of y) p m (scan program plan 0 c (get_or (seen_of y).items m [])).writer
+          let found : (writer_at (seen_of y) p m (scan program plan 0 c (get_or (seen_of y).items m [])).writer).found
           ≡ here program plan p y inner 0 c =
-          ap₂ (λ k xs. writer_at (seen_of y) p k (scan program plan 0 c xs).writer) (sym number) items
-          ∙ ap (λ ms. option_or (in_loops program plan (seen_of y) p c ms)
-          (writer_at (seen_of y) p inner.interval (scan program plan 0 c (items_so_far y inner)).writer)) (sym none) in
+          ap₂ (λ k xs. (writer_at (seen_of y) p k (scan program plan 0 c xs).writer).found) (sym number) items
+          ∙ ap (λ ms. option_or (in_loops program plan (seen_of y) p c ms).found
+          (writer_at (seen_of y) p inner.interval (scan program plan 0 c (items_so_far y inner)).writer).found) (sym none) in
           ap (λ (s : Scan). of_scan program plan p y l.interval c s) (scan_loop true h)
-          ∙ ap (λ o. option_or (option_or o (in_loops program plan (seen_of y) p c scanned.loops))
-          (writer_at (seen_of y) p l.interval scanned.writer)) found
-          ∙ else_assoc (here program plan p y inner 0 c) (in_loops program plan (seen_of y) p c scanned.loops)
-          (writer_at (seen_of y) p l.interval scanned.writer)
+          ∙ ap (λ o. option_or (option_or o (in_loops program plan (seen_of y) p c scanned.loops).found)
+          (writer_at (seen_of y) p l.interval scanned.writer).found) found
+          ∙ else_assoc (here program plan p y inner 0 c) (in_loops program plan (seen_of y) p c scanned.loops).found
+          (writer_at (seen_of y) p l.interval scanned.writer).found

@@ -206,7 +206,7 @@ module _ (program : Program) (policy : Policy) (v : IsValid program) {story : St
       last_is : (i : Span) → slice_get y.spans l.interval ≡ Some i
           → IsLeftNow l (result_at program x.trace.proc) (l.parts ++ own (length x.trace.events) ∷ [])
           (split_step program plan story p x taken).spans
-          → last_item (seen_of y) p l.interval ≡ origin.Item p l.interval (length l.parts)
+          → (last_item (seen_of y) p l.interval).found ≡ origin.Item p l.interval (length l.parts)
       last_is i at left =
           let end = m.later.spans l.interval left.span left.there in
           let same : i ≡ left.span = some (sym at ∙ end.1) ∙ end.2.stays left.left in

@@ -27,7 +27,7 @@ module _ {program : Program} {plan : Plan} {p : ℕ} {y : Split} {l o : Level} {
     {k : Change} {a : ℕ} (g : IsEventAt program plan p y l (o ∷ os) n e k a) where
   pub back_told : (i : Span) → slice_get y.spans l.interval ≡ Some i → is_some i.closed ≡ true → (f : ℕ)
       → block_kind plan i.block ≡ block.Function f
-      → last_item (seen_of y) p l.interval ≡ origin.Item p l.interval (length l.parts)
+      → (last_item (seen_of y) p l.interval).found ≡ origin.Item p l.interval (length l.parts)
       → (call : ℕ) → ((j c : ℕ) → (scan program plan j c (items_so_far y o)).call ≡ call)
       → (m : ℕ) → with_own (block_kind plan o.block) (activations program plan y os) ≡ suc m
       → m < a
@@ -45,9 +45,9 @@ module _ {program : Program} {plan : Plan} {p : ℕ} {y : Split} {l o : Level} {
           (λ c small.
           here_returned program plan p y l.interval o i at is_so 0 c f kind call (k.tags_then m c)
           (IsBefore program plan p y o.block (block_kind plan o.block) os c (k.tags_then m c)) (call_is 0 c)
-          (λ q. subst (λ t. Says y p (last_item (seen_of y) p l.interval) t)
+          (λ q. subst (λ t. Says y p (last_item (seen_of y) p l.interval).found t)
           (sym (g.tagged.receives m c (sym (r c) ∙ q) small))
-          (says_item y p l.interval (length l.parts) n e g.there g.placed (last_item (seen_of y) p l.interval) last))
+          (says_item y p l.interval (length l.parts) n e g.there g.placed (last_item (seen_of y) p l.interval).found last))
           (λ q.
           subst (λ t. SaysOr y p (here program plan p y o 0 c) t
           (IsBefore program plan p y o.block (block_kind plan o.block) os c t))

@@ -15,15 +15,16 @@ use Rattle.ppd_ast.specs.declared.plan.BlockKind.{BlockKind}
 use Rattle.ppd_ast.specs.declared.plan.BlockKind.TheVariants as block
 use Rattle.ppd_ast.specs.declared.plan.Plan.{Plan}
 use Rattle.ppd_ast.specs.declared.program.Program.{Program}
-use Rattle.ppd_flow_model.specs.Control.{control_origin, control_replays}
+use Rattle.ppd_flow_model.specs.Control.{control_origin}
 use Rattle.ppd_flow_model.specs.Ends.{end_interval, end_item}
-use Rattle.ppd_flow_model.specs.Found.{before_others, if_found, pair_edges, read_edge, read_edges, read_if, read_replays, reads_replays, sync_edges, sync_replays}
-use Rattle.ppd_flow_model.specs.Locals.{local_origin, local_replays}
-use Rattle.ppd_flow_model.specs.Own.{edges_of_nested, frame_at, left_edges, left_replays, nested_replays, returned_edges, returned_replays}
+use Rattle.ppd_flow_model.specs.Found.{before_others, pair_edges, read_edge, read_edges, read_if, sync_edges, with_edge}
+use Rattle.ppd_flow_model.specs.Locals.{local_origin}
+use Rattle.ppd_flow_model.specs.Looked.{Looked}
+use Rattle.ppd_flow_model.specs.Own.{edges_of_nested, frame_at, left_edges, returned_edges}
 use Rattle.ppd_flow_model.specs.Paired.{Paired}
 use Rattle.ppd_flow_model.specs.Paired.TheVariants.{Initial, Node, Nothing}
 use Rattle.ppd_flow_model.specs.Seen.{Seen, last_item, seen_of}
-use Rattle.ppd_flow_model.specs.Shared.{Missing, of_process, pair_of, pair_place, place_replays, seen_at, shared_origin, shared_replays}
+use Rattle.ppd_flow_model.specs.Shared.{Missing, of_process, pair_of, pair_place, seen_at, shared_origin}
 use Rattle.ppd_model.proofs.Tested.{In, here as first_in, there as later_in}
 use Rattle.ppd_model.specs.FlowbackEdges.{bare_edge, edges, part_at}
 use Rattle.ppd_model.specs.Intervals.{Span, Split, own, splits}
@@ -38,7 +39,7 @@ use Rattle.ppd_sem.specs.Blocks.{postlog_cells}
 use Rattle.ppd_sem.specs.declared.event.Access.{Access}
 use Rattle.ppd_sem.specs.declared.event.Spot.{Spot}
 use Rattle.ppd_sem.specs.declared.event.Spot.TheVariants.{Local, Shared}
-use Rattle.std.proofs.Common.{Err, List, None, Ok, Option, Result, Some, [], ap, ap₂, arith, length, length-append, refl, subst, suc, sym, ℕ, ℤ, ◌*◌, ◌++◌, ◌+◌, ◌∙◌, ◌∷◌, ◌≡◌, ◌≤◌}
+use Rattle.std.proofs.Common.{Err, List, None, Ok, Option, Result, Some, [], ap, arith, length, length-append, refl, subst, suc, sym, ℕ, ℤ, ◌*◌, ◌++◌, ◌+◌, ◌∙◌, ◌∷◌, ◌≡◌, ◌≤◌}
 use Rattle.std.specs.Prelude.{get_or, slice_get, ◌-◌}
 
 module _ (program : Program) (plan : Plan) (budget : ℕ) (h : List ℕ) (v : IsValid program) (p k j : ℕ) (x : Split)
@@ -69,49 +70,55 @@ module _ (program : Program) (plan : Plan) (budget : ℕ) (h : List ℕ) (v : Is
 
   module _ (n : ℕ) (ev : TracedEvent) (place : part_at x k j ≡ Some (own n)) (at_event : slice_get x.trace.events n ≡ Some ev) where
     module _ (i : Span) (at : slice_get x.spans k ≡ Some i) where
-      local_read : (frame c : ℕ) (e : FlowEdge) → In e es → e.from ≡ local_origin program plan (seen_at seens p) p k j frame c → steps (of_process p (local_replays program plan (seen_at seens p) p k j frame c)) ≤ N + N
+      local_read : (frame c : ℕ) (e : FlowEdge) → In e es → e.from ≡ (local_origin program plan (seen_at seens p) p k j frame c).found → steps (of_process p (local_origin program plan (seen_at seens p) p k j frame c).replays) ≤ N + N
       local_read frame c e g is =
-          subst (λ (s : Seen). steps (of_process p (local_replays program plan s p k j frame c)) ≤ N + N) (sym seen_is)
-          (local_little program plan budget h p k j x there es edges_are tree F stands i at c j frame e g (is ∙ ap (λ (s : Seen). local_origin program plan s p k j frame c) seen_is))
+          subst (λ (s : Seen). steps (of_process p (local_origin program plan s p k j frame c).replays) ≤ N + N) (sym seen_is)
+          (local_little program plan budget h p k j x there es edges_are tree F stands i at c j frame e g (is ∙ ap (λ (s : Seen). (local_origin program plan s p k j frame c).found) seen_is))
 
-      read_little : (a : Access) (spot : Spot) (e : FlowEdge) → read_edge program plan logs seens p k j a spot ≡ Ok e → In e es → steps (read_replays program plan logs seens p k j spot) ≤ N + N
+      read_little : (a : Access) (spot : Spot) (e : FlowEdge) → (read_edge program plan logs seens p k j a spot).found ≡ Ok e → In e es → steps (read_edge program plan logs seens p k j a spot).replays ≤ N + N
       read_little a (Local frame c) e found g = local_read frame c e g (ap (λ (y : FlowEdge). y.from) (sym (ok_is found)))
-      read_little a (Shared c) e found g = by (shared_origin program logs seens p k j c) refl
+      read_little a (Shared c) e found g = by (shared_origin program logs seens p k j c).found refl
         where
-          by : (t : Result Origin Missing) → shared_origin program logs seens p k j c ≡ t → steps (shared_replays program logs seens p k j c) ≤ N + N
+          by : (t : Result Origin Missing) → (shared_origin program logs seens p k j c).found ≡ t → steps (shared_origin program logs seens p k j c).replays ≤ N + N
           by (Ok from) z = shared_little program plan budget h v p k j x there es edges_are n ev place at_event c from e g (ap (λ (y : FlowEdge). y.from) (sym (ok_is (sym (ap (read_if a) z) ∙ found)))) z
           by (Err m) z = absurd (not_ok (sym (ap (read_if a) z) ∙ found))
 
-      pub reads_little : (as' : List Access) (rs : List FlowEdge) → read_edges program plan logs seens p k j as' ≡ Ok rs → ((e : FlowEdge) → In e rs → In e es) → steps (reads_replays program plan logs seens p k j as') ≤ length rs * (N + N)
+      pub reads_little : (as' : List Access) (rs : List FlowEdge) → (read_edges program plan logs seens p k j as').found ≡ Ok rs → ((e : FlowEdge) → In e rs → In e es) → steps (read_edges program plan logs seens p k j as').replays ≤ length rs * (N + N)
       reads_little [] rs found all = subst (λ l. 0 ≤ length l * (N + N)) (ok_is found) (omega arith)
-      reads_little (a ∷ as') rs found all = by (λ more y all'. reads_little as' more y all') (read_edge program plan logs seens p k j a a.spot) refl (read_edges program plan logs seens p k j as') refl
+      reads_little (a ∷ as') rs found all = by (λ more y all'. reads_little as' more y all') (read_edge program plan logs seens p k j a a.spot).found refl (read_edges program plan logs seens p k j as').found refl
         where
-          by : ((more : List FlowEdge) → read_edges program plan logs seens p k j as' ≡ Ok more → ((e : FlowEdge) → In e more → In e es) → steps (reads_replays program plan logs seens p k j as') ≤ length more * (N + N))
-              → (t : Result FlowEdge Missing) → read_edge program plan logs seens p k j a a.spot ≡ t → (u : Result (List FlowEdge) Missing) → read_edges program plan logs seens p k j as' ≡ u
-              → steps (read_replays program plan logs seens p k j a.spot ++ if_found (read_edge program plan logs seens p k j a a.spot) (reads_replays program plan logs seens p k j as')) ≤ length rs * (N + N)
-          by again (Err m) z u y = absurd (not_ok (sym (ap (λ (t : Result FlowEdge Missing). before_others t (read_edges program plan logs seens p k j as')) z) ∙ found))
-          by again (Ok e) z (Err m) y = absurd (not_ok (sym (ap₂ before_others z y) ∙ found))
+          first : Looked (ℕ × ℕ) (Result FlowEdge Missing)
+          first = read_edge program plan logs seens p k j a a.spot
+
+          others : Looked (ℕ × ℕ) (Result (List FlowEdge) Missing)
+          others = read_edges program plan logs seens p k j as'
+
+          by : ((more : List FlowEdge) → (read_edges program plan logs seens p k j as').found ≡ Ok more → ((e : FlowEdge) → In e more → In e es) → steps (read_edges program plan logs seens p k j as').replays ≤ length more * (N + N))
+              → (t : Result FlowEdge Missing) → (read_edge program plan logs seens p k j a a.spot).found ≡ t → (u : Result (List FlowEdge) Missing) → (read_edges program plan logs seens p k j as').found ≡ u
+              → steps (read_edges program plan logs seens p k j (a ∷ as')).replays ≤ length rs * (N + N)
+          by again (Err m) z u y = absurd (not_ok (sym (ap (λ (t : Result FlowEdge Missing). (before_others t others).found) z) ∙ found))
+          by again (Ok e) z (Err m) y = absurd (not_ok (sym (ap (λ (t : Result FlowEdge Missing). (before_others t others).found) z ∙ ap (with_edge e) y) ∙ found))
           by again (Ok e) z (Ok more) y =
-              let same : e ∷ more ≡ rs = ok_is (sym (ap₂ before_others z y) ∙ found) in
+              let same : e ∷ more ≡ rs = ok_is (sym (ap (λ (t : Result FlowEdge Missing). (before_others t others).found) z ∙ ap (with_edge e) y) ∙ found) in
               let one = read_little a a.spot e z (all e (subst (λ l. In e l) same first_in)) in
               let rest = again more y (λ d i. all d (subst (λ l. In d l) same (later_in i))) in
-              let sum = both_steps xs (read_replays program plan logs seens p k j a.spot) (reads_replays program plan logs seens p k j as') in
-              subst (λ l. steps (read_replays program plan logs seens p k j a.spot ++ if_found (read_edge program plan logs seens p k j a a.spot) (reads_replays program plan logs seens p k j as')) ≤ length l * (N + N)) same
-              (subst (λ (t : Result FlowEdge Missing). steps (read_replays program plan logs seens p k j a.spot ++ if_found t (reads_replays program plan logs seens p k j as')) ≤ suc (length more) * (N + N)) (sym z)
+              let sum = both_steps xs first.replays others.replays in
+              subst (λ l. steps (read_edges program plan logs seens p k j (a ∷ as')).replays ≤ length l * (N + N)) same
+              (subst (λ (t : Result FlowEdge Missing). steps (first.replays ++ (before_others t others).replays) ≤ suc (length more) * (N + N)) (sym z)
               (subst (λ s. s ≤ suc (length more) * (N + N)) (sym sum)
-              (one_times (steps (read_replays program plan logs seens p k j a.spot)) (steps (reads_replays program plan logs seens p k j as')) (length more) (N + N) one rest)))
+              (one_times (steps first.replays) (steps others.replays) (length more) (N + N) one rest)))
 
   -- ---- synchronization
 
   pub alone : (a : ℕ) → a ≤ N → a ≤ 1 * (N + N)
   alone a le = let r = one_times a 0 0 (N + N) (omega (arith, le)) (omega arith) in omega (arith, r)
 
-  pub sync_little : (number : Option ℕ) → ((e : FlowEdge) → In e (sync_edges program logs seens p k j number) → In e es)
-      → steps (sync_replays program logs seens p k j number) ≤ length (sync_edges program logs seens p k j number) * (N + N)
+  pub sync_little : (number : Option ℕ) → ((e : FlowEdge) → In e (sync_edges program logs seens p k j number).found → In e es)
+      → steps (sync_edges program logs seens p k j number).replays ≤ length (sync_edges program logs seens p k j number).found * (N + N)
   sync_little None all = omega arith
   sync_little (Some number) all = by (pair_of program logs seens p k j) all
     where
-      by : (u : Paired) → ((e : FlowEdge) → In e (pair_edges (pair_place logs seens u)) → In e es) → steps (place_replays logs u) ≤ length (pair_edges (pair_place logs seens u)) * (N + N)
+      by : (u : Paired) → ((e : FlowEdge) → In e (pair_edges (pair_place logs seens u).found) → In e es) → steps (pair_place logs seens u).replays ≤ length (pair_edges (pair_place logs seens u).found) * (N + N)
       by Nothing all' = omega arith
       by Initial all' = omega arith
       by (Node a) all' =
@@ -123,52 +130,52 @@ module _ (program : Program) (plan : Plan) (budget : ℕ) (h : List ℕ) (v : Is
   -- ---- an interval
 
   module _ (i : Span) (at : slice_get x.spans k ≡ Some i) where
-    pub control_here : (s : ℕ) → steps (of_process p (control_replays program plan (seen_at seens p) p k j s)) ≤ N + N
+    pub control_here : (s : ℕ) → steps (of_process p (control_origin program plan (seen_at seens p) p k j s).replays) ≤ N + N
     control_here s =
-        subst (λ (z : Seen). steps (of_process p (control_replays program plan z p k j s)) ≤ N + N) (sym seen_is)
+        subst (λ (z : Seen). steps (of_process p (control_origin program plan z p k j s).replays) ≤ N + N) (sym seen_is)
         (control_little program plan budget h p k j x there es edges_are tree F stands i at j s)
 
     abbrev leaving : ℕ → ℕ → ℤ → FlowEdge
-    leaving frame c u = record { kind = Left; spot = Some (Local frame c); value = Some u; from = local_origin program plan (seen_at seens p) p k (j + 1) frame c }
+    leaving frame c u = record { kind = Left; spot = Some (Local frame c); value = Some u; from = (local_origin program plan (seen_at seens p) p k (j + 1) frame c).found }
 
-    left_little : (frame : ℕ) (cs : List ℕ) (vs : List ℤ) → ((e : FlowEdge) → In e (left_edges program plan (seen_at seens p) p k j frame cs vs) → In e es)
-        → steps (of_process p (left_replays program plan (seen_at seens p) p k j frame cs vs)) ≤ length (left_edges program plan (seen_at seens p) p k j frame cs vs) * (N + N)
+    left_little : (frame : ℕ) (cs : List ℕ) (vs : List ℤ) → ((e : FlowEdge) → In e (left_edges program plan (seen_at seens p) p k j frame cs vs).found → In e es)
+        → steps (of_process p (left_edges program plan (seen_at seens p) p k j frame cs vs).replays) ≤ length (left_edges program plan (seen_at seens p) p k j frame cs vs).found * (N + N)
     left_little frame [] vs all = omega arith
     left_little frame (c ∷ cs) [] all = omega arith
     left_little frame (c ∷ cs) (u ∷ vs) all =
-        let one : steps (of_process p (local_replays program plan (seen_at seens p) p k (j + 1) frame c)) ≤ N + N =
-        subst (λ (s : Seen). steps (of_process p (local_replays program plan s p k (j + 1) frame c)) ≤ N + N) (sym seen_is)
-        (local_little program plan budget h p k j x there es edges_are tree F stands i at c (j + 1) frame (leaving frame c u) (all (leaving frame c u) first_in) (ap (λ (s : Seen). local_origin program plan s p k (j + 1) frame c) seen_is)) in
+        let one : steps (of_process p (local_origin program plan (seen_at seens p) p k (j + 1) frame c).replays) ≤ N + N =
+        subst (λ (s : Seen). steps (of_process p (local_origin program plan s p k (j + 1) frame c).replays) ≤ N + N) (sym seen_is)
+        (local_little program plan budget h p k j x there es edges_are tree F stands i at c (j + 1) frame (leaving frame c u) (all (leaving frame c u) first_in) (ap (λ (s : Seen). (local_origin program plan s p k (j + 1) frame c).found) seen_is)) in
         let rest = left_little frame cs vs (λ e q. all e (later_in q)) in
-        let sum = parts_steps xs p (local_replays program plan (seen_at seens p) p k (j + 1) frame c) (left_replays program plan (seen_at seens p) p k j frame cs vs) in
-        subst (λ s. s ≤ suc (length (left_edges program plan (seen_at seens p) p k j frame cs vs)) * (N + N)) (sym sum)
-        (one_times (steps (of_process p (local_replays program plan (seen_at seens p) p k (j + 1) frame c))) (steps (of_process p (left_replays program plan (seen_at seens p) p k j frame cs vs)))
-        (length (left_edges program plan (seen_at seens p) p k j frame cs vs)) (N + N) one rest)
+        let sum = parts_steps xs p (local_origin program plan (seen_at seens p) p k (j + 1) frame c).replays (left_edges program plan (seen_at seens p) p k j frame cs vs).replays in
+        subst (λ s. s ≤ suc (length (left_edges program plan (seen_at seens p) p k j frame cs vs).found) * (N + N)) (sym sum)
+        (one_times (steps (of_process p (local_origin program plan (seen_at seens p) p k (j + 1) frame c).replays)) (steps (of_process p (left_edges program plan (seen_at seens p) p k j frame cs vs).replays))
+        (length (left_edges program plan (seen_at seens p) p k j frame cs vs).found) (N + N) one rest)
 
     -- these and one more
     pub and_one : (a b n : ℕ) → a ≤ n * (N + N) → b ≤ N + N → a + b ≤ (n + 1) * (N + N)
     and_one a b n l l' = both_times a b n 1 (N + N) l (let o = one_times b 0 0 (N + N) l' (omega arith) in omega (arith, o))
 
     abbrev brought : ℕ → ℤ → FlowEdge
-    brought m u = record { kind = Returned; spot = None; value = Some u; from = last_item (seen_at seens p) p m }
+    brought m u = record { kind = Returned; spot = None; value = Some u; from = (last_item (seen_at seens p) p m).found }
 
-    returned : (m : ℕ) (u : ℤ) (vs : List ℤ) → returned_edges (seen_at seens p) p m (u ∷ vs) ++ bare_edge Control (origin.Item p k (j - 1)) ∷ [] ≡ es → steps (of_process p (returned_replays m (u ∷ vs))) ≤ length es * (N + N)
+    returned : (m : ℕ) (u : ℤ) (vs : List ℤ) → (returned_edges (seen_at seens p) p m (u ∷ vs)).found ++ bare_edge Control (origin.Item p k (j - 1)) ∷ [] ≡ es → steps (of_process p (returned_edges (seen_at seens p) p m (u ∷ vs)).replays) ≤ length es * (N + N)
     returned m u vs are =
         let a = origin_little program plan budget h v p k j x there es edges_are p m (length (get_or (seen_at seens p).items m []) - 1) (brought m u) (subst (λ z. In (brought m u) z) are first_in) refl in
         let one = and_one (steps (of_process p (m ∷ []))) 0 1 (alone (steps (of_process p (m ∷ []))) a) (omega arith) in
         subst (λ l. steps (of_process p (m ∷ [])) ≤ length l * (N + N)) are (omega (arith, one))
 
-    pub nested_little : (m b : ℕ) (vs : List ℤ) (kind : BlockKind) → edges_of_nested program plan (seen_at seens p) p k j m b vs kind ≡ es
-        → steps (of_process p (nested_replays program plan (seen_at seens p) p k j m b vs kind)) ≤ length es * (N + N)
+    pub nested_little : (m b : ℕ) (vs : List ℤ) (kind : BlockKind) → (edges_of_nested program plan (seen_at seens p) p k j m b vs kind).found ≡ es
+        → steps (of_process p (edges_of_nested program plan (seen_at seens p) p k j m b vs kind).replays) ≤ length es * (N + N)
     nested_little m b vs (block.Loop l) are =
         let frame : ℕ = frame_at program plan (seen_at seens p) k j in
-        let ls : List FlowEdge = left_edges program plan (seen_at seens p) p k j frame (postlog_cells plan b) vs in
-        let last : FlowEdge = bare_edge Control (control_origin program plan (seen_at seens p) p k j l) in
+        let ls : List FlowEdge = (left_edges program plan (seen_at seens p) p k j frame (postlog_cells plan b) vs).found in
+        let last : FlowEdge = bare_edge Control (control_origin program plan (seen_at seens p) p k j l).found in
         let a = left_little frame (postlog_cells plan b) vs (λ e q. subst (λ z. In e z) are (in_left e ls (last ∷ []) q)) in
         let c = control_here l in
-        let sum = parts_steps xs p (left_replays program plan (seen_at seens p) p k j frame (postlog_cells plan b) vs) (control_replays program plan (seen_at seens p) p k j l) in
+        let sum = parts_steps xs p (left_edges program plan (seen_at seens p) p k j frame (postlog_cells plan b) vs).replays (control_origin program plan (seen_at seens p) p k j l).replays in
         let long : length es ≡ length ls + 1 = sym (ap length are) ∙ length-append ls (last ∷ []) in
-        subst (λ n. steps (of_process p (nested_replays program plan (seen_at seens p) p k j m b vs (block.Loop l))) ≤ n * (N + N)) (sym long)
+        subst (λ n. steps (of_process p (edges_of_nested program plan (seen_at seens p) p k j m b vs (block.Loop l)).replays) ≤ n * (N + N)) (sym long)
         (subst (λ s. s ≤ (length ls + 1) * (N + N)) (sym sum) (and_one _ _ (length ls) a c))
     nested_little m b [] (block.Function g) are = omega arith
     nested_little m b [] (block.Process g) are = omega arith

@@ -18,9 +18,10 @@ use Rattle.ppd_model.proofs.Changes.{some}
 use Rattle.ppd_model.proofs.Tested.{In}
 use Rattle.ppd_flow_model.specs.declared.walked.Walked.{Walked}
 use Rattle.ppd_flow_model.specs.declared.walked.Walked.TheVariants.{Stopped, Passed, Found}
+use Rattle.ppd_flow_model.specs.Looked.{Looked, look_map}
 use Rattle.ppd_flow_model.specs.Seen.{Seen, seen_of}
-use Rattle.ppd_flow_model.specs.Shared.{Missing, edge_of_place, greatest_before, is_before_in, of_process, origin_in, own_or, seen_at, shared_origin, shared_replays, start_replays, unless_found, writing, written_in, written_or_start, written_replays}
-use Rattle.ppd_flow_model.specs.Walk.{walk, walk_replays}
+use Rattle.ppd_flow_model.specs.Shared.{Missing, edge_of_place, greatest_before, is_before_in, of_process, origin_in, own_or, seen_at, shared_origin, writing, written_in, written_or_start}
+use Rattle.ppd_flow_model.specs.Walk.{walk}
 use Rattle.law_flow_shared.specs.Edges.SharedEdges.{all_seen}
 use Rattle.law_flow_shared.specs.Edges.Within.{cost, steps_from}
 use Rattle.law_flow_shared.proofs.Edges.Near.Cheap.{walks_cheap}
@@ -58,7 +59,7 @@ module _ (program : Program) (plan : Plan) (budget : ℕ) (h : List ℕ) (v : Is
 
   -- ---- shared reads
 
-  write_little : (c : ℕ) (a : EdgeId) (from : Origin) (e : FlowEdge) → In e es → e.from ≡ from → IsNearWrite program plan budget h v c a from → steps (written_replays logs seens c a) ≤ N
+  write_little : (c : ℕ) (a : EdgeId) (from : Origin) (e : FlowEdge) → In e es → e.from ≡ from → IsNearWrite program plan budget h v c a from → steps (written_in logs seens c a).replays ≤ N
   write_little c a from e g is nw =
       subst (λ l. steps (of_process a.process l) ≤ N) nw.replays_are
       (near_little program plan budget h p k j x there es edges_are a.process nw.split nw.replays nw.there (record {
@@ -78,43 +79,46 @@ module _ (program : Program) (plan : Plan) (budget : ℕ) (h : List ℕ) (v : Is
       or_true false = refl
 
   start_little : (c : ℕ) (from : Origin) (e : FlowEdge) → In e es → e.from ≡ from → (o : Option EdgeId) → ((a : EdgeId) → o ≡ Some a → In a (writing logs c))
-      → origin_in (written_or_start program logs seens c o) ≡ Ok from → steps (start_replays logs seens c o) ≤ N
+      → origin_in (written_or_start program logs seens c o).found ≡ Ok from → steps (written_or_start program logs seens c o).replays ≤ N
   start_little c from e g is None writes q = omega arith
-  start_little c from e g is (Some a) writes q = by (written_in logs seens c a) refl
+  start_little c from e g is (Some a) writes q = by (written_in logs seens c a).found refl
     where
-      by : (t : Result (ℤ × Origin) Missing) → written_in logs seens c a ≡ t → steps (written_replays logs seens c a) ≤ N
+      by : (t : Result (ℤ × Origin) Missing) → (written_in logs seens c a).found ≡ t → steps (written_in logs seens c a).replays ≤ N
       by (Ok u) z =
           let same : u.1 ≡ from = ok_is (sym (ap origin_in z) ∙ q) in
           write_little c a from e g is (subst (λ o. IsNearWrite program plan budget h v c a o) same (near_write program plan budget h v c a u.0 u.1 (writes a refl) z))
       by (Err m) z = absurd (not_ok (sym (ap origin_in z) ∙ q))
 
   module _ (n : ℕ) (ev : TracedEvent) (place : part_at x k j ≡ Some (own n)) (at_event : slice_get x.trace.events n ≡ Some ev) where
-    own_walk : (c : ℕ) → steps (of_process p (walk_replays (seen_at seens p) c k j)) ≤ N
+    own_walk : (c : ℕ) → steps (of_process p (walk (seen_at seens p) c k j).replays) ≤ N
     own_walk c =
-        let le : cost x.spans (k ∷ walk_replays (seen_of x) c k j) ≤ near_steps program plan budget (story program plan budget h) p k j = (walks_cheap program plan budget h p k j n c x ev v there place at_event).1 in
-        let sum : cost x.spans (k ∷ walk_replays (seen_of x) c k j) ≡ steps_from 0 x.spans k + cost x.spans (walk_replays (seen_of x) c k j) = sum_by-cons (steps_from 0 x.spans) k (walk_replays (seen_of x) c k j) in
-        let same : steps (of_process p (walk_replays (seen_at seens p) c k j)) ≡ cost x.spans (walk_replays (seen_of x) c k j) =
-        ap (λ (s : Seen). steps (of_process p (walk_replays s c k j))) seen_is ∙ all_steps_of xs p x (walk_replays (seen_of x) c k j) there in
+        let le : cost x.spans (k ∷ (walk (seen_of x) c k j).replays) ≤ near_steps program plan budget (story program plan budget h) p k j = (walks_cheap program plan budget h p k j n c x ev v there place at_event).1 in
+        let sum : cost x.spans (k ∷ (walk (seen_of x) c k j).replays) ≡ steps_from 0 x.spans k + cost x.spans (walk (seen_of x) c k j).replays = sum_by-cons (steps_from 0 x.spans) k (walk (seen_of x) c k j).replays in
+        let same : steps (of_process p (walk (seen_at seens p) c k j).replays) ≡ cost x.spans (walk (seen_of x) c k j).replays =
+        ap (λ (s : Seen). steps (of_process p (walk s c k j).replays)) seen_is ∙ all_steps_of xs p x (walk (seen_of x) c k j).replays there in
         omega (arith, le, sum, same)
 
-    pub shared_little : (c : ℕ) (from : Origin) (e : FlowEdge) → In e es → e.from ≡ from → shared_origin program logs seens p k j c ≡ Ok from → steps (shared_replays program logs seens p k j c) ≤ N + N
+    pub shared_little : (c : ℕ) (from : Origin) (e : FlowEdge) → In e es → e.from ≡ from → (shared_origin program logs seens p k j c).found ≡ Ok from → steps (shared_origin program logs seens p k j c).replays ≤ N + N
     shared_little c from e g is found =
-        let sum = both_steps xs (of_process p (walk_replays (seen_at seens p) c k j)) (unless_found (walk (seen_at seens p) c k j) (start_replays logs seens c big)) in
+        let sum = both_steps xs (of_process p (walk (seen_at seens p) c k j).replays) (own_or p (walk (seen_at seens p) c k j).found far).replays in
         let a = own_walk c in
-        let b = by (walk (seen_at seens p) c k j) refl in
+        let b = by (walk (seen_at seens p) c k j).found refl in
         omega (arith, sum, a, b)
       where
         big : Option EdgeId
         big = greatest_before program logs (edge_of_place logs seens p k j) c
 
+        far : Looked (ℕ × ℕ) (Result Origin Missing)
+        far = look_map origin_in (written_or_start program logs seens c big)
+
         member : (a : EdgeId) → big ≡ Some a → In a (writing logs c)
         member a e' = (in_filter (λ b. is_before_in program logs b (edge_of_place logs seens p k j)) a (writing logs c)
             (greatest_in (is_before_in program logs) a (filter (λ b. is_before_in program logs b (edge_of_place logs seens p k j)) (writing logs c)) e')).0
 
-        search : (u : Walked) → walk (seen_at seens p) c k j ≡ u → own_or p u (origin_in (written_or_start program logs seens c big)) ≡ Ok from
-        search u z = ap (λ (t : Walked). own_or p t (origin_in (written_or_start program logs seens c big))) (sym z) ∙ found
+        search : (u : Walked) → (walk (seen_at seens p) c k j).found ≡ u → (own_or p u far).found ≡ Ok from
+        search u z = ap (λ (t : Walked). (own_or p t far).found) (sym z) ∙ found
 
-        by : (u : Walked) → walk (seen_at seens p) c k j ≡ u → steps (unless_found (walk (seen_at seens p) c k j) (start_replays logs seens c big)) ≤ N
-        by (Found a b d) z = subst (λ (t : Walked). steps (unless_found t (start_replays logs seens c big)) ≤ N) (sym z) (omega arith)
-        by Stopped z = subst (λ (t : Walked). steps (unless_found t (start_replays logs seens c big)) ≤ N) (sym z) (start_little c from e g is big member (search Stopped z))
-        by Passed z = subst (λ (t : Walked). steps (unless_found t (start_replays logs seens c big)) ≤ N) (sym z) (start_little c from e g is big member (search Passed z))
+        by : (u : Walked) → (walk (seen_at seens p) c k j).found ≡ u → steps (own_or p (walk (seen_at seens p) c k j).found far).replays ≤ N
+        by (Found a b d) z = subst (λ (t : Walked). steps (own_or p t far).replays ≤ N) (sym z) (omega arith)
+        by Stopped z = subst (λ (t : Walked). steps (own_or p t far).replays ≤ N) (sym z) (start_little c from e g is big member (search Stopped z))
+        by Passed z = subst (λ (t : Walked). steps (own_or p t far).replays ≤ N) (sym z) (start_little c from e g is big member (search Passed z))

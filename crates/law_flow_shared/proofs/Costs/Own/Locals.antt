@@ -13,8 +13,9 @@ use Rattle.ppd_model.proofs.Changes.{some}
 use Rattle.ppd_model.proofs.Tested.{In, here as first_in, there as later_in}
 use Rattle.ppd_flow_model.specs.declared.writer.Writer.{Writer}
 use Rattle.ppd_flow_model.specs.declared.writer.Writer.TheVariants.{Before, Fresh, At, Of}
-use Rattle.ppd_flow_model.specs.Locals.{Scan, in_loops, local_in, local_in_replays, loop_replays, scan, writer_at, writer_replays}
-use Rattle.ppd_flow_model.specs.Seen.{Seen, last_item, seen_of, unless}
+use Rattle.ppd_flow_model.specs.Locals.{Scan, in_loops, local_in, scan, writer_at}
+use Rattle.ppd_flow_model.specs.Looked.{unless}
+use Rattle.ppd_flow_model.specs.Seen.{Seen, last_item, seen_of}
 use Rattle.law_flow_shared.specs.Edges.Within.{AreDistinct}
 use Rattle.law_flow_shared.proofs.Edges.Near.Distinct.{not_in_list, distinct_both, out_of_list}
 use Rattle.law_flow_shared.proofs.Edges.Near.Tree.{HasTree}
@@ -34,7 +35,7 @@ module _ (program : Program) (plan : Plan) (x : Split) (tree : HasTree x) (p c :
 
   -- these are loops in interval k, or another interval in it where the write was found, as its last item
   abbrev pub IsGood : ℕ → Option Origin → ℕ → Type 0
-  IsGood k found z = IsLoopIn plan x k z ⊎ (IsOtherIn plan x k z × (found ≡ Some (last_item (seen_of x) p z)))
+  IsGood k found z = IsLoopIn plan x k z ⊎ (IsOtherIn plan x k z × (found ≡ Some (last_item (seen_of x) p z).found))
 
   pub record AreGood (k : ℕ) (found : Option Origin) (rs : List ℕ) : Type 0 where
     pub each : (z : ℕ) → In z rs → IsGood k found z
@@ -42,10 +43,10 @@ module _ (program : Program) (plan : Plan) (x : Split) (tree : HasTree x) (p c :
 
   -- of these loops
   record AreOf (k : ℕ) (found : Option Origin) (ms rs : List ℕ) : Type 0 where
-    each : (z : ℕ) → In z rs → In z ms ⊎ (IsOtherIn plan x k z × (found ≡ Some (last_item (seen_of x) p z)))
+    each : (z : ℕ) → In z rs → In z ms ⊎ (IsOtherIn plan x k z × (found ≡ Some (last_item (seen_of x) p z).found))
     once : AreDistinct rs
 
-  loops_are : (k : ℕ) (ms : List ℕ) → AreDistinct ms → ((z : ℕ) → In z ms → IsLoopIn plan x k z) → AreOf k (in_loops program plan seen p c ms) ms (loop_replays program plan seen p c ms)
+  loops_are : (k : ℕ) (ms : List ℕ) → AreDistinct ms → ((z : ℕ) → In z ms → IsLoopIn plan x k z) → AreOf k (in_loops program plan seen p c ms).found ms (in_loops program plan seen p c ms).replays
   loops_are k [] once loops = record { each = λ z i. absurd (no_member i); once = tt }
   loops_are k (m ∷ ms) once loops = by (loops_are k ms once.1 (λ z i. loops z (later_in i))) (scan program plan 0 c (get_or seen.items m [])).writer refl
     where
@@ -58,23 +59,23 @@ module _ (program : Program) (plan : Plan) (x : Split) (tree : HasTree x) (p c :
       alone : (found : Option Origin) → AreOf k found (m ∷ ms) (m ∷ [])
       alone found = record { each = λ z i. inl (subst (λ y. In y (m ∷ ms)) (sym (in_one z m i)) first_in); once = distinct_one m }
 
-      by : AreOf k (in_loops program plan seen p c ms) ms (loop_replays program plan seen p c ms) → (w : Writer) → (scan program plan 0 c (get_or seen.items m [])).writer ≡ w
-          → AreOf k (option_or (writer_at seen p m w) (in_loops program plan seen p c ms)) (m ∷ ms) (m ∷ writer_replays w ++ unless (writer_at seen p m w) (loop_replays program plan seen p c ms))
+      by : AreOf k (in_loops program plan seen p c ms).found ms (in_loops program plan seen p c ms).replays → (w : Writer) → (scan program plan 0 c (get_or seen.items m [])).writer ≡ w
+          → AreOf k (option_or (writer_at seen p m w).found (in_loops program plan seen p c ms).found) (m ∷ ms) (m ∷ (writer_at seen p m w).replays ++ unless (writer_at seen p m w).found (in_loops program plan seen p c ms).replays)
       by rest Before e = record {
-        each = λ z i. elim (in_cases z m (loop_replays program plan seen p c ms) i) [
+        each = λ z i. elim (in_cases z m (in_loops program plan seen p c ms).replays i) [
           | inl same ↦ inl (subst (λ y. In y (m ∷ ms)) (sym same) first_in)
           | inr j ↦ elim (rest.each z j) [ inl a ↦ inl (later_in a) | inr b ↦ inr b ]
         ];
         once = (
-          not_in_list m (loop_replays program plan seen p c ms) (λ i. elim (rest.each m i) [
+          not_in_list m (in_loops program plan seen p c ms).replays (λ i. elim (rest.each m i) [
             | inl a ↦ out_of_list m ms once.0 a
             | inr b ↦ not_both plan x k k m l b.0
           ]),
           rest.once,
         );
       }
-      by rest Fresh e = alone (option_or (writer_at seen p m Fresh) (in_loops program plan seen p c ms))
-      by rest (At i) e = alone (option_or (writer_at seen p m (At i)) (in_loops program plan seen p c ms))
+      by rest Fresh e = alone (option_or (writer_at seen p m Fresh).found (in_loops program plan seen p c ms).found)
+      by rest (At i) e = alone (option_or (writer_at seen p m (At i)).found (in_loops program plan seen p c ms).found)
       by rest (Of z) e =
           let o : IsOtherIn plan x m z = inner z e in
           let lt = l.below in
@@ -84,7 +85,7 @@ module _ (program : Program) (plan : Plan) (x : Split) (tree : HasTree x) (p c :
               | inl same ↦ inl (subst (λ u. In u (m ∷ ms)) (sym same) first_in)
               | inr j ↦
                   let same : y ≡ z = in_one y z j in
-                  inr (record { span = o.span; there = ap (λ u. slice_get x.spans u) same ∙ o.there; no_loop = o.no_loop; below = omega (arith, same, lt, lt') }, ap (λ u. Some (last_item seen p u)) (sym same))
+                  inr (record { span = o.span; there = ap (λ u. slice_get x.spans u) same ∙ o.there; no_loop = o.no_loop; below = omega (arith, same, lt, lt') }, ap (λ u. Some (last_item seen p u).found) (sym same))
             ];
             once = (((λ same. omega (arith, same, lt')), tt), distinct_one z);
           }
@@ -96,23 +97,23 @@ module _ (program : Program) (plan : Plan) (x : Split) (tree : HasTree x) (p c :
     sc : IsScanned program plan frame c (IsLoopIn plan x k) (IsOtherIn plan x k) (scan program plan frame c (take j (get_or (seen_of x).items k [])))
     sc = scanned_at program plan x tree frame c k i j at
 
-    lo : AreOf k (in_loops program plan seen p c s.loops) s.loops (loop_replays program plan seen p c s.loops)
+    lo : AreOf k (in_loops program plan seen p c s.loops).found s.loops (in_loops program plan seen p c s.loops).replays
     lo = loops_are k s.loops sc.once sc.loops
 
     abbrev loops : List ℕ
-    loops = loop_replays program plan seen p c s.loops
+    loops = (in_loops program plan seen p c s.loops).replays
 
     abbrev Now : Option Origin → Writer → Type 0
-    Now o w = AreGood k (option_or o (writer_at seen p k w)) (loops ++ unless o (writer_replays w))
+    Now o w = AreGood k (option_or o (writer_at seen p k w).found) (loops ++ unless o (writer_at seen p k w).replays)
 
-    only : (o found : Option Origin) → in_loops program plan seen p c s.loops ≡ o → (o ≡ None) ⊎ (found ≡ o) → AreGood k found (loops ++ [])
+    only : (o found : Option Origin) → (in_loops program plan seen p c s.loops).found ≡ o → (o ≡ None) ⊎ (found ≡ o) → AreGood k found (loops ++ [])
     only o found e f = record {
       each = λ z i'. elim (in_either z loops [] i') [
         | inr j' ↦ absurd (no_member j')
         | inl a ↦ elim (lo.each z a) [
           | inl b ↦ inl (sc.loops z b)
           | inr d ↦ elim f [
-            | inl none ↦ absurd (none-some (last_item seen p z) (sym none ∙ sym e ∙ d.1))
+            | inl none ↦ absurd (none-some (last_item seen p z).found (sym none ∙ sym e ∙ d.1))
             | inr same ↦ inr (d.0, same ∙ sym e ∙ d.1)
           ]
         ]
@@ -120,29 +121,29 @@ module _ (program : Program) (plan : Plan) (x : Split) (tree : HasTree x) (p c :
       once = distinct_both loops [] lo.once tt (λ m a b. no_member b);
     }
 
-    looped : in_loops program plan seen p c s.loops ≡ None → (z : ℕ) → In z loops → IsLoopIn plan x k z
-    looped e z a = elim (lo.each z a) [ inl b ↦ sc.loops z b | inr d ↦ absurd (none-some (last_item seen p z) (sym e ∙ d.1)) ]
+    looped : (in_loops program plan seen p c s.loops).found ≡ None → (z : ℕ) → In z loops → IsLoopIn plan x k z
+    looped e z a = elim (lo.each z a) [ inl b ↦ sc.loops z b | inr d ↦ absurd (none-some (last_item seen p z).found (sym e ∙ d.1)) ]
 
-    by : (o : Option Origin) → in_loops program plan seen p c s.loops ≡ o → (w : Writer) → s.writer ≡ w → Now o w
+    by : (o : Option Origin) → (in_loops program plan seen p c s.loops).found ≡ o → (w : Writer) → s.writer ≡ w → Now o w
     by (Some o) e w g = only (Some o) (Some o) e (inr refl)
     by None e Before g = only None None e (inl refl)
-    by None e Fresh g = only None (writer_at seen p k Fresh) e (inl refl)
-    by None e (At n) g = only None (writer_at seen p k (At n)) e (inl refl)
+    by None e Fresh g = only None (writer_at seen p k Fresh).found e (inl refl)
+    by None e (At n) g = only None (writer_at seen p k (At n)).found e (inl refl)
     by None e (Of m) g =
         let other : IsOtherIn plan x k m = sc.writer m g in
         record {
           each = λ z i'. elim (in_either z loops (m ∷ []) i') [
             | inr j' ↦
                 let same : z ≡ m = in_one z m j' in
-                inr (subst (λ y. IsOtherIn plan x k y) (sym same) other, ap (λ y. Some (last_item seen p y)) (sym same))
+                inr (subst (λ y. IsOtherIn plan x k y) (sym same) other, ap (λ y. Some (last_item seen p y).found) (sym same))
             | inl a ↦ inl (looped e z a)
           ];
           once = distinct_both loops (m ∷ []) lo.once (distinct_one m) (λ z a b. not_both plan x k k z (looped e z a) (subst (λ y. IsOtherIn plan x k y) (sym (in_one z m b)) other));
         }
 
     -- the last write in interval k before place j
-    pub local_good : AreGood k (local_in program plan (seen_of x) p k j frame c) (local_in_replays program plan (seen_of x) p k j frame c)
-    local_good = by (in_loops program plan seen p c s.loops) refl s.writer refl
+    pub local_good : AreGood k (local_in program plan (seen_of x) p k j frame c).found (local_in program plan (seen_of x) p k j frame c).replays
+    local_good = by (in_loops program plan seen p c s.loops).found refl s.writer refl
 
   -- they have larger numbers than the interval
   pub good_above : (k : ℕ) (found : Option Origin) (z : ℕ) → IsGood k found z → k < z

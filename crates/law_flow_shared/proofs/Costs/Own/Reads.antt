@@ -9,15 +9,17 @@ use Rattle.ppd_ast.specs.declared.program.Program.{Program}
 use Rattle.ppd_sem.specs.Blocks.{prelog_cells}
 use Rattle.ppd_model.specs.declared.flow.FlowEdge.{FlowEdge}
 use Rattle.ppd_model.specs.declared.flow.Origin.{Origin}
+use Rattle.ppd_model.specs.declared.flow.Origin.TheVariants as origin
 use Rattle.ppd_model.specs.FlowbackEdges.{edges, part_at}
 use Rattle.ppd_model.specs.Intervals.{Span, Split, splits}
 use Rattle.ppd_model.specs.NearIntervals.{is_in, is_near_origin, is_open_at, near_steps, round_of, surroundings}
 use Rattle.ppd_model.specs.Story.{story}
 use Rattle.ppd_model.proofs.Changes.{some}
 use Rattle.ppd_model.proofs.Tested.{In, here as first_in}
-use Rattle.ppd_flow_model.specs.Control.{call_replays, control_above_replays, control_in, control_replays}
-use Rattle.ppd_flow_model.specs.Locals.{above_replays, local_above, local_in, local_in_replays, local_origin, local_replays, outer_frame, parameter, parameter_replays}
-use Rattle.ppd_flow_model.specs.Seen.{Seen, kind_at, last_item, outer_of, outer_place, seen_of, unless}
+use Rattle.ppd_flow_model.specs.Control.{call_or_entry, control_above, control_in, control_origin}
+use Rattle.ppd_flow_model.specs.Locals.{local_above, local_in, local_origin, outer_frame, parameter}
+use Rattle.ppd_flow_model.specs.Looked.{Looked, known, unless}
+use Rattle.ppd_flow_model.specs.Seen.{Seen, call_of, kind_at, last_item, outer_of, outer_place, seen_of}
 use Rattle.ppd_flow_model.specs.Shared.{of_process}
 use Rattle.law_flow_shared.proofs.Edges.Near.Tree.{HasTree}
 use Rattle.law_flow_shared.proofs.Edges.Sources.Members.{in_either}
@@ -58,9 +60,9 @@ module _ (program : Program) (plan : Plan) (budget : ℕ) (h : List ℕ) (p k j 
   good_near : (c b : ℕ) (found : Option Origin) (from : Origin) → In b (surroundings x k) → (found ≡ None) ⊎ (found ≡ Some from) → (e : FlowEdge) → In e es → e.from ≡ from
       → (z : ℕ) (s : Span) → IsGood program plan x tree p c b found z → slice_get x.spans z ≡ Some s → IsNear program plan budget h p k j x there es edges_are p x z s
   good_near c b found from near f e g is z s (inl l) at' = near_loop program plan budget h p k j x there es edges_are b z s near l at'
-  good_near c b found from near (inl none) e g is z s (inr r) at' = absurd (none-some (last_item seen p z) (sym none ∙ r.1))
+  good_near c b found from near (inl none) e g is z s (inr r) at' = absurd (none-some (last_item seen p z).found (sym none ∙ r.1))
   good_near c b found from near (inr same) e g is z s (inr r) at' =
-      let item : e.from ≡ last_item seen p z = is ∙ some (sym same ∙ r.1) in
+      let item : e.from ≡ (last_item seen p z).found = is ∙ some (sym same ∙ r.1) in
       near_edge program plan budget h p k j x there es edges_are e g p x z s
       (ap (is_near_origin p x z s) item ∙ ap₂ (λ a b'. a && (b' || is_open_at x (part_at x z (length (get_or seen.items z []) - 1)) s)) (eq-eqb p p refl) (eq-eqb z z refl))
 
@@ -96,21 +98,21 @@ module _ (program : Program) (plan : Plan) (budget : ℕ) (h : List ℕ) (p k j 
 
   -- ---- a local cell
 
-  module _ (c at_place frame : ℕ) (e : FlowEdge) (g : In e es) (is : e.from ≡ local_origin program plan (seen_of x) p k at_place frame c) where
+  module _ (c at_place frame : ℕ) (e : FlowEdge) (g : In e es) (is : e.from ≡ (local_origin program plan (seen_of x) p k at_place frame c).found) where
     abbrev rs : List ℕ
-    rs = local_in_replays program plan (seen_of x) p k at_place frame c
+    rs = (local_in program plan (seen_of x) p k at_place frame c).replays
 
     abbrev outer : ℕ
     outer = outer_of (seen_of x) k
 
-    good : AreGood program plan x tree p c k (local_in program plan (seen_of x) p k at_place frame c) (local_in_replays program plan (seen_of x) p k at_place frame c)
+    good : AreGood program plan x tree p c k (local_in program plan (seen_of x) p k at_place frame c).found (local_in program plan (seen_of x) p k at_place frame c).replays
     good = local_good program plan x tree p c k at_place frame i at
 
     abbrev rs' : List ℕ
-    rs' = local_in_replays program plan (seen_of x) p (outer_of (seen_of x) k) (outer_place (seen_of x) k) (outer_frame program plan (seen_of x) k) c
+    rs' = (local_in program plan (seen_of x) p (outer_of (seen_of x) k) (outer_place (seen_of x) k) (outer_frame program plan (seen_of x) k) c).replays
 
     abbrev found' : Option Origin
-    found' = local_in program plan (seen_of x) p (outer_of (seen_of x) k) (outer_place (seen_of x) k) (outer_frame program plan (seen_of x) k) c
+    found' = (local_in program plan (seen_of x) p (outer_of (seen_of x) k) (outer_place (seen_of x) k) (outer_frame program plan (seen_of x) k) c).found
 
     good' : AreGood program plan x tree p c outer found' rs'
     good' = local_good program plan x tree p c outer (outer_place (seen_of x) k) (outer_frame program plan (seen_of x) k) o.span o.there
@@ -118,11 +120,15 @@ module _ (program : Program) (plan : Plan) (budget : ℕ) (h : List ℕ) (p k j 
     here : In k (surroundings x k)
     here = around k first_in
 
+    -- the call, for a parameter of interval m; else the start value
+    abbrev of_call : ℕ → Bool → Looked ℕ Origin
+    of_call m b = if b then call_of (seen_of x) p m else known origin.Initial
+
     -- a parameter of an interval: the one round it, or none
-    parameter_cases : (m : ℕ) (kind : BlockKind) → (parameter_replays plan (seen_of x) m c kind ≡ []) ⊎ (parameter_replays plan (seen_of x) m c kind ≡ outer_of (seen_of x) m ∷ [])
+    parameter_cases : (m : ℕ) (kind : BlockKind) → ((parameter plan (seen_of x) p m c kind).replays ≡ []) ⊎ ((parameter plan (seen_of x) p m c kind).replays ≡ outer_of (seen_of x) m ∷ [])
     parameter_cases m (block.Function f) = by (is_in c (prelog_cells plan (get_or (seen_of x).blocks m 0)))
       where
-        by : (b : Bool) → ((if b then outer_of (seen_of x) m ∷ [] else []) ≡ []) ⊎ ((if b then outer_of (seen_of x) m ∷ [] else []) ≡ outer_of (seen_of x) m ∷ [])
+        by : (b : Bool) → ((of_call m b).replays ≡ []) ⊎ ((of_call m b).replays ≡ outer_of (seen_of x) m ∷ [])
         by true = inr refl
         by false = inl refl
     parameter_cases m (block.Process q) = inl refl
@@ -130,73 +136,73 @@ module _ (program : Program) (plan : Plan) (budget : ℕ) (h : List ℕ) (p k j 
 
     -- with a parameter of k or of the one round it
     with_parameter : (m : ℕ) (kind : BlockKind) (from : Origin) → In (outer_of (seen_of x) m) (surroundings x k) → outer_of (seen_of x) m ≤ k
-        → (local_in program plan (seen_of x) p k at_place frame c ≡ None) ⊎ (local_in program plan (seen_of x) p k at_place frame c ≡ Some from) → e.from ≡ from
-        → steps_of_all xs (of_process p rs) + steps_of_all xs (of_process p (parameter_replays plan (seen_of x) m c kind)) ≤ N
+        → ((local_in program plan (seen_of x) p k at_place frame c).found ≡ None) ⊎ ((local_in program plan (seen_of x) p k at_place frame c).found ≡ Some from) → e.from ≡ from
+        → steps_of_all xs (of_process p rs) + steps_of_all xs (of_process p (parameter plan (seen_of x) p m c kind).replays) ≤ N
     with_parameter m kind from near le f same = elim (parameter_cases m kind) [
       | inl none ↦
-          let r = alone c k (local_in program plan (seen_of x) p k at_place frame c) from rs here f e g same good in
-          let z : steps_of_all xs (of_process p (parameter_replays plan (seen_of x) m c kind)) ≡ 0 = ap (λ l. steps_of_all xs (of_process p l)) none in
+          let r = alone c k (local_in program plan (seen_of x) p k at_place frame c).found from rs here f e g same good in
+          let z : steps_of_all xs (of_process p (parameter plan (seen_of x) p m c kind).replays) ≡ 0 = ap (λ l. steps_of_all xs (of_process p l)) none in
           omega (arith, r, z)
       | inr one ↦
-          let r = with_one c k (outer_of (seen_of x) m) (local_in program plan (seen_of x) p k at_place frame c) from rs here near le f e g same good in
-          let z : steps_of_all xs (of_process p (parameter_replays plan (seen_of x) m c kind)) ≡ steps_of_all xs (of_process p (outer_of (seen_of x) m ∷ [])) = ap (λ l. steps_of_all xs (of_process p l)) one in
+          let r = with_one c k (outer_of (seen_of x) m) (local_in program plan (seen_of x) p k at_place frame c).found from rs here near le f e g same good in
+          let z : steps_of_all xs (of_process p (parameter plan (seen_of x) p m c kind).replays) ≡ steps_of_all xs (of_process p (outer_of (seen_of x) m ∷ [])) = ap (λ l. steps_of_all xs (of_process p l)) one in
           omega (arith, r, z)
     ]
 
     abbrev Bounded : List ℕ → Type 0
     Bounded l = steps_of_all xs (of_process p (rs ++ l)) ≤ N + N
 
-    plain : (kind : BlockKind) → local_in program plan (seen_of x) p k at_place frame c ≡ None → Bounded (parameter_replays plan (seen_of x) k c kind)
+    plain : (kind : BlockKind) → (local_in program plan (seen_of x) p k at_place frame c).found ≡ None → Bounded (parameter plan (seen_of x) p k c kind).replays
     plain kind none =
         let a = with_parameter k kind e.from outer_around o.below (inl none) refl in
-        let sum = parts_steps xs p rs (parameter_replays plan (seen_of x) k c kind) in
+        let sum = parts_steps xs p rs (parameter plan (seen_of x) p k c kind).replays in
         omega (arith, a, sum)
 
     -- nothing is found in k
-    by_kind : (kind : BlockKind) → local_in program plan (seen_of x) p k at_place frame c ≡ None → e.from ≡ local_above program plan (seen_of x) p k c kind → Bounded (above_replays program plan (seen_of x) p k c kind)
+    by_kind : (kind : BlockKind) → (local_in program plan (seen_of x) p k at_place frame c).found ≡ None → e.from ≡ (local_above program plan (seen_of x) p k c kind).found → Bounded (local_above program plan (seen_of x) p k c kind).replays
     by_kind (block.Loop l) none same = by found' refl
       where
         first : (w : List ℕ) → steps_of_all xs (of_process p (rs ++ outer ∷ (rs' ++ w))) ≡ steps_of_all xs (of_process p rs) + (steps_of_all xs (of_process p (outer ∷ rs')) + steps_of_all xs (of_process p w))
         first w = parts_steps xs p rs (outer ∷ (rs' ++ w)) ∙ ap (λ z. steps_of_all xs (of_process p rs) + z) (parts_steps xs p (outer ∷ rs') w)
 
         by : (f : Option Origin) → found' ≡ f
-            → Bounded (outer ∷ (rs' ++ unless found' (parameter_replays plan (seen_of x) outer c (kind_at plan (seen_of x) outer))))
+            → Bounded (outer ∷ (rs' ++ unless found' (parameter plan (seen_of x) p outer c (kind_at plan (seen_of x) outer)).replays))
         by (Some from) q =
-            let from_is : e.from ≡ from = same ∙ ap (λ (w : Option Origin). unwrap_or w (parameter plan (seen_of x) p outer c (kind_at plan (seen_of x) outer))) q in
-            let a = alone c k (local_in program plan (seen_of x) p k at_place frame c) from rs here (inl none) e g from_is good in
+            let from_is : e.from ≡ from = same ∙ ap (λ (w : Option Origin). unwrap_or w (parameter plan (seen_of x) p outer c (kind_at plan (seen_of x) outer)).found) q in
+            let a = alone c k (local_in program plan (seen_of x) p k at_place frame c).found from rs here (inl none) e g from_is good in
             let b = and_itself c outer found' from rs' outer_around (inr q) e g from_is good' in
             let sum = first [] in
-            subst (λ (w : Option Origin). Bounded (outer ∷ (rs' ++ unless w (parameter_replays plan (seen_of x) outer c (kind_at plan (seen_of x) outer))))) (sym q)
+            subst (λ (w : Option Origin). Bounded (outer ∷ (rs' ++ unless w (parameter plan (seen_of x) p outer c (kind_at plan (seen_of x) outer)).replays))) (sym q)
             (let z : steps_of_all xs (of_process p []) ≡ 0 = refl in omega (arith, a, b, sum, z))
         by None q =
             let a = with_parameter outer (kind_at plan (seen_of x) outer) e.from farther_around (let l1 = o.below in let l2 = oo.below in omega (arith, l1, l2)) (inl none) refl in
             let b = and_itself c outer found' e.from rs' outer_around (inl q) e g refl good' in
-            let sum = first (parameter_replays plan (seen_of x) outer c (kind_at plan (seen_of x) outer)) in
-            subst (λ (w : Option Origin). Bounded (outer ∷ (rs' ++ unless w (parameter_replays plan (seen_of x) outer c (kind_at plan (seen_of x) outer))))) (sym q)
+            let sum = first (parameter plan (seen_of x) p outer c (kind_at plan (seen_of x) outer)).replays in
+            subst (λ (w : Option Origin). Bounded (outer ∷ (rs' ++ unless w (parameter plan (seen_of x) p outer c (kind_at plan (seen_of x) outer)).replays))) (sym q)
             (omega (arith, a, b, sum))
     by_kind (block.Function f) none same = plain (block.Function f) none
     by_kind (block.Process f) none same = plain (block.Process f) none
 
     -- all
-    pub local_little : steps_of_all (splits program plan budget (story program plan budget h)) (of_process p (local_replays program plan (seen_of x) p k at_place frame c))
+    pub local_little : steps_of_all (splits program plan budget (story program plan budget h)) (of_process p (local_origin program plan (seen_of x) p k at_place frame c).replays)
         ≤ near_steps program plan budget (story program plan budget h) p k j + near_steps program plan budget (story program plan budget h) p k j
-    local_little = by (local_in program plan (seen_of x) p k at_place frame c) refl
+    local_little = by (local_in program plan (seen_of x) p k at_place frame c).found refl
       where
-        by : (f : Option Origin) → local_in program plan (seen_of x) p k at_place frame c ≡ f
-            → Bounded (unless (local_in program plan (seen_of x) p k at_place frame c) (above_replays program plan (seen_of x) p k c (kind_at plan (seen_of x) k)))
+        by : (f : Option Origin) → (local_in program plan (seen_of x) p k at_place frame c).found ≡ f
+            → Bounded (unless (local_in program plan (seen_of x) p k at_place frame c).found (local_above program plan (seen_of x) p k c (kind_at plan (seen_of x) k)).replays)
         by (Some from) q =
-            let from_is : e.from ≡ from = is ∙ ap (λ (w : Option Origin). unwrap_or w (local_above program plan (seen_of x) p k c (kind_at plan (seen_of x) k))) q in
-            let a = alone c k (local_in program plan (seen_of x) p k at_place frame c) from rs here (inr q) e g from_is good in
+            let from_is : e.from ≡ from = is ∙ ap (λ (w : Option Origin). unwrap_or w (local_above program plan (seen_of x) p k c (kind_at plan (seen_of x) k)).found) q in
+            let a = alone c k (local_in program plan (seen_of x) p k at_place frame c).found from rs here (inr q) e g from_is good in
             let sum = parts_steps xs p rs [] in
-            subst (λ (w : Option Origin). Bounded (unless w (above_replays program plan (seen_of x) p k c (kind_at plan (seen_of x) k)))) (sym q)
+            subst (λ (w : Option Origin). Bounded (unless w (local_above program plan (seen_of x) p k c (kind_at plan (seen_of x) k)).replays)) (sym q)
             (let z : steps_of_all xs (of_process p []) ≡ 0 = refl in omega (arith, a, sum, z))
         by None q =
-            subst (λ (w : Option Origin). Bounded (unless w (above_replays program plan (seen_of x) p k c (kind_at plan (seen_of x) k)))) (sym q)
-            (by_kind (kind_at plan (seen_of x) k) q (is ∙ ap (λ (w : Option Origin). unwrap_or w (local_above program plan (seen_of x) p k c (kind_at plan (seen_of x) k))) q))
+            subst (λ (w : Option Origin). Bounded (unless w (local_above program plan (seen_of x) p k c (kind_at plan (seen_of x) k)).replays)) (sym q)
+            (by_kind (kind_at plan (seen_of x) k) q (is ∙ ap (λ (w : Option Origin). unwrap_or w (local_above program plan (seen_of x) p k c (kind_at plan (seen_of x) k)).found) q))
 
   -- ---- control
 
-  call_little : (m : ℕ) (kind : BlockKind) → In (outer_of (seen_of x) m) (surroundings x k) → steps_of_all xs (of_process p (call_replays (seen_of x) m kind)) ≤ N
+  call_little : (m : ℕ) (kind : BlockKind) → In (outer_of (seen_of x) m) (surroundings x k) → steps_of_all xs (of_process p (call_or_entry (seen_of x) p m kind).replays) ≤ N
   call_little m (block.Function f) near = one_little program plan budget h p k j x there es edges_are (outer_of (seen_of x) m) near
   call_little m (block.Process f) near = omega arith
   call_little m (block.Loop l) near = omega arith
@@ -205,18 +211,18 @@ module _ (program : Program) (plan : Plan) (budget : ℕ) (h : List ℕ) (p k j 
   unless_little None ms n le = le
   unless_little (Some from) ms n le = omega arith
 
-  above_little : (kind : BlockKind) → steps_of_all xs (of_process p (control_above_replays program plan (seen_of x) p k kind)) ≤ N + N
+  above_little : (kind : BlockKind) → steps_of_all xs (of_process p (control_above program plan (seen_of x) p k kind).replays) ≤ N + N
   above_little (block.Loop l) =
       let outer : ℕ = outer_of (seen_of x) k in
-      let rest : List ℕ = unless (control_in program plan (seen_of x) p outer (outer_place (seen_of x) k) l) (call_replays (seen_of x) outer (kind_at plan (seen_of x) outer)) in
+      let rest : List ℕ = unless (control_in program plan (seen_of x) p outer (outer_place (seen_of x) k) l) (call_or_entry (seen_of x) p outer (kind_at plan (seen_of x) outer)).replays in
       let a = one_little program plan budget h p k j x there es edges_are outer outer_around in
-      let b = unless_little (control_in program plan (seen_of x) p outer (outer_place (seen_of x) k) l) (call_replays (seen_of x) outer (kind_at plan (seen_of x) outer)) N
+      let b = unless_little (control_in program plan (seen_of x) p outer (outer_place (seen_of x) k) l) (call_or_entry (seen_of x) p outer (kind_at plan (seen_of x) outer)).replays N
       (call_little outer (kind_at plan (seen_of x) outer) farther_around) in
       let sum = parts_steps xs p (outer ∷ []) rest in
       omega (arith, a, b, sum)
   above_little (block.Function f) = let a = call_little k (block.Function f) outer_around in omega (arith, a)
   above_little (block.Process f) = let a = call_little k (block.Process f) outer_around in omega (arith, a)
 
-  pub control_little : (place s : ℕ) → steps_of_all (splits program plan budget (story program plan budget h)) (of_process p (control_replays program plan (seen_of x) p k place s))
+  pub control_little : (place s : ℕ) → steps_of_all (splits program plan budget (story program plan budget h)) (of_process p (control_origin program plan (seen_of x) p k place s).replays)
       ≤ near_steps program plan budget (story program plan budget h) p k j + near_steps program plan budget (story program plan budget h) p k j
-  control_little place s = unless_little (control_in program plan (seen_of x) p k place s) (control_above_replays program plan (seen_of x) p k (kind_at plan (seen_of x) k)) (N + N) (above_little (kind_at plan (seen_of x) k))
+  control_little place s = unless_little (control_in program plan (seen_of x) p k place s) (control_above program plan (seen_of x) p k (kind_at plan (seen_of x) k)).replays (N + N) (above_little (kind_at plan (seen_of x) k))

@@ -28,7 +28,7 @@ use Rattle.ppd_flow_model.specs.declared.walked.Walked.TheVariants.{Stopped, Pas
 use Rattle.ppd_flow_model.specs.Ends.{end_interval, end_item}
 use Rattle.ppd_flow_model.specs.Seen.{Seen, seen_of}
 use Rattle.ppd_flow_model.specs.Shared.{Missing, seen_at, walk_in, writing, written_at, written_in}
-use Rattle.ppd_flow_model.specs.Walk.{walk, walk_replays}
+use Rattle.ppd_flow_model.specs.Walk.{walk}
 use Rattle.law_flow_shared.proofs.Vocabulary.Events.{IsLastWriter, IsWalk}
 use Rattle.law_flow_shared.specs.Edges.Near.{IsOpenAt}
 use Rattle.law_flow_shared.specs.Edges.SharedEdges.{all_seen}
@@ -92,13 +92,13 @@ module _ (program : Program) (plan : Plan) (budget : ℕ) (h : List ℕ) (v : Is
       onto : (P : ℕ → ℕ → Type 0) → P g.interval (length g.before) → P (end_interval entries e) (end_item entries (seen_of x) e)
       onto P a = subst (λ i. P i (end_item entries (seen_of x) e)) (sym g.interval_is) (subst (λ i. P g.interval i) (sym g.item_is) a)
 
-      pub walk_once : AreDistinct (end_interval entries e ∷ walk_replays (seen_of x) c (end_interval entries e) (end_item entries (seen_of x) e))
+      pub walk_once : AreDistinct (end_interval entries e ∷ (walk (seen_of x) c (end_interval entries e) (end_item entries (seen_of x) e)).replays)
       walk_once =
-          onto (λ k j. AreDistinct (k ∷ walk_replays (seen_of x) c k j))
+          onto (λ k j. AreDistinct (k ∷ (walk (seen_of x) c k j).replays))
           (walk_distinct x tree c F g.interval g.first g.before g.after g.event g.span g.there g.parts_are g.tiles g.within g.stands)
 
-      opened : (z : ℕ) → In z (g.interval ∷ walk_replays (seen_of x) c g.interval (length g.before)) → IsOpenAt x e z
-      opened z i = elim (in_cases z g.interval (walk_replays (seen_of x) c g.interval (length g.before)) i) [
+      opened : (z : ℕ) → In z (g.interval ∷ (walk (seen_of x) c g.interval (length g.before)).replays) → IsOpenAt x e z
+      opened z i = elim (in_cases z g.interval (walk (seen_of x) c g.interval (length g.before)).replays i) [
         | inl same ↦ g.opens z (subst (λ k. In z (k ∷ g.span.round)) same first_in)
         | inr more ↦ elim (all_walked x c F g.interval g.first g.before g.after g.event g.span g.there g.parts_are g.tiles g.within g.stands z more) [
           | inl t ↦ subst (λ k. IsOpenAt x k z) g.count (left_open g.event z g.within t)
@@ -106,15 +106,15 @@ module _ (program : Program) (plan : Plan) (budget : ℕ) (h : List ℕ) (v : Is
         ]
       ]
 
-      pub walk_opens : (z : ℕ) → In z (end_interval entries e ∷ walk_replays (seen_of x) c (end_interval entries e) (end_item entries (seen_of x) e)) → IsOpenAt x e z
-      walk_opens z = onto (λ k j. In z (k ∷ walk_replays (seen_of x) c k j) → IsOpenAt x e z) (opened z)
+      pub walk_opens : (z : ℕ) → In z (end_interval entries e ∷ (walk (seen_of x) c (end_interval entries e) (end_item entries (seen_of x) e)).replays) → IsOpenAt x e z
+      walk_opens z = onto (λ k j. In z (k ∷ (walk (seen_of x) c k j).replays) → IsOpenAt x e z) (opened z)
 
       -- the write that it finds is of the edge
-      pub walk_finds : (m i : ℕ) (u : ℤ) → walk (seen_of x) c (end_interval entries e) (end_item entries (seen_of x) e) ≡ Found m i u
+      pub walk_finds : (m i : ℕ) (u : ℤ) → (walk (seen_of x) c (end_interval entries e) (end_item entries (seen_of x) e)).found ≡ Found m i u
           → (k : ℕ) × (part_at x m i ≡ Some (own k)) × (edge_of_event x k ≡ e)
       walk_finds m i u is =
-          let w : IsWalk x c 0 g.event (walk (seen_of x) c (end_interval entries e) (end_item entries (seen_of x) e)) =
-          onto (λ k j. IsWalk x c 0 g.event (walk (seen_of x) c k j)) (walk_is x c F g.interval g.first g.before g.after g.event g.span g.there g.parts_are g.tiles g.within g.stands) in
+          let w : IsWalk x c 0 g.event (walk (seen_of x) c (end_interval entries e) (end_item entries (seen_of x) e)).found =
+          onto (λ k j. IsWalk x c 0 g.event (walk (seen_of x) c k j).found) (walk_is x c F g.interval g.first g.before g.after g.event g.span g.there g.parts_are g.tiles g.within g.stands) in
           let found : IsWalk x c 0 g.event (Found m i u) = subst (λ z. IsWalk x c 0 g.event z) is w in
           let l : IsLastWriter x.trace.events c 0 g.event found.0 u = found.2 in
           (found.0, found.1, counted x.trace.events found.0 ∙ writer_count x.trace.events c found.0 g.event l.plain l.since l.to g.within ∙ g.count)
@@ -175,14 +175,13 @@ module _ (program : Program) (plan : Plan) (budget : ℕ) (h : List ℕ) (v : Is
     pub part : part_at split interval item ≡ Some (own event)
     pub replays : List ℕ
     pub replays_are : replays ≡ end_interval (get_or (closed_logs program plan budget h).lists a.process []) a.edge
-        ∷ walk_replays (seen_at (all_seen program plan budget h) a.process) c (end_interval (get_or (closed_logs program plan budget h).lists a.process []) a.edge)
-        (end_item (get_or (closed_logs program plan budget h).lists a.process []) (seen_at (all_seen program plan budget h) a.process) a.edge)
+        ∷ (walk (seen_at (all_seen program plan budget h) a.process) c (end_interval (get_or (closed_logs program plan budget h).lists a.process []) a.edge) (end_item (get_or (closed_logs program plan budget h).lists a.process []) (seen_at (all_seen program plan budget h) a.process) a.edge)).replays
     pub once : AreDistinct replays
     pub opens : (z : ℕ) → In z replays → IsOpenAt split (edge_of_event split event) z
 
   pub near_write : (c : ℕ) (a : EdgeId) (u : ℤ) (from : Origin) → In a (writing (closed_logs program plan budget h) c)
-      → written_in (closed_logs program plan budget h) (all_seen program plan budget h) c a ≡ Ok (u, from) → IsNearWrite c a from
-  near_write c a u from m is = by (walk (seen_of d.split) c (end_interval entries' a.edge) (end_item entries' (seen_of d.split) a.edge)) refl
+      → (written_in (closed_logs program plan budget h) (all_seen program plan budget h) c a).found ≡ Ok (u, from) → IsNearWrite c a from
+  near_write c a u from m is = by (walk (seen_of d.split) c (end_interval entries' a.edge) (end_item entries' (seen_of d.split) a.edge)).found refl
     where
       d : IsEnded a
       d = writing_ended c a m
@@ -199,10 +198,10 @@ module _ (program : Program) (plan : Plan) (budget : ℕ) (h : List ℕ) (v : Is
       from_of : (t : Result (ℤ × Origin) Missing) (y z : ℤ × Origin) → t ≡ Ok y → t ≡ Ok z → y.1 ≡ z.1
       from_of t y z e g = ap (origin_or y.1) (sym e ∙ g)
 
-      same_walk : walk_in (closed_logs program plan budget h) (all_seen program plan budget h) c a ≡ walk (seen_of d.split) c (end_interval entries' a.edge) (end_item entries' (seen_of d.split) a.edge)
-      same_walk = ap (λ (s : Seen). walk s c (end_interval entries' a.edge) (end_item entries' s a.edge)) f.seen_is
+      same_walk : (walk_in (closed_logs program plan budget h) (all_seen program plan budget h) c a).found ≡ (walk (seen_of d.split) c (end_interval entries' a.edge) (end_item entries' (seen_of d.split) a.edge)).found
+      same_walk = ap (λ (s : Seen). (walk s c (end_interval entries' a.edge) (end_item entries' s a.edge)).found) f.seen_is
 
-      by : (w : Walked) → walk (seen_of d.split) c (end_interval entries' a.edge) (end_item entries' (seen_of d.split) a.edge) ≡ w → IsNearWrite c a from
+      by : (w : Walked) → (walk (seen_of d.split) c (end_interval entries' a.edge) (end_item entries' (seen_of d.split) a.edge)).found ≡ w → IsNearWrite c a from
       by Passed g = absurd (clash (sym (ap (written_at (closed_logs program plan budget h) c a) (same_walk ∙ g)) ∙ is))
       by Stopped g = absurd (clash (sym (ap (written_at (closed_logs program plan budget h) c a) (same_walk ∙ g)) ∙ is))
       by (Found k i z) g =
@@ -212,11 +211,11 @@ module _ (program : Program) (plan : Plan) (budget : ℕ) (h : List ℕ) (v : Is
             there = d.there;
             interval = k;
             item = i;
-            from_is = sym (from_of (written_in (closed_logs program plan budget h) (all_seen program plan budget h) c a) (z, origin.Item a.process k i) (u, from) (ap (written_at (closed_logs program plan budget h) c a) (same_walk ∙ g)) is);
+            from_is = sym (from_of (written_in (closed_logs program plan budget h) (all_seen program plan budget h) c a).found (z, origin.Item a.process k i) (u, from) (ap (written_at (closed_logs program plan budget h) c a) (same_walk ∙ g)) is);
             event = o.0;
             part = o.1;
-            replays = end_interval entries' a.edge ∷ walk_replays (seen_of d.split) c (end_interval entries' a.edge) (end_item entries' (seen_of d.split) a.edge);
-            replays_are = ap (λ (s : Seen). end_interval entries' a.edge ∷ walk_replays s c (end_interval entries' a.edge) (end_item entries' s a.edge)) (sym f.seen_is);
+            replays = end_interval entries' a.edge ∷ (walk (seen_of d.split) c (end_interval entries' a.edge) (end_item entries' (seen_of d.split) a.edge)).replays;
+            replays_are = ap (λ (s : Seen). end_interval entries' a.edge ∷ (walk s c (end_interval entries' a.edge) (end_item entries' s a.edge)).replays) (sym f.seen_is);
             once = walk_once a.process d.split f c a.edge d.ends;
             opens = λ y j. subst (λ b. IsOpenAt d.split b y) (sym o.2) (walk_opens a.process d.split f c a.edge d.ends y j);
           }

@@ -10,6 +10,7 @@ use Rattle.ppd_model.specs.Intervals.{own, Split}
 use Rattle.ppd_model.proofs.Changes.{some}
 use Rattle.ppd_flow_model.specs.declared.walked.Walked.{Walked}
 use Rattle.ppd_flow_model.specs.declared.walked.Walked.TheVariants.{Stopped, Passed, Found}
+use Rattle.ppd_flow_model.specs.Looked.{Looked}
 use Rattle.ppd_flow_model.specs.Shared.{Missing, own_or}
 use Rattle.law_flow_shared.proofs.Vocabulary.Events.{AreQuiet, IsLastSync, IsLastWriter, IsWalk, synchronizes, written_by}
 use Rattle.law_flow_shared.proofs.Edges.LogPlaces.EdgePlaces.{count_one}
@@ -52,7 +53,7 @@ module _ (x : Split) (c n m : ℕ) (v : ℤ) (l : IsLastWriter x.trace.events c 
       ]
 
 -- where no event is the last writer the search goes on
-pub not_found : (x : Split) (c n p : ℕ) (w : Walked) (r : Result Origin Missing) → IsWalk x c 0 n w → ((m : ℕ) (v : ℤ) → IsLastWriter x.trace.events c 0 n m v → ⊥) → own_or p w r ≡ r
+pub not_found : (x : Split) (c n p : ℕ) (w : Walked) (r : Looked (ℕ × ℕ) (Result Origin Missing)) → IsWalk x c 0 n w → ((m : ℕ) (v : ℤ) → IsLastWriter x.trace.events c 0 n m v → ⊥) → (own_or p w r).found ≡ r.found
 not_found x c n p Passed r h no' = refl
 not_found x c n p Stopped r h no' = refl
 not_found x c n p (Found k i v) r h no' = absurd (no' h.0 v h.2)

@@ -101,11 +101,11 @@ sync_ends s e = absurd (true≢false (sym e))
 -- events before it
 pub record IsAt (x : Split) (entries : List Entry) (n k j : ℕ) : Type 0 where
   pub edge : edge_at entries (seen_of x) k j ≡ count_to x.trace.events n
-  pub walks : (c : ℕ) → IsWalk x c 0 n (walk (seen_of x) c k j)
+  pub walks : (c : ℕ) → IsWalk x c 0 n (walk (seen_of x) c k j).found
 
 -- edge i ends at this place, at event n or after all events
 pub record EndsBy (x : Split) (entries : List Entry) (i n : ℕ) : Type 0 where
-  pub walks : (c : ℕ) → IsWalk x c 0 n (walk (seen_of x) c (end_interval entries i) (end_item entries (seen_of x) i))
+  pub walks : (c : ℕ) → IsWalk x c 0 n (walk (seen_of x) c (end_interval entries i) (end_item entries (seen_of x) i)).found
 
 -- and where it is a synchronization, the event is that item
 pub record EndsAt (x : Split) (entries : List Entry) (i n : ℕ) : Type 0 where
@@ -159,9 +159,9 @@ module _ (x : Split) (entries : List Entry) (h : IsTold entries x.trace.events x
         ∙ ap₂ (λ a l. sync_item entries (count_to events n) a l) (first_edge_is entries events s.interval q.0.first q.0.opened) (items_are x 0 F s.interval s.part.span s.part.there ∙ ap (λ l. flat_map (item_of x) l) q.3)
         ∙ sync_is x entries s.interval q.0.first q.1 q.2 n e.0 q.5 e.1 numbered in
         let lt = s.within in
-        let walks' : (c : ℕ) → IsWalk x c 0 n (walk (seen_of x) c s.interval (length q.1)) = λ c. walk_is x c F s.interval q.0.first q.1 (own n ∷ q.2) n s.part.span s.part.there q.3 q.5 (omega (arith, lt)) q.0.stands in
+        let walks' : (c : ℕ) → IsWalk x c 0 n (walk (seen_of x) c s.interval (length q.1)).found = λ c. walk_is x c F s.interval q.0.first q.1 (own n ∷ q.2) n s.part.span s.part.there q.3 q.5 (omega (arith, lt)) q.0.stands in
         record {
-          by = record { walks = λ c. subst (λ k. IsWalk x c 0 n (walk (seen_of x) c k (end_item entries (seen_of x) (count_to events n)))) (sym interval) (subst (λ j. IsWalk x c 0 n (walk (seen_of x) c s.interval j)) (sym item) (walks' c)) };
+          by = record { walks = λ c. subst (λ k. IsWalk x c 0 n (walk (seen_of x) c k (end_item entries (seen_of x) (count_to events n))).found) (sym interval) (subst (λ j. IsWalk x c 0 n (walk (seen_of x) c s.interval j).found) (sym item) (walks' c)) };
           there = ap₂ (λ k j. part_at x k j) interval item ∙ ap (λ o. part_in o (length q.1)) s.part.there ∙ ap (λ j. slice_get s.part.span.parts j) q.4 ∙ s.part.at_place;
         }
 
@@ -186,8 +186,8 @@ module _ (x : Split) (entries : List Entry) (h : IsTold entries x.trace.events x
         ∙ none_is x entries k first i.parts (length events) tiles (omega arith) in
         record {
           walks = λ c.
-              subst (λ z. IsWalk x c 0 (length events) (walk (seen_of x) c z (end_item entries (seen_of x) (count_to events (length events))))) (sym interval)
-              (subst (λ j. IsWalk x c 0 (length events) (walk (seen_of x) c k j)) (sym item)
+              subst (λ z. IsWalk x c 0 (length events) (walk (seen_of x) c z (end_item entries (seen_of x) (count_to events (length events)))).found) (sym interval)
+              (subst (λ j. IsWalk x c 0 (length events) (walk (seen_of x) c k j).found) (sym item)
               (walk_is x c F k first i.parts [] (length events) i there (sym (append-nil i.parts)) tiles (omega arith) stands));
         }
 

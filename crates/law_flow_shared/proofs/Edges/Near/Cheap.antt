@@ -18,7 +18,7 @@ use Rattle.ppd_model.specs.Story.{steps_of, story, told}
 use Rattle.ppd_model.proofs.Changes.{some}
 use Rattle.ppd_model.proofs.Tested.{In}
 use Rattle.ppd_flow_model.specs.Seen.{seen_of}
-use Rattle.ppd_flow_model.specs.Walk.{walk_replays}
+use Rattle.ppd_flow_model.specs.Walk.{walk}
 use Rattle.law_flow_shared.specs.Edges.Near.{WalksCostLittle}
 use Rattle.law_flow_shared.specs.Edges.Within.{AreDistinct, AllPass}
 use Rattle.law_flow_shared.proofs.Edges.LogPlaces.EdgeEnds.{place_of_event}
@@ -44,15 +44,15 @@ module _ (program : Program) (plan : Plan) (budget : ℕ) (h : List ℕ) (v : Is
       let t = closed_told program plan budget h v p x there in
       subst (λ y. HasTree y) t.0 (has_tree program plan (story program plan budget h) p budget (steps_of (get_or (told program plan budget h).moments p [])))
 
-  distinct : AreDistinct (k ∷ walk_replays (seen_of x) c k j)
+  distinct : AreDistinct (k ∷ (walk (seen_of x) c k j).replays)
   distinct = by (slice_get x.spans k) refl place
     where
-      by : (o : Option Span) → slice_get x.spans k ≡ o → part_in o j ≡ Some (own n) → AreDistinct (k ∷ walk_replays (seen_of x) c k j)
+      by : (o : Option Span) → slice_get x.spans k ≡ o → part_in o j ≡ Some (own n) → AreDistinct (k ∷ (walk (seen_of x) c k j).replays)
       by None g f = absurd (none-some (own n) f)
       by (Some s) g f =
           let lt = slice_get_below x.trace.events n e at in
           let q = place_of_event x (closed_log (log_of program plan budget p (get_or (told program plan budget h).moments p []))) (closed_told program plan budget h v p x there).2 k j n s g f lt in
-          subst (λ z. AreDistinct (k ∷ walk_replays (seen_of x) c k z)) q.4
+          subst (λ z. AreDistinct (k ∷ (walk (seen_of x) c k z).replays)) q.4
           (walk_distinct x tree c (Logged (closed_log (log_of program plan budget p (get_or (told program plan budget h).moments p []))) x.trace.events) k q.0.first q.1 (own n ∷ q.2) n s g q.3 q.5 (omega (arith, lt)) q.0.stands)
 
   near_if : (m : ℕ) (i : Span) → (is_round plan (surroundings x k) m i || is_open_at x (part_at x k j) i) ≡ true → is_near program plan budget (story program plan budget h) p k j p x m i ≡ true
@@ -69,22 +69,22 @@ module _ (program : Program) (plan : Plan) (budget : ℕ) (h : List ℕ) (v : Is
   near_open m i f =
       near_if m i (or_right (is_round plan (surroundings x k) m i) (is_open_at x (part_at x k j) i) (ap (λ o. is_open_at x o i) place ∙ f))
 
-  near_replayed : (m : ℕ) (i : Span) → slice_get x.spans m ≡ Some i → In m (k ∷ walk_replays (seen_of x) c k j) → is_near program plan budget (story program plan budget h) p k j p x m i ≡ true
-  near_replayed m i g q = elim (in_cases m k (walk_replays (seen_of x) c k j) q) [
+  near_replayed : (m : ℕ) (i : Span) → slice_get x.spans m ≡ Some i → In m (k ∷ (walk (seen_of x) c k j).replays) → is_near program plan budget (story program plan budget h) p k j p x m i ≡ true
+  near_replayed m i g q = elim (in_cases m k (walk (seen_of x) c k j).replays q) [
     | inl same ↦ near_round m i (or_left (nat_eq m k) (list_any (nat_eq m) _) (eq-eqb m k same))
-    | inr r ↦ elim (near_walk program plan budget h v p x there k j n c e place at m (member_is m (walk_replays (seen_of x) c k j) r)) [
+    | inr r ↦ elim (near_walk program plan budget h v p x there k j n c e place at m (member_is m (walk (seen_of x) c k j).replays r)) [
       | inl round ↦ near_round m i round
       | inr o ↦ near_open m i (subst (λ z. is_open_in x (edge_of_event x n) z ≡ true) (some (sym o.is_there ∙ g)) o.is_open)
     ]
   ]
 
-  pub all_near : AllPass (is_near program plan budget (story program plan budget h) p k j p x) x.spans (k ∷ walk_replays (seen_of x) c k j)
-  all_near m i g far = not_in_list m (k ∷ walk_replays (seen_of x) c k j) (λ q. true≢false (sym (near_replayed m i g q) ∙ far))
+  pub all_near : AllPass (is_near program plan budget (story program plan budget h) p k j p x) x.spans (k ∷ (walk (seen_of x) c k j).replays)
+  all_near m i g far = not_in_list m (k ∷ (walk (seen_of x) c k j).replays) (λ q. true≢false (sym (near_replayed m i g q) ∙ far))
 
 pub walks_cheap : WalksCostLittle
 walks_cheap program plan budget h p k j n c x e v there place at =
-    let once : AreDistinct (k ∷ walk_replays (seen_of x) c k j) = distinct program plan budget h v p x there k j n c e place at in (
+    let once : AreDistinct (k ∷ (walk (seen_of x) c k j).replays) = distinct program plan budget h v p x there k j n c e place at in (
       once,
-      replays_within (is_near program plan budget (story program plan budget h) p k j) (splits program plan budget (story program plan budget h)) p x (k ∷ walk_replays (seen_of x) c k j) there once
+      replays_within (is_near program plan budget (story program plan budget h) p k j) (splits program plan budget (story program plan budget h)) p x (k ∷ (walk (seen_of x) c k j).replays) there once
           (all_near program plan budget h v p x there k j n c e place at),
     )

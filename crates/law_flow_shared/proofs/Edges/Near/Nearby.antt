@@ -19,7 +19,7 @@ use Rattle.ppd_model.specs.NearIntervals.{edge_of_event, is_in, round_of, surrou
 use Rattle.ppd_model.specs.Story.{Moment, story, told}
 use Rattle.ppd_model.proofs.Tested.{In, here as first_in, there as later_in}
 use Rattle.ppd_flow_model.specs.Seen.{seen_of}
-use Rattle.ppd_flow_model.specs.Walk.{walk_replays}
+use Rattle.ppd_flow_model.specs.Walk.{walk}
 use Rattle.law_flow_shared.proofs.Vocabulary.Events.{synchronizes}
 use Rattle.law_flow_shared.specs.Edges.Near.{IsOpenAt, WalksStayNear}
 use Rattle.law_flow_shared.proofs.Edges.LogPlaces.EdgeEnds.{place_of_event}
@@ -99,7 +99,7 @@ module _ (program : Program) (plan : Plan) (budget : ℕ) (h : List ℕ) (v : Is
             ∙ open_at x.edges t.span.opened l.step (count_to x.trace.events n) l.opened (l.in_edge ∙ ap (λ i. Some i) same);
       }
 
-  pub near_walk : (k j n c : ℕ) (e : TracedEvent) → part_at x k j ≡ Some (own n) → slice_get x.trace.events n ≡ Some e → (m : ℕ) → is_in m (walk_replays (seen_of x) c k j) ≡ true
+  pub near_walk : (k j n c : ℕ) (e : TracedEvent) → part_at x k j ≡ Some (own n) → slice_get x.trace.events n ≡ Some e → (m : ℕ) → is_in m (walk (seen_of x) c k j).replays ≡ true
       → (is_in m (surroundings x k) ≡ true) ⊎ IsOpenAt x (edge_of_event x n) m
   near_walk k j n c e place at m i = by (slice_get x.spans k) refl place
     where
@@ -115,7 +115,7 @@ module _ (program : Program) (plan : Plan) (budget : ℕ) (h : List ℕ) (v : Is
           let q = place_of_event x (closed_log (log_of program plan budget p (get_or (told program plan budget h).moments p []))) told_by k j n s g f lt in
           let le : n ≤ length x.trace.events = (let l = lt in omega (arith, l)) in
           elim (all_walked x c (Logged (closed_log (log_of program plan budget p (get_or (told program plan budget h).moments p []))) x.trace.events) k q.0.first q.1 (own n ∷ q.2) n s g q.3 q.5 le q.0.stands m
-          (subst (λ z. In m (walk_replays (seen_of x) c k z)) (sym q.4) (is_member m (walk_replays (seen_of x) c k j) i))) [
+          (subst (λ z. In m (walk (seen_of x) c k z).replays) (sym q.4) (is_member m (walk (seen_of x) c k j).replays i))) [
             | inl t ↦ inr (subst (λ z. IsOpenAt x z m) (sym (counted x.trace.events n)) (left_open n m le t))
             | inr r ↦ inl (member_is m (surroundings x k) (later_in (subst (λ l. In m (round_of l)) (sym g) r)))
           ]

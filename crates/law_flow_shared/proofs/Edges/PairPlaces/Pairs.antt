@@ -134,7 +134,7 @@ module _ (program : Program) (plan : Plan) (budget : ℕ) (h : List ℕ) (v : Is
 
   -- where a synchronization of a step is an item
   place_is : (q : ℕ) (before : List Taken) (y : Taken) (after : List Taken) (s : Sync) → did (told program plan budget h) q ≡ before ++ y ∷ after → sync_of y ≡ Some s
-      → pair_place logs (all_seen program plan budget h) (Node (node q (length (filter_map sync_of before)))) ≡ Some (ref xs (record { process = q; number = events_in before }))
+      → (pair_place logs (all_seen program plan budget h) (Node (node q (length (filter_map sync_of before))))).found ≡ Some (ref xs (record { process = q; number = events_in before }))
   place_is q before y after s e f =
       let lt_q : q < length (told program plan budget h).moments = below_moments (told program plan budget h).moments q before y after e in
       let there = split_there program plan budget (story program plan budget h) 0 (told program plan budget h).moments q lt_q in
@@ -151,9 +151,9 @@ module _ (program : Program) (plan : Plan) (budget : ℕ) (h : List ℕ) (v : Is
 
   -- of a step that is a synchronization
   of_sync : (p : ℕ) (before : List Taken) (y : Taken) (after : List Taken) (s : Sync) (k : Kind) → did (told program plan budget h) p ≡ before ++ y ∷ after → sync_of y ≡ Some s → takes y.need ≡ is_take k
-      → pair_edges (pair_place logs (all_seen program plan budget h) (pair_at (pairs_of program (record_in logs)) (node p (length (filter_map sync_of before))))) ≡ model_sync_edges xs k (leading_from program (sync_of y) 0 (story program plan budget h).steps)
+      → pair_edges (pair_place logs (all_seen program plan budget h) (pair_at (pairs_of program (record_in logs)) (node p (length (filter_map sync_of before))))).found ≡ model_sync_edges xs k (leading_from program (sync_of y) 0 (story program plan budget h).steps)
   of_sync p before y after s k e f take =
-      ap (λ rec. pair_edges (pair_place logs (all_seen program plan budget h) (pair_at (pairs_of program rec) (node p (length (filter_map sync_of before)))))) (record_syncs program plan budget h).closed
+      ap (λ rec. pair_edges (pair_place logs (all_seen program plan budget h) (pair_at (pairs_of program rec) (node p (length (filter_map sync_of before))))).found) (record_syncs program plan budget h).closed
       ∙ elim (leading_all program (Some s) 0 (story program plan budget h).steps) [
         | inl l ↦ leads l.0 l.1 l.2
         | inr n' ↦ none n'.0 n'.1
@@ -166,7 +166,7 @@ module _ (program : Program) (plan : Plan) (budget : ℕ) (h : List ℕ) (v : Is
       paired_is = ap (λ o. leading_from program o 0 (story program plan budget h).steps) f
 
       leads : (id : EventId) → leading_from program (Some s) 0 (story program plan budget h).steps ≡ Some id → LeadsFrom program (Some s) 0 (story program plan budget h).steps id
-          → pair_edges (pair_place logs (all_seen program plan budget h) (pair_at (pairs_of program (sync_record program plan budget h)) (node p (length (filter_map sync_of before))))) ≡ model_sync_edges xs k (leading_from program (sync_of y) 0 (story program plan budget h).steps)
+          → pair_edges (pair_place logs (all_seen program plan budget h) (pair_at (pairs_of program (sync_record program plan budget h)) (node p (length (filter_map sync_of before))))).found ≡ model_sync_edges xs k (leading_from program (sync_of y) 0 (story program plan budget h).steps)
       leads id is l =
           let first = leads_some program (sync_of l.leads.step) (Some s) l.leads.leads in
           let steps : did (told program plan budget h) l.row ≡ l.leads.before ++ l.leads.step ∷ l.leads.after = sym (own_is program plan budget h l.row) ∙ l.leads.are in
@@ -176,14 +176,14 @@ module _ (program : Program) (plan : Plan) (budget : ℕ) (h : List ℕ) (v : Is
           let pair = to_node (pair_at (pairs_of program (sync_record program plan budget h)) (node p (length (filter_map sync_of before)))) (node l.row (length (filter_map sync_of l.leads.before))) ((partners.leads (node l.row (length (filter_map sync_of l.leads.before))) (node p (length (filter_map sync_of before)))).0 test) in
           let process : l.row ≡ id.process = (let z : 0 + l.row ≡ l.row = omega arith in sym z ∙ sym l.process_is) in
           let number : events_in l.leads.before ≡ id.number = (let z : 0 + events_in l.leads.before ≡ events_in l.leads.before = omega arith in sym z ∙ sym l.leads.number) in
-          ap (λ z. pair_edges (pair_place logs (all_seen program plan budget h) z)) pair
+          ap (λ z. pair_edges (pair_place logs (all_seen program plan budget h) z).found) pair
           ∙ ap pair_edges (place_is l.row l.leads.before l.leads.step l.leads.after first.0 steps first.1)
           ∙ ap₂ (λ a b. bare_edge edge_kind.Sync (ref xs (record { process = a; number = b })) ∷ []) process number
           ∙ sym (ap (model_sync_edges xs k) (paired_is ∙ is))
 
       none : leading_from program (Some s) 0 (story program plan budget h).steps ≡ None
           → ((q : ℕ) (b : List Taken) (z : Taken) (a : List Taken) → get_or (story program plan budget h).steps q [] ≡ b ++ z ∷ a → leads_at program (sync_of z) (Some s) ≡ false)
-          → pair_edges (pair_place logs (all_seen program plan budget h) (pair_at (pairs_of program (sync_record program plan budget h)) (node p (length (filter_map sync_of before))))) ≡ model_sync_edges xs k (leading_from program (sync_of y) 0 (story program plan budget h).steps)
+          → pair_edges (pair_place logs (all_seen program plan budget h) (pair_at (pairs_of program (sync_record program plan budget h)) (node p (length (filter_map sync_of before))))).found ≡ model_sync_edges xs k (leading_from program (sync_of y) 0 (story program plan budget h).steps)
       none is no_one = by_found (found (sync_record program plan budget h) (wanted program s)) refl
         where
           pair : pair_at (pairs_of program (sync_record program plan budget h)) (node p (length (filter_map sync_of before))) ≡ partner_of program (sync_record program plan budget h) s
@@ -196,7 +196,7 @@ module _ (program : Program) (plan : Plan) (budget : ℕ) (h : List ℕ) (v : Is
               true≢false (sym (ap (λ o. leads_at program o (Some s)) c.is ∙ t) ∙ no_one a.process c.before c.step c.after (own_is program plan budget h a.process ∙ c.are))
 
           by_found : (o : Option NodeId) → found (sync_record program plan budget h) (wanted program s) ≡ o
-              → pair_edges (pair_place logs (all_seen program plan budget h) (pair_at (pairs_of program (sync_record program plan budget h)) (node p (length (filter_map sync_of before))))) ≡ model_sync_edges xs k (leading_from program (sync_of y) 0 (story program plan budget h).steps)
+              → pair_edges (pair_place logs (all_seen program plan budget h) (pair_at (pairs_of program (sync_record program plan budget h)) (node p (length (filter_map sync_of before))))).found ≡ model_sync_edges xs k (leading_from program (sync_of y) 0 (story program plan budget h).steps)
           by_found (Some a) g =
               let named : pair_at (pairs_of program (sync_record program plan budget h)) (node p (length (filter_map sync_of before))) ≡ Node a = pair ∙ ap (paired_by s.kind) g in
               let test = (partners.leads a (node p (length (filter_map sync_of before)))).1 (ap node_of named) in
@@ -205,8 +205,8 @@ module _ (program : Program) (plan : Plan) (budget : ℕ) (h : List ℕ) (v : Is
               let m = made_of (kind_of_sync y.need) y.number s f in
               let named : pair_at (pairs_of program (sync_record program plan budget h)) (node p (length (filter_map sync_of before))) ≡ paired_by m.0.0 None = pair ∙ ap₂ (λ a b. paired_by a b) (sym m.4) g in
               elim (alone y.need m.0 m.2) [
-                | inl t ↦ ap (λ z. pair_edges (pair_place logs (all_seen program plan budget h) z)) (named ∙ t.1) ∙ sym (ap (model_sync_edges xs k) (paired_is ∙ is) ∙ model_start xs k (sym take ∙ t.0))
-                | inr t ↦ ap (λ z. pair_edges (pair_place logs (all_seen program plan budget h) z)) (named ∙ t.1) ∙ sym (ap (model_sync_edges xs k) (paired_is ∙ is) ∙ model_none xs k (sym take ∙ t.0))
+                | inl t ↦ ap (λ z. pair_edges (pair_place logs (all_seen program plan budget h) z).found) (named ∙ t.1) ∙ sym (ap (model_sync_edges xs k) (paired_is ∙ is) ∙ model_start xs k (sym take ∙ t.0))
+                | inr t ↦ ap (λ z. pair_edges (pair_place logs (all_seen program plan budget h) z).found) (named ∙ t.1) ∙ sym (ap (model_sync_edges xs k) (paired_is ∙ is) ∙ model_none xs k (sym take ∙ t.0))
               ]
 
   -- of a step that is none
@@ -229,15 +229,15 @@ numbered_step ys before y after h e = by before (subst AreNumberedModel e h)
 -- by whether the step is a synchronization
 by_sync : (program : Program) (plan : Plan) (budget : ℕ) (h : List ℕ) (v : IsValid program) (p k j : ℕ) (before : List Taken) (y : Taken) (after : List Taken) (kd : Kind) → did (told program plan budget h) p ≡ before ++ y ∷ after → takes y.need ≡ is_take kd
     → edge_at (get_or (closed_logs program plan budget h).lists p []) (seen_at (all_seen program plan budget h) p) k j ≡ length (filter_map sync_of before) → (o : Option Sync) → sync_of y ≡ o
-    → sync_edges program (closed_logs program plan budget h) (all_seen program plan budget h) p k j y.number ≡ model_sync_edges (splits program plan budget (story program plan budget h)) kd (leading_from program (sync_of y) 0 (story program plan budget h).steps)
+    → (sync_edges program (closed_logs program plan budget h) (all_seen program plan budget h) p k j y.number).found ≡ model_sync_edges (splits program plan budget (story program plan budget h)) kd (leading_from program (sync_of y) 0 (story program plan budget h).steps)
 by_sync program plan budget h v p k j before y after kd are take edge_is (Some s) f =
     let m = made_of (kind_of_sync y.need) y.number s f in
-    ap (λ o. sync_edges program (closed_logs program plan budget h) (all_seen program plan budget h) p k j o) m.3
-    ∙ ap (λ i. pair_edges (pair_place (closed_logs program plan budget h) (all_seen program plan budget h) (pair_at (pairs_of program (record_in (closed_logs program plan budget h))) (node p i)))) edge_is
+    ap (λ o. (sync_edges program (closed_logs program plan budget h) (all_seen program plan budget h) p k j o).found) m.3
+    ∙ ap (λ i. pair_edges (pair_place (closed_logs program plan budget h) (all_seen program plan budget h) (pair_at (pairs_of program (record_in (closed_logs program plan budget h))) (node p i))).found) edge_is
     ∙ of_sync program plan budget h v p before y after s kd are f take
 by_sync program plan budget h v p k j before y after kd are take edge_is None f =
     let g : kind_of_sync y.need ≡ None = numbered_step (get_or (story program plan budget h).steps p []) before y after (steps_numbered program plan v budget h p) (own_is program plan budget h p ∙ are) f in
-    ap (λ o. sync_edges program (closed_logs program plan budget h) (all_seen program plan budget h) p k j o) ((numbered_at (did (told program plan budget h) p) before y after (numbered_told program plan budget h p) are) g)
+    ap (λ o. (sync_edges program (closed_logs program plan budget h) (all_seen program plan budget h) p k j o).found) ((numbered_at (did (told program plan budget h) p) before y after (numbered_told program plan budget h p) are) g)
     ∙ of_other program plan budget h v y kd f g take
   where
     numbered_at : (zs : List Taken) (b : List Taken) (z : Taken) (a : List Taken) → AreNumbered zs → zs ≡ b ++ z ∷ a → kind_of_sync z.need ≡ None → z.number ≡ None
@@ -265,6 +265,6 @@ pairs_found program plan budget h v p k j x number e there placed event_is =
     let number_is : e.event.number ≡ s.step.number = ap (λ (z : TracedEvent). z.event.number) (sym same) ∙ ap (λ todo. (event_of program plan u.proc s.step todo).number) head.2 in
     let stmt_is : e.event.stmt ≡ head.0.stmt = ap (λ (z : TracedEvent). z.event.stmt) (sym same) ∙ ap (λ todo. (event_of program plan u.proc s.step todo).stmt) head.2 in
     let paired : e.paired ≡ leading_from program (sync_of s.step) 0 told_story.steps = ap (λ (z : TracedEvent). z.paired) (sym same) in
-    ap (λ o. sync_edges program (closed_logs program plan budget h) (all_seen program plan budget h) p k j o) number_is
+    ap (λ o. (sync_edges program (closed_logs program plan budget h) (all_seen program plan budget h) p k j o).found) number_is
     ∙ by_sync program plan budget h v p k j s.before s.step s.after (kind_of program head.0.stmt) s.are take edge_is (sync_of s.step) refl
     ∙ ap₂ (λ i o. model_sync_edges (splits program plan budget told_story) (kind_of program i) o) (sym stmt_is) (sym paired)

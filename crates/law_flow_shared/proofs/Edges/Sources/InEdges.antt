@@ -69,17 +69,17 @@ module _ (program : Program) (plan : Plan) (budget : ℕ) (h : List ℕ) (v : Is
 
   -- the write that was found in an edge
   found_there : (q i m e : ℕ) (c : ℕ) (u : ℤ) (x : Split) (f : Facts program plan budget h v q x) → EndsBy x (get_or logs.lists q []) i e → IsLastWriter x.trace.events c 0 e m u → e ≤ length x.trace.events
-      → written_in logs (all_seen program plan budget h) c (edge q i) ≡ Ok (u, ref xs (record { process = q; number = m }))
+      → (written_in logs (all_seen program plan budget h) c (edge q i)).found ≡ Ok (u, ref xs (record { process = q; number = m }))
   found_there q i m e c u x f ends l le =
-      let w : IsFoundAt x (walk (seen_of x) c (end_interval (get_or logs.lists q []) i) (end_item (get_or logs.lists q []) (seen_of x) i)) m u = found_is x c e m u l (walk (seen_of x) c (end_interval (get_or logs.lists q []) i) (end_item (get_or logs.lists q []) (seen_of x) i)) (ends.walks c) in
+      let w : IsFoundAt x (walk (seen_of x) c (end_interval (get_or logs.lists q []) i) (end_item (get_or logs.lists q []) (seen_of x) i)).found m u = found_is x c e m u l (walk (seen_of x) c (end_interval (get_or logs.lists q []) i) (end_item (get_or logs.lists q []) (seen_of x) i)).found (ends.walks c) in
       let to = l.to in
-      ap (λ z. written_at logs c (edge q i) (walk z c (end_interval (get_or logs.lists q []) i) (end_item (get_or logs.lists q []) z i))) f.seen_is
+      ap (λ z. written_at logs c (edge q i) (walk z c (end_interval (get_or logs.lists q []) i) (end_item (get_or logs.lists q []) z i)).found) f.seen_is
       ∙ ap (written_at logs c (edge q i)) w.is
       ∙ ap (λ o. Ok (u, o)) (sym (ref_of q x f.there m w.interval w.item (omega (arith, to, le)) w.there))
 
   -- of a write after which the process synchronizes, with no more write of the cell before that
   pub in_ended : (q c : ℕ) (u : ℤ) (x : Split) (f : Facts program plan budget h v q x) (before : List Taken) (y : Taken) (mid after : List Taken) → steps_at q ≡ before ++ y ∷ (mid ++ after) → y.need ≡ n.Write c u → NoWrites program plan c mid → HasSync mid
-      → written_in logs (all_seen program plan budget h) c (edge q (length (filter_map sync_of before))) ≡ Ok (u, ref xs (record { process = q; number = events_in before }))
+      → (written_in logs (all_seen program plan budget h) c (edge q (length (filter_map sync_of before)))).found ≡ Ok (u, ref xs (record { process = q; number = events_in before }))
   in_ended q c u x f before y mid after are need none' s =
       let r : RecordsAccesses (story program plan budget h) q (get_or logs.lists q []) = f.records in
       let whole : steps_at q ≡ before ++ y ∷ (s.front ++ (s.step ∷ (s.back ++ after))) =
@@ -94,13 +94,13 @@ module _ (program : Program) (plan : Plan) (budget : ℕ) (h : List ℕ) (v : Is
       let ends : EndsAt x (get_or logs.lists q []) (count_to x.trace.events (events_in (before ++ y ∷ s.front))) (events_in (before ++ y ∷ s.front)) =
       at_sync x (get_or logs.lists q []) f.told_by r.before r.status r.rest _ _ r.entries_are r.no_end (events_in (before ++ y ∷ s.front)) sync in
       let lt = e.within in
-      subst (λ i. written_in logs (all_seen program plan budget h) c (edge q i) ≡ Ok (u, ref xs (record { process = q; number = events_in before }))) number
+      subst (λ i. (written_in logs (all_seen program plan budget h) c (edge q i)).found ≡ Ok (u, ref xs (record { process = q; number = events_in before }))) number
       (found_there q (count_to x.trace.events (events_in (before ++ y ∷ s.front))) (events_in before) (events_in (before ++ y ∷ s.front)) c u x f ends.by
       (last_writer program plan budget h v q x f c u before y s.front (s.step ∷ (s.back ++ after)) whole need s.none (none_front program plan c s.front (s.step ∷ s.back) (subst (NoWrites program plan c) s.are none'))) (omega (arith, lt)))
 
   -- of a write after which the process neither synchronizes nor writes the cell
   pub in_last : (q c : ℕ) (u : ℤ) (x : Split) (f : Facts program plan budget h v q x) (before : List Taken) (y : Taken) (mid : List Taken) → steps_at q ≡ before ++ y ∷ mid → y.need ≡ n.Write c u → NoWrites program plan c mid → AreNone mid
-      → written_in logs (all_seen program plan budget h) c (edge q (length (filter_map sync_of before))) ≡ Ok (u, ref xs (record { process = q; number = events_in before }))
+      → (written_in logs (all_seen program plan budget h) c (edge q (length (filter_map sync_of before)))).found ≡ Ok (u, ref xs (record { process = q; number = events_in before }))
   in_last q c u x f before y mid are need none' still =
       let r : RecordsAccesses (story program plan budget h) q (get_or logs.lists q []) = f.records in
       let whole : steps_at q ≡ before ++ y ∷ (mid ++ []) = are ∙ ap (λ l. before ++ y ∷ l) (sym (append-nil mid)) in
@@ -113,6 +113,6 @@ module _ (program : Program) (plan : Plan) (budget : ℕ) (h : List ℕ) (v : Is
       let number : count_to x.trace.events (length x.trace.events) ≡ length (filter_map sync_of before) = ap (count_to x.trace.events) (sym long) ∙ (let z : count_to x.trace.events (events_in (before ++ y ∷ mid)) ≡ length (filter_map sync_of before) = omega (arith, counted, plain, sum) in z) in
       let ends : EndsBy x (get_or logs.lists q []) (count_to x.trace.events (length x.trace.events)) (length x.trace.events) =
       at_last_edge x (get_or logs.lists q []) f.told_by r.before r.status r.rest _ _ r.entries_are r.no_end in
-      subst (λ i. written_in logs (all_seen program plan budget h) c (edge q i) ≡ Ok (u, ref xs (record { process = q; number = events_in before }))) number
+      subst (λ i. (written_in logs (all_seen program plan budget h) c (edge q i)).found ≡ Ok (u, ref xs (record { process = q; number = events_in before }))) number
       (found_there q (count_to x.trace.events (length x.trace.events)) (events_in before) (length x.trace.events) c u x f ends
       (subst (λ k. IsLastWriter x.trace.events c 0 k (events_in before) u) long (last_writer program plan budget h v q x f c u before y mid [] whole need still none')) (omega arith))

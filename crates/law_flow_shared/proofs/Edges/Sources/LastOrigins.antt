@@ -182,7 +182,7 @@ module _ (program : Program) (plan : Plan) (budget : ℕ) where
 
     -- where the write is of this step, the search finds it in its edge
     found_last_in : (b : List ℕ) (q : ℕ) (after : List ℕ) (c : ℕ) (u : ℤ) → h ≡ b ++ q ∷ after → need_after program plan budget b q ≡ n.Write c u → IsUnwritten program plan c (told program plan budget (b ++ q ∷ [])) after
-        → written_in logs (all_seen program plan budget h) c (edge q (edge_in program plan budget b q)) ≡ Ok (u, ref xs (next_event (told program plan budget b) q))
+        → (written_in logs (all_seen program plan budget h) c (edge q (edge_in program plan budget b q))).found ≡ Ok (u, ref xs (next_event (told program plan budget b) q))
     found_last_in b q after c u e needs un =
         let s : IsWrite program plan budget b after q c = as_write program plan budget b after q c (goes c (need_after program plan budget b q) (u, needs)) in
         let here : steps_at q ≡ did (told program plan budget b) q ++ next program plan (told program plan budget b) q ∷ s.mid = ap (λ l. did (told program plan budget l) q) e ∙ s.steps_are in
@@ -191,7 +191,7 @@ module _ (program : Program) (plan : Plan) (budget : ℕ) where
         let f : Facts program plan budget h v q x.0 = facts program plan budget h v q x.0 x.1 in
         let nowhere : NoWrites program plan c s.mid = s.nowhere un in
         let number : record { process = q; number = events_in (did (told program plan budget b) q) } ≡ next_event (told program plan budget b) q = ap (λ k. record { process = q; number = k }) (sym (count_is (get_or (told program plan budget b).moments q []))) in
-        ap (λ i. written_in logs (all_seen program plan budget h) c (edge q i)) (edge_is_count program plan budget b q)
+        ap (λ i. (written_in logs (all_seen program plan budget h) c (edge q i)).found) (edge_is_count program plan budget b q)
         ∙ elim (first_sync s.mid) [
           | inl still ↦ in_last program plan budget h v q c u x.0 f (did (told program plan budget b) q) (next program plan (told program plan budget b) q) s.mid here needs nowhere still
           | inr has ↦ in_ended program plan budget h v q c u x.0 f (did (told program plan budget b) q) (next program plan (told program plan budget b) q) s.mid [] (here ∙ ap (λ l. did (told program plan budget b) q ++ next program plan (told program plan budget b) q ∷ l) (sym (append-nil s.mid))) needs nowhere has
@@ -199,7 +199,7 @@ module _ (program : Program) (plan : Plan) (budget : ℕ) where
         ∙ ap (λ (id : EventId). Ok (u, ref xs id)) number
 
     last_by : races program plan budget h ≡ [] → (c : ℕ) → c < length program.starts → (u : ℤ) → (x : IsWrittenBy program plan budget h c) → need_after program plan budget x.before x.process ≡ n.Write c u
-        → found_last program logs (all_seen program plan budget h) c ≡ Ok (u, option_map_or (ref xs) (Some (next_event (told program plan budget x.before) x.process)) origin.Initial)
+        → (found_last program logs (all_seen program plan budget h) c).found ≡ Ok (u, option_map_or (ref xs) (Some (next_event (told program plan budget x.before) x.process)) origin.Initial)
     last_by free c lt u x needs =
         let top : EdgeId = edge x.process (edge_in program plan budget x.before x.process) in
         let great : IsGreatest program plan budget h c x.process (edge_in program plan budget x.before x.process) = last_greatest program plan budget h w r free c lt x in
@@ -207,9 +207,9 @@ module _ (program : Program) (plan : Plan) (budget : ℕ) where
         greatest_is (is_before_in program logs) top (writing logs c)
         (λ a m. let wr : WritesIn program plan budget h c a.process a.edge = writing_only program plan budget h v c a m in under x.before x.process x.after c a x.schedule_is wr (great.greatest a.process a.edge wr))
         (listed x.before x.process x.after c x.schedule_is x.writes) in
-        ap (written_or_start program logs (all_seen program plan budget h) c) is ∙ found_last_in x.before x.process x.after c u x.schedule_is needs x.unwritten
+        ap (λ o. (written_or_start program logs (all_seen program plan budget h) c o).found) is ∙ found_last_in x.before x.process x.after c u x.schedule_is needs x.unwritten
 
-    last_at_start : (c : ℕ) → IsAtStart program plan c (begins program plan budget) (told program plan budget h) h → found_last program logs (all_seen program plan budget h) c ≡ Ok (last program plan budget (story program plan budget h) c)
+    last_at_start : (c : ℕ) → IsAtStart program plan c (begins program plan budget) (told program plan budget h) h → (found_last program logs (all_seen program plan budget h) c).found ≡ Ok (last program plan budget (story program plan budget h) c)
     last_at_start c s =
         let none : writing logs c ≡ [] = empty_if (writing logs c) (λ a m.
         let wr : WritesIn program plan budget h c a.process a.edge = writing_only program plan budget h v c a m in
@@ -217,7 +217,7 @@ module _ (program : Program) (plan : Plan) (budget : ℕ) where
         let no_write = unwritten_at c (begins program plan budget) st.before a.process st.after (subst (λ l. IsUnwritten program plan c (begins program plan budget) l) st.schedule_is s.unwritten) in
         let cell : wr.access.cell ≡ c = wr.cell in
         true≢false (sym (value_of_access c (need_after program plan budget st.before a.process) st.writes.0 (st.writes.1 ∙ ap (λ z. n.Write z st.writes.0) cell)) ∙ no_write)) in
-        ap (λ l. written_or_start program logs (all_seen program plan budget h) c (greatest (is_before_in program logs) l)) none
+        ap (λ l. (written_or_start program logs (all_seen program plan budget h) c (greatest (is_before_in program logs) l)).found) none
         ∙ ap₂ (λ a b. Ok (a, option_map_or (ref xs) b origin.Initial)) (sym s.value_is) (sym (s.tag_is ∙ none_tag program.starts c))
       where
         none_tag : (cells : List ℤ) (k : ℕ) → get_or (map (λ _. no_tag) cells) k no_tag ≡ no_tag
@@ -225,7 +225,7 @@ module _ (program : Program) (plan : Plan) (budget : ℕ) where
         none_tag (z ∷ zs) zero = refl
         none_tag (z ∷ zs) (suc k) = none_tag zs k
 
-    pub last_is : races program plan budget h ≡ [] → (c : ℕ) → c < length program.starts → found_last program logs (all_seen program plan budget h) c ≡ Ok (last program plan budget (story program plan budget h) c)
+    pub last_is : races program plan budget h ≡ [] → (c : ℕ) → c < length program.starts → (found_last program logs (all_seen program plan budget h) c).found ≡ Ok (last program plan budget (story program plan budget h) c)
     last_is free c lt = elim (tags program plan budget h c lt) [
       | inl s ↦ last_at_start c s
       | inr t ↦

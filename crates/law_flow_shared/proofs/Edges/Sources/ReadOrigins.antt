@@ -23,7 +23,8 @@ use Rattle.ppd_ast.specs.declared.program.Program.{Program}
 use Rattle.ppd_entry.specs.declared.entry.Logs.{Logs}
 use Rattle.ppd_flow_model.specs.Ends.{edge_at}
 use Rattle.ppd_flow_model.specs.Seen.{seen_of}
-use Rattle.ppd_flow_model.specs.Shared.{edge_of_place, greatest, greatest_before, is_before_in, origin_in, own_or, shared_origin, writing, written_in, written_or_start}
+use Rattle.ppd_flow_model.specs.Looked.{Looked, look_map}
+use Rattle.ppd_flow_model.specs.Shared.{Missing, edge_of_place, greatest, greatest_before, is_before_in, origin_in, own_or, shared_origin, writing, written_in, written_or_start}
 use Rattle.ppd_flow_model.specs.Walk.{walk}
 use Rattle.ppd_flow_model.specs.declared.walked.Walked.{Walked}
 use Rattle.ppd_model.proofs.AccessSets.{accesses_there}
@@ -42,13 +43,14 @@ use Rattle.ppd_model.specs.SharedReads.{IsAccess, IsAcross, IsFound, IsFromStart
 use Rattle.ppd_model.specs.Story.{Telling, next_event, story, tell, told}
 use Rattle.ppd_model.specs.Synchronizations.{kind_of_sync, numbered, sync_of}
 use Rattle.ppd_model.specs.World.{World, writes_cell}
+use Rattle.ppd_model.specs.declared.flow.Origin.{Origin}
 use Rattle.ppd_model.specs.declared.flow.Origin.TheVariants as origin
 use Rattle.ppd_model.specs.declared.graph.EdgeId.{EdgeId}
 use Rattle.ppd_model.specs.declared.trace.EventId.{EventId}
 use Rattle.ppd_model.specs.declared.tracing.Taken.{Taken}
 use Rattle.ppd_sem.specs.declared.proc.Need.{Need}
 use Rattle.ppd_sem.specs.declared.proc.Need.TheVariants as n
-use Rattle.std.proofs.Common.{List, None, Ok, Option, Some, [], ap, ap₂, arith, eq-eqb, false, filter, get_or, inl, inr, length, refl, subst, sym, true, true≢false, ℕ, ℤ, ◌++◌, ◌+◌, ◌<◌, ◌∙◌, ◌∷◌, ◌≡◌, ◌≤◌}
+use Rattle.std.proofs.Common.{List, None, Ok, Option, Result, Some, [], ap, ap₂, arith, eq-eqb, false, filter, get_or, inl, inr, length, refl, subst, sym, true, true≢false, ℕ, ℤ, ◌++◌, ◌+◌, ◌<◌, ◌∙◌, ◌∷◌, ◌≡◌, ◌≤◌}
 use Rattle.std.proofs.lemmas.List.{append-nil, append_assoc}
 use Rattle.std.proofs.lemmas.List.Sums.{fold-append}
 use Rattle.std.specs.Option.{option_map_or}
@@ -71,7 +73,7 @@ module _ (program : Program) (plan : Plan) (budget : ℕ) (h : List ℕ) (w : Wo
   module _ (p k j c number : ℕ) (x : Split) (f : Facts program plan budget h v p x) (placed : part_at x k j ≡ Some (own number)) (lt : number < length x.trace.events)
       (g rest : List ℕ) (are : h ≡ g ++ p ∷ rest) (needs : need_after program plan budget g p ≡ n.Read c) (events_are : events_in (did (told program plan budget g) p) ≡ number) where
     abbrev here : Walked
-    here = walk (seen_of x) c k j
+    here = (walk (seen_of x) c k j).found
 
     at : IsAt x (get_or logs.lists p []) number k j
     at = at_place x (get_or logs.lists p []) f.told_by k j number placed lt
@@ -92,8 +94,11 @@ module _ (program : Program) (plan : Plan) (budget : ℕ) (h : List ℕ) (w : Wo
     abbrev otherwise : Option EdgeId
     otherwise = greatest_before program logs (edge p (edge_in program plan budget g p)) c
 
-    search_is : shared_origin program logs (all_seen program plan budget h) p k j c ≡ own_or p here (origin_in (written_or_start program logs (all_seen program plan budget h) c otherwise))
-    search_is = ap₂ (λ z e. own_or p (walk z c k j) (origin_in (written_or_start program logs (all_seen program plan budget h) c (greatest_before program logs e c)))) f.seen_is edge_is
+    abbrev further : Option EdgeId → Looked (ℕ × ℕ) (Result Origin Missing)
+    further o = look_map origin_in (written_or_start program logs (all_seen program plan budget h) c o)
+
+    search_is : (shared_origin program logs (all_seen program plan budget h) p k j c).found ≡ (own_or p here (further otherwise)).found
+    search_is = ap₂ (λ z e. (own_or p (walk z c k j).found (further (greatest_before program logs e c))).found) f.seen_is edge_is
 
     -- a write that the walk finds is one of the steps before the read, in its edge
     found_step : (m : ℕ) (u : ℤ) → IsLastWriter x.trace.events c 0 number m u
@@ -132,14 +137,14 @@ module _ (program : Program) (plan : Plan) (budget : ℕ) (h : List ℕ) (w : Wo
             z ∙ rest'
 
     -- nothing wrote the cell before the read
-    from_start : IsFromStart program plan budget g h p c → shared_origin program logs (all_seen program plan budget h) p k j c ≡ Ok origin.Initial
+    from_start : IsFromStart program plan budget g h p c → (shared_origin program logs (all_seen program plan budget h) p k j c).found ≡ Ok origin.Initial
     from_start s =
         let none : filter (λ a. is_before_in program logs a (edge p (edge_in program plan budget g p))) (writing logs c) ≡ [] =
         filter_none (λ a. is_before_in program logs a (edge p (edge_in program plan budget g p))) (writing logs c)
         (λ a m. not_before program plan budget h w v r a (edge p (edge_in program plan budget g p)) (λ b. s.none a.process a.edge (writing_only program plan budget h v c a m) b)) in
         search_is
-        ∙ not_found x c number p here _ (at.walks c) (λ m u l. (found_step m u l).5 s.unwritten)
-        ∙ ap (λ l. origin_in (written_or_start program logs (all_seen program plan budget h) c (greatest (is_before_in program logs) l))) none
+        ∙ not_found x c number p here (further otherwise) (at.walks c) (λ m u l. (found_step m u l).5 s.unwritten)
+        ∙ ap (λ l. (further (greatest (is_before_in program logs) l)).found) none
 
     -- the writer is of this step
     module _ (y : IsWrittenBy program plan budget g c) where
@@ -171,7 +176,7 @@ module _ (program : Program) (plan : Plan) (budget : ℕ) (h : List ℕ) (w : Wo
           )
 
       -- in the read's own edge
-      own_edge : y.process ≡ p → edge_in program plan budget y.before y.process ≡ edge_in program plan budget g p → shared_origin program logs (all_seen program plan budget h) p k j c ≡ Ok (ref xs (next_event (told program plan budget y.before) y.process))
+      own_edge : y.process ≡ p → edge_in program plan budget y.before y.process ≡ edge_in program plan budget g p → (shared_origin program logs (all_seen program plan budget h) p k j c).found ≡ Ok (ref xs (next_event (told program plan budget y.before) y.process))
       own_edge same edges =
           let steps_p : steps_at p ≡ did (told program plan budget y.before) y.process ++ next program plan (told program plan budget y.before) y.process ∷ (in_g.mid ++ later_h.0) = ap steps_at (sym same) ∙ later_h.1 in
           let done_p : did (told program plan budget g) p ≡ did (told program plan budget y.before) y.process ++ next program plan (told program plan budget y.before) y.process ∷ in_g.mid = ap (did (told program plan budget g)) (sym same) ∙ done_g in
@@ -186,13 +191,13 @@ module _ (program : Program) (plan : Plan) (budget : ℕ) (h : List ℕ) (w : Wo
           let found : IsFoundAt x here (events_in (did (told program plan budget y.before) y.process)) y.writes.0 =
           found_is x c number (events_in (did (told program plan budget y.before) y.process)) y.writes.0 (subst (λ z. IsLastWriter x.trace.events c 0 z (events_in (did (told program plan budget y.before) y.process)) y.writes.0) upto l) here (at.walks c) in
           let less = l.to in
-          search_is ∙ ap (λ z. own_or p z (origin_in (written_or_start program logs (all_seen program plan budget h) c otherwise))) found.is
+          search_is ∙ ap (λ z. (own_or p z (further otherwise)).found) found.is
           ∙ ap (λ o. Ok o) (sym (ref_of program plan budget h v p x f.there (events_in (did (told program plan budget y.before) y.process)) found.interval found.item (omega (arith, less, upto, lt)) found.there))
           ∙ ap (λ z. Ok (ref xs (record { process = z; number = events_in (did (told program plan budget y.before) y.process) }))) (sym same)
           ∙ ap (λ (id : EventId). Ok (ref xs id)) number_is
 
       -- in another one
-      across : IsAcross program plan budget g h p c y.process (edge_in program plan budget y.before y.process) → shared_origin program logs (all_seen program plan budget h) p k j c ≡ Ok (ref xs (next_event (told program plan budget y.before) y.process))
+      across : IsAcross program plan budget g h p c y.process (edge_in program plan budget y.before y.process) → (shared_origin program logs (all_seen program plan budget h) p k j c).found ≡ Ok (ref xs (next_event (told program plan budget y.before) y.process))
       across z =
           let top : EdgeId = edge y.process (edge_in program plan budget y.before y.process) in
           let mine : EdgeId = edge p (edge_in program plan budget g p) in
@@ -208,9 +213,9 @@ module _ (program : Program) (plan : Plan) (budget : ℕ) (h : List ℕ) (w : Wo
           let fq : Facts program plan budget h v y.process s.0 = facts program plan budget h v y.process s.0 s.1 in
           let has : HasSync in_g.mid = elim (first_sync in_g.mid) [ inl still ↦ absurd (no_sync still) | inr has' ↦ has' ] in
           search_is
-          ∙ not_found x c number p here _ (at.walks c) (λ m u l. let t = found_step m u l in z.none_own t.0 t.1 t.2 t.3 t.4)
-          ∙ ap (λ o. origin_in (written_or_start program logs (all_seen program plan budget h) c o)) is
-          ∙ ap origin_in (ap (λ i. written_in logs (all_seen program plan budget h) c (edge y.process i)) (edge_is_count program plan budget y.before y.process)
+          ∙ not_found x c number p here (further otherwise) (at.walks c) (λ m u l. let t = found_step m u l in z.none_own t.0 t.1 t.2 t.3 t.4)
+          ∙ ap (λ o. (further o).found) is
+          ∙ ap origin_in (ap (λ i. (written_in logs (all_seen program plan budget h) c (edge y.process i)).found) (edge_is_count program plan budget y.before y.process)
           ∙ in_ended program plan budget h v y.process c y.writes.0 s.0 fq (did (told program plan budget y.before) y.process) (next program plan (told program plan budget y.before) y.process) in_g.mid later_h.0 later_h.1 y.writes.1 (in_g.nowhere y.unwritten) has)
           ∙ ap (λ (id : EventId). Ok (ref xs id)) number_is
         where
@@ -229,7 +234,7 @@ module _ (program : Program) (plan : Plan) (budget : ℕ) (h : List ℕ) (w : Wo
               (subst (λ i. EdgeBefore program (sync_record program plan budget h) (edge y.process i) (edge p (edge_in program plan budget g p))) same z.before))
 
     -- by what is known of the read
-    pub by_found : (tag : Tag) → tag ≡ get_or (told program plan budget g).writers c None → IsFound program plan budget g h p c → shared_origin program logs (all_seen program plan budget h) p k j c ≡ Ok (option_map_or (ref xs) tag origin.Initial)
+    pub by_found : (tag : Tag) → tag ≡ get_or (told program plan budget g).writers c None → IsFound program plan budget g h p c → (shared_origin program logs (all_seen program plan budget h) p k j c).found ≡ Ok (option_map_or (ref xs) tag origin.Initial)
     by_found tag is (inl s) = from_start s ∙ ap (λ t. Ok (option_map_or (ref xs) t origin.Initial)) (sym (is ∙ s.tag_is))
     by_found tag is (inr (y, inl same)) = own_edge y same.0 same.1 ∙ ap (λ t. Ok (option_map_or (ref xs) t origin.Initial)) (sym (is ∙ y.tag_is))
     by_found tag is (inr (y, inr other)) = across y other ∙ ap (λ t. Ok (option_map_or (ref xs) t origin.Initial)) (sym (is ∙ y.tag_is))

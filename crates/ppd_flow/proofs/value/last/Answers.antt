@@ -1,4 +1,4 @@
-use Rattle.ppd_flow_model.specs.Shared.{last_replays}
+use Rattle.ppd_flow_model.specs.Shared.{found_last}
 use Rattle.ppd_flow_shared.specs.SharedCells.{seens_in}
 use Rattle.ppd_flow.proofs.Costing.{costs_last}
 use Rattle.ppd_flow.proofs.Missing.{last_missed}
@@ -8,7 +8,7 @@ use Rattle.ppd_flow.proofs.value.last.Goals as goal
 pub returns-clause-run : goal.returns-clause-run
 returns-clause-run g c =
     gives_last c.replays_are_seen.ensures c.last_writes_are_found.ensures c.args.past.now c.args.cell c.args.steps.now c.last_write.new.steps
-    (last_replays c.args.past.now.program.now c.args.past.now.logs.now (seens_in c.args.past.now) c.args.cell) c.last_write.result c.requires.program_ok c.last_write.ensures
+    (found_last c.args.past.now.program.now c.args.past.now.logs.now (seens_in c.args.past.now) c.args.cell).replays c.last_write.result c.requires.program_ok c.last_write.ensures
 
 pub returns-clause-cost : goal.returns-clause-cost
 returns-clause-cost g c =

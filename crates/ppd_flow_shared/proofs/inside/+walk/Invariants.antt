@@ -2,7 +2,7 @@ use Rattle.std.proofs.Common.{◌+◌, ◌*◌}
 use Rattle.ppd_flow_model.specs.Walk.{back_from}
 use Rattle.ppd_flow_shared.specs.Items.{seen_for}
 use Rattle.ppd_flow_shared.proofs.Leads.{Leads}
-use Rattle.ppd_flow_shared.proofs.Over.{over, replays}
+use Rattle.ppd_flow_shared.proofs.Over.{over}
 use Rattle.ppd_flow_shared.proofs.inside.+walk.Given as goal
 
 abbrev pub decreases-over_items : goal.decreases-over_items
@@ -18,9 +18,7 @@ decreases-over_interval g l = 3 * l.depth
 abbrev pub invariant-over_items-loop-at : goal.invariant-over_items-loop-at
 invariant-over_items-loop-at g l =
     Leads l.search.past.now l.search.process
-    (replays (seen_for l.search) l.depth l.search.cell l.interval (back_from l.fn.place l.items))
     (over (seen_for l.search) l.depth l.search.cell l.interval (back_from l.fn.place l.items)) l.fn.steps
-    (replays (seen_for l.search) l.depth l.search.cell l.interval (back_from l.left l.items))
     (over (seen_for l.search) l.depth l.search.cell l.interval (back_from l.left l.items)) l.steps
 
 abbrev pub decreases-over_items-loop-at : goal.decreases-over_items-loop-at

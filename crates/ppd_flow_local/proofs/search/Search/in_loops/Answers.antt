@@ -3,7 +3,7 @@ use Rattle.std.proofs.lemmas.List.{drop_all, length-reverse}
 use Rattle.std.proofs.lemmas.Result.{err_from_is_err_and}
 use Rattle.ppd_flow_local.specs.Searches.{IsFound}
 use Rattle.ppd_flow_local.proofs.Joined.{nothing}
-use Rattle.ppd_flow_local.proofs.Loops.{all_replays, ends_loop, fails_loop, found_in, next_loop}
+use Rattle.ppd_flow_local.proofs.Loops.{ends_loop, fails_loop, found_in, next_loop}
 use Rattle.ppd_flow_local.proofs.search.Search.in_loops.Goals as goal
 
 pub returns-in-Some : goal.returns-in-Some
@@ -26,5 +26,5 @@ pub returns : goal.returns
 returns g c =
     let none : drop c.loop-place.place (reverse c.args.loops.now) ≡ [] = drop_all c.loop-place.place (reverse c.args.loops.now) (omega (arith, c.loop-place-test.false, length-reverse c.args.loops.now)) in
     c.loop-place.invariant c.loop-place.steps (Ok None)
-    (subst (λ (ms : List ℕ). IsFound c.args.self.now (all_replays c.args.self.now c.args.cell ms) (found_in c.args.self.now c.args.cell ms) c.loop-place.steps c.loop-place.steps (Ok None)) (sym none)
+    (subst (λ (ms : List ℕ). IsFound c.args.self.now (found_in c.args.self.now c.args.cell ms) c.loop-place.steps c.loop-place.steps (Ok None)) (sym none)
     (nothing c.args.self.now None None c.loop-place.steps refl))

@@ -1,12 +1,12 @@
 use Rattle.std.proofs.lemmas.Result.{err_from_is_err_and}
-use Rattle.ppd_flow_local.proofs.Joined.{else_origin, failed}
+use Rattle.ppd_flow_local.proofs.Joined.{else_origin, origin_failed}
 use Rattle.ppd_flow_local.proofs.search.Search.local_origin.Goals as goal
 
 pub returns-in-None : goal.returns-in-None
 returns-in-None g c =
-    else_origin c.args.self.now _ _ _ _ c.args.steps.now c.local_in.new.steps c.local_above.new.steps c.local_above.result (rw c.in-None.is at c.in_ok-origin.ensures) c.local_above.ensures
+    else_origin c.args.self.now _ _ c.args.steps.now c.local_in.new.steps c.local_above.new.steps c.local_above.result (rw c.in-None.is at c.in_ok-origin.ensures) c.local_above.ensures
 
 pub returns-in_err-origin : goal.returns-in_err-origin
 returns-in_err-origin g c =
     let e = err_from_is_err_and c.from_residual.result c.from_residual.ensures.1 in
-    rw (e.1, e.2) (failed c.args.self.now _ _ _ _ c.args.steps.now c.local_in.new.steps c.in_err-origin.field-0.0 c.in_err-origin.ensures)
+    rw (e.1, e.2) (origin_failed c.args.self.now _ _ c.args.steps.now c.local_in.new.steps c.in_err-origin.field-0.0 c.in_err-origin.ensures)
