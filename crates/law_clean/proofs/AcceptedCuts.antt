@@ -6,7 +6,7 @@ use Rattle.ppd_ast.specs.declared.plan.Plan.{Plan}
 use Rattle.ppd_ast.specs.declared.program.Program.{Program}
 use Rattle.ppd_ast.specs.declared.status.Status.TheVariants as status
 use Rattle.ppd_entry.specs.Entries.{is_end}
-use Rattle.ppd_entry.specs.IntervalLogs.{Indexed, Indexing, begun_indexing, index_step}
+use Rattle.ppd_entry.specs.IntervalLogs.{Indexing, begun_indexing, index_step}
 use Rattle.ppd_entry.specs.declared.entry.Entry.{Entry}
 use Rattle.ppd_entry.specs.declared.entry.Entry.TheVariants as entry
 use Rattle.ppd_flow_model.proofs.Vocabulary.{is_sync}
@@ -72,29 +72,29 @@ cut_at_is entries n e a =
     by (entry.End s m rs ws ∷ es) f = no (entry.End s m rs ws ∷ es) f refl
 
 module _ (plan : Plan) (body p : ℕ) where
-  abbrev OK : Indexing Indexed → Bool → List Entry → Type 0
+  abbrev OK : Indexing → Bool → List Entry → Type 0
   OK x ended es = first_from plan body p x ended es ≡ None
 
-  taken : (x : Indexing Indexed) (ended : Bool) (e : Entry) (rest : List Entry) → OK x ended (e ∷ rest) → refusal plan body p (standing x ended) e ≡ None
-  taken x ended e rest ok = (both_none (refusal plan body p (standing x ended) e) (first_from plan body p (index_step plan x e) (ended || is_end e) rest) ok).0
+  taken : (x : Indexing) (ended : Bool) (e : Entry) (rest : List Entry) → OK x ended (e ∷ rest) → refusal plan body p (standing plan x ended) e ≡ None
+  taken x ended e rest ok = (both_none (refusal plan body p (standing plan x ended) e) (first_from plan body p (index_step x e) (ended || is_end e) rest) ok).0
 
-  rest_ok : (x : Indexing Indexed) (ended : Bool) (e : Entry) (rest : List Entry) → OK x ended (e ∷ rest) → OK (index_step plan x e) (ended || is_end e) rest
-  rest_ok x ended e rest ok = (both_none (refusal plan body p (standing x ended) e) (first_from plan body p (index_step plan x e) (ended || is_end e) rest) ok).1
+  rest_ok : (x : Indexing) (ended : Bool) (e : Entry) (rest : List Entry) → OK x ended (e ∷ rest) → OK (index_step x e) (ended || is_end e) rest
+  rest_ok x ended e rest ok = (both_none (refusal plan body p (standing plan x ended) e) (first_from plan body p (index_step x e) (ended || is_end e) rest) ok).1
 
   -- one entry
-  over : (x : Indexing Indexed) (ended : Bool) (e : Entry) (rest more : List Entry) → OK x ended (e ∷ rest) → OK (index_step plan x e) (ended || is_end e) more → OK x ended (e ∷ more)
-  over x ended e rest more ok g = ap (λ o. option_or o (first_from plan body p (index_step plan x e) (ended || is_end e) more)) (taken x ended e rest ok) ∙ g
+  over : (x : Indexing) (ended : Bool) (e : Entry) (rest more : List Entry) → OK x ended (e ∷ rest) → OK (index_step x e) (ended || is_end e) more → OK x ended (e ∷ more)
+  over x ended e rest more ok g = ap (λ o. option_or o (first_from plan body p (index_step x e) (ended || is_end e) more)) (taken x ended e rest ok) ∙ g
 
   -- after a first part
-  after : (front rest more : List Entry) (x : Indexing Indexed) (ended : Bool) → OK x ended (front ++ rest) → ((y : Indexing Indexed) (b : Bool) → OK y b rest → OK y b more) → OK x ended (front ++ more)
+  after : (front rest more : List Entry) (x : Indexing) (ended : Bool) → OK x ended (front ++ rest) → ((y : Indexing) (b : Bool) → OK y b rest → OK y b more) → OK x ended (front ++ more)
   after [] rest more x ended ok f = f x ended ok
-  after (e ∷ es) rest more x ended ok f = over x ended e (es ++ rest) (es ++ more) ok (after es rest more (index_step plan x e) (ended || is_end e) (rest_ok x ended e (es ++ rest) ok) f)
+  after (e ∷ es) rest more x ended ok f = over x ended e (es ++ rest) (es ++ more) ok (after es rest more (index_step x e) (ended || is_end e) (rest_ok x ended e (es ++ rest) ok) f)
 
   -- where the index can stop, it can with a unit that follows
-  tail_ok : (x : Indexing Indexed) (ended : Bool) (rest : List Entry) → CanStop plan body p x ended → OK x ended rest → OK x ended (cut_tail rest)
+  tail_ok : (x : Indexing) (ended : Bool) (rest : List Entry) → CanStop plan body p x ended → OK x ended rest → OK x ended (cut_tail rest)
   tail_ok x ended [] c ok = stops plan body p x ended c
   tail_ok x ended (entry.Unit u values ∷ es) c ok =
-      over x ended (entry.Unit u values) es (stop ∷ []) ok (stops plan body p (index_step plan x (entry.Unit u values)) (ended || false) (unit_stops plan body p x ended u values c))
+      over x ended (entry.Unit u values) es (stop ∷ []) ok (stops plan body p (index_step x (entry.Unit u values)) (ended || false) (unit_stops plan body p x ended u values c))
   tail_ok x ended (entry.Prelog b values ∷ es) c ok = stops plan body p x ended c
   tail_ok x ended (entry.Sync k o m z rs ws ∷ es) c ok = stops plan body p x ended c
   tail_ok x ended (entry.Postlog b values ∷ es) c ok = stops plan body p x ended c
@@ -108,7 +108,7 @@ module _ (plan : Plan) (body p : ℕ) where
       subst (OK begun_indexing false) (sym (cut_at_is entries n e a))
       (after a.front (e ∷ a.rest) (e ∷ cut_tail a.rest) begun_indexing false (subst (OK begun_indexing false) a.are ok)
       (λ y b g. over y b e a.rest (cut_tail a.rest) g
-      (tail_ok (index_step plan y e) (b || is_end e) a.rest (sync_stops plan body p y b e sync (taken y b e a.rest g)) (rest_ok y b e a.rest g))))
+      (tail_ok (index_step y e) (b || is_end e) a.rest (sync_stops plan body p y b e sync (taken y b e a.rest g)) (rest_ok y b e a.rest g))))
 
   -- a cut after the first entry, which is the prelog of the process's own block
   start_ok : (entries : List Entry) → OK begun_indexing false entries → OK begun_indexing false (cut_at entries 1)
@@ -118,9 +118,9 @@ module _ (plan : Plan) (body p : ℕ) where
       let a : IsAt (e ∷ es) 0 e = is_at (e ∷ es) 0 e refl in
       subst (OK begun_indexing false) (sym (cut_at_is (e ∷ es) 0 e a))
       (over begun_indexing false e es (cut_tail es) ok
-      (tail_ok (index_step plan begun_indexing e) (false || is_end e) es (prelog e (unrefused plan body p begun_indexing false e (taken begun_indexing false e es ok)).1) (rest_ok begun_indexing false e es ok)))
+      (tail_ok (index_step begun_indexing e) (false || is_end e) es (prelog e (unrefused plan body p begun_indexing false e (taken begun_indexing false e es ok)).1) (rest_ok begun_indexing false e es ok)))
     where
-      prelog : (e : Entry) → is_paired plan body (standing begun_indexing false) e ≡ true → CanStop plan body p (index_step plan begun_indexing e) (false || is_end e)
+      prelog : (e : Entry) → is_paired plan body (standing plan begun_indexing false) e ≡ true → CanStop plan body p (index_step begun_indexing e) (false || is_end e)
       prelog (entry.Prelog b values) f = record { goes_on = refl; first = 0; rest = []; running = refl }
       prelog (entry.Unit u values) f = absurd (true≢false (sym f))
       prelog (entry.Sync k o m z rs ws) f = absurd (true≢false (sym f))

@@ -11,7 +11,7 @@ use Rattle.ppd_ast.specs.declared.program.Program.{Program}
 use Rattle.ppd_ast.specs.Valid.{IsValid}
 use Rattle.ppd_ast.proofs.ValidLaws.{slice_get_there, valid_body}
 use Rattle.ppd_blocks.specs.Blocks.{plan_of}
-use Rattle.ppd_entry.specs.IntervalLogs.{Indexed, Indexing, begun_indexing, index_step}
+use Rattle.ppd_entry.specs.IntervalLogs.{LoggedInterval, Indexing, begun_indexing, index_step}
 use Rattle.ppd_entry.proofs.Vocabulary.{log_in, no_interval}
 use Rattle.ppd_sem.specs.Blocks.{block_todo}
 use Rattle.ppd_sem.specs.declared.proc.Proc.{Proc}
@@ -31,7 +31,7 @@ use Rattle.law_replay.specs.Coming.Pieces.{unit_pieces}
 use Rattle.law_replay.proofs.Vocabulary.Nested.{IsNested}
 use Rattle.law_replay.specs.Coming.Openings.{AreAlike, IsLogOf, IsSpanOf, Opening, opening}
 use Rattle.law_replay.proofs.Coming.DeepOpenings.{deep_openings, frames_in}
-use Rattle.law_replay.proofs.Coming.Depths.{AreDeep, depth_at, final_depth, one_more}
+use Rattle.law_replay.proofs.Coming.Depths.{AreDeep, blocks_at, final_blocks}
 use Rattle.law_replay.proofs.Coming.Later.{finals}
 use Rattle.law_replay.proofs.Coming.Later as in_logs
 use Rattle.law_replay.proofs.Coming.LaterSteps.{comes}
@@ -146,10 +146,10 @@ module _ (program : Program) (policy : Policy) (v : IsValid program) (budget p d
     abbrev pub begun : Logging
     begun = raised_log d (begun_log program plan budget p)
 
-    abbrev begun_index : Indexing Indexed
-    begun_index = fold (index_step plan) begun_indexing begun.entries
+    abbrev begun_index : Indexing
+    begun_index = fold index_step begun_indexing begun.entries
 
-    abbrev pub index : Indexing Indexed
+    abbrev pub index : Indexing
     index = finals program plan begun ms begun_index
 
     comes_log : in_logs.Comes program plan first ms (finals program plan begun ms) 0 1
@@ -157,7 +157,7 @@ module _ (program : Program) (policy : Policy) (v : IsValid program) (budget p d
 
     logs_begin : (k : ℕ) → in_logs.Begins program plan k (begins k) (slice_get index.intervals k)
     logs_begin zero =
-        let i0 = get_or begun_index.intervals 0 (record { first = 0; log = record { block = 0; values = []; depth = 0; pieces = [] } }) in
+        let i0 = get_or begun_index.intervals 0 no_interval in
         let one : 0 < 1 = omega arith in
         let g = comes_log.own begun_index 0 i0 1 refl refl (record { falls = (one, tt); runs = refl; there = refl }) in
         record { now = g.now; there = g.there; block = g.block; values = g.values; pieces = g.pieces }
@@ -167,41 +167,38 @@ module _ (program : Program) (policy : Policy) (v : IsValid program) (budget p d
         subst (λ z. in_logs.Begins program plan z (opening program plan first ms q) (slice_get index.intervals z)) e
         (comes_log.begins begun_index q 1 refl refl (one, tt))
 
-    first_deep : depth_at begun_index.intervals 0 ≡ functions_in plan (process_block program plan p ∷ [])
-    first_deep = one_more plan (process_block program plan p) []
+    all_deep : AreDeep begun_index.intervals begun_index.running (stack program plan p first)
+    all_deep = subst (AreDeep begun_index.intervals (0 ∷ [])) (sym alone) (refl, tt)
 
-    all_deep : AreDeep plan begun_index.intervals begun_index.running (stack program plan p first)
-    all_deep = subst (AreDeep plan begun_index.intervals (0 ∷ [])) (sym alone) (first_deep, tt)
-
-    deep_at : (k : ℕ) (o : Opening) → begins k ≡ Some o → depth_at index.intervals k ≡ block_frames plan o.proc.frames
+    deep_at : (k : ℕ) (o : Opening) → begins k ≡ Some o → functions_in plan (blocks_at index.intervals k) ≡ block_frames plan o.proc.frames
     deep_at zero o e =
         let one : 0 < 1 = omega arith in
-        final_depth plan program ms begun begun_index 0 one ∙ first_deep ∙ ap (functions_in plan) (sym alone)
+        ap (functions_in plan) (final_blocks program plan ms begun begun_index 0 one ∙ sym alone)
         ∙ steps_move.depth program policy p first v there order ∙ ap (λ z. block_frames plan (frames_in z)) e
     deep_at (suc q) o e =
         let one : 0 < 1 = omega arith in
         let same : 1 + q ≡ suc q = omega arith in
-        subst (λ k. depth_at index.intervals k ≡ block_frames plan o.proc.frames) same
+        subst (λ k. functions_in plan (blocks_at index.intervals k) ≡ block_frames plan o.proc.frames) same
         (deep_openings program policy v p there ms begun begun_index order refl run (one, tt) all_deep q o e)
 
-    as_log : (k : ℕ) (op : Option Opening) (o : Option Indexed) → in_logs.Begins program plan k op o
-        → ((x : Opening) (i : Indexed) → op ≡ Some x → o ≡ Some i → i.log.depth ≡ block_frames plan x.proc.frames) → AreAlike (IsLogOf program plan k) op (log_in o)
+    as_log : (k : ℕ) (op : Option Opening) (o : Option LoggedInterval) → in_logs.Begins program plan k op o
+        → ((x : Opening) (i : LoggedInterval) → op ≡ Some x → o ≡ Some i → functions_in plan i.blocks ≡ block_frames plan x.proc.frames) → AreAlike (IsLogOf program plan k) op (log_in plan o)
     as_log k None None b deep = tt
     as_log k None (Some o) b deep = absurd (none-some o (sym b))
     as_log k (Some op) None b deep = absurd (none-some b.now b.there)
     as_log k (Some op) (Some o) b deep =
         let e : b.now ≡ o = same_Some b.now o (sym b.there) in
         record {
-          block = ap (λ (z : Indexed). z.log.block) (sym e) ∙ b.block;
-          values = ap (λ (z : Indexed). z.log.values) (sym e) ∙ b.values;
+          block = ap (λ (z : LoggedInterval). z.extent.block) (sym e) ∙ b.block;
+          values = ap (λ (z : LoggedInterval). z.values) (sym e) ∙ b.values;
           depth = deep op o refl refl;
-          pieces = ap (λ (z : Indexed). map (λ q. q.1) z.log.pieces) (sym e) ∙ b.pieces;
+          pieces = ap (λ (z : LoggedInterval). map (λ q. q.1) z.pieces) (sym e) ∙ b.pieces;
         }
 
-    pub logs_alike : (k : ℕ) → AreAlike (IsLogOf program plan k) (begins k) (log_in (slice_get index.intervals k))
+    pub logs_alike : (k : ℕ) → AreAlike (IsLogOf program plan k) (begins k) (log_in plan (slice_get index.intervals k))
     logs_alike k =
         as_log k (begins k) (slice_get index.intervals k) (logs_begin k)
-        (λ o i e there'. ap (λ (z : Indexed). z.log.depth) (sym (get_or_from_slice_get index.intervals k i no_interval there')) ∙ deep_at k o e)
+        (λ o i e there'. ap (λ (z : LoggedInterval). functions_in plan z.blocks) (sym (get_or_from_slice_get index.intervals k i no_interval there')) ∙ deep_at k o e)
 
     -- ---- the intervals
 

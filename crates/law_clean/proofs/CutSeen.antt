@@ -13,14 +13,14 @@ use Rattle.ppd_blocks.specs.Blocks.{plan_of}
 use Rattle.ppd_emul_model.specs.Replay.{Replayed, replay}
 use Rattle.ppd_entry.specs.declared.entry.Entry.{Entry}
 use Rattle.ppd_entry.specs.declared.entry.Entry.TheVariants as entry
-use Rattle.ppd_entry.specs.IntervalLogs.{Indexed, indexed}
+use Rattle.ppd_entry.specs.IntervalLogs.{LoggedInterval, indexed, log_by}
 use Rattle.ppd_entry.proofs.Vocabulary.{log_in}
 use Rattle.ppd_model.specs.declared.flow.Item.{Item}
 use Rattle.ppd_model.specs.declared.state.Logging.{Logging}
 use Rattle.ppd_model.specs.declared.tracing.Story.{Story}
 use Rattle.ppd_model.specs.Bounds.{AreEach}
-use Rattle.ppd_model.specs.Extents.{Extent, IsSameInterval, extend, extents, Indexing}
-use Rattle.ppd_model.proofs.ExtentWords.{begun_extents}
+use Rattle.ppd_model.specs.Extents.{Extent, IsSameInterval, extents}
+use Rattle.ppd_model.proofs.ExtentWords.{Extending, begun_extents, extend, extents_are}
 use Rattle.ppd_model.specs.Intervals.{Span, Split, items_of, split_of, splits}
 use Rattle.ppd_model.proofs.IntervalWords.{splits_from}
 use Rattle.ppd_model.specs.Logs.{closed_log, log_of, loggings}
@@ -41,12 +41,12 @@ use Rattle.law_clean.proofs.EdgeEnds.{EndsEdge}
 
 -- ---- items
 
-module _ (program : Program) (plan : Plan) (budget : ℕ) (is : List Indexed) (x : Split)
-    (same : (k : ℕ) → replay_of program plan budget (log_in (slice_get is k)) ≡ modelled_of x (slice_get x.spans k)) where
-  abbrev by_log : Indexed → List Item
-  by_log i = result_unwrap_or (told_by (replay program plan i.log budget).answer) []
+module _ (program : Program) (plan : Plan) (budget : ℕ) (is : List LoggedInterval) (x : Split)
+    (same : (k : ℕ) → replay_of program plan budget (log_in plan (slice_get is k)) ≡ modelled_of x (slice_get x.spans k)) where
+  abbrev by_log : LoggedInterval → List Item
+  by_log i = result_unwrap_or (told_by (replay program plan (log_by plan i) budget).answer) []
 
-  logged : (o : Option Indexed) → option_map by_log o ≡ option_map (λ (r : Replayed). result_unwrap_or (told_by r.answer) []) (replay_of program plan budget (log_in o))
+  logged : (o : Option LoggedInterval) → option_map by_log o ≡ option_map (λ (r : Replayed). result_unwrap_or (told_by r.answer) []) (replay_of program plan budget (log_in plan o))
   logged None = refl
   logged (Some i) = refl
 
@@ -93,8 +93,9 @@ module _ (program : Program) (plan : Plan) (budget : ℕ) where
 stopped_extents : (l : Logging) → l.proc.status ≡ None → extents (closed_log l) ≡ extents (l.entries ++ stop ∷ [])
 stopped_extents l runs =
     ap (λ o. extents (l.entries ++ (if is_none o then entry.End status.Blocked l.rest l.reads l.writes ∷ [] else []))) runs
-    ∙ ap (λ (e : Indexing Extent). e.intervals) (fold-append extend begun_extents l.entries (entry.End status.Blocked l.rest l.reads l.writes ∷ []))
-    ∙ sym (ap (λ (e : Indexing Extent). e.intervals) (fold-append extend begun_extents l.entries (stop ∷ [])))
+    ∙ extents_are (l.entries ++ entry.End status.Blocked l.rest l.reads l.writes ∷ [])
+    ∙ ap (λ (e : Extending). e.intervals) (fold-append extend begun_extents l.entries (entry.End status.Blocked l.rest l.reads l.writes ∷ []))
+    ∙ sym (extents_are (l.entries ++ stop ∷ []) ∙ ap (λ (e : Extending). e.intervals) (fold-append extend begun_extents l.entries (stop ∷ [])))
 
 module _ (program : Program) (policy : Policy) (budget : ℕ) (h : List ℕ) (p i : ℕ) (v : IsValid program) (whole : IsWhole program (plan_of program policy) budget h)
     (ends : EndsEdge program (plan_of program policy) budget h p i) (clear : (e : ℕ) → e ≤ i → IsUnracedIn program (plan_of program policy) budget h p e) where
@@ -120,6 +121,6 @@ module _ (program : Program) (policy : Policy) (budget : ℕ) (h : List ℕ) (p 
       let each : AreEach IsSameInterval x.spans (extents entries) =
       subst (AreEach IsSameInterval x.spans) (stopped_extents l (runs_on program policy budget h p i v whole ends clear)) (intervals_of_logs program plan budget begun p x l at there).closed_are in
       ap₂ (λ a b. seen a b (rounds_by (map (λ (z : Extent). z.parent) (extents entries))))
-      (items_same program plan budget (indexed plan entries) x (replays_of_cut program policy budget h p i v whole ends clear x at)) (same_blocks x.spans (extents entries) each)
+      (items_same program plan budget (indexed entries) x (replays_of_cut program policy budget h p i v whole ends clear x at)) (same_blocks x.spans (extents entries) each)
       ∙ ap (seen (map (items_of x) x.spans) (map (λ (i : Span). i.block) x.spans))
       (ap rounds_by (same_parents x.spans (extents entries) each) ∙ rounds_same program plan budget begun p x at)

@@ -1,13 +1,13 @@
 -- An interval that was left in an edge that had ended by then was left by then: by the entries of its process.
-use Rattle.std.proofs.Common.{◌≡◌, ℕ, zero, suc, ◌+◌, ◌<◌, ◌≤◌, Bool, true, false, List, [], ◌∷◌, ◌++◌, length, Option, Some, None, refl, ap, sym, subst, ◌∙◌, arith, inl, inr, ◌⊎◌, true≢false, length-append}
+use Rattle.std.proofs.Common.{◌≡◌, ℕ, zero, suc, ◌+◌, ◌<◌, ◌≤◌, Bool, true, false, List, [], ◌∷◌, ◌++◌, length, Some, refl, ap, sym, subst, ◌∙◌, arith, inl, inr, ◌⊎◌, true≢false, length-append}
 use Rattle.std.proofs.lemmas.List.Elements.{filter_map-append}
 use Rattle.std.proofs.lemmas.List.Sums.{fold-append}
 use Rattle.std.proofs.lemmas.Option.{none-some}
 use Rattle.std.specs.Prelude.{filter_map, fold, slice_get, take, ⊤}
 use Rattle.ppd_entry.specs.declared.entry.Entry.{Entry}
 use Rattle.ppd_entry.specs.declared.entry.Entry.TheVariants as entry
-use Rattle.ppd_model.specs.Extents.{Extent, extend, extents, Indexing}
-use Rattle.ppd_model.proofs.ExtentWords.{begun_extents, ended_by, left_by}
+use Rattle.ppd_model.specs.Extents.{Extent, extents}
+use Rattle.ppd_model.proofs.ExtentWords.{Extending, begun_extents, ended_by, extend, extent_found, extents_are, left_by}
 use Rattle.ppd_model.specs.RecordedSets.{sync_in}
 use Rattle.ppd_model.specs.World.{change}
 use Rattle.ppd_model.proofs.Changes.{some}
@@ -61,18 +61,18 @@ module _ (d : ℕ) where
   from_ended j le (k ∷ ks) xs zs h =
       from_ended j le ks xs (change (λ x. record x { last = Some j }) k zs) (from_change (λ x. record x { last = Some j }) (λ z. inr (j, refl, le)) k xs zs h)
 
-  from_step : (xs : List Extent) (z : Indexing Extent) (e : Entry) → d ≤ z.entry → AreFrom xs z.intervals → AreFrom xs (extend z e).intervals
+  from_step : (xs : List Extent) (z : Extending) (e : Entry) → d ≤ z.entry → AreFrom xs z.intervals → AreFrom xs (extend z e).intervals
   from_step xs z (entry.Prelog b values) le h = from_append xs z.intervals _ h (inl refl)
   from_step xs z (entry.Postlog b values) le h = from_left z.entry le z.running xs z.intervals h
   from_step xs z (entry.End st rest reads writes) le h = from_ended z.entry le z.running xs z.intervals h
   from_step xs z (entry.Unit u values) le h = h
   from_step xs z (entry.Sync kind object number value reads writes) le h = h
 
-  from_all : (es : List Entry) (xs : List Extent) (z : Indexing Extent) → d ≤ z.entry → AreFrom xs z.intervals → AreFrom xs (fold extend z es).intervals
+  from_all : (es : List Entry) (xs : List Extent) (z : Extending) → d ≤ z.entry → AreFrom xs z.intervals → AreFrom xs (fold extend z es).intervals
   from_all [] xs z le h = h
   from_all (e ∷ es) xs z le h = from_all es xs (extend z e) (next z e le) (from_step xs z e le h)
     where
-      next : (z : Indexing Extent) (e : Entry) → d ≤ z.entry → d ≤ (extend z e).entry
+      next : (z : Extending) (e : Entry) → d ≤ z.entry → d ≤ (extend z e).entry
       next z (entry.Prelog b values) le = omega (arith, le)
       next z (entry.Postlog b values) le = omega (arith, le)
       next z (entry.End st rest reads writes) le = omega (arith, le)
@@ -88,14 +88,14 @@ module _ (d : ℕ) where
   from_at [] (y ∷ ys) (suc m) z h e = elim (from_at [] ys m z h.1 e) [ inl l ↦ inl l | inr r ↦ absurd (none-some r.0 r.1) ]
   from_at (x ∷ xs) (y ∷ ys) (suc m) z h e = elim (from_at xs ys m z h.1 e) [ inl l ↦ inl l | inr r ↦ inr (r.0, r.1, r.2) ]
 
-entry_count : (es : List Entry) (z : Indexing Extent) → (fold extend z es).entry ≡ z.entry + length es
+entry_count : (es : List Entry) (z : Extending) → (fold extend z es).entry ≡ z.entry + length es
 entry_count [] z = omega arith
 entry_count (e ∷ es) z =
     let r : (fold extend (extend z e) es).entry ≡ (extend z e).entry + length es = entry_count es (extend z e) in
     let one : (extend z e).entry ≡ z.entry + 1 = next z e in
     omega (arith, r, one)
   where
-    next : (z : Indexing Extent) (e : Entry) → (extend z e).entry ≡ z.entry + 1
+    next : (z : Extending) (e : Entry) → (extend z e).entry ≡ z.entry + 1
     next z (entry.Prelog b values) = refl
     next z (entry.Postlog b values) = refl
     next z (entry.End st rest reads writes) = refl
@@ -121,12 +121,12 @@ syncs_past front more n le =
 pub left_before : (front more : List Entry) (m : ℕ) (z : Extent) (j : ℕ) → slice_get (extents (front ++ more)) m ≡ Some z → z.closed ≡ true → z.last ≡ Some j
     → syncs_before (front ++ more) j < length (filter_map sync_in front) → (x : Extent) × (slice_get (extents front) m ≡ Some x) × (x.closed ≡ true)
 left_before front more m z j is closed last lt =
-    let at : Indexing Extent = fold extend begun_extents front in
+    let at : Extending = fold extend begun_extents front in
     let count : at.entry ≡ 0 + length front = entry_count front begun_extents in
-    let all : extents (front ++ more) ≡ (fold extend at more).intervals = ap (λ (x : Indexing Extent). x.intervals) (fold-append extend begun_extents front more) in
+    let all : extents (front ++ more) ≡ (fold extend at more).intervals = extents_are (front ++ more) ∙ ap (λ (x : Extending). x.intervals) (fold-append extend begun_extents front more) in
     elim (from_at (length front) at.intervals (fold extend at more).intervals m z
     (from_all (length front) more at.intervals at (omega (arith, count)) (are_self (length front) at.intervals)) (ap (λ xs. slice_get xs m) (sym all) ∙ is)) [
-      | inr old ↦ old
+      | inr old ↦ (old.0, extent_found front m (Some old.0) old.1, old.2)
       | inl (inl open_yet) ↦ absurd (true≢false (sym closed ∙ open_yet))
       | inl (inr late) ↦
           let same : late.0 ≡ j = some (sym late.1 ∙ last) in

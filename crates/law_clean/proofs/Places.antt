@@ -12,23 +12,23 @@ use Rattle.ppd_flow_model.specs.Ends.{first_edge, syncs_before}
 use Rattle.ppd_flow_model.specs.Seen.{seen_of}
 use Rattle.ppd_model.proofs.Changes.{length-change, some}
 use Rattle.ppd_model.proofs.EdgeWords.{part_in}
-use Rattle.ppd_model.proofs.ExtentWords.{begun_extents, ended_by, left_by}
+use Rattle.ppd_model.proofs.ExtentWords.{Extending, extend, begun_extents, ended_by, left_by}
 use Rattle.ppd_model.proofs.Extents.{extents_match}
-use Rattle.ppd_model.specs.Extents.{Extent, Indexing, extend, extents}
+use Rattle.ppd_model.specs.Extents.{Extent, extents}
 use Rattle.ppd_model.specs.FlowbackEdges.{part_at}
-use Rattle.ppd_model.specs.Intervals.{Part, Span, Split, item_of, items_of, nested, own}
+use Rattle.ppd_model.specs.Intervals.{Part, Span, Split, items_of}
 use Rattle.ppd_model.specs.Items.{HasWholeItems}
 use Rattle.ppd_model.specs.RecordedSets.{sync_in}
 use Rattle.ppd_model.specs.Synchronizations.{Sync}
 use Rattle.ppd_model.specs.World.{change}
 use Rattle.ppd_model.specs.declared.flow.Item.{Item}
 use Rattle.ppd_model.specs.declared.trace.TracedEvent.{TracedEvent}
-use Rattle.std.proofs.Common.{Bool, List, None, Option, Some, [], ap, arith, cond, false, get_or, if◌then◌else◌, inl, inr, length, length-append, map, refl, subst, suc, sym, true, true≢false, zero, ℕ, ◌++◌, ◌+◌, ◌<◌, ◌∙◌, ◌∷◌, ◌≡◌, ◌≤◌}
+use Rattle.std.proofs.Common.{Bool, List, None, Option, Some, [], ap, arith, false, get_or, if◌then◌else◌, inl, inr, length, length-append, map, refl, subst, suc, sym, true, true≢false, zero, ℕ, ◌++◌, ◌+◌, ◌<◌, ◌∙◌, ◌∷◌, ◌≡◌, ◌≤◌}
 use Rattle.std.proofs.lemmas.Bool.{cases_lt}
 use Rattle.std.proofs.lemmas.List.Sums.{fold-append}
 use Rattle.std.proofs.lemmas.Option.{none-some}
 use Rattle.std.specs.List.{cons_option}
-use Rattle.std.specs.Prelude.{filter_map, fold, is_some, slice_get, take, unwrap_or}
+use Rattle.std.specs.Prelude.{filter_map, fold, slice_get, take, unwrap_or}
 
 -- ---- synchronizations before entries
 
@@ -92,7 +92,7 @@ many_left : (n : ℕ) (ks : List ℕ) (xs : List Extent) → length (left_by n k
 many_left n [] xs = refl
 many_left n (k ∷ ks) xs = length-change (λ x. record x { last = Some n; closed = true }) k xs
 
-many_step : (x : Indexing Extent) (e : Entry) → length x.intervals ≤ length (extend x e).intervals
+many_step : (x : Extending) (e : Entry) → length x.intervals ≤ length (extend x e).intervals
 many_step x (entry.Prelog b vs) =
     let sum = length-append x.intervals ((record { block = b; parent = slice_get x.running 0; prelog = x.entry; last = None; closed = false }) ∷ []) in
     omega (arith, sum)
@@ -101,7 +101,7 @@ many_step x (entry.End s n rs ws) = let e = many_ended x.entry x.running x.inter
 many_step x (entry.Unit u vs) = omega arith
 many_step x (entry.Sync k o n v rs ws) = omega arith
 
-many_more : (es : List Entry) (x : Indexing Extent) → length x.intervals ≤ length (fold extend x es).intervals
+many_more : (es : List Entry) (x : Extending) → length x.intervals ≤ length (fold extend x es).intervals
 many_more [] x = omega arith
 many_more (e ∷ es) x = let a = many_step x e in let b = many_more es (extend x e) in omega (arith, a, b)
 
@@ -127,7 +127,7 @@ begun_later es events k m f g a b lt =
       | inr more ↦
           let r = front_of a.before (entry.Prelog a.block a.values ∷ a.after) b.before (entry.Prelog b.block b.values ∷ b.after) (sym a.entries_are ∙ b.entries_are) (omega (arith, more)) in
           let up : length (at b.before).intervals ≤ length (fold extend (at b.before) r.0).intervals = many_more r.0 (at b.before) in
-          let same : length (at a.before).intervals ≡ length (fold extend (at b.before) r.0).intervals = ap (λ l. length (at l).intervals) r.1 ∙ ap (λ (x : Indexing Extent). length x.intervals) (fold-append extend begun_extents b.before r.0) in
+          let same : length (at a.before).intervals ≡ length (fold extend (at b.before) r.0).intervals = ap (λ l. length (at l).intervals) r.1 ∙ ap (λ (x : Extending). length x.intervals) (fold-append extend begun_extents b.before r.0) in
           let k_is = a.number in
           let m_is = b.number in
           absurd (omega (arith, up, same, k_is, m_is, lt))

@@ -58,9 +58,9 @@ module _ (program : Program) (policy : Policy) (v : IsValid program) (budget p d
     alike k (Some o) (Some l) None e log span = absurd span
     alike k (Some o) (Some l) (Some i) e log span = ap Some (interval k o l i e log span)
 
-    pub replays_alike : (k : ℕ) → replay_of program used budget (log_in (slice_get (fold (index_step used) begun_indexing
+    pub replays_alike : (k : ℕ) → replay_of program used budget (log_in used (slice_get (fold index_step begun_indexing
         (closed_log (fold (log_step program used) (begun program policy v budget p d le there ms run) ms))).intervals k)) ≡ modelled_of end (slice_get end.spans k)
     replays_alike k =
-        ap (λ x. replay_of program used budget (log_in (slice_get x.intervals k))) (finals_are program used ms (begun program policy v budget p d le there ms run) begun_indexing)
-        ∙ alike k (Begins k) (log_in (slice_get (index program policy v budget p d le there ms run).intervals k)) (slice_get end.spans k) refl
+        ap (λ x. replay_of program used budget (log_in used (slice_get x.intervals k))) (finals_are program used ms (begun program policy v budget p d le there ms run) begun_indexing)
+        ∙ alike k (Begins k) (log_in used (slice_get (index program policy v budget p d le there ms run).intervals k)) (slice_get end.spans k) refl
         (logs_alike program policy v budget p d le there ms run k) (spans_alike program policy v budget p d le there ms run story k)

@@ -1,7 +1,7 @@
 -- What replays of cut logs give of each process: what it has after a beginning of the schedule, if no race has an edge
 -- of it up to there.
 use Rattle.std.specs.Option.{option_map_or}
-use Rattle.std.proofs.Common.{◌≡◌, ℕ, zero, suc, ◌+◌, ◌<◌, ◌≤◌, Bool, true, false, List, [], ◌∷◌, ◌++◌, length, map, Option, Some, None, refl, ap, ap₂, sym, subst, ◌∙◌, arith, append-nil, true≢false, if◌then◌else◌}
+use Rattle.std.proofs.Common.{◌≡◌, ℕ, zero, suc, ◌+◌, ◌<◌, ◌≤◌, true, false, List, [], ◌∷◌, ◌++◌, length, map, Option, Some, None, refl, ap, ap₂, sym, subst, ◌∙◌, arith, append-nil, true≢false, if◌then◌else◌}
 use Rattle.std.proofs.lemmas.Option.{get_or_from_slice_get, none-some, slice_get-map}
 use Rattle.std.specs.Prelude.{filter_map, is_some, option_map, option_to_list, slice_get, get_or}
 use Rattle.ppd_ast.specs.declared.plan.Plan.{Plan}
@@ -12,12 +12,9 @@ use Rattle.ppd_ast.proofs.ValidLaws.{slice_get_there}
 use Rattle.ppd_blocks.specs.Blocks.{plan_of}
 use Rattle.ppd_entry.specs.declared.entry.Entry.{Entry}
 use Rattle.ppd_entry.specs.declared.entry.Entry.TheVariants as entry
-use Rattle.ppd_entry.specs.declared.entry.Logs.{Logs}
 use Rattle.ppd_entry.specs.IntervalLogs.{indexed, interval_log}
 use Rattle.law_replay.specs.InForce.Values.{AreRead, begun_in_force}
 use Rattle.ppd_model.specs.declared.flow.Item.{Item}
-use Rattle.ppd_model.specs.declared.state.Logging.{Logging}
-use Rattle.ppd_model.specs.declared.tracing.Story.{Story}
 use Rattle.ppd_model.specs.Bounds.{AreEach}
 use Rattle.ppd_model.specs.Extents.{Extent, IsSameInterval, extents}
 use Rattle.ppd_model.specs.Forward.{edge_in}
@@ -26,8 +23,7 @@ use Rattle.ppd_model.specs.Logs.{closed_log, closed_logs, log_of, loggings}
 use Rattle.ppd_model.proofs.LogWords.{logs_from}
 use Rattle.ppd_model.specs.RecordedSets.{sync_in}
 use Rattle.ppd_model.specs.Schedule.{IsWhole, run}
-use Rattle.ppd_model.specs.SharedReads.{need_after}
-use Rattle.ppd_model.specs.Story.{Moment, moment_of, steps_of, story, told}
+use Rattle.ppd_model.specs.Story.{moment_of, story, told}
 use Rattle.ppd_model.specs.Synchronizations.{Sync, sync_of}
 use Rattle.ppd_model.proofs.Forward.{fewer}
 use Rattle.ppd_model.proofs.LoggedSpans.{intervals_of_logs}
@@ -37,11 +33,10 @@ use Rattle.law_flow_own.proofs.Places.LeafTells.{split_is}
 use Rattle.law_replay.proofs.Theorem.Processes.{process_there}
 use Rattle.law_replay.specs.Theorem.Laws.{modelled_of, replay_of}
 use Rattle.law_steps.proofs.OpenBlocks.Told.{own_steps_are}
-use Rattle.ppd_flow_model.specs.Ends.{ending, ends_edge}
+use Rattle.ppd_flow_model.specs.Ends.{ending}
 use Rattle.ppd_flow_model.proofs.Vocabulary.{is_sync}
 use Rattle.ppd_flow_model.specs.Seen.{Seen, seen_of}
 use Rattle.ppd_flow_model.specs.Shared.{seen_at}
-use Rattle.ppd_sem.specs.declared.proc.Need.TheVariants.{Read}
 use Rattle.ppd_model.specs.Intervals.{split_of}
 use Rattle.law_flow_shared.proofs.Edges.PairPlaces.Leading.{IsSyncStep, sync_step}
 use Rattle.law_flow_shared.proofs.Edges.Sources.LastOrigins.{below_moments, split_there}
@@ -191,7 +186,7 @@ module _ (program : Program) (policy : Policy) (budget : ℕ) (h : List ℕ) (v 
         let entries : List Entry = own_log p in
         let each : AreEach IsSameInterval y.spans (extents entries) = (intervals_of_logs program plan budget h p y (log_of program plan budget p (get_or (told program plan budget h).moments p [])) at logged).closed_are in
         ap₂ (λ a b. seen a b (rounds_by (map (λ (z : Extent). z.parent) (extents entries))))
-        (items_same program plan budget (indexed plan entries) y replays) (same_blocks y.spans (extents entries) each)
+        (items_same program plan budget (indexed entries) y replays) (same_blocks y.spans (extents entries) each)
         ∙ ap (seen (map (items_of y) y.spans) (map (λ (i : Span). i.block) y.spans))
         (ap rounds_by (same_parents y.spans (extents entries) each) ∙ rounds_same program plan budget h p y at)
 

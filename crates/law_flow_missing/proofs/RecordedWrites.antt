@@ -6,7 +6,7 @@ use Rattle.ppd_ast.specs.declared.program.Program.{Program}
 use Rattle.ppd_ast.specs.Members.{has}
 use Rattle.ppd_entry.specs.declared.entry.Entry.{Entry}
 use Rattle.ppd_entry.specs.declared.entry.Entry.TheVariants as entry
-use Rattle.ppd_entry.specs.IntervalLogs.{Indexing, begun_indexing, index_step, Indexed}
+use Rattle.ppd_entry.specs.IntervalLogs.{Indexing, begun_indexing, index_step}
 use Rattle.ppd_entry.specs.Entries.{is_end}
 use Rattle.ppd_graph.specs.declared.sets.EdgeSets.{EdgeSets}
 use Rattle.ppd_graph.specs.LogRecord.{no_sets, sets_from}
@@ -26,23 +26,23 @@ or_true true b h = refl
 or_true false b h = h
 
 module _ (plan : Plan) (body p : ℕ) where
-  nothing_after : (x : Indexing Indexed) (es : List Entry) (ended : Bool) → ended ≡ true
+  nothing_after : (x : Indexing) (es : List Entry) (ended : Bool) → ended ≡ true
       → first_from plan body p x ended es ≡ None
       → es ≡ []
   nothing_after x [] ended h none = refl
   nothing_after x (e ∷ es) false h none = absurd (true≢false (sym h))
   nothing_after x (e ∷ es) true h none =
-      absurd (cc (or_none (refusal plan body p (standing x true) e)
-      (first_from plan body p (index_step plan x e) (true || is_end e) es) none).0)
+      absurd (cc (or_none (refusal plan body p (standing plan x true) e)
+      (first_from plan body p (index_step x e) (true || is_end e) es) none).0)
 
-  ends_last : (x : Indexing Indexed) (es : List Entry) (ended : Bool) → first_from plan body p x ended es ≡ None → EndsLast es
+  ends_last : (x : Indexing) (es : List Entry) (ended : Bool) → first_from plan body p x ended es ≡ None → EndsLast es
   ends_last x [] ended none = tt
   ends_last x (e ∷ es) ended none =
-      let rest : first_from plan body p (index_step plan x e) (ended || is_end e) es ≡ None =
-      (or_none (refusal plan body p (standing x ended) e)
-      (first_from plan body p (index_step plan x e) (ended || is_end e) es) none).1 in (
-        (λ end. nothing_after (index_step plan x e) es (ended || is_end e) (or_true ended (is_end e) end) rest),
-        ends_last (index_step plan x e) es (ended || is_end e) rest,
+      let rest : first_from plan body p (index_step x e) (ended || is_end e) es ≡ None =
+      (or_none (refusal plan body p (standing plan x ended) e)
+      (first_from plan body p (index_step x e) (ended || is_end e) es) none).1 in (
+        (λ end. nothing_after (index_step x e) es (ended || is_end e) (or_true ended (is_end e) end) rest),
+        ends_last (index_step x e) es (ended || is_end e) rest,
       )
 
 pub all_end_last : (program : Program) (plan : Plan) (q : ℕ) (lists : List (List Entry)) (p : ℕ)

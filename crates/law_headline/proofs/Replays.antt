@@ -4,7 +4,7 @@ use Rattle.std.specs.Prelude.{None, Some, option_map, slice_get}
 use Rattle.std.proofs.Common.{◌≡◌, ℕ, ◌+◌, ◌<◌, [], Option, arith, get_or, length, map, refl, ap, ◌∙◌, subst}
 use Rattle.ppd_ast.specs.Valid.{IsValid}
 use Rattle.ppd_emul_model.specs.Replay.{replay}
-use Rattle.ppd_entry.specs.IntervalLogs.{Indexed, indexed, interval_log}
+use Rattle.ppd_entry.specs.IntervalLogs.{LoggedInterval, indexed, interval_log, log_by}
 use Rattle.ppd_entry.proofs.Vocabulary.{log_in}
 use Rattle.ppd_model.specs.Races.{races}
 use Rattle.ppd_model.specs.Schedule.{IsWhole}
@@ -16,7 +16,7 @@ use Rattle.law_headline.specs.Replayed.{AreByReplays, told_by_replay}
 use Rattle.law_headline.specs.Runs.{Run, logs_in, plan_in}
 use Rattle.ppd_session.proofs.KnownWords.{of_cells}
 
-replayed : (r : Run) (o : Option Indexed) → option_map (λ (i : Indexed). told_by (replay r.program (plan_in r) i.log r.budget).answer) o ≡ told_by_replay r (log_in o)
+replayed : (r : Run) (o : Option LoggedInterval) → option_map (λ (i : LoggedInterval). told_by (replay r.program (plan_in r) (log_by (plan_in r) i) r.budget).answer) o ≡ told_by_replay r (log_in (plan_in r) o)
 replayed r None = refl
 replayed r (Some i) = refl
 
@@ -28,7 +28,7 @@ module _ (r : Run) (free : races_among (edges_of_logs r.program (logs_in r)) ≡
   told_is p k =
       ap (λ rs. slice_get (get_or (unless_raced rs (map (told_of_entries r.program (plan_in r) r.budget) (logs_in r).lists)) p []) k) free
       ∙ (told_logs r.program (plan_in r) r.budget (logs_in r).lists p k
-      ∙ replayed r (slice_get (indexed (plan_in r) (get_or (logs_in r).lists p [])) k))
+      ∙ replayed r (slice_get (indexed (get_or (logs_in r).lists p [])) k))
 
   last_is : (c : ℕ) → c < length r.program.starts → slice_get known.lasts c ≡ Some (last_by r.program (plan_in r) r.budget (logs_in r) c)
   last_is c lt =

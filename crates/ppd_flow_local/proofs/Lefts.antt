@@ -91,8 +91,8 @@ module _ (s : Search) (k j frame : ℕ) where
         so m (Err x) (rest_by _ _ m (Err x) (dropped cs i 0 c hc ec) (dropped vs i (pos 0) v hv ev) (fails c v (drop (i + 1) cs) (drop (i + 1) vs) l m x f))
 
     over : (a : Looked ℕ (List FlowEdge)) → a.replays ≡ [] → a.found ≡ [] → IsFound s a l l (Ok [])
-    over a none no =
-        subst (λ (z : List ℕ). IsFound s (record a { replays = z }) l l (Ok [])) (sym none) (nothing s a.found [] l no)
+    over a none is =
+        subst (λ (z : List ℕ). IsFound s (record a { replays = z }) l l (Ok [])) (sym none) (nothing s a.found [] l is)
 
     whole : IsFound s (all_edges (drop i cs) (drop i vs)) l l (Ok []) → IsFound s (all_edges cs vs) n l (Ok es)
     whole f = subst (λ (z : List FlowEdge). IsFound s (all_edges cs vs) n l (Ok z)) (append-nil es) (so l (Ok []) f)

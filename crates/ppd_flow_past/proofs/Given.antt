@@ -11,11 +11,11 @@ use Rattle.ppd_emul.specs.Found.{Found}
 use Rattle.ppd_emul.specs.Wanted.{Wanted}
 use Rattle.ppd_emul.specs.Replay.{Replayed, replay}
 use Rattle.ppd_entry.specs.declared.entry.Entry.{Entry}
-use Rattle.ppd_entry.specs.IntervalLogs.{Indexed, IntervalLog, indexed, interval_log}
+use Rattle.ppd_entry.specs.IntervalLogs.{IntervalLog, LoggedInterval, indexed, interval_log, log_by}
 use Rattle.ppd_entry.proofs.Vocabulary.{log_in}
 use Rattle.ppd_emul.specs.Row.{Row}
 use Rattle.ppd_emul.specs.Indexes.{AreIntervals, IsIndexOf, rows_at}
-use Rattle.ppd_emul.specs.Tables.{indexed_of}
+use Rattle.ppd_emul.specs.Tables.{log_of}
 use Rattle.ppd_model.specs.Bounds.{AreEach}
 use Rattle.ppd_model.specs.declared.flow.Item.{Item}
 use Rattle.ppd_flow_past.specs.declared.past.Past.{Past}
@@ -24,18 +24,18 @@ use Rattle.ppd_flow_past.specs.SeenBy.{failed_in, items_in, seen_in, steps_in, s
 use Rattle.ppd_emul.specs.Laws.{replay_of}
 use Rattle.ppd_flow_past.proofs.SeenWords.{failure_of}
 
-found_at : (f : IntervalLog → List Item) (is : List Indexed) (k : ℕ) (log : IntervalLog)
-    → log_in (slice_get is k) ≡ Some log
-    → get_or (map (λ (i : Indexed). f i.log) is) k [] ≡ f log
-found_at f [] k log e = absurd (none-some log e)
-found_at f (i ∷ is) zero log e = ap f (same_Some i.log log e)
-found_at f (i ∷ is) (suc k) log e = found_at f is k log e
+found_at : (plan : Plan) (f : IntervalLog → List Item) (is : List LoggedInterval) (k : ℕ) (log : IntervalLog)
+    → log_in plan (slice_get is k) ≡ Some log
+    → get_or (map (λ (i : LoggedInterval). f (log_by plan i)) is) k [] ≡ f log
+found_at plan f [] k log e = absurd (none-some log e)
+found_at plan f (i ∷ is) zero log e = ap f (same_Some (log_by plan i) log e)
+found_at plan f (i ∷ is) (suc k) log e = found_at plan f is k log e
 
-none_at : (f : IntervalLog → List Item) (is : List Indexed) (k : ℕ) → log_in (slice_get is k) ≡ None
-    → get_or (map (λ (i : Indexed). f i.log) is) k [] ≡ []
-none_at f [] k e = refl
-none_at f (i ∷ is) zero e = absurd (none-some i.log (sym e))
-none_at f (i ∷ is) (suc k) e = none_at f is k e
+none_at : (plan : Plan) (f : IntervalLog → List Item) (is : List LoggedInterval) (k : ℕ) → log_in plan (slice_get is k) ≡ None
+    → get_or (map (λ (i : LoggedInterval). f (log_by plan i)) is) k [] ≡ []
+none_at plan f [] k e = refl
+none_at plan f (i ∷ is) zero e = absurd (none-some (log_by plan i) (sym e))
+none_at plan f (i ∷ is) (suc k) e = none_at plan f is k e
 
 no_log : (plan : Plan) (tables : List (List Row)) (lists : List (List Entry)) (p k : ℕ)
     → AreEach (AreIntervals plan) tables lists
@@ -44,10 +44,10 @@ no_log plan [] [] p k h le = refl
 no_log plan [] (es ∷ lists) p k h le = absurd h
 no_log plan (rows ∷ tables) [] p k h le = absurd h
 no_log plan (rows ∷ tables) (es ∷ lists) zero k h le =
-    let count : length (indexed plan es) ≡ length rows = sym (ap length h.0.logs_are)
-    ∙ length-map rows (indexed_of es) in
-    let past : length (indexed plan es) ≤ k = omega arith in
-    ap log_in (slice_get_past (indexed plan es) k past)
+    let count : length (indexed es) ≡ length rows = sym (length-map (indexed es) (log_by plan))
+    ∙ sym (ap length h.0.logs_are) ∙ length-map rows (log_of es) in
+    let past : length (indexed es) ≤ k = omega arith in
+    ap (log_in plan) (slice_get_past (indexed es) k past)
 no_log plan (rows ∷ tables) (es ∷ lists) (suc p) k h le = no_log plan tables lists p k h.1 le
 
 module _ (past : Past) (p k : ℕ) where
@@ -65,8 +65,8 @@ module _ (past : Past) (p k : ℕ) where
     pub none_items : AreReplayed past p k []
     none_items = (
       ap (λ o. failure_of (in_past o)) none,
-      sym (none_at (λ log. result_unwrap_or (told_by (replayed log).answer) [])
-          (indexed past.plan.now entries) k none),
+      sym (none_at past.plan.now (λ log. result_unwrap_or (told_by (replayed log).answer) [])
+          (indexed entries) k none),
     )
 
     pub none_steps : steps_in past p k ≡ 0
@@ -79,16 +79,16 @@ module _ (past : Past) (p k : ℕ) where
 
   pub beyond : length (seen_in past p).items ≤ k → interval_log past.plan.now entries k ≡ None
   beyond le =
-      let count : length (seen_in past p).items ≡ length (indexed past.plan.now entries) =
-      length-map (indexed past.plan.now entries) (λ (i : Indexed). result_unwrap_or (told_by (replayed i.log).answer) []) in
-      let far : length (indexed past.plan.now entries) ≤ k = omega arith in
-      ap log_in (slice_get_past (indexed past.plan.now entries) k far)
+      let count : length (seen_in past p).items ≡ length (indexed entries) =
+      length-map (indexed entries) (λ (i : LoggedInterval). result_unwrap_or (told_by (replayed (log_by past.plan.now i)).answer) []) in
+      let far : length (indexed entries) ≤ k = omega arith in
+      ap (log_in past.plan.now) (slice_get_past (indexed entries) k far)
 
   module _ (log : IntervalLog) (is : interval_log past.plan.now entries k ≡ Some log) where
     pub given_items : (trace : BlockTrace) → Ok trace ≡ (replayed log).answer → AreReplayed past p k trace.items
     given_items trace answer =
         let items : items_in past p k ≡ trace.items =
-        found_at (λ l. result_unwrap_or (told_by (replayed l).answer) []) (indexed past.plan.now entries) k log is
+        found_at past.plan.now (λ l. result_unwrap_or (told_by (replayed l).answer) []) (indexed entries) k log is
         ∙ ap (λ r. result_unwrap_or (told_by r) []) (sym answer) in
         (ap (λ o. failure_of (in_past o)) is ∙ ap (λ r. result_err (told_by r)) (sym answer), sym items)
 

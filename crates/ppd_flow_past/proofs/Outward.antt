@@ -6,13 +6,13 @@ use Rattle.std.proofs.lemmas.List.{length-map}
 use Rattle.std.proofs.lemmas.Option.{slice_get-map, unwrap_or-slice_get}
 use Rattle.ppd_ast.specs.declared.plan.Plan.{Plan}
 use Rattle.ppd_entry.specs.declared.entry.Entry.{Entry}
-use Rattle.ppd_entry.specs.IntervalLogs.{Indexed, indexed}
+use Rattle.ppd_entry.specs.IntervalLogs.{LoggedInterval, indexed, log_by}
 use Rattle.ppd_entry.specs.declared.entry.Logs.{Logs}
 use Rattle.ppd_emul.specs.Replay.{replay}
 use Rattle.ppd_emul.specs.Interval.{Interval}
 use Rattle.ppd_emul.specs.Row.{Row}
 use Rattle.ppd_emul.specs.Indexes.{AreIntervals, IsIndexOf, interval_of, rows_at}
-use Rattle.ppd_emul.specs.Tables.{extent_of, indexed_of}
+use Rattle.ppd_emul.specs.Tables.{extent_of, log_of}
 use Rattle.ppd_model.specs.Bounds.{AreEach}
 use Rattle.ppd_model.specs.Extents.{Extent, extents}
 use Rattle.ppd_flow_past.specs.declared.past.Past.{Past}
@@ -79,13 +79,14 @@ module _ (past : Past) (p k : ℕ) (h : IsIndexOf past.plan.now past.cut.now pas
   -- as many as have items
   pub count_is : length rows ≡ length (seen_in past p).items
   count_is = sym (as_many past.plan.now past.cut_index.now.tables past.cut.now.lists p h)
-      ∙ sym (length-map (indexed past.plan.now (get_or past.cut.now.lists p [])) (λ (i : Indexed). result_unwrap_or (told_by (replay past.program.now past.plan.now i.log past.budget).answer) []))
+      ∙ sym (length-map (indexed (get_or past.cut.now.lists p [])) (λ (i : LoggedInterval). result_unwrap_or (told_by (replay past.program.now past.plan.now (log_by past.plan.now i) past.budget).answer) []))
     where
       as_many : (plan : Plan) (tables : List (List Row)) (lists : List (List Entry)) (q : ℕ)
           → AreEach (AreIntervals plan) tables lists
-          → length (indexed plan (get_or lists q [])) ≡ length (get_or tables q [])
+          → length (indexed (get_or lists q [])) ≡ length (get_or tables q [])
       as_many plan [] [] q g = refl
       as_many plan [] (es ∷ lists) q g = absurd g
       as_many plan (rs ∷ tables) [] q g = absurd g
-      as_many plan (rs ∷ tables) (es ∷ lists) zero g = sym (ap length g.0.logs_are) ∙ length-map rs (indexed_of es)
+      as_many plan (rs ∷ tables) (es ∷ lists) zero g =
+          sym (length-map (indexed es) (log_by plan)) ∙ sym (ap length g.0.logs_are) ∙ length-map rs (log_of es)
       as_many plan (rs ∷ tables) (es ∷ lists) (suc q) g = as_many plan tables lists q g.1

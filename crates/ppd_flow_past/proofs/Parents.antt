@@ -5,8 +5,8 @@ use Rattle.std.proofs.lemmas.List.{get_or_append_left, get_or_at, length-append,
 use Rattle.std.proofs.lemmas.Option.{none-some, same_Some, slice_get_past, unwrap_or-slice_get}
 use Rattle.ppd_entry.specs.declared.entry.Entry.{Entry}
 use Rattle.ppd_entry.specs.declared.entry.Entry.TheVariants as entry
-use Rattle.ppd_model.specs.Extents.{Extent, extend, extents, Indexing}
-use Rattle.ppd_model.proofs.ExtentWords.{begun_extents, ended_by, left_by}
+use Rattle.ppd_model.specs.Extents.{Extent, extents}
+use Rattle.ppd_model.proofs.ExtentWords.{Extending, begun_extents, ended_by, extend, extents_are, left_by}
 use Rattle.ppd_model.specs.World.{change}
 use Rattle.ppd_model.proofs.Items.{rest_below, AreBelow}
 use Rattle.ppd_flow_past.specs.SeenBy.{rounds_by}
@@ -77,7 +77,7 @@ earlier_more n (q ∷ ps) p h b = (h.0, earlier_more (suc n) ps p h.1 (subst (λ
 abbrev parents_in : List Extent → List (Option ℕ)
 parents_in xs = map (λ (x : Extent). x.parent) xs
 
-record IsSound (x : Indexing Extent) : Type 0 where
+record IsSound (x : Extending) : Type 0 where
   running : AreBelow (length (parents_in x.intervals)) x.running
   earlier : AreEarlier 0 (parents_in x.intervals)
 
@@ -96,7 +96,7 @@ quiet_ended j [] xs = refl
 quiet_ended j (k ∷ ks) xs = quiet_ended j ks (change (λ x. record x { last = Some j }) k xs)
     ∙ quiet (λ x. record x { last = Some j }) (λ x. refl) k xs
 
-sound_step : (x : Indexing Extent) (e : Entry) → IsSound x → IsSound (extend x e)
+sound_step : (x : Extending) (e : Entry) → IsSound x → IsSound (extend x e)
 sound_step x (entry.Prelog b values) h =
     let ps = parents_in x.intervals in
     let whole : parents_in (extend x (entry.Prelog b values)).intervals
@@ -132,12 +132,14 @@ sound_step x (entry.End status rest reads writes) h =
 sound_step x (entry.Unit u values) h = record { running = h.running; earlier = h.earlier }
 sound_step x (entry.Sync kind object number value reads writes) h = record { running = h.running; earlier = h.earlier }
 
-sound_fold : (x : Indexing Extent) (es : List Entry) → IsSound x → IsSound (fold extend x es)
+sound_fold : (x : Extending) (es : List Entry) → IsSound x → IsSound (fold extend x es)
 sound_fold x [] h = h
 sound_fold x (e ∷ es) h = sound_fold (extend x e) es (sound_step x e h)
 
 parents_earlier : (entries : List Entry) → AreEarlier 0 (parents_in (extents entries))
-parents_earlier entries = (sound_fold begun_extents entries (record { running = tt; earlier = tt })).earlier
+parents_earlier entries =
+    subst (λ xs. AreEarlier 0 (parents_in xs)) (sym (extents_are entries))
+    (sound_fold begun_extents entries (record { running = tt; earlier = tt })).earlier
 
 -- round an interval are its parent and those round that one
 round_at_parent : (entries : List Entry) (k : ℕ) (parent : Option ℕ)

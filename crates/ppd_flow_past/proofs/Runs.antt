@@ -10,7 +10,7 @@ use Rattle.ppd_ast.specs.declared.program.Program.{Program}
 use Rattle.ppd_blocks.specs.Blocks.{plan_of}
 use Rattle.ppd_emul.specs.Replay.{Replayed, replay}
 use Rattle.ppd_entry.specs.declared.entry.Entry.{Entry}
-use Rattle.ppd_entry.specs.IntervalLogs.{Indexed, indexed}
+use Rattle.ppd_entry.specs.IntervalLogs.{LoggedInterval, indexed, log_by}
 use Rattle.ppd_entry.proofs.Vocabulary.{log_in}
 use Rattle.ppd_model.specs.declared.flow.Item.{Item}
 use Rattle.ppd_model.specs.declared.state.Logging.{Logging}
@@ -40,8 +40,8 @@ use Rattle.ppd_flow_past.proofs.SeenWords.{failure_of}
 
 -- ---- items
 
-as_replayed : (program : Program) (plan : Plan) (budget : ℕ) (o : Option Indexed)
-    → replay_of program plan budget (log_in o) ≡ option_map (λ i. replay program plan i.log budget) o
+as_replayed : (program : Program) (plan : Plan) (budget : ℕ) (o : Option LoggedInterval)
+    → replay_of program plan budget (log_in plan o) ≡ option_map (λ i. replay program plan (log_by plan i) budget) o
 as_replayed program plan budget None = refl
 as_replayed program plan budget (Some i) = refl
 
@@ -49,11 +49,11 @@ as_modelled : (x : Split) (o : Option Span) → modelled_of x o ≡ option_map (
 as_modelled x None = refl
 as_modelled x (Some i) = refl
 
-module _ (program : Program) (plan : Plan) (budget : ℕ) (is : List Indexed) (x : Split)
-    (same : (k : ℕ) → replay_of program plan budget (log_in (slice_get is k))
+module _ (program : Program) (plan : Plan) (budget : ℕ) (is : List LoggedInterval) (x : Split)
+    (same : (k : ℕ) → replay_of program plan budget (log_in plan (slice_get is k))
     ≡ modelled_of x (slice_get x.spans k)) where
-  abbrev by_log : Indexed → Replayed
-  by_log i = replay program plan i.log budget
+  abbrev by_log : LoggedInterval → Replayed
+  by_log i = replay program plan (log_by plan i) budget
 
   replays_same : map by_log is ≡ map (replayed x) x.spans
   replays_same = same_lists (map by_log is) (map (replayed x) x.spans) (λ k.
@@ -127,7 +127,7 @@ module _ (program : Program) (policy : Policy) (budget : ℕ) (h : List ℕ) (p 
   abbrev entries : List Entry
   entries = get_or (closed_logs program plan budget h).lists p []
 
-  same : (k : ℕ) → replay_of program plan budget (log_in (slice_get (indexed plan entries) k))
+  same : (k : ℕ) → replay_of program plan budget (log_in plan (slice_get (indexed entries) k))
       ≡ modelled_of x (slice_get x.spans k)
   same k = replays_give_intervals program policy budget h p k v whole free ∙ ap (modelled_in k) e
 
@@ -146,7 +146,7 @@ module _ (program : Program) (policy : Policy) (budget : ℕ) (h : List ℕ) (p 
   all_seen = record {
     seen =
         ap₂ (λ a b. seen a b (rounds_by (map (λ (z : Extent). z.parent) (extents entries))))
-        (items_same program plan budget (indexed plan entries) x same) (same_blocks x.spans (extents entries) each)
+        (items_same program plan budget (indexed entries) x same) (same_blocks x.spans (extents entries) each)
         ∙ ap (seen (map (items_of x) x.spans) (map (λ (i : Span). i.block) x.spans))
         (ap rounds_by (same_parents x.spans (extents entries) each) ∙ rounds_same program plan budget h p x e);
     never_fails = λ k. ap failure_of (same k) ∙ no_failure x (slice_get x.spans k);

@@ -7,7 +7,7 @@ use Rattle.ppd_emul.specs.EmulError.{EmulError}
 use Rattle.ppd_emul.specs.EmulError.TheVariants.{Diverged, Memory}
 use Rattle.ppd_emul.specs.Laws.{replay_of}
 use Rattle.ppd_emul.specs.Replay.{Replayed, replay}
-use Rattle.ppd_entry.specs.IntervalLogs.{indexed, interval_log}
+use Rattle.ppd_entry.specs.IntervalLogs.{indexed, interval_log, log_by}
 use Rattle.ppd_entry.specs.declared.entry.Entry.{Entry}
 use Rattle.ppd_flow_model.specs.Seen.{Seen}
 use Rattle.ppd_flow_past.specs.declared.past.Past.{Past}
@@ -47,7 +47,7 @@ rounds_by parents =
 -- the items of each interval by its replay, its block, and the intervals round it
 abbrev pub seen_by : Program → Plan → ℕ → List Entry → Seen
 seen_by program plan budget entries = record {
-  items = map (λ i. result_unwrap_or (told_by (replay program plan i.log budget).answer) []) (indexed plan entries);
+  items = map (λ i. result_unwrap_or (told_by (replay program plan (log_by plan i) budget).answer) []) (indexed entries);
   blocks = map (λ x. x.block) (extents entries);
   rounds = rounds_by (map (λ x. x.parent) (extents entries));
 }

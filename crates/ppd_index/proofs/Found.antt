@@ -7,6 +7,7 @@ use Rattle.ppd_ast.specs.declared.plan.Plan.{Plan}
 use Rattle.ppd_ast.specs.declared.program.Program.{Program}
 use Rattle.ppd_entry.specs.declared.entry.Entry.{Entry}
 use Rattle.ppd_entry.specs.Entries.{is_end}
+use Rattle.ppd_entry.specs.IntervalLogs.{Indexing, begun_indexing, blocks_of, functions_in, index_step}
 use Rattle.std.specs.Option.{option_or as or_else}
 use Rattle.ppd_model.proofs.Extents.{one_longer}
 use Rattle.ppd_index.specs.declared.refusal.BadLog.{BadLog}
@@ -14,10 +15,10 @@ use Rattle.ppd_index.specs.declared.refusal.BadLog.TheVariants.{Unpaired, NoEnd,
 use Rattle.ppd_index.specs.declared.row.Row.{Row}
 use Rattle.ppd_index.specs.declared.standing.Standing.{Standing}
 use Rattle.ppd_index.specs.Refusals.{IsRefused, first_bad, first_from, first_in_lists, refusal, standing}
-use Rattle.ppd_index.proofs.Vocabulary.{unended}
+use Rattle.ppd_index.proofs.Vocabulary.{innermost_of, unended}
 use Rattle.ppd_index.specs.Tables.{Tabled, begun_table, rows_of, standing_in, table_step}
 use Rattle.ppd_index.proofs.Rows.{depth_same, innermost_same}
-use Rattle.ppd_index.proofs.Tabled.{here, indexed_step, indexing_of, shifted}
+use Rattle.ppd_index.proofs.Tabled.{IsTabled, begun_tabled, here, indexed_step, shifted}
 
 -- the first refusal of these entries after the table's
 abbrev pub first_by : Plan → ℕ → ℕ → Tabled → Bool → List Entry → Option BadLog
@@ -25,19 +26,22 @@ first_by plan body p t ended [] = unended p t.entry ended
 first_by plan body p t ended (e ∷ es) =
     or_else (refusal plan body p (standing_in ended t) e) (first_by plan body p (table_step plan t e) (ended || is_end e) es)
 
-standing_same : (entries : List Entry) (t : Tabled) (ended : Bool) → standing_in ended t ≡ standing (indexing_of entries t) ended
-standing_same entries t ended =
-    ap₂ (λ o d. let s : Standing = record { entry = t.entry; ended = ended; innermost = o; functions = d } in s) (sym (innermost_same entries t.running t.rows)) (sym (depth_same entries t.running t.rows))
+standing_same : (plan : Plan) (entries : List Entry) (t : Tabled) (x : Indexing) (ended : Bool) → IsTabled plan entries t x → standing_in ended t ≡ standing plan x ended
+standing_same plan entries t x ended h =
+    let at : ℕ → Option ℕ → ℕ → Standing = λ n o d. record { entry = n; ended = ended; innermost = o; functions = d } in
+    ap₂ (λ o d. at t.entry o d) (innermost_same plan entries t.running t.rows x.intervals h.rows) (depth_same plan entries t.running t.rows x.intervals h.rows)
+    ∙ ap₂ (λ n ks. at n (innermost_of ks x.intervals) (functions_in plan (blocks_of ks x.intervals))) h.entry h.running
 
-found_fold : (plan : Plan) (body p : ℕ) (entries done rest : List Entry) (t : Tabled) (ended : Bool) → entries ≡ done ++ rest → t.entry ≡ length done → first_by plan body p t ended rest ≡ first_from plan body p (indexing_of entries t) ended rest
-found_fold plan body p entries done [] t ended is at = refl
-found_fold plan body p entries done (e ∷ es) t ended is at =
-    ap₂ (λ (s : Standing) (later : Option BadLog). or_else (refusal plan body p s e) later) (standing_same entries t ended)
-    (found_fold plan body p entries (done ++ e ∷ []) es (table_step plan t e) (ended || is_end e) (shifted entries done es e is) (one_longer done e t.entry at)
-    ∙ ap (λ x. first_from plan body p x (ended || is_end e) es) (indexed_step plan entries t e (here entries done es e t.entry is at)))
+found_fold : (plan : Plan) (body p : ℕ) (entries done rest : List Entry) (t : Tabled) (x : Indexing) (ended : Bool) → entries ≡ done ++ rest → t.entry ≡ length done → IsTabled plan entries t x
+    → first_by plan body p t ended rest ≡ first_from plan body p x ended rest
+found_fold plan body p entries done [] t x ended is at h = ap (λ n. unended p n ended) h.entry
+found_fold plan body p entries done (e ∷ es) t x ended is at h =
+    ap₂ (λ (s : Standing) (later : Option BadLog). or_else (refusal plan body p s e) later) (standing_same plan entries t x ended h)
+    (found_fold plan body p entries (done ++ e ∷ []) es (table_step plan t e) (index_step x e) (ended || is_end e) (shifted entries done es e is) (one_longer done e t.entry at)
+    (indexed_step plan entries t x e (here entries done es e t.entry is at) h))
 
 pub found_first : (program : Program) (plan : Plan) (p : ℕ) (entries : List Entry) → first_by plan (program.functions + p) p begun_table false entries ≡ first_bad program plan p entries
-found_first program plan p entries = found_fold plan (program.functions + p) p entries [] entries begun_table false refl refl
+found_first program plan p entries = found_fold plan (program.functions + p) p entries [] entries begun_table begun_indexing false refl refl (begun_tabled plan entries)
 
 -- a refusal comes before all later ones
 pub refused_first : (r later : Option BadLog) (e : BadLog) → IsRefused r e → IsRefused (or_else r later) e

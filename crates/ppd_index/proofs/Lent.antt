@@ -6,22 +6,23 @@ use Rattle.ppd_ast.specs.declared.program.Program.{Program}
 use Rattle.ppd_ast.proofs.Walks.{got_some}
 use Rattle.ppd_entry.specs.declared.entry.Entry.{Entry}
 use Rattle.ppd_entry.specs.declared.entry.Logs.{Logs}
-use Rattle.ppd_entry.specs.IntervalLogs.{IntervalLog, Indexed, interval_log}
-use Rattle.ppd_entry.proofs.Vocabulary.{log_in}
+use Rattle.ppd_entry.specs.IntervalLogs.{IntervalLog, indexed, interval_log, log_by}
 use Rattle.ppd_model.specs.Bounds.{AreEach}
 use Rattle.ppd_model.proofs.Lists.{map_get}
+use Rattle.std.proofs.lemmas.Option.{slice_get-map}
 use Rattle.ppd_index.specs.declared.row.Row.{Row}
 use Rattle.ppd_index.specs.Fitting.{AreFittingLogs, IsFittingLog}
 use Rattle.ppd_index.specs.Indexes.{AreIntervals, IsLogOf, rows_at}
 use Rattle.ppd_index.specs.Refusals.{first_bad, first_in_lists}
-use Rattle.ppd_index.specs.Tables.{indexed_of, log_of}
+use Rattle.ppd_index.specs.Tables.{log_of}
 use Rattle.ppd_index.proofs.Fitting.{logs_fit, or_none}
 
 lent_in : (plan : Plan) (tables : List (List Row)) (lists : List (List Entry)) (p k : ℕ) (row : Row) → AreEach (AreIntervals plan) tables lists → slice_get (get_or tables p []) k ≡ Some row → interval_log plan (get_or lists p []) k ≡ Some (log_of (get_or lists p []) row)
 lent_in plan [] [] p k row h e = absurd (cc e)
 lent_in plan [] (es ∷ lists) p k row h e = absurd h
 lent_in plan (rows ∷ tables) [] p k row h e = absurd h
-lent_in plan (rows ∷ tables) (es ∷ lists) zero k row h e = ap (λ (is : List Indexed). log_in (slice_get is k)) (sym h.0.logs_are) ∙ ap log_in (map_get (indexed_of es) rows k row e)
+lent_in plan (rows ∷ tables) (es ∷ lists) zero k row h e =
+    sym (slice_get-map (log_by plan) (indexed es) k) ∙ ap (λ (ls : List IntervalLog). slice_get ls k) (sym h.0.logs_are) ∙ map_get (log_of es) rows k row e
 lent_in plan (rows ∷ tables) (es ∷ lists) (suc p) k row h e = lent_in plan tables lists p k row h.1 e
 
 pub lent : (logs : Logs) (tables : List (List Row)) (p k : ℕ) (row : Row) → slice_get (rows_at tables p) k ≡ Some row → IsLogOf logs tables p k (log_of (get_or logs.lists p []) row)

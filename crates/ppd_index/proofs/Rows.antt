@@ -1,125 +1,129 @@
--- What a change of a row is to its interval: pieces that are added, and where it ends.
-use Rattle.std.proofs.Common.{◌≡◌, ℕ, zero, suc, ℤ, List, [], ◌∷◌, ◌++◌, Option, Some, None, refl, ap, ap₂, sym, ◌∙◌, map}
-use Rattle.std.specs.Prelude.{slice_get}
-use Rattle.std.proofs.lemmas.List.{map-append}
-use Rattle.ppd_entry.specs.declared.entry.Entry.{Entry}
-use Rattle.ppd_entry.specs.IntervalLogs.{Indexed, Indexing, add_piece, depth_of, interval_at, left_interval, left_open}
-use Rattle.ppd_entry.proofs.Vocabulary.{with_piece}
+-- What a change of a row is to its interval: where it stands, and its log.
+use Rattle.ppd_ast.specs.declared.plan.Plan.{Plan}
+use Rattle.ppd_entry.proofs.Vocabulary.{with_end, with_piece, with_postlog}
+use Rattle.ppd_entry.specs.IntervalLogs.{Extent, IntervalLog, LoggedInterval, add_piece, blocks_of, functions_in, interval_at, left_interval, left_open, log_by}
 use Rattle.ppd_entry.specs.Pieces.{Piece, nested, postlog, unfinished}
-use Rattle.ppd_model.specs.Extents.{Extent}
-use Rattle.ppd_model.proofs.ExtentWords.{ended_by as ends_by, left_by}
-use Rattle.ppd_model.specs.World.{change}
-use Rattle.ppd_model.proofs.Lists.{map_change}
-use Rattle.ppd_model.proofs.Extents.{close_by, last_by}
+use Rattle.ppd_entry.specs.declared.entry.Entry.{Entry}
+use Rattle.ppd_index.proofs.Vocabulary.{innermost_of}
+use Rattle.ppd_index.specs.Tables.{add_mark, block_in, block_there, closed_by, depth_at, depth_in, ended_by, extent_of, first_in, left_rows, log_of, open_one, open_rows, piece_at, with_mark}
 use Rattle.ppd_index.specs.declared.row.Mark.{Mark}
 use Rattle.ppd_index.specs.declared.row.Mark.TheVariants as mark
 use Rattle.ppd_index.specs.declared.row.Row.{Row}
-use Rattle.ppd_index.proofs.Vocabulary.{innermost_of}
-use Rattle.ppd_index.specs.Tables.{add_mark, add_mark_to, block_in, block_there, closed_by, depth_at, depth_in, ended_by, extent_of, first_in, indexed_of, left_rows, open_one, open_rows, piece_at, with_mark}
+use Rattle.ppd_model.proofs.WrittenSpans.{each_both}
+use Rattle.ppd_model.specs.Bounds.{AreEach}
+use Rattle.ppd_model.specs.World.{change}
+use Rattle.std.proofs.Common.{List, Some, [], ap, map, refl, subst, suc, sym, true, zero, ℕ, ℤ, ◌++◌, ◌∙◌, ◌∷◌, ◌≡◌}
+use Rattle.std.proofs.lemmas.List.{map-append}
+use Rattle.std.specs.Prelude.{slice_get}
 
--- ---- changes of a list, seen through a function
+-- ---- changes of a list
 
-pub map_same : {A B : Type 0} (h : A → B) (f : A → A) (i : ℕ) (xs : List A) → ((x : A) → h (f x) ≡ h x) → map h (change f i xs) ≡ map h xs
-map_same h f i [] e = refl
-map_same h f zero (x ∷ xs) e = ap (λ y. y ∷ map h xs) (e x)
-map_same h f (suc i) (x ∷ xs) e = ap (λ ys. h x ∷ ys) (map_same h f i xs e)
+change_twice : {A : Type 0} (f g : A → A) (k : ℕ) (xs : List A) → change f k (change g k xs) ≡ change (λ x. f (g x)) k xs
+change_twice f g k [] = refl
+change_twice f g zero (x ∷ xs) = refl
+change_twice f g (suc k) (x ∷ xs) = ap (λ ys. x ∷ ys) (change_twice f g k xs)
 
--- ---- pieces
+module _ (plan : Plan) (entries : List Entry) where
+  -- the row is that of the interval
+  pub record IsRow (r : Row) (i : LoggedInterval) : Type 0 where
+    pub extent : extent_of r ≡ i.extent
+    pub log : log_of entries r ≡ log_by plan i
 
-abbrev logs_of : List Entry → List Row → List Indexed
-logs_of entries rows = map (indexed_of entries) rows
+  abbrev pub AreRows : List Row → List LoggedInterval → Type 0
+  AreRows rows is = AreEach IsRow rows is
 
-marked_row : (entries : List Entry) (m : Mark) (n : ℕ) (p : Piece) (r : Row) → piece_at entries m ≡ (n, p) → indexed_of entries (with_mark m r) ≡ with_piece n p (indexed_of entries r)
-marked_row entries m n p r e =
-    let i : Indexed = indexed_of entries r in
-    ap (λ ps. record i { log = record i.log { pieces = ps } }) (map-append (piece_at entries) r.marks (m ∷ []) ∙ ap (λ x. map (piece_at entries) r.marks ++ x ∷ []) e)
+  -- ---- what each row has
 
-pub marked_at : (entries : List Entry) (m : Mark) (n : ℕ) (p : Piece) (k : ℕ) (rows : List Row) → piece_at entries m ≡ (n, p) → logs_of entries (change (with_mark m) k rows) ≡ change (with_piece n p) k (logs_of entries rows)
-marked_at entries m n p k [] e = refl
-marked_at entries m n p zero (r ∷ rs) e = ap (λ i. i ∷ logs_of entries rs) (marked_row entries m n p r e)
-marked_at entries m n p (suc k) (r ∷ rs) e = ap (λ is. indexed_of entries r ∷ is) (marked_at entries m n p k rs e)
+  pub extents_by_rows : (rows : List Row) (is : List LoggedInterval) → AreRows rows is → map extent_of rows ≡ map (λ (i : LoggedInterval). i.extent) is
+  extents_by_rows [] [] h = refl
+  extents_by_rows [] (i ∷ is) h = absurd h
+  extents_by_rows (r ∷ rs) [] h = absurd h
+  extents_by_rows (r ∷ rs) (i ∷ is) h = ap (λ x. x ∷ map extent_of rs) h.0.extent ∙ ap (λ xs. i.extent ∷ xs) (extents_by_rows rs is h.1)
 
-pub marked : (entries : List Entry) (m : Mark) (n : ℕ) (p : Piece) (ks : List ℕ) (rows : List Row) → piece_at entries m ≡ (n, p) → logs_of entries (add_mark m ks rows) ≡ add_piece n p ks (logs_of entries rows)
-marked entries m n p [] rows e = refl
-marked entries m n p (k ∷ ks) rows e = marked_at entries m n p k rows e
+  pub logs_by_rows : (rows : List Row) (is : List LoggedInterval) → AreRows rows is → map (log_of entries) rows ≡ map (log_by plan) is
+  logs_by_rows [] [] h = refl
+  logs_by_rows [] (i ∷ is) h = absurd h
+  logs_by_rows (r ∷ rs) [] h = absurd h
+  logs_by_rows (r ∷ rs) (i ∷ is) h = ap (λ x. x ∷ map (log_of entries) rs) h.0.log ∙ ap (λ xs. log_by plan i ∷ xs) (logs_by_rows rs is h.1)
 
--- ---- look-ups
+  first_same : (k : ℕ) (rows : List Row) (is : List LoggedInterval) → AreRows rows is → first_in (slice_get rows k) ≡ (interval_at is k).extent.prelog
+  first_same k [] [] h = refl
+  first_same k [] (i ∷ is) h = absurd h
+  first_same k (r ∷ rs) [] h = absurd h
+  first_same zero (r ∷ rs) (i ∷ is) h = ap (λ (x : Extent). x.prelog) h.0.extent
+  first_same (suc k) (r ∷ rs) (i ∷ is) h = first_same k rs is h.1
 
-pub first_same : (entries : List Entry) (k : ℕ) (rows : List Row) → (interval_at (logs_of entries rows) k).first ≡ first_in (slice_get rows k)
-first_same entries k [] = refl
-first_same entries zero (r ∷ rs) = refl
-first_same entries (suc k) (r ∷ rs) = first_same entries k rs
+  block_same : (k : ℕ) (rows : List Row) (is : List LoggedInterval) → AreRows rows is → block_in (slice_get rows k) ≡ (interval_at is k).extent.block
+  block_same k [] [] h = refl
+  block_same k [] (i ∷ is) h = absurd h
+  block_same k (r ∷ rs) [] h = absurd h
+  block_same zero (r ∷ rs) (i ∷ is) h = ap (λ (x : Extent). x.block) h.0.extent
+  block_same (suc k) (r ∷ rs) (i ∷ is) h = block_same k rs is h.1
 
-pub block_same : (entries : List Entry) (k : ℕ) (rows : List Row) → (interval_at (logs_of entries rows) k).log.block ≡ block_in (slice_get rows k)
-block_same entries k [] = refl
-block_same entries zero (r ∷ rs) = refl
-block_same entries (suc k) (r ∷ rs) = block_same entries k rs
+  depth_same_at : (k : ℕ) (rows : List Row) (is : List LoggedInterval) → AreRows rows is → depth_in (slice_get rows k) ≡ functions_in plan (interval_at is k).blocks
+  depth_same_at k [] [] h = refl
+  depth_same_at k [] (i ∷ is) h = absurd h
+  depth_same_at k (r ∷ rs) [] h = absurd h
+  depth_same_at zero (r ∷ rs) (i ∷ is) h = ap (λ (x : IntervalLog). x.depth) h.0.log
+  depth_same_at (suc k) (r ∷ rs) (i ∷ is) h = depth_same_at k rs is h.1
 
-depth_same_at : (entries : List Entry) (k : ℕ) (rows : List Row) → (interval_at (logs_of entries rows) k).log.depth ≡ depth_in (slice_get rows k)
-depth_same_at entries k [] = refl
-depth_same_at entries zero (r ∷ rs) = refl
-depth_same_at entries (suc k) (r ∷ rs) = depth_same_at entries k rs
+  pub depth_same : (ks : List ℕ) (rows : List Row) (is : List LoggedInterval) → AreRows rows is → depth_at ks rows ≡ functions_in plan (blocks_of ks is)
+  depth_same [] rows is h = refl
+  depth_same (k ∷ ks) rows is h = depth_same_at k rows is h
 
-pub depth_same : (entries : List Entry) (ks : List ℕ) (rows : List Row) → depth_of ks (logs_of entries rows) ≡ depth_at ks rows
-depth_same entries [] rows = refl
-depth_same entries (k ∷ ks) rows = depth_same_at entries k rows
+  pub innermost_same : (ks : List ℕ) (rows : List Row) (is : List LoggedInterval) → AreRows rows is → block_there (slice_get ks 0) rows ≡ innermost_of ks is
+  innermost_same [] rows is h = refl
+  innermost_same (k ∷ ks) rows is h = ap (λ (b : ℕ). Some b) (block_same k rows is h)
 
-pub innermost_same : (entries : List Entry) (ks : List ℕ) (rows : List Row) → innermost_of ks (logs_of entries rows) ≡ block_there (slice_get ks 0) rows
-innermost_same entries [] rows = refl
-innermost_same entries (k ∷ ks) rows = ap (λ (b : ℕ). Some b) (block_same entries k rows)
+  -- ---- pieces
 
--- ---- an interval is left
+  marked_row : (m : Mark) (n : ℕ) (p : Piece) → piece_at entries m ≡ (n, p) → (r : Row) (i : LoggedInterval) → IsRow r i → IsRow (with_mark m r) (with_piece n p i)
+  marked_row m n p e r i h =
+      let with_it : IntervalLog → IntervalLog = λ l. record l { pieces = l.pieces ++ (n, p) ∷ [] } in
+      let marks : log_of entries (with_mark m r) ≡ with_it (log_of entries r) =
+      ap (λ ps. record (log_of entries r) { pieces = ps }) (map-append (piece_at entries) r.marks (m ∷ []) ∙ ap (λ x. map (piece_at entries) r.marks ++ x ∷ []) e) in
+      record { extent = h.extent; log = marks ∙ ap with_it h.log }
 
-abbrev within : List Indexed → List ℕ → ℕ → Indexing Indexed
-within intervals running n = record { intervals = intervals; running = running; entry = n }
+  pub marked : (m : Mark) (n : ℕ) (p : Piece) (ks : List ℕ) (rows : List Row) (is : List LoggedInterval) → piece_at entries m ≡ (n, p) → AreRows rows is → AreRows (add_mark m ks rows) (add_piece n p ks is)
+  marked m n p [] rows is e h = h
+  marked m n p (k ∷ ks) rows is e h = each_both IsRow (with_mark m) (with_piece n p) (marked_row m n p e) k rows is h
 
-pub left_same : (entries : List Entry) (n : ℕ) (values : List ℤ) (ks : List ℕ) (rows : List Row) → ((k : ℕ) (b f : ℕ) → piece_at entries (mark.Left k b f n) ≡ (f, nested k b values)) → piece_at entries (mark.Own n) ≡ (n, postlog values)
-    → logs_of entries (left_rows n ks rows) ≡ left_interval (within (logs_of entries rows) ks n) ks values
-left_same entries n values [] rows outer own = refl
-left_same entries n values (k ∷ ks) rows outer own =
-    let b = block_in (slice_get rows k) in
-    let f = first_in (slice_get rows k) in
-    let inside = change (with_mark (mark.Own n)) k rows in
-    marked entries (mark.Left k b f n) f (nested k b values) ks (change (closed_by n) k inside) (outer k b f)
-    ∙ (ap (λ is. add_piece f (nested k b values) ks is) (map_same (indexed_of entries) (closed_by n) k inside (λ r. refl) ∙ marked_at entries (mark.Own n) n (postlog values) k rows own)
-    ∙ ap₂ (λ x y. add_piece x (nested k y values) ks (change (with_piece n (postlog values)) k (logs_of entries rows))) (sym (first_same entries k rows)) (sym (block_same entries k rows)))
+  -- ---- an interval is left
 
--- ---- the process comes to its end
+  closed_row : (n : ℕ) (values : List ℤ) → piece_at entries (mark.Own n) ≡ (n, postlog values) → (r : Row) (i : LoggedInterval) → IsRow r i
+      → IsRow (closed_by n (with_mark (mark.Own n) r)) (with_postlog n values i)
+  closed_row n values own r i h =
+      let marked' : IsRow (with_mark (mark.Own n) r) (with_piece n (postlog values) i) = marked_row (mark.Own n) n (postlog values) own r i h in
+      record { extent = ap (λ (x : Extent). record x { last = Some n; closed = true }) h.extent; log = marked'.log }
 
-pub open_same : (entries : List Entry) (n : ℕ) (ks : List ℕ) (rows : List Row) → logs_of entries (open_rows n ks rows) ≡ left_open ks (logs_of entries rows)
-open_same entries n [] rows = refl
-open_same entries n (k ∷ ks) rows =
-    let b = block_in (slice_get rows k) in
-    let f = first_in (slice_get rows k) in
-    let one : logs_of entries (open_one n k (slice_get ks 0) rows) ≡ add_piece (interval_at (logs_of entries rows) k).first (unfinished k (interval_at (logs_of entries rows) k).log.block) ks (logs_of entries rows) =
-    marked entries (mark.Open k b f) f (unfinished k b) ks (change (ended_by n) k rows) refl
-    ∙ (ap (λ is. add_piece f (unfinished k b) ks is) (map_same (indexed_of entries) (ended_by n) k rows (λ r. refl))
-    ∙ ap₂ (λ x y. add_piece x (unfinished k y) ks (logs_of entries rows)) (sym (first_same entries k rows)) (sym (block_same entries k rows))) in
-    open_same entries n ks (open_one n k (slice_get ks 0) rows) ∙ ap (λ is. left_open ks is) one
+  pub left_same : (n : ℕ) (values : List ℤ) (ks : List ℕ) (rows : List Row) (is : List LoggedInterval) → ((k b f : ℕ) → piece_at entries (mark.Left k b f n) ≡ (f, nested k b values)) → piece_at entries (mark.Own n) ≡ (n, postlog values)
+      → AreRows rows is → AreRows (left_rows n ks rows) (left_interval n values ks is)
+  left_same n values [] rows is outer own h = h
+  left_same n values (k ∷ ks) rows is outer own h =
+      let b = block_in (slice_get rows k) in
+      let f = first_in (slice_get rows k) in
+      let left : List LoggedInterval = change (with_postlog n values) k is in
+      let inside : AreRows (change (closed_by n) k (change (with_mark (mark.Own n)) k rows)) left =
+      subst (λ rs. AreRows rs left) (sym (change_twice (closed_by n) (with_mark (mark.Own n)) k rows))
+      (each_both IsRow (λ r. closed_by n (with_mark (mark.Own n) r)) (with_postlog n values) (closed_row n values own) k rows is h) in
+      subst (λ c. AreRows (left_rows n (k ∷ ks) rows) (add_piece (interval_at is k).extent.prelog (nested k c values) ks left)) (block_same k rows is h)
+      (subst (λ g. AreRows (left_rows n (k ∷ ks) rows) (add_piece g (nested k b values) ks left)) (first_same k rows is h)
+      (marked (mark.Left k b f n) f (nested k b values) ks (change (closed_by n) k (change (with_mark (mark.Own n)) k rows)) left (outer k b f) inside))
 
--- ---- where intervals stand
+  -- ---- the process comes to its end
 
-abbrev extents_in : List Row → List Extent
-extents_in rows = map extent_of rows
+  ended_row : (n : ℕ) (r : Row) (i : LoggedInterval) → IsRow r i → IsRow (ended_by n r) (with_end n i)
+  ended_row n r i h = record { extent = ap (λ (x : Extent). record x { last = Some n }) h.extent; log = h.log }
 
-pub marked_to_extents : (m : Mark) (outer : Option ℕ) (rows : List Row) → extents_in (add_mark_to m outer rows) ≡ extents_in rows
-marked_to_extents m None rows = refl
-marked_to_extents m (Some k) rows = map_same extent_of (with_mark m) k rows (λ r. refl)
-
-pub marked_extents : (m : Mark) (ks : List ℕ) (rows : List Row) → extents_in (add_mark m ks rows) ≡ extents_in rows
-marked_extents m ks rows = marked_to_extents m (slice_get ks 0) rows
-
-pub left_extents : (n : ℕ) (ks : List ℕ) (rows : List Row) → extents_in (left_rows n ks rows) ≡ left_by n ks (extents_in rows)
-left_extents n [] rows = refl
-left_extents n (k ∷ ks) rows =
-    let inside = change (with_mark (mark.Own n)) k rows in
-    marked_to_extents (mark.Left k (block_in (slice_get rows k)) (first_in (slice_get rows k)) n) (slice_get ks 0) (change (closed_by n) k inside)
-    ∙ (map_change extent_of (closed_by n) (close_by n) k inside (λ r. refl)
-    ∙ ap (λ xs. change (close_by n) k xs) (map_same extent_of (with_mark (mark.Own n)) k rows (λ r. refl)))
-
-pub open_extents : (n : ℕ) (ks : List ℕ) (rows : List Row) → extents_in (open_rows n ks rows) ≡ ends_by n ks (extents_in rows)
-open_extents n [] rows = refl
-open_extents n (k ∷ ks) rows =
-    let one : extents_in (open_one n k (slice_get ks 0) rows) ≡ change (last_by n) k (extents_in rows) =
-    marked_to_extents (mark.Open k (block_in (slice_get rows k)) (first_in (slice_get rows k))) (slice_get ks 0) (change (ended_by n) k rows) ∙ map_change extent_of (ended_by n) (last_by n) k rows (λ r. refl) in
-    open_extents n ks (open_one n k (slice_get ks 0) rows) ∙ ap (λ xs. ends_by n ks xs) one
+  pub open_same : (n : ℕ) (ks : List ℕ) (rows : List Row) (is : List LoggedInterval) → AreRows rows is → AreRows (open_rows n ks rows) (left_open n ks is)
+  open_same n [] rows is h = h
+  open_same n (k ∷ ks) rows is h =
+      let b = block_in (slice_get rows k) in
+      let f = first_in (slice_get rows k) in
+      let ended : List LoggedInterval = change (with_end n) k is in
+      let one : AreRows (open_one n k (slice_get ks 0) rows) (add_piece (interval_at is k).extent.prelog (unfinished k (interval_at is k).extent.block) ks ended) =
+      subst (λ c. AreRows (open_one n k (slice_get ks 0) rows) (add_piece (interval_at is k).extent.prelog (unfinished k c) ks ended)) (block_same k rows is h)
+      (subst (λ g. AreRows (open_one n k (slice_get ks 0) rows) (add_piece g (unfinished k b) ks ended)) (first_same k rows is h)
+      (marked (mark.Open k b f) f (unfinished k b) ks (change (ended_by n) k rows) ended refl
+      (each_both IsRow (ended_by n) (with_end n) (ended_row n) k rows is h))) in
+      open_same n ks (open_one n k (slice_get ks 0) rows) (add_piece (interval_at is k).extent.prelog (unfinished k (interval_at is k).extent.block) ks ended) one

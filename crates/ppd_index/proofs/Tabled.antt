@@ -1,82 +1,82 @@
 -- The rows of a process's entries are its intervals, and their logs.
-use Rattle.std.proofs.Common.{◌≡◌, ℕ, ◌+◌, List, [], ◌∷◌, ◌++◌, Option, Some, refl, ap, ap₂, sym, subst, ◌∙◌, length, map}
-use Rattle.std.specs.Prelude.{drop, fold, slice_get, if◌then◌else◌}
-use Rattle.std.proofs.lemmas.List.{append-nil, append_assoc, length-map, map-append}
+use Rattle.std.proofs.Common.{◌≡◌, ℕ, ◌+◌, List, [], ◌∷◌, ◌++◌, Option, Some, refl, ap, ap₂, sym, subst, ◌∙◌, length, map, arith}
+use Rattle.std.specs.Prelude.{fold, slice_get, if◌then◌else◌}
+use Rattle.std.proofs.lemmas.List.{append-nil, append_assoc}
 use Rattle.ppd_ast.specs.declared.plan.Plan.{Plan}
+use Rattle.ppd_entry.proofs.Vocabulary.{new_interval}
 use Rattle.ppd_entry.specs.declared.entry.Entry.{Entry}
 use Rattle.ppd_entry.specs.declared.entry.Entry.TheVariants as entry
-use Rattle.ppd_entry.specs.IntervalLogs.{Indexed, Indexing, index_step, left_open, new_interval}
+use Rattle.ppd_entry.specs.IntervalLogs.{Indexing, LoggedInterval, add_piece, begun_indexing, blocks_of, functions_in, index_step, indexed}
 use Rattle.ppd_entry.specs.Pieces.{Piece, finish, nested, postlog, sync, unit}
-use Rattle.ppd_sem.specs.Blocks.{block_kind, is_function}
 use Rattle.ppd_model.specs.Bounds.{AreEach}
-use Rattle.ppd_model.specs.Extents.{Extent, extend}
-use Rattle.ppd_model.proofs.ExtentWords.{ended_by as ends_by}
 use Rattle.ppd_model.proofs.Extents.{one_longer}
+use Rattle.ppd_model.proofs.WrittenSpans.{each_end, each_length}
 use Rattle.ppd_index.specs.declared.row.Mark.TheVariants as mark
 use Rattle.ppd_index.specs.declared.row.Row.{Row}
 use Rattle.ppd_index.specs.Indexes.{AreIntervals}
-use Rattle.ppd_index.specs.Tables.{Tabled, add_mark, begun_table, extent_of, indexed_of, new_row, own_piece, piece_at, piece_there, rows_of, table_step, values_there}
-use Rattle.ppd_index.proofs.Rows.{depth_same, left_extents, left_same, marked, marked_extents, open_extents, open_same}
+use Rattle.ppd_index.specs.Tables.{Tabled, add_mark, begun_table, log_of, new_row, own_piece, piece_at, piece_there, rows_of, table_step, values_there}
+use Rattle.ppd_index.proofs.Rows.{AreRows, IsRow, depth_same, extents_by_rows, left_same, logs_by_rows, marked, open_same}
 
--- ---- logs
+-- ---- one entry
 
--- the table as the definition of interval logs has it
-abbrev pub indexing_of : List Entry → Tabled → Indexing Indexed
-indexing_of entries t = record { intervals = map (indexed_of entries) t.rows; running = t.running; entry = t.entry }
+-- the table is that of these intervals
+pub record IsTabled (plan : Plan) (entries : List Entry) (t : Tabled) (x : Indexing) : Type 0 where
+  pub rows : AreRows plan entries t.rows x.intervals
+  pub running : t.running ≡ x.running
+  pub entry : t.entry ≡ x.entry
 
 abbrev numbered : ℕ → Piece → ℕ × Piece
 numbered n p = (n, p)
 
-abbrev next : List Indexed → List ℕ → ℕ → Indexing Indexed
-next intervals running n = record { intervals = intervals; running = running; entry = n + 1 }
-
 own : (entries : List Entry) (n : ℕ) (e : Entry) (p : Piece) → slice_get entries n ≡ Some e → own_piece e ≡ p → piece_at entries (mark.Own n) ≡ numbered n p
 own entries n e p there is = ap (λ (o : Option Entry). numbered n (piece_there o)) there ∙ ap (λ q. numbered n q) is
 
-pub indexed_step : (plan : Plan) (entries : List Entry) (t : Tabled) (e : Entry) → slice_get entries t.entry ≡ Some e → indexing_of entries (table_step plan t e) ≡ index_step plan (indexing_of entries t) e
-indexed_step plan entries t (entry.Prelog b values) there =
-    let x = indexing_of entries t in
-    let row = new_row plan t.entry b t.running t.rows in
-    let same : indexed_of entries row ≡ new_interval plan x b values =
-    ap₂ (λ vs d. record (new_interval plan x b values) { log = record (new_interval plan x b values).log { values = vs; depth = d + (if is_function (block_kind plan b) then 1 else 0) } })
-    (ap values_there there) (sym (depth_same entries t.running t.rows)) in
-    ap₂ (λ is n. next is (n ∷ t.running) t.entry)
-    (map-append (indexed_of entries) t.rows (row ∷ []) ∙ ap (λ i. map (indexed_of entries) t.rows ++ i ∷ []) same)
-    (sym (length-map t.rows (indexed_of entries)))
-indexed_step plan entries t (entry.Unit u values) there =
-    ap (λ is. next is t.running t.entry) (marked entries (mark.Own t.entry) t.entry (unit u values) t.running t.rows (own entries t.entry (entry.Unit u values) (unit u values) there refl))
-indexed_step plan entries t (entry.Sync kind object number value reads writes) there =
-    ap (λ is. next is t.running t.entry)
-    (marked entries (mark.Own t.entry) t.entry (sync kind object number value) t.running t.rows (own entries t.entry (entry.Sync kind object number value reads writes) (sync kind object number value) there refl))
-indexed_step plan entries t (entry.Postlog b values) there =
-    ap (λ is. next is (drop 1 t.running) t.entry)
-    (left_same entries t.entry values t.running t.rows (λ k c f. ap (λ (o : Option Entry). numbered f (nested k c (values_there o))) there) (own entries t.entry (entry.Postlog b values) (postlog values) there refl))
-indexed_step plan entries t (entry.End status rest reads writes) there =
-    ap (λ is. next is t.running t.entry)
-    (open_same entries t.entry t.running (add_mark (mark.Own t.entry) t.running t.rows)
-    ∙ ap (λ is. left_open t.running is)
-    (marked entries (mark.Own t.entry) t.entry (finish status rest) t.running t.rows (own entries t.entry (entry.End status rest reads writes) (finish status rest) there refl)))
+module _ (plan : Plan) (entries : List Entry) (rows : List Row) (is : List LoggedInterval) (ks : List ℕ) (n : ℕ) (h : AreRows plan entries rows is) where
+  abbrev t : Tabled
+  t = record { rows = rows; running = ks; entry = n }
 
--- ---- where intervals stand
+  abbrev x : Indexing
+  x = record { intervals = is; running = ks; entry = n }
 
-abbrev pub extending_of : Tabled → Indexing Extent
-extending_of t = record { intervals = map extent_of t.rows; running = t.running; entry = t.entry }
+  own_step : (e : Entry) (p : Piece) → slice_get entries n ≡ Some e → own_piece e ≡ p → AreRows plan entries (add_mark (mark.Own n) ks rows) (add_piece n p ks is)
+  own_step e p there is' = marked plan entries (mark.Own n) n p ks rows is (own entries n e p there is') h
 
-abbrev following : List Extent → List ℕ → ℕ → Indexing Extent
-following xs running n = record { intervals = xs; running = running; entry = n + 1 }
+  step_by : (e : Entry) → slice_get entries n ≡ Some e → IsTabled plan entries (table_step plan t e) (index_step x e)
+  step_by (entry.Prelog b values) there =
+      let row : Row = new_row plan n b ks rows in
+      let deep : row.depth ≡ functions_in plan (b ∷ blocks_of ks is) = let d = depth_same plan entries ks rows is h in omega (arith, d) in
+      record {
+        rows = each_end (IsRow plan entries) rows is row (new_interval x b values) h (record {
+          extent = refl;
+          log = ap₂ (λ vs d. record (log_of entries row) { values = vs; depth = d }) (ap values_there there) deep;
+        });
+        running = ap (λ k. k ∷ ks) (each_length (IsRow plan entries) rows is h);
+        entry = refl;
+      }
+  step_by (entry.Unit u values) there = record { rows = own_step (entry.Unit u values) (unit u values) there refl; running = refl; entry = refl }
+  step_by (entry.Sync kind object number value reads writes) there =
+      record { rows = own_step (entry.Sync kind object number value reads writes) (sync kind object number value) there refl; running = refl; entry = refl }
+  step_by (entry.Postlog b values) there = record {
+    rows = left_same plan entries n values ks rows is (λ k c f. ap (λ (o : Option Entry). numbered f (nested k c (values_there o))) there)
+        (own entries n (entry.Postlog b values) (postlog values) there refl) h;
+    running = refl;
+    entry = refl;
+  }
+  step_by (entry.End status rest reads writes) there = record {
+    rows = open_same plan entries n ks (add_mark (mark.Own n) ks rows) (add_piece n (finish status rest) ks is)
+        (own_step (entry.End status rest reads writes) (finish status rest) there refl);
+    running = refl;
+    entry = refl;
+  }
 
-pub extent_step : (plan : Plan) (t : Tabled) (e : Entry) → extending_of (table_step plan t e) ≡ extend (extending_of t) e
-extent_step plan t (entry.Prelog b values) =
-    ap₂ (λ xs n. following xs (n ∷ t.running) t.entry)
-    (map-append extent_of t.rows (new_row plan t.entry b t.running t.rows ∷ []))
-    (sym (length-map t.rows extent_of))
-extent_step plan t (entry.Unit u values) = ap (λ xs. following xs t.running t.entry) (marked_extents (mark.Own t.entry) t.running t.rows)
-extent_step plan t (entry.Sync kind object number value reads writes) = ap (λ xs. following xs t.running t.entry) (marked_extents (mark.Own t.entry) t.running t.rows)
-extent_step plan t (entry.Postlog b values) = ap (λ xs. following xs (drop 1 t.running) t.entry) (left_extents t.entry t.running t.rows)
-extent_step plan t (entry.End status rest reads writes) =
-    ap (λ xs. following xs t.running t.entry)
-    (open_extents t.entry t.running (add_mark (mark.Own t.entry) t.running t.rows)
-    ∙ ap (λ xs. ends_by t.entry t.running xs) (marked_extents (mark.Own t.entry) t.running t.rows))
+pub indexed_step : (plan : Plan) (entries : List Entry) (t : Tabled) (x : Indexing) (e : Entry) → slice_get entries t.entry ≡ Some e → IsTabled plan entries t x → IsTabled plan entries (table_step plan t e) (index_step x e)
+indexed_step plan entries t x e there h =
+    subst (λ ks. IsTabled plan entries (table_step plan t e) (index_step (record { intervals = x.intervals; running = ks; entry = x.entry }) e)) h.running
+    (subst (λ n. IsTabled plan entries (table_step plan t e) (index_step (record { intervals = x.intervals; running = t.running; entry = n }) e)) h.entry
+    (step_by plan entries t.rows x.intervals t.running t.entry h.rows e there))
+
+pub begun_tabled : (plan : Plan) (entries : List Entry) → IsTabled plan entries begun_table begun_indexing
+begun_tabled plan entries = record { rows = tt; running = refl; entry = refl }
 
 -- ---- all entries
 
@@ -91,21 +91,19 @@ here entries done rest e n is at = ap₂ (λ (es : List Entry) (i : ℕ). slice_
 pub shifted : (entries done rest : List Entry) (e : Entry) → entries ≡ done ++ e ∷ rest → entries ≡ (done ++ e ∷ []) ++ rest
 shifted entries done rest e is = is ∙ sym (append_assoc done (e ∷ []) rest)
 
-logs_fold : (plan : Plan) (entries done rest : List Entry) (t : Tabled) → entries ≡ done ++ rest → t.entry ≡ length done → indexing_of entries (fold (table_step plan) t rest) ≡ fold (index_step plan) (indexing_of entries t) rest
-logs_fold plan entries done [] t is at = refl
-logs_fold plan entries done (e ∷ es) t is at =
-    logs_fold plan entries (done ++ e ∷ []) es (table_step plan t e) (shifted entries done es e is) (one_longer done e t.entry at)
-    ∙ ap (λ x. fold (index_step plan) x es) (indexed_step plan entries t e (here entries done es e t.entry is at))
-
-extents_fold : (plan : Plan) (rest : List Entry) (t : Tabled) → extending_of (fold (table_step plan) t rest) ≡ fold extend (extending_of t) rest
-extents_fold plan [] t = refl
-extents_fold plan (e ∷ es) t = extents_fold plan es (table_step plan t e) ∙ ap (λ x. fold extend x es) (extent_step plan t e)
+tabled_fold : (plan : Plan) (entries done rest : List Entry) (t : Tabled) (x : Indexing) → entries ≡ done ++ rest → t.entry ≡ length done → IsTabled plan entries t x → IsTabled plan entries (fold (table_step plan) t rest) (fold index_step x rest)
+tabled_fold plan entries done [] t x is at h = h
+tabled_fold plan entries done (e ∷ es) t x is at h =
+    tabled_fold plan entries (done ++ e ∷ []) es (table_step plan t e) (index_step x e) (shifted entries done es e is) (one_longer done e t.entry at)
+    (indexed_step plan entries t x e (here entries done es e t.entry is at) h)
 
 pub are_intervals : (plan : Plan) (entries : List Entry) → AreIntervals plan (rows_of plan entries) entries
-are_intervals plan entries = record {
-  extents_are = ap (λ (x : Indexing Extent). x.intervals) (extents_fold plan entries begun_table);
-  logs_are = ap (λ (x : Indexing Indexed). x.intervals) (logs_fold plan entries [] entries begun_table refl refl);
-}
+are_intervals plan entries =
+    let h : AreRows plan entries (rows_of plan entries) (indexed entries) = (tabled_fold plan entries [] entries begun_table begun_indexing refl refl (begun_tabled plan entries)).rows in
+    record {
+      extents_are = extents_by_rows plan entries (rows_of plan entries) (indexed entries) h;
+      logs_are = logs_by_rows plan entries (rows_of plan entries) (indexed entries) h;
+    }
 
 pub all_are_intervals : (plan : Plan) (lists : List (List Entry)) → AreEach (AreIntervals plan) (map (rows_of plan) lists) lists
 all_are_intervals plan [] = tt

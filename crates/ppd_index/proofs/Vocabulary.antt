@@ -2,7 +2,7 @@
 use Rattle.ppd_ast.specs.declared.plan.Block.{Block}
 use Rattle.ppd_ast.specs.declared.plan.BlockKind.{BlockKind}
 use Rattle.ppd_ast.specs.declared.plan.Unit.{Unit}
-use Rattle.ppd_entry.specs.IntervalLogs.{Indexed, interval_at}
+use Rattle.ppd_entry.specs.IntervalLogs.{LoggedInterval, interval_at}
 use Rattle.ppd_index.specs.declared.refusal.BadLog.{BadLog}
 use Rattle.ppd_index.specs.declared.refusal.BadLog.TheVariants.{NoEnd}
 use Rattle.std.specs.Option.{option_eq, option_map_or}
@@ -17,8 +17,8 @@ abbrev pub is_same : ℕ → Option ℕ → Bool
 is_same b o = option_eq nat_eq o (Some b)
 
 -- the block of the innermost of the running intervals
-abbrev pub innermost_of : List ℕ → List Indexed → Option ℕ
-innermost_of running intervals = option_map (λ k. (interval_at intervals k).log.block) (slice_get running 0)
+abbrev pub innermost_of : List ℕ → List LoggedInterval → Option ℕ
+innermost_of running intervals = option_map (λ k. (interval_at intervals k).extent.block) (slice_get running 0)
 
 -- a list that is over has an end
 abbrev pub unended : ℕ → ℕ → Bool → Option BadLog

@@ -3,19 +3,19 @@ use Rattle.std.specs.Prelude.{◌≡◌, ℕ, List, [], get_or, map, slice_get, 
 use Rattle.ppd_ast.specs.declared.plan.Plan.{Plan}
 use Rattle.ppd_entry.specs.declared.entry.Entry.{Entry}
 use Rattle.ppd_entry.specs.declared.entry.Logs.{Logs}
-use Rattle.ppd_entry.specs.IntervalLogs.{IntervalLog, indexed, interval_log}
+use Rattle.ppd_entry.specs.IntervalLogs.{IntervalLog, indexed, interval_log, log_by}
 use Rattle.ppd_entry.specs.Pieces.{Piece}
 use Rattle.ppd_model.specs.Bounds.{AreEach}
 use Rattle.ppd_model.specs.Extents.{extents}
 use Rattle.ppd_index.specs.declared.interval.Interval.{Interval}
 use Rattle.ppd_index.specs.declared.row.Row.{Row}
-use Rattle.ppd_index.specs.Tables.{extent_of, indexed_of}
+use Rattle.ppd_index.specs.Tables.{extent_of, log_of}
 
 -- these rows are the intervals of these entries: they go from their prelogs to the postlogs that match,
 -- and their logs are those of the definition
 pub record AreIntervals (plan : Plan) (rows : List Row) (entries : List Entry) : Type 0 where
   pub extents_are : map extent_of rows ≡ extents entries
-  pub logs_are : map (indexed_of entries) rows ≡ indexed plan entries
+  pub logs_are : map (log_of entries) rows ≡ map (log_by plan) (indexed entries)
 
 -- so it is with each process
 abbrev pub IsIndexOf : Plan → Logs → List (List Row) → Type 0

@@ -6,7 +6,7 @@ use Rattle.ppd_ast.specs.declared.plan.Plan.{Plan}
 use Rattle.ppd_ast.specs.declared.program.Program.{Program}
 use Rattle.ppd_ast.specs.declared.status.Status.TheVariants as status
 use Rattle.ppd_entry.specs.Entries.{is_end}
-use Rattle.ppd_entry.specs.IntervalLogs.{Indexed, Indexing, begun_indexing, depth_of, index_step, interval_at}
+use Rattle.ppd_entry.specs.IntervalLogs.{Indexing, begun_indexing, blocks_of, functions_in, index_step, interval_at}
 use Rattle.ppd_entry.specs.declared.entry.At.{At}
 use Rattle.ppd_entry.specs.declared.entry.Entry.{Entry}
 use Rattle.ppd_entry.specs.declared.entry.Entry.TheVariants as entry
@@ -49,12 +49,12 @@ is_paired plan body s e = is_some s.innermost
 
 -- where the next entry stands: its number, whether an end stood before, the block of the innermost
 -- running interval, and how many intervals of functions run
-abbrev pub standing : Indexing Indexed → Bool → Standing
-standing x ended = record {
+abbrev pub standing : Plan → Indexing → Bool → Standing
+standing plan x ended = record {
   entry = x.entry;
   ended = ended;
-  innermost = option_map (λ k. (interval_at x.intervals k).log.block) (slice_get x.running 0);
-  functions = depth_of x.running x.intervals;
+  innermost = option_map (λ k. (interval_at x.intervals k).extent.block) (slice_get x.running 0);
+  functions = functions_in plan (blocks_of x.running x.intervals);
 }
 
 -- the refusal of one entry, by the first test that fails
@@ -67,11 +67,11 @@ refusal plan body p s e =
     else None
 
 -- the first refusal of these entries, after those that gave these intervals; a list that is over has an end
-abbrev pub first_from : Plan → ℕ → ℕ → Indexing Indexed → Bool → List Entry → Option BadLog
+abbrev pub first_from : Plan → ℕ → ℕ → Indexing → Bool → List Entry → Option BadLog
 first_from plan body p x ended [] = if ended then None else Some (NoEnd (record { process = p; entry = x.entry }))
 first_from plan body p x ended (e ∷ es) =
-    or_else (refusal plan body p (standing x ended) e)
-    (first_from plan body p (index_step plan x e) (ended || is_end e) es)
+    or_else (refusal plan body p (standing plan x ended) e)
+    (first_from plan body p (index_step x e) (ended || is_end e) es)
 
 -- the first refusal of a process's entries
 abbrev pub first_bad : Program → Plan → ℕ → List Entry → Option BadLog

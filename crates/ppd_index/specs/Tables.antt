@@ -3,10 +3,9 @@ use Rattle.std.specs.Prelude.{ℕ, ◌+◌, ◌<◌, ◌^◌, ⊤, ℤ, Bool, tr
 use Rattle.ppd_ast.specs.declared.plan.Plan.{Plan}
 use Rattle.ppd_entry.specs.declared.entry.Entry.{Entry}
 use Rattle.ppd_entry.specs.declared.entry.Entry.TheVariants as entry
-use Rattle.ppd_entry.specs.IntervalLogs.{IntervalLog, Indexed}
+use Rattle.ppd_entry.specs.IntervalLogs.{Extent, IntervalLog}
 use Rattle.ppd_entry.specs.Pieces.{Piece, unit, sync, nested, unfinished, postlog, finish}
 use Rattle.ppd_sem.specs.Blocks.{block_kind, is_function}
-use Rattle.ppd_model.specs.Extents.{Extent}
 use Rattle.ppd_model.specs.World.{change}
 use Rattle.ppd_index.specs.declared.row.Mark.{Mark}
 use Rattle.ppd_index.specs.declared.row.Mark.TheVariants as mark
@@ -65,9 +64,6 @@ log_of entries r =
       depth = r.depth;
       pieces = map (piece_at entries) r.marks;
     }
-
-abbrev pub indexed_of : List Entry → Row → Indexed
-indexed_of entries r = record { first = r.first; log = log_of entries r }
 
 -- where a row's interval stands
 abbrev pub extent_of : Row → Extent

@@ -1,17 +1,13 @@
 -- The intervals of a log go from their prelogs to the postlogs that match.
-use Rattle.ppd_entry.proofs.Vocabulary.{with_piece}
-use Rattle.std.proofs.Common.{◌≡◌, ℕ, zero, suc, ◌+◌, ◌<◌, ℤ, true, false, List, [], ◌∷◌, ◌++◌, Option, Some, None, refl, ap, ap₂, sym, subst, ◌∙◌, arith, length, map, inl, inr, ◌⊎◌, length-append, true≢false}
+use Rattle.std.proofs.Common.{◌≡◌, ℕ, suc, ◌+◌, ◌<◌, ℤ, true, false, List, [], ◌∷◌, ◌++◌, Option, Some, None, refl, ap, sym, subst, ◌∙◌, arith, length, inl, inr, ◌⊎◌, length-append, true≢false}
 use Rattle.std.specs.Prelude.{drop, fold, option_map, slice_get, ⊤}
 use Rattle.std.proofs.lemmas.Bool.{cases_eq}
-use Rattle.std.proofs.lemmas.List.{append-nil, append_assoc, map-append}
+use Rattle.std.proofs.lemmas.List.{append-nil, append_assoc}
 use Rattle.std.proofs.lemmas.Option.{none-some}
-use Rattle.ppd_ast.specs.declared.plan.Plan.{Plan}
-use Rattle.ppd_entry.specs.Pieces.{Piece, finish, nested, postlog, sync, unfinished, unit}
-use Rattle.ppd_entry.specs.IntervalLogs.{Indexed, Indexing, add_piece, begun_indexing, index_step, inner as index_inner, interval_at, left_interval as index_left, left_open}
 use Rattle.ppd_entry.specs.declared.entry.Entry.{Entry}
 use Rattle.ppd_entry.specs.declared.entry.Entry.TheVariants as entry
-use Rattle.ppd_model.specs.Extents.{AreMatched, none, within, pair, AreOpen, matched, opened, Extent, ExtentsAreIndexed, ExtentsMatch, IsLeftAt, IsNotLeft, extend, is_within}
-use Rattle.ppd_model.proofs.ExtentWords.{begun_extents, ended_by, left_by}
+use Rattle.ppd_model.specs.Extents.{AreMatched, none, within, pair, AreOpen, matched, opened, Extent, ExtentsMatch, IsLeftAt, IsNotLeft, is_within}
+use Rattle.ppd_model.proofs.ExtentWords.{Extending, begun_extents, ended_by, extend, extent_there, left_by}
 use Rattle.ppd_model.specs.World.{change}
 use Rattle.ppd_model.proofs.Changes.{change-at, change-else, length-change, some}
 use Rattle.ppd_model.proofs.CountedOn.{kept_at, last_at, cases_at}
@@ -159,7 +155,7 @@ not_left xs done tail (m ∷ ms) k e o h (inr i) at =
 
 -- ---- what holds of the intervals after some entries
 
-record IsSound (done : List Entry) (x : Indexing Extent) : Type 0 where
+record IsSound (done : List Entry) (x : Extending) : Type 0 where
   entry_is : x.entry ≡ length done
   stack : Stack x.intervals done x.running
   falls : Fall (length x.intervals) x.running
@@ -170,7 +166,7 @@ pub one_longer : (done : List Entry) (e : Entry) (n : ℕ) → n ≡ length done
 one_longer done e n is = let more : length (done ++ e ∷ []) ≡ length done + 1 = length-append done (e ∷ []) in omega (arith, is, more)
 
 -- an entry that matches by itself
-quiet : (done : List Entry) (e : Entry) (x : Indexing Extent) → is_within e ≡ true → IsSound done x → IsSound (done ++ e ∷ []) (record x { entry = x.entry + 1 })
+quiet : (done : List Entry) (e : Entry) (x : Extending) → is_within e ≡ true → IsSound done x → IsSound (done ++ e ∷ []) (record x { entry = x.entry + 1 })
 quiet done e x w h = record {
   entry_is = one_longer done e x.entry h.entry_is;
   stack = stack_grow x.intervals done (e ∷ []) x.running (within w none) h.stack;
@@ -181,7 +177,7 @@ quiet done e x w h = record {
 
 -- ---- a prelog
 
-entered : (done : List Entry) (b : ℕ) (vs : List ℤ) (x : Indexing Extent) → IsSound done x → IsSound (done ++ entry.Prelog b vs ∷ []) (extend x (entry.Prelog b vs))
+entered : (done : List Entry) (b : ℕ) (vs : List ℤ) (x : Extending) → IsSound done x → IsSound (done ++ entry.Prelog b vs ∷ []) (extend x (entry.Prelog b vs))
 entered done b vs x h =
     let new : Extent = record { block = b; parent = slice_get x.running 0; prelog = x.entry; last = None; closed = false } in
     let longer : length (x.intervals ++ new ∷ []) ≡ length x.intervals + 1 = length-append x.intervals (new ∷ []) in
@@ -252,7 +248,7 @@ ended_there j (m ∷ ms) xs k e at = elim (cases_eq k m) [
   | inr other ↦ ended_there j ms (change (last_by j) m xs) k e (change-else (last_by j) m k xs other ∙ at)
 ]
 
-at_end : (done : List Entry) (e : Entry) (x : Indexing Extent) → is_within e ≡ true → IsSound done x → IsSound (done ++ e ∷ []) (record x { intervals = ended_by x.entry x.running x.intervals; entry = x.entry + 1 })
+at_end : (done : List Entry) (e : Entry) (x : Extending) → is_within e ≡ true → IsSound done x → IsSound (done ++ e ∷ []) (record x { intervals = ended_by x.entry x.running x.intervals; entry = x.entry + 1 })
 at_end done e x w h =
     let now : List Extent = ended_by x.entry x.running x.intervals in
     record {
@@ -277,7 +273,7 @@ at_end done e x w h =
 abbrev pub close_by : ℕ → Extent → Extent
 close_by j e = record e { last = Some j; closed = true }
 
-no_block : (done : List Entry) (c : ℕ) (ws : List ℤ) (x : Indexing Extent) → x.running ≡ [] → IsSound done x → IsSound (done ++ entry.Postlog c ws ∷ []) (extend x (entry.Postlog c ws))
+no_block : (done : List Entry) (c : ℕ) (ws : List ℤ) (x : Extending) → x.running ≡ [] → IsSound done x → IsSound (done ++ entry.Postlog c ws ∷ []) (extend x (entry.Postlog c ws))
 no_block done c ws x is h = record {
   entry_is = one_longer done (entry.Postlog c ws) x.entry h.entry_is;
   stack = subst (λ ks. Stack (left_by x.entry ks x.intervals) (done ++ entry.Postlog c ws ∷ []) (drop 1 ks)) (sym is) tt;
@@ -339,7 +335,7 @@ leaves done c ws xs n k ks h =
 
 -- ---- all entries
 
-one_more : (done : List Entry) (e : Entry) (x : Indexing Extent) → IsSound done x → IsSound (done ++ e ∷ []) (extend x e)
+one_more : (done : List Entry) (e : Entry) (x : Extending) → IsSound done x → IsSound (done ++ e ∷ []) (extend x e)
 one_more done (entry.Prelog b vs) x h = entered done b vs x h
 one_more done (entry.Unit u vs) x h = quiet done (entry.Unit u vs) x refl h
 one_more done (entry.Sync kind object number value reads writes) x h = quiet done (entry.Sync kind object number value reads writes) x refl h
@@ -352,7 +348,7 @@ one_more done (entry.Postlog c ws) x h = by x.running refl
         subst (λ rs. IsSound (done ++ entry.Postlog c ws ∷ []) (record { intervals = left_by x.entry rs x.intervals; running = drop 1 rs; entry = x.entry + 1 })) (sym is)
         (leaves done c ws x.intervals x.entry k ks (subst (λ rs. IsSound done (record { intervals = x.intervals; running = rs; entry = x.entry })) is h))
 
-all_entries : (done : List Entry) (x : Indexing Extent) (es : List Entry) → IsSound done x → IsSound (done ++ es) (fold extend x es)
+all_entries : (done : List Entry) (x : Extending) (es : List Entry) → IsSound done x → IsSound (done ++ es) (fold extend x es)
 all_entries done x [] h = subst (λ l. IsSound l x) (sym (append-nil done)) h
 all_entries done x (e ∷ es) h = subst (λ l. IsSound l (fold extend (extend x e) es)) (append_assoc done (e ∷ []) es) (all_entries (done ++ e ∷ []) (extend x e) es (one_more done e x h))
 
@@ -364,80 +360,13 @@ entry_number entries = (sound_at entries).entry_is
 
 -- an interval that runs is not left
 pub running_going : (entries : List Entry) (k : ℕ) (e : Extent) → IsIn k (fold extend begun_extents entries).running → slice_get (fold extend begun_extents entries).intervals k ≡ Some e → e.closed ≡ false
-running_going entries k e i at = let x : Indexing Extent = fold extend begun_extents entries in stack_going x.intervals entries x.running k e (sound_at entries).stack i at
+running_going entries k e i at = let x : Extending = fold extend begun_extents entries in stack_going x.intervals entries x.running k e (sound_at entries).stack i at
 
 pub extents_match : ExtentsMatch
-extents_match entries k x at =
+extents_match entries k x found =
     let h : IsSound entries (fold extend begun_extents entries) = sound_at entries in
+    let at : slice_get (fold extend begun_extents entries).intervals k ≡ Some x = extent_there entries k (Some x) found in
     record {
       left = λ is. h.left k x at is;
       going = λ is. subst (λ es. IsNotLeft es x.prelog) (append-nil entries) (not_left (fold extend begun_extents entries).intervals entries [] (fold extend begun_extents entries).running k x (matched none) h.stack (h.runs k x at is) at);
     }
-
--- ---- the same intervals as those of which the logs are found
-
-abbrev prelogs_of : List Extent → List ℕ
-prelogs_of xs = map (λ (x : Extent). x.prelog) xs
-
-abbrev firsts_of : List Indexed → List ℕ
-firsts_of is = map (λ (i : Indexed). i.first) is
-
-same_prelogs : (f : Extent → Extent) (k : ℕ) (xs : List Extent) → ((x : Extent) → (f x).prelog ≡ x.prelog) → prelogs_of (change f k xs) ≡ prelogs_of xs
-same_prelogs f k [] same = refl
-same_prelogs f zero (x ∷ xs) same = ap (λ n. n ∷ prelogs_of xs) (same x)
-same_prelogs f (suc k) (x ∷ xs) same = ap (λ ns. x.prelog ∷ ns) (same_prelogs f k xs same)
-
-ended_prelogs : (j : ℕ) (ks : List ℕ) (xs : List Extent) → prelogs_of (ended_by j ks xs) ≡ prelogs_of xs
-ended_prelogs j [] xs = refl
-ended_prelogs j (k ∷ ks) xs = ended_prelogs j ks (change (last_by j) k xs) ∙ same_prelogs (last_by j) k xs (λ x. refl)
-
-left_prelogs : (j : ℕ) (ks : List ℕ) (xs : List Extent) → prelogs_of (left_by j ks xs) ≡ prelogs_of xs
-left_prelogs j [] xs = refl
-left_prelogs j (k ∷ ks) xs = same_prelogs (close_by j) k xs (λ x. refl)
-
-piece_firsts : (n : ℕ) (p : Piece) (k : ℕ) (is : List Indexed) → firsts_of (change (with_piece n p) k is) ≡ firsts_of is
-piece_firsts n p k [] = refl
-piece_firsts n p zero (i ∷ is) = refl
-piece_firsts n p (suc k) (i ∷ is) = ap (λ ns. i.first ∷ ns) (piece_firsts n p k is)
-
-add_firsts : (n : ℕ) (p : Piece) (ks : List ℕ) (is : List Indexed) → firsts_of (add_piece n p ks is) ≡ firsts_of is
-add_firsts n p [] is = refl
-add_firsts n p (k ∷ ks) is = piece_firsts n p k is
-
-open_firsts : (ks : List ℕ) (is : List Indexed) → firsts_of (left_open ks is) ≡ firsts_of is
-open_firsts [] is = refl
-open_firsts (k ∷ ks) is =
-    let i : Indexed = interval_at is k in
-    open_firsts ks (add_piece i.first (unfinished k i.log.block) ks is) ∙ add_firsts i.first (unfinished k i.log.block) ks is
-
-index_left_firsts : (x : Indexing Indexed) (ks : List ℕ) (ws : List ℤ) → firsts_of (index_left x ks ws) ≡ firsts_of x.intervals
-index_left_firsts x [] ws = refl
-index_left_firsts x (k ∷ ks) ws =
-    let i : Indexed = interval_at x.intervals k in
-    add_firsts i.first (nested k i.log.block ws) ks (index_inner x (postlog ws)) ∙ add_firsts x.entry (postlog ws) x.running x.intervals
-
--- both are at the same entry, with the same prelogs
-record IsBeside (x : Indexing Extent) (y : Indexing Indexed) : Type 0 where
-  entry_is : x.entry ≡ y.entry
-  firsts : prelogs_of x.intervals ≡ firsts_of y.intervals
-
-beside : (plan : Plan) (e : Entry) (x : Indexing Extent) (y : Indexing Indexed) → IsBeside x y → IsBeside (extend x e) (index_step plan y e)
-beside plan (entry.Prelog b vs) x y h = record {
-  entry_is = ap (λ n. n + 1) h.entry_is;
-  firsts = map-append (λ (z : Extent). z.prelog) x.intervals _ ∙ ap₂ (λ ns n. ns ++ n ∷ []) h.firsts h.entry_is ∙ sym (map-append (λ (i : Indexed). i.first) y.intervals _);
-}
-beside plan (entry.Unit u vs) x y h = record { entry_is = ap (λ n. n + 1) h.entry_is; firsts = h.firsts ∙ sym (add_firsts y.entry (unit u vs) y.running y.intervals) }
-beside plan (entry.Sync kind object number value reads writes) x y h =
-    record { entry_is = ap (λ n. n + 1) h.entry_is; firsts = h.firsts ∙ sym (add_firsts y.entry (sync kind object number value) y.running y.intervals) }
-beside plan (entry.Postlog b ws) x y h = record { entry_is = ap (λ n. n + 1) h.entry_is; firsts = left_prelogs x.entry x.running x.intervals ∙ h.firsts ∙ sym (index_left_firsts y y.running ws) }
-beside plan (entry.End status rest reads writes) x y h = record {
-  entry_is = ap (λ n. n + 1) h.entry_is;
-  firsts = ended_prelogs x.entry x.running x.intervals ∙ h.firsts ∙ sym (open_firsts y.running (index_inner y (finish status rest)) ∙ add_firsts y.entry (finish status rest) y.running y.intervals);
-}
-
-beside_all : (plan : Plan) (es : List Entry) (x : Indexing Extent) (y : Indexing Indexed) → IsBeside x y → IsBeside (fold extend x es) (fold (index_step plan) y es)
-beside_all plan [] x y h = h
-beside_all plan (e ∷ es) x y h = beside_all plan es (extend x e) (index_step plan y e) (beside plan e x y h)
-
-pub extents_indexed : ExtentsAreIndexed
-extents_indexed plan entries = (beside_all plan entries begun_extents begun_indexing (record { entry_is = refl; firsts = refl })).firsts

@@ -6,13 +6,13 @@ use Rattle.ppd_ast.specs.declared.status.Status.TheVariants as status
 use Rattle.ppd_entry.specs.declared.entry.Entry.{Entry}
 use Rattle.ppd_entry.specs.declared.entry.Entry.TheVariants as entry
 use Rattle.ppd_model.proofs.Changes.{some}
-use Rattle.ppd_model.proofs.ExtentWords.{begun_extents, ended_by, left_by as extents_left}
+use Rattle.ppd_model.proofs.ExtentWords.{Extending, begun_extents, ended_by, extend, extents_are, left_by as extents_left}
 use Rattle.ppd_model.proofs.IntervalWords.{begin_if, end_if}
 use Rattle.ppd_model.proofs.Items.{own_keeps, split_found, step_keeps}
 use Rattle.ppd_model.proofs.LogWords.{logs_from}
 use Rattle.ppd_model.proofs.RecordedSets.{steps_found}
 use Rattle.ppd_model.specs.Bounds.{AreEach}
-use Rattle.ppd_model.specs.Extents.{Extent, Indexing, IntervalsAreOfLogs, IsSameInterval, extend, extents}
+use Rattle.ppd_model.specs.Extents.{Extent, IntervalsAreOfLogs, IsSameInterval, extents}
 use Rattle.ppd_model.specs.FullTrace.{Tag, Tracing, me_in, top_tags}
 use Rattle.ppd_model.specs.Intervals.{Span, Split, begun_split, change_first, control_by, innermost, left_by, own, split_of, split_step, with_marks, with_own, with_part, with_step}
 use Rattle.ppd_model.specs.Logs.{Logging, begun_log, block_entries, closed_log, ends, entries_of, log_of, log_step, status_of, syncs, units}
@@ -69,28 +69,28 @@ first_same f same [] spans = refl
 first_same f same (k ∷ ks) spans = change-same of_span f same k spans
 
 -- the intervals of the steps and of the entries so far
-record AreSame (x : Split) (y : Indexing Extent) : Type 0 where
+record AreSame (x : Split) (y : Extending) : Type 0 where
   running : x.running ≡ y.running
   shapes : spans_of x.spans ≡ shapes_of y.intervals
 
 -- ---- what a step adds to both
 
-quiet_step : (need : Need) (x : Split) (y : Indexing Extent) → AreSame x y → AreSame (with_step need x) y
+quiet_step : (need : Need) (x : Split) (y : Extending) → AreSame x y → AreSame (with_step need x) y
 quiet_step n.Budget x y h = h
 quiet_step n.Stopped x y h = h
 quiet_step need x y h = record { running = h.running; shapes = first_same (λ i. record i { steps = i.steps + 1 }) (λ i. refl) x.running x.spans ∙ h.shapes }
 
-quiet_own : (need : Need) (x : Split) (y : Indexing Extent) → AreSame x y → AreSame (with_own need x) y
+quiet_own : (need : Need) (x : Split) (y : Extending) → AreSame x y → AreSame (with_own need x) y
 quiet_own need x y h = by (is_event need)
   where
     by : (b : Bool) → AreSame (if b then innermost (with_part (own (length x.trace.events))) x else x) y
     by true = record { running = h.running; shapes = first_same (with_part (own (length x.trace.events))) (λ i. refl) x.running x.spans ∙ h.shapes }
     by false = h
 
-same_length : (x : Split) (y : Indexing Extent) → AreSame x y → length x.spans ≡ length y.intervals
+same_length : (x : Split) (y : Extending) → AreSame x y → length x.spans ≡ length y.intervals
 same_length x y h = sym (length-map x.spans of_span) ∙ ap length h.shapes ∙ length-map y.intervals of_extent
 
-begins : (o : Option Mark) (frame : ℕ) (control : Option EventId) (x : Split) (y : Indexing Extent) → AreSame x y → AreSame (begin_if o frame control x) (fold extend y (block_entries entry.Prelog o))
+begins : (o : Option Mark) (frame : ℕ) (control : Option EventId) (x : Split) (y : Extending) → AreSame x y → AreSame (begin_if o frame control x) (fold extend y (block_entries entry.Prelog o))
 begins None frame control x y h = h
 begins (Some m) frame control x y h = record {
   running = ap₂ (λ k ks. k ∷ ks) (same_length x y h) h.running;
@@ -99,7 +99,7 @@ begins (Some m) frame control x y h = record {
       ∙ sym (map-append of_extent y.intervals _);
 }
 
-ends_one : (o : Option Mark) (tags : List Tag) (x : Split) (y : Indexing Extent) → AreSame x y → AreSame (end_if o tags x) (fold extend y (block_entries entry.Postlog o))
+ends_one : (o : Option Mark) (tags : List Tag) (x : Split) (y : Extending) → AreSame x y → AreSame (end_if o tags x) (fold extend y (block_entries entry.Postlog o))
 ends_one None tags x y h = h
 ends_one (Some m) tags x y h = record {
   running = ap (λ ks. drop 1 ks) h.running;
@@ -115,11 +115,11 @@ ends_one (Some m) tags x y h = record {
         ∙ ap (λ rs. shapes_of (extents_left y.entry rs y.intervals)) e
 
 -- entries that no interval begins or ends by
-quiet_syncs : (l : Logging) (t : Taken) (o : Option Sync) (x : Split) (y : Indexing Extent) → AreSame x y → AreSame x (fold extend y (syncs l t o))
+quiet_syncs : (l : Logging) (t : Taken) (o : Option Sync) (x : Split) (y : Extending) → AreSame x y → AreSame x (fold extend y (syncs l t o))
 quiet_syncs l t None x y h = h
 quiet_syncs l t (Some s) x y h = record { running = h.running; shapes = h.shapes }
 
-quiet_units : (u : Option ℕ) (values : List ℤ) (x : Split) (y : Indexing Extent) → AreSame x y → AreSame x (fold extend y (units u values))
+quiet_units : (u : Option ℕ) (values : List ℤ) (x : Split) (y : Extending) → AreSame x y → AreSame x (fold extend y (units u values))
 quiet_units None values x y h = h
 quiet_units (Some u) values x y h = record { running = h.running; shapes = h.shapes }
 
@@ -127,15 +127,15 @@ ended_same : (j : ℕ) (ks : List ℕ) (xs : List Extent) → shapes_of (ended_b
 ended_same j [] xs = refl
 ended_same j (k ∷ ks) xs = ended_same j ks (change (λ z. record z { last = Some j }) k xs) ∙ change-same of_extent (λ z. record z { last = Some j }) (λ z. refl) k xs
 
-quiet_end : (st : Status) (rest : ℕ) (reads writes : List ℕ) (x : Split) (y : Indexing Extent) → AreSame x y → AreSame x (extend y (entry.End st rest reads writes))
+quiet_end : (st : Status) (rest : ℕ) (reads writes : List ℕ) (x : Split) (y : Extending) → AreSame x y → AreSame x (extend y (entry.End st rest reads writes))
 quiet_end st rest reads writes x y h = record { running = h.running; shapes = h.shapes ∙ sym (ended_same y.entry y.running y.intervals) }
 
-quiet_ends : (l : Logging) (o : Option Status) (x : Split) (y : Indexing Extent) → AreSame x y → AreSame x (fold extend y (ends l o))
+quiet_ends : (l : Logging) (o : Option Status) (x : Split) (y : Extending) → AreSame x y → AreSame x (fold extend y (ends l o))
 quiet_ends l None x y h = h
 quiet_ends l (Some st) x y h = quiet_end st l.rest l.reads l.writes x y h
 
 -- a step does not both enter and leave a block
-one_mark : (program : Program) (plan : Plan) (s : Proc) (need : Need) (frame : ℕ) (control : Option EventId) (tags : List Tag) (t : Taken) (l : Logging) (x : Split) (y : Indexing Extent) → AreSame x y
+one_mark : (program : Program) (plan : Plan) (s : Proc) (need : Need) (frame : ℕ) (control : Option EventId) (tags : List Tag) (t : Taken) (l : Logging) (x : Split) (y : Extending) → AreSame x y
     → AreSame (begin_if (opened program plan s need) frame control (end_if (closed program plan s need) tags x))
     (fold extend (fold extend (fold extend y (block_entries entry.Prelog (opened program plan s need))) (syncs l t (sync_of t))) (block_entries entry.Postlog (closed program plan s need)))
 one_mark program plan s (n.Enter b u) frame control tags t l x y h = quiet_syncs l t (sync_of t) _ _ (begins (opened program plan s (n.Enter b u)) frame control x y h)
@@ -150,7 +150,7 @@ one_mark program plan s need frame control tags t l x y h = quiet_syncs l t (syn
 -- ---- all steps
 
 module _ (program : Program) (plan : Plan) (story' : Story) (p : ℕ) where
-  fold_entries : (y : Indexing Extent) (l : Logging) (m : Moment)
+  fold_entries : (y : Extending) (l : Logging) (m : Moment)
       → fold extend y (entries_of program plan l m)
       ≡ fold extend (fold extend (fold extend (fold extend (fold extend y (block_entries entry.Prelog (opened program plan l.proc m.taken.need))) (syncs l m.taken (sync_of m.taken))) (block_entries entry.Postlog (closed program plan l.proc m.taken.need))) (units (unit_started m.taken.need) m.unit_values)) (ends l (status_of m.taken.need))
   fold_entries y l m =
@@ -162,7 +162,7 @@ module _ (program : Program) (plan : Plan) (story' : Story) (p : ℕ) where
       fold-append extend y (a ++ b ++ c ++ d) e
       ∙ ap (λ z. fold extend z e) (fold-append extend y (a ++ b ++ c) d ∙ ap (λ z. fold extend z d) (fold-append extend y (a ++ b) c ∙ ap (λ z. fold extend z c) (fold-append extend y a b)))
 
-  same_step : (x : Split) (y : Indexing Extent) (l : Logging) (m : Moment) → x.trace.proc ≡ l.proc → AreSame x y → AreSame (split_step program plan story' p x m.taken) (fold extend y (entries_of program plan l m))
+  same_step : (x : Split) (y : Extending) (l : Logging) (m : Moment) → x.trace.proc ≡ l.proc → AreSame x y → AreSame (split_step program plan story' p x m.taken) (fold extend y (entries_of program plan l m))
   same_step x y l m proc h =
       let need : Need = m.taken.need in
       let a : Split = with_own need (with_step need x) in
@@ -231,4 +231,7 @@ intervals_of_logs program plan budget h p x l e f =
     let same : AreSame x (fold extend begun_extents l.entries) =
     subst (λ (y : Split). AreSame y (fold extend begun_extents l.entries)) split_is
     (subst (λ (k : Logging). AreSame (split_of program plan budget s p (steps_of ms)) (fold extend begun_extents k.entries)) log_is (same_all program plan s p budget ms)) in
-    record { kept_are = each_same x.spans (extents l.entries) same.shapes; closed_are = each_same x.spans (extents (closed_log l)) (closing x l same).shapes }
+    record {
+      kept_are = each_same x.spans (extents l.entries) (same.shapes ∙ ap shapes_of (sym (extents_are l.entries)));
+      closed_are = each_same x.spans (extents (closed_log l)) ((closing x l same).shapes ∙ ap shapes_of (sym (extents_are (closed_log l))));
+    }

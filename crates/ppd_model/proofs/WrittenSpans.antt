@@ -8,13 +8,13 @@ use Rattle.ppd_entry.specs.declared.entry.Entry.TheVariants as entry
 use Rattle.ppd_model.proofs.Balanced.{each_change}
 use Rattle.ppd_model.proofs.Changes.{some}
 use Rattle.ppd_model.proofs.CountedOn.{kept_at, last_at}
-use Rattle.ppd_model.proofs.ExtentWords.{begun_extents, ended_by, left_by as extents_left}
+use Rattle.ppd_model.proofs.ExtentWords.{Extending, begun_extents, ended_by, extend, extents_are, extents_by, left_by as extents_left}
 use Rattle.ppd_model.proofs.Extents.{IsIn, WasBefore, ended_before, entry_number, last_by, running_going}
 use Rattle.ppd_model.proofs.IntervalWords.{begin_if, end_if}
 use Rattle.ppd_model.proofs.Items.{own_keeps, split_found, step_keeps}
 use Rattle.ppd_model.proofs.RecordedSets.{steps_found}
 use Rattle.ppd_model.specs.Bounds.{AreEach}
-use Rattle.ppd_model.specs.Extents.{Extent, Indexing, extend, extents}
+use Rattle.ppd_model.specs.Extents.{Extent, extents}
 use Rattle.ppd_model.specs.FullTrace.{Tag, me_in, top_tags}
 use Rattle.ppd_model.specs.Intervals.{Span, Split, begun_split, change_first, control_by, innermost, left_by, nested, own, split_of, split_step, with_marks, with_own, with_part, with_step}
 use Rattle.ppd_model.specs.Logs.{Logging, begun_log, block_entries, closed_log, ends, entries_of, log_of, log_step, status_of, syncs, units}
@@ -43,13 +43,13 @@ each_more R S f [] (y ∷ ys) h = absurd h
 each_more R S f (x ∷ xs) [] h = absurd h
 each_more R S f (x ∷ xs) (y ∷ ys) h = (f x y h.0, each_more R S f xs ys h.1)
 
-each_end : {A B : Type 0} (R : A → B → Type 0) (xs : List A) (ys : List B) (x : A) (y : B) → AreEach R xs ys → R x y → AreEach R (xs ++ x ∷ []) (ys ++ y ∷ [])
+pub each_end : {A B : Type 0} (R : A → B → Type 0) (xs : List A) (ys : List B) (x : A) (y : B) → AreEach R xs ys → R x y → AreEach R (xs ++ x ∷ []) (ys ++ y ∷ [])
 each_end R [] [] x y h r = (r, tt)
 each_end R [] (b ∷ ys) x y h r = absurd h
 each_end R (a ∷ xs) [] x y h r = absurd h
 each_end R (a ∷ xs) (b ∷ ys) x y h r = (h.0, each_end R xs ys x y h.1 r)
 
-each_length : {A B : Type 0} (R : A → B → Type 0) (xs : List A) (ys : List B) → AreEach R xs ys → length xs ≡ length ys
+pub each_length : {A B : Type 0} (R : A → B → Type 0) (xs : List A) (ys : List B) → AreEach R xs ys → length xs ≡ length ys
 each_length R [] [] h = refl
 each_length R [] (y ∷ ys) h = absurd h
 each_length R (x ∷ xs) [] h = absurd h
@@ -61,7 +61,7 @@ each_left R f go k (x ∷ xs) [] h = absurd h
 each_left R f go zero (x ∷ xs) (y ∷ ys) h = (go x y h.0, h.1)
 each_left R f go (suc k) (x ∷ xs) (y ∷ ys) h = (h.0, each_left R f go k xs ys h.1)
 
-each_both : {A B : Type 0} (R : A → B → Type 0) (f : A → A) (g : B → B) → ((x : A) (y : B) → R x y → R (f x) (g y)) → (k : ℕ) (xs : List A) (ys : List B) → AreEach R xs ys → AreEach R (change f k xs) (change g k ys)
+pub each_both : {A B : Type 0} (R : A → B → Type 0) (f : A → A) (g : B → B) → ((x : A) (y : B) → R x y → R (f x) (g y)) → (k : ℕ) (xs : List A) (ys : List B) → AreEach R xs ys → AreEach R (change f k xs) (change g k ys)
 each_both R f g go k [] [] h = tt
 each_both R f g go k [] (y ∷ ys) h = absurd h
 each_both R f g go k (x ∷ xs) [] h = absurd h
@@ -74,7 +74,7 @@ module _ (IsOf : ℕ → ℕ → Type 0) (IsEnd : ℕ → Type 0) where
   abbrev IsBoth : Span → Extent → Type 0
   IsBoth i x = (is_some i.closed ≡ x.closed) × IsOfSteps IsOf IsEnd i x
 
-  record AreTied (now : ℕ) (x : Split) (y : Indexing Extent) : Type 0 where
+  record AreTied (now : ℕ) (x : Split) (y : Extending) : Type 0 where
     running : x.running ≡ y.running
     edges : length x.edges ≡ now
     each : AreEach IsBoth x.spans y.intervals
@@ -86,12 +86,12 @@ module _ (IsOf : ℕ → ℕ → Type 0) (IsEnd : ℕ → Type 0) where
   more_steps : (i : Span) (z : Extent) → IsBoth i z → IsBoth (record i { steps = i.steps + 1 }) z
   more_steps i z r = (r.0, record { opened = r.1.opened; closed = r.1.closed; going = r.1.going })
 
-  step_tied : (now : ℕ) (need : Need) (x : Split) (y : Indexing Extent) → AreTied now x y → AreTied now (with_step need x) y
+  step_tied : (now : ℕ) (need : Need) (x : Split) (y : Extending) → AreTied now x y → AreTied now (with_step need x) y
   step_tied now n.Budget x y h = h
   step_tied now n.Stopped x y h = h
   step_tied now need x y h = record { running = h.running; edges = h.edges; each = first_tied (λ i. record i { steps = i.steps + 1 }) more_steps x.running x.spans y.intervals h.each }
 
-  own_tied : (now : ℕ) (need : Need) (x : Split) (y : Indexing Extent) → AreTied now x y → AreTied now (with_own need x) y
+  own_tied : (now : ℕ) (need : Need) (x : Split) (y : Extending) → AreTied now x y → AreTied now (with_own need x) y
   own_tied now need x y h = by (is_event need)
     where
       by : (b : Bool) → AreTied now (if b then innermost (with_part (own (length x.trace.events))) x else x) y
@@ -102,7 +102,7 @@ module _ (IsOf : ℕ → ℕ → Type 0) (IsEnd : ℕ → Type 0) where
       }
       by false = h
 
-  begin_tied : (now : ℕ) (o : Option Mark) (frame : ℕ) (control : Option EventId) (x : Split) (y : Indexing Extent) → ((m : Mark) → o ≡ Some m → IsOf now y.entry) → AreTied now x y → AreTied now (begin_if o frame control x) (fold extend y (block_entries entry.Prelog o))
+  begin_tied : (now : ℕ) (o : Option Mark) (frame : ℕ) (control : Option EventId) (x : Split) (y : Extending) → ((m : Mark) → o ≡ Some m → IsOf now y.entry) → AreTied now x y → AreTied now (begin_if o frame control x) (fold extend y (block_entries entry.Prelog o))
   begin_tied now None frame control x y of h = h
   begin_tied now (Some m) frame control x y of h =
       let outer : AreEach IsBoth (change_first (with_part (nested (length x.spans))) x.running x.spans) y.intervals =
@@ -116,7 +116,7 @@ module _ (IsOf : ℕ → ℕ → Type 0) (IsEnd : ℕ → Type 0) where
         );
       }
 
-  end_tied : (now : ℕ) (o : Option Mark) (tags : List Tag) (x : Split) (y : Indexing Extent) → ((m : Mark) → o ≡ Some m → IsOf now y.entry) → AreTied now x y → AreTied now (end_if o tags x) (fold extend y (block_entries entry.Postlog o))
+  end_tied : (now : ℕ) (o : Option Mark) (tags : List Tag) (x : Split) (y : Extending) → ((m : Mark) → o ≡ Some m → IsOf now y.entry) → AreTied now x y → AreTied now (end_if o tags x) (fold extend y (block_entries entry.Postlog o))
   end_tied now None tags x y of h = h
   end_tied now (Some m) tags x y of h = record {
     running = ap (λ ks. drop 1 ks) h.running;
@@ -135,11 +135,11 @@ module _ (IsOf : ℕ → ℕ → Type 0) (IsEnd : ℕ → Type 0) where
           ))
           k x.spans y.intervals h.each)
 
-  sync_tied : (now : ℕ) (l : Logging) (t : Taken) (o : Option Sync) (x : Split) (y : Indexing Extent) → AreTied now x y → AreTied now x (fold extend y (syncs l t o))
+  sync_tied : (now : ℕ) (l : Logging) (t : Taken) (o : Option Sync) (x : Split) (y : Extending) → AreTied now x y → AreTied now x (fold extend y (syncs l t o))
   sync_tied now l t None x y h = h
   sync_tied now l t (Some s) x y h = record { running = h.running; edges = h.edges; each = h.each }
 
-  unit_tied : (now : ℕ) (u : Option ℕ) (values : List _) (x : Split) (y : Indexing Extent) → AreTied now x y → AreTied now x (fold extend y (units u values))
+  unit_tied : (now : ℕ) (u : Option ℕ) (values : List _) (x : Split) (y : Extending) → AreTied now x y → AreTied now x (fold extend y (units u values))
   unit_tied now None values x y h = h
   unit_tied now (Some u) values x y h = record { running = h.running; edges = h.edges; each = h.each }
 
@@ -160,13 +160,13 @@ module _ (IsOf : ℕ → ℕ → Type 0) (IsEnd : ℕ → Type 0) where
       ))
       h)
 
-  stop_tied : (now : ℕ) (l : Logging) (o : Option Status) (x : Split) (y : Indexing Extent) → ((k : ℕ) (e : Extent) → IsIn k y.running → slice_get y.intervals k ≡ Some e → e.closed ≡ false) → ((s : Status) → o ≡ Some s → IsEnd y.entry) → AreTied now x y → AreTied now x (fold extend y (ends l o))
+  stop_tied : (now : ℕ) (l : Logging) (o : Option Status) (x : Split) (y : Extending) → ((k : ℕ) (e : Extent) → IsIn k y.running → slice_get y.intervals k ≡ Some e → e.closed ≡ false) → ((s : Status) → o ≡ Some s → IsEnd y.entry) → AreTied now x y → AreTied now x (fold extend y (ends l o))
   stop_tied now l None x y going end h = h
   stop_tied now l (Some s) x y going end h = record { running = h.running; edges = h.edges; each = ended_tied y.entry y.running x.spans y.intervals going (end s refl) h.each }
 
   -- ---- one step
 
-  abbrev at : List Entry → Indexing Extent
+  abbrev at : List Entry → Extending
   at es = fold extend begun_extents es
 
   onto : (now : ℕ) (x : Split) (es more : List Entry) → AreTied now x (fold extend (at es) more) → AreTied now x (at (es ++ more))
@@ -355,14 +355,14 @@ module _ (program : Program) (plan : Plan) (budget p : ℕ) (story' : Story) (al
     },
   )
 
-  of_closed : (spans : List Span) → AreEach (IsBoth IsOf IsKeptEnd) spans (extents log.entries) → AreEach (IsBoth IsOf IsAnyEnd) spans (extents (closed_log log))
+  of_closed : (spans : List Span) → AreEach (IsBoth IsOf IsKeptEnd) spans (extents_by log.entries) → AreEach (IsBoth IsOf IsAnyEnd) spans (extents_by (closed_log log))
   of_closed spans h = by (is_none log.proc.status) refl
     where
-      by : (b : Bool) → is_none log.proc.status ≡ b → AreEach (IsBoth IsOf IsAnyEnd) spans (extents (closed_log log))
+      by : (b : Bool) → is_none log.proc.status ≡ b → AreEach (IsBoth IsOf IsAnyEnd) spans (extents_by (closed_log log))
       by true e =
           let blocked : Entry = entry.End status.Blocked log.rest log.reads log.writes in
           let is : closed_log log ≡ log.entries ++ blocked ∷ [] = ap (λ c. log.entries ++ (if c then blocked ∷ [] else [])) e in
-          let y : Indexing Extent = fold extend begun_extents log.entries in
+          let y : Extending = fold extend begun_extents log.entries in
           let number : y.entry ≡ length log.entries = entry_number log.entries in
           let old : AreEach (IsBoth IsOf IsAnyEnd) spans y.intervals = each_more (IsBoth IsOf IsKeptEnd) (IsBoth IsOf IsAnyEnd) (wider (blocked ∷ []) is) spans y.intervals h in
           let end : IsAnyEnd y.entry = subst IsAnyEnd (sym number) (
@@ -375,13 +375,13 @@ module _ (program : Program) (plan : Plan) (budget p : ℕ) (story' : Story) (al
             },
             inl refl,
           ) in
-          subst (λ es. AreEach (IsBoth IsOf IsAnyEnd) spans (extents es)) (sym is)
+          subst (λ es. AreEach (IsBoth IsOf IsAnyEnd) spans (extents_by es)) (sym is)
           (subst (λ z. AreEach (IsBoth IsOf IsAnyEnd) spans z.intervals) (sym (fold-append extend begun_extents log.entries (blocked ∷ [])))
           (ended_tied IsOf IsAnyEnd y.entry y.running spans y.intervals (running_going log.entries) end old))
       by false e =
           let is : closed_log log ≡ log.entries ++ [] = ap (λ c. log.entries ++ (if c then entry.End status.Blocked log.rest log.reads log.writes ∷ [] else [])) e in
-          subst (λ es. AreEach (IsBoth IsOf IsAnyEnd) spans (extents es)) (sym (is ∙ append-nil log.entries))
-          (each_more (IsBoth IsOf IsKeptEnd) (IsBoth IsOf IsAnyEnd) (wider [] is) spans (extents log.entries) h)
+          subst (λ es. AreEach (IsBoth IsOf IsAnyEnd) spans (extents_by es)) (sym (is ∙ append-nil log.entries))
+          (each_more (IsBoth IsOf IsKeptEnd) (IsBoth IsOf IsAnyEnd) (wider [] is) spans (extents_by log.entries) h)
 
 pub intervals_of_steps : IntervalsAreOfSteps
 intervals_of_steps program plan budget h p x ms e f =
@@ -390,9 +390,9 @@ intervals_of_steps program plan budget h p x ms e f =
     let z : 0 + p ≡ p = omega arith in
     let split_is : split_of program plan budget s p (steps_of ms) ≡ x =
     ap₂ (λ k xs. split_of program plan budget s k xs) (sym z) (sym steps) ∙ split_found program plan budget s 0 s.steps p x e in
-    let tied : AreEach (IsBoth (IsOf program plan budget p s ms) (IsKeptEnd program plan budget p s ms)) x.spans (extents (log_of program plan budget p ms).entries) =
-    subst (λ (y : Split). AreEach (IsBoth (IsOf program plan budget p s ms) (IsKeptEnd program plan budget p s ms)) y.spans (extents (log_of program plan budget p ms).entries)) split_is (all_tied program plan budget p s ms).each in
+    let tied : AreEach (IsBoth (IsOf program plan budget p s ms) (IsKeptEnd program plan budget p s ms)) x.spans (extents_by (log_of program plan budget p ms).entries) =
+    subst (λ (y : Split). AreEach (IsBoth (IsOf program plan budget p s ms) (IsKeptEnd program plan budget p s ms)) y.spans (extents_by (log_of program plan budget p ms).entries)) split_is (all_tied program plan budget p s ms).each in
     record {
-      kept_are = each_more (IsBoth (IsOf program plan budget p s ms) (IsKeptEnd program plan budget p s ms)) (IsOfSteps (IsOf program plan budget p s ms) (IsKeptEnd program plan budget p s ms)) (λ i z r. r.1) x.spans (extents (log_of program plan budget p ms).entries) tied;
-      closed_are = each_more (IsBoth (IsOf program plan budget p s ms) (IsAnyEnd program plan budget p s ms)) (IsOfSteps (IsOf program plan budget p s ms) (IsAnyEnd program plan budget p s ms)) (λ i z r. r.1) x.spans (extents (closed_log (log_of program plan budget p ms))) (of_closed program plan budget p s ms x.spans tied);
+      kept_are = each_more (IsBoth (IsOf program plan budget p s ms) (IsKeptEnd program plan budget p s ms)) (IsOfSteps (IsOf program plan budget p s ms) (IsKeptEnd program plan budget p s ms)) (λ i z r. r.1) x.spans (extents (log_of program plan budget p ms).entries) (subst (λ xs. AreEach (IsBoth (IsOf program plan budget p s ms) (IsKeptEnd program plan budget p s ms)) x.spans xs) (sym (extents_are (log_of program plan budget p ms).entries)) tied);
+      closed_are = each_more (IsBoth (IsOf program plan budget p s ms) (IsAnyEnd program plan budget p s ms)) (IsOfSteps (IsOf program plan budget p s ms) (IsAnyEnd program plan budget p s ms)) (λ i z r. r.1) x.spans (extents (closed_log (log_of program plan budget p ms))) (subst (λ xs. AreEach (IsBoth (IsOf program plan budget p s ms) (IsAnyEnd program plan budget p s ms)) x.spans xs) (sym (extents_are (closed_log (log_of program plan budget p ms)))) (of_closed program plan budget p s ms x.spans tied));
     }

@@ -1,16 +1,15 @@
 -- Where the intervals of a process stand in its log: a prelog and its postlog, properly nested.
 use Rattle.ppd_ast.specs.declared.plan.Plan.{Plan}
 use Rattle.ppd_ast.specs.declared.program.Program.{Program}
-pub use Rattle.ppd_entry.specs.IntervalLogs.{Indexing}
-use Rattle.ppd_entry.specs.IntervalLogs.{begun_indexing, indexed}
+pub use Rattle.ppd_entry.specs.IntervalLogs.{Extent, functions_in}
+use Rattle.ppd_entry.specs.IntervalLogs.{indexed}
 use Rattle.ppd_entry.specs.declared.entry.Entry.{Entry}
 use Rattle.ppd_entry.specs.declared.entry.Entry.TheVariants as entry
 use Rattle.ppd_model.specs.Bounds.{AreEach}
-use Rattle.ppd_model.specs.Intervals.{Span, Split, change_first, splits}
+use Rattle.ppd_model.specs.Intervals.{Span, Split, splits}
 use Rattle.ppd_model.specs.Logs.{Logging, closed_log, loggings}
 use Rattle.ppd_model.specs.Story.{story}
-use Rattle.ppd_model.specs.World.{change}
-use Rattle.std.specs.Prelude.{Bool, List, None, Option, Some, [], drop, false, fold, is_some, length, map, slice_get, true, ℕ, ℤ, ◌++◌, ◌+◌, ◌∷◌, ◌≡◌}
+use Rattle.std.specs.Prelude.{Bool, List, Some, [], false, is_some, length, map, slice_get, true, ℕ, ℤ, ◌++◌, ◌+◌, ◌∷◌, ◌≡◌}
 
 -- ---- what matches
 
@@ -60,44 +59,9 @@ pub record IsNotLeft (entries : List Entry) (i : ℕ) : Type 0 where
 
 -- ---- the intervals of a log
 
--- an interval: its block, the interval directly round it, the numbers of the entries that are its prelog
--- and its postlog, or the last end inside it, and whether it is left
-pub record Extent : Type 0 where
-  pub block : ℕ
-  pub parent : Option ℕ
-  pub prelog : ℕ
-  pub last : Option ℕ
-  pub closed : Bool
-
--- one more entry: a prelog begins an interval, a postlog leaves the innermost one, and an end stands inside all that
--- are running
-abbrev pub extend : Indexing Extent → Entry → Indexing Extent
-extend x e =
-    let left : Extent → Extent = λ i. record i { last = Some x.entry; closed = true } in
-    let ended : Extent → Extent = λ i. record i { last = Some x.entry } in
-    let after : Indexing Extent = elim e [
-      | entry.Prelog b values ↦ record x {
-        intervals = x.intervals ++ (record {
-          block = b;
-          parent = slice_get x.running 0;
-          prelog = x.entry;
-          last = None;
-          closed = false;
-        }) ∷ [];
-        running = length x.intervals ∷ x.running;
-      }
-      | entry.Unit u values ↦ x
-      | entry.Sync kind object number value reads writes ↦ x
-      | entry.Postlog b values ↦
-          record x { intervals = change_first left x.running x.intervals; running = drop 1 x.running }
-      | entry.End status rest reads writes ↦
-          record x { intervals = fold (λ ys k. change ended k ys) x.intervals x.running }
-    ] in
-    record after { entry = x.entry + 1 }
-
--- the intervals of a process's entries
+-- where the intervals of a process's entries stand
 abbrev pub extents : List Entry → List Extent
-extents entries = (fold extend begun_indexing entries).intervals
+extents entries = map (λ i. i.extent) (indexed entries)
 
 -- ---- what they are
 
@@ -109,12 +73,6 @@ pub record IsExtent (entries : List Entry) (x : Extent) : Type 0 where
 -- so it is with each interval of every list of entries
 abbrev pub ExtentsMatch : Type 0
 ExtentsMatch = (entries : List Entry) (k : ℕ) (x : Extent) → slice_get (extents entries) k ≡ Some x → IsExtent entries x
-
--- and they are the intervals of which the logs are found
-abbrev pub ExtentsAreIndexed : Type 0
-ExtentsAreIndexed =
-    (plan : Plan) (entries : List Entry)
-    → map (λ x. x.prelog) (extents entries) ≡ map (λ i. i.first) (indexed plan entries)
 
 -- an interval of a story and one of a log: of one block, directly inside the same interval, and both left or not
 pub record IsSameInterval (i : Span) (x : Extent) : Type 0 where

@@ -2,7 +2,7 @@ ghost use Rattle.ppd_model.specs.Bounds.{CountsAreBalanced, SchedulesAreBounded,
 ghost use Rattle.ppd_model.specs.Costs.{LogsArePaid, StartsAreFree, StepsCostWhatTheyWrite};
 ghost use Rattle.ppd_model.specs.Earlier.{TracesNameEarlierEvents, TracesTellRuns};
 ghost use Rattle.ppd_model.specs.Ends.{StoriesTellEnds};
-ghost use Rattle.ppd_model.specs.Extents.{ExtentsAreIndexed, ExtentsMatch, IntervalsAreOfLogs};
+ghost use Rattle.ppd_model.specs.Extents.{ExtentsMatch, IntervalsAreOfLogs};
 ghost use Rattle.ppd_model.specs.Forward.{EdgesGoForward, RecordsAreClosed};
 ghost use Rattle.ppd_model.specs.Items.{ItemsAreWhole};
 ghost use Rattle.ppd_model.specs.Laws.{IsTestOfBefore, IsTestOfEdges, LastEdgesAreOpen, LogsGrow, NoRaceMeansOrder, ProcessesFollowTheirSteps, StoriesAreOfRuns, StoriesGrow, StoriesTellAll, SynchronizationsAreCounted, TagsAreLastWrites};
@@ -198,11 +198,10 @@ pub fn items_are_whole()
 {}
 
 /// Law: an interval of a log that is left goes from its prelog to the postlog that matches it, with matching
-/// prelogs and postlogs between them; the prelog of another has no postlog. They are the intervals of which
-/// the interval logs are found, and after each schedule those of each process's own steps.
+/// prelogs and postlogs between them; the prelog of another has no postlog. After each schedule they are those of
+/// each process's own steps.
 pub fn extents_match()
     ensures matched { ExtentsMatch }
-    ensures indexed { ExtentsAreIndexed }
     ensures steps { IntervalsAreOfLogs }
 {}
 

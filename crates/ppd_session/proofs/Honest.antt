@@ -6,7 +6,7 @@ use Rattle.ppd_ast.specs.declared.program.Program.{Program}
 use Rattle.ppd_blocks.specs.Blocks.{plan_of}
 use Rattle.ppd_emul_model.specs.Replay.{Replayed, replay}
 use Rattle.ppd_entry.proofs.Vocabulary.{log_in}
-use Rattle.ppd_entry.specs.IntervalLogs.{Indexed, indexed, interval_log}
+use Rattle.ppd_entry.specs.IntervalLogs.{LoggedInterval, indexed, interval_log, log_by}
 use Rattle.ppd_entry.specs.declared.entry.Entry.{Entry}
 use Rattle.ppd_entry.specs.declared.entry.Logs.{Logs}
 use Rattle.ppd_flow.proofs.Assembled.{assembled}
@@ -100,8 +100,8 @@ entries_there (m ∷ ls) (suc p) l e = entries_there ls p l e
 abbrev told_replayed : Replayed → Told
 told_replayed r = told_by r.answer
 
-replay_told : (program : Program) (plan : Plan) (budget : ℕ) (o : Option Indexed)
-    → option_map (λ (i : Indexed). told_by (replay program plan i.log budget).answer) o ≡ option_map told_replayed (replay_of program plan budget (log_in o))
+replay_told : (program : Program) (plan : Plan) (budget : ℕ) (o : Option LoggedInterval)
+    → option_map (λ (i : LoggedInterval). told_by (replay program plan (log_by plan i) budget).answer) o ≡ option_map told_replayed (replay_of program plan budget (log_in plan o))
 replay_told program plan budget None = refl
 replay_told program plan budget (Some i) = refl
 
@@ -137,8 +137,8 @@ module _ (program : Program) (policy : Policy) (budget : ℕ) (h : List ℕ) (va
         let at : (k : ℕ) → replay_of program plan budget (interval_log plan (closed_log l) k) ≡ modelled_of x (slice_get x.spans k) =
         λ k. ap (λ (es : List Entry). replay_of program plan budget (interval_log plan es k)) (sym entries)
         ∙ (replays_give_intervals program policy budget h p k valid whole free ∙ ap (modelled_in k) e) in
-        sym (all_shown _ _ (indexed plan (closed_log l)) x.spans (λ k.
-        replay_told program plan budget (slice_get (indexed plan (closed_log l)) k)
+        sym (all_shown _ _ (indexed (closed_log l)) x.spans (λ k.
+        replay_told program plan budget (slice_get (indexed (closed_log l)) k)
         ∙ (ap (option_map told_replayed) (at k) ∙ span_told x (slice_get x.spans k))))
 
     same_told_all : map told_of_split (splits program plan budget (story program plan budget h)) ≡ map (told_of_entries program plan budget) (closed_logs program plan budget h).lists

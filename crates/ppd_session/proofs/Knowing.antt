@@ -9,7 +9,7 @@ use Rattle.ppd_emul_model.specs.declared.trace.BlockTrace.{BlockTrace}
 use Rattle.ppd_emul_model.specs.declared.trace.EmulError.{EmulError}
 use Rattle.ppd_emul_model.specs.declared.trace.EmulError.TheVariants as emul_error
 use Rattle.ppd_entry.proofs.Vocabulary.{log_in}
-use Rattle.ppd_entry.specs.IntervalLogs.{Indexed, indexed}
+use Rattle.ppd_entry.specs.IntervalLogs.{LoggedInterval, indexed}
 use Rattle.ppd_entry.specs.declared.entry.At.{At}
 use Rattle.ppd_entry.specs.declared.entry.Entry.{Entry}
 use Rattle.ppd_entry.specs.declared.entry.Logs.{Logs}
@@ -30,7 +30,7 @@ use Rattle.ppd_session.proofs.Tables.{cell_is, cells_count, flow_inside, no_plac
 use Rattle.ppd_session.specs.Knowing.{IsFoundOrNot, LogsAreKnown}
 use Rattle.ppd_session.specs.Known.{Known, Last, Told, flow_by, known_with, last_by, seens, told_by, told_of_entries, unless_failed, unless_raced}
 use Rattle.ppd_session.specs.Texts.{flow_at, told_at}
-use Rattle.std.proofs.Common.{Err, List, Ok, Option, Result, [], ap, arith, get_or, length, map, refl, subst, suc, sym, zero, ℕ, ◌+◌, ◌<◌, ◌∙◌, ◌∷◌, ◌≡◌}
+use Rattle.std.proofs.Common.{Err, List, Ok, Option, Result, [], ap, get_or, length, map, refl, subst, suc, sym, zero, ℕ, ◌+◌, ◌<◌, ◌∙◌, ◌∷◌, ◌≡◌}
 use Rattle.std.proofs.lemmas.Option.{same_Some, slice_get_within}
 use Rattle.std.specs.Prelude.{None, Some, option_map, slice_get}
 
@@ -43,7 +43,7 @@ module _ (program : Program) (plan : Plan) (budget : ℕ) (logs : Logs) where
 
   -- ---- replays
 
-  told_is : (q k : ℕ) → told_at (known []) q k ≡ option_map (told_of program plan budget) (slice_get (indexed plan (get_or logs.lists q [])) k)
+  told_is : (q k : ℕ) → told_at (known []) q k ≡ option_map (told_of program plan budget) (slice_get (indexed (get_or logs.lists q [])) k)
   told_is q k = told_logs program plan budget logs.lists q k
 
   by_answer : (a : Result BlockTrace EmulError) (n : ℕ) → result_err (told_by a) ≡ Some n → told_by a ≡ Err n
@@ -58,28 +58,28 @@ module _ (program : Program) (plan : Plan) (budget : ℕ) (logs : Logs) where
 
   -- a replay that fails is told to
   pub failing_is_told : (q k n : ℕ) → failed_at program plan budget (get_or logs.lists q []) k ≡ Some n → told_at (known []) q k ≡ Some (Err n)
-  failing_is_told q k n e = told_is q k ∙ by (slice_get (indexed plan (get_or logs.lists q [])) k) e
+  failing_is_told q k n e = told_is q k ∙ by (slice_get (indexed (get_or logs.lists q [])) k) e
     where
-      by : (o : Option Indexed) → failure_of (replay_of program plan budget (log_in o)) ≡ Some n → option_map (told_of program plan budget) o ≡ Some (Err n)
+      by : (o : Option LoggedInterval) → failure_of (replay_of program plan budget (log_in plan o)) ≡ Some n → option_map (told_of program plan budget) o ≡ Some (Err n)
       by None f = none_or_some refl f
       by (Some i) f = ap (λ (t : Told). Some t) (by_answer (answer_of program plan budget i) n f)
 
   -- and none other is
   pub failing : (q k n : ℕ) → told_at (known []) q k ≡ Some (Err n) → failed_at program plan budget (get_or logs.lists q []) k ≡ Some n
-  failing q k n e = by (slice_get (indexed plan (get_or logs.lists q [])) k) (sym (told_is q k) ∙ e)
+  failing q k n e = by (slice_get (indexed (get_or logs.lists q [])) k) (sym (told_is q k) ∙ e)
     where
-      by : (o : Option Indexed) → option_map (told_of program plan budget) o ≡ Some (Err n) → failure_of (replay_of program plan budget (log_in o)) ≡ Some n
+      by : (o : Option LoggedInterval) → option_map (told_of program plan budget) o ≡ Some (Err n) → failure_of (replay_of program plan budget (log_in plan o)) ≡ Some n
       by None f = none_or_some refl f
       by (Some i) f = answer_by (answer_of program plan budget i) n (same_Some (told_of program plan budget i) (Err n) f)
 
   -- an interval that fails is there
-  pub there : (q k n : ℕ) → failed_at program plan budget (get_or logs.lists q []) k ≡ Some n → k < length (indexed plan (get_or logs.lists q []))
-  there q k n e = by (slice_get (indexed plan (get_or logs.lists q [])) k) refl e
+  pub there : (q k n : ℕ) → failed_at program plan budget (get_or logs.lists q []) k ≡ Some n → k < length (indexed (get_or logs.lists q []))
+  there q k n e = by (slice_get (indexed (get_or logs.lists q [])) k) refl e
     where
-      by : (o : Option Indexed) → slice_get (indexed plan (get_or logs.lists q [])) k ≡ o → failure_of (replay_of program plan budget (log_in o)) ≡ Some n
-          → k < length (indexed plan (get_or logs.lists q []))
+      by : (o : Option LoggedInterval) → slice_get (indexed (get_or logs.lists q [])) k ≡ o → failure_of (replay_of program plan budget (log_in plan o)) ≡ Some n
+          → k < length (indexed (get_or logs.lists q []))
       by None f g = none_or_some refl g
-      by (Some i) f g = slice_get_within (indexed plan (get_or logs.lists q [])) k i f
+      by (Some i) f g = slice_get_within (indexed (get_or logs.lists q [])) k i f
 
   first_fails : (ms : List (ℕ × ℕ)) (at : At) → first_failed program plan budget logs ms ≡ Some at → (k : ℕ) × (told_at (known []) at.process k ≡ Some (Err at.entry))
   first_fails [] at e = none_or_some refl e
@@ -100,7 +100,7 @@ module _ (program : Program) (plan : Plan) (budget : ℕ) (logs : Logs) where
   seen_is : (lists : List (List Entry)) (q k : ℕ) (items : List Item) → slice_get (get_or (map (told_of_entries program plan budget) lists) q []) k ≡ Some (Ok items)
       → get_or (seen_at (map (λ entries. seen_by program plan budget entries) lists) q).items k [] ≡ items
   seen_is [] q k items e = none_or_some (no_place k) e
-  seen_is (es ∷ lists) zero k items e = sym (given_as program plan budget (indexed plan es) k items e)
+  seen_is (es ∷ lists) zero k items e = sym (given_as program plan budget (indexed es) k items e)
   seen_is (es ∷ lists) (suc q) k items e = seen_is lists q k items e
 
   -- ---- what is found or not

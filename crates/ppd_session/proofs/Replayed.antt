@@ -8,7 +8,7 @@ use Rattle.ppd_emul_model.specs.declared.trace.BlockTrace.{BlockTrace}
 use Rattle.ppd_emul_model.specs.declared.trace.EmulError.{EmulError}
 use Rattle.ppd_emul_model.specs.declared.trace.EmulError.TheVariants.{Diverged, Memory}
 use Rattle.ppd_entry.proofs.Vocabulary.{log_in}
-use Rattle.ppd_entry.specs.IntervalLogs.{Indexed, indexed}
+use Rattle.ppd_entry.specs.IntervalLogs.{LoggedInterval, indexed, log_by}
 use Rattle.ppd_entry.specs.declared.entry.Entry.{Entry}
 use Rattle.ppd_entry.specs.declared.entry.Logs.{Logs}
 use Rattle.ppd_flow_past.proofs.SeenWords.{failure_of}
@@ -19,7 +19,7 @@ use Rattle.ppd_flow_past.specs.declared.flow_error.FlowError.{FlowError}
 use Rattle.ppd_flow_past.specs.declared.flow_error.FlowError.TheVariants as flow_error
 use Rattle.ppd_flow_past.specs.declared.past.Past.{Past}
 use Rattle.ppd_index.specs.Indexes.{AreIntervals, IsIndexOf, rows_at}
-use Rattle.ppd_index.specs.Tables.{indexed_of}
+use Rattle.ppd_index.specs.Tables.{log_of}
 use Rattle.ppd_index.specs.declared.row.Row.{Row}
 use Rattle.ppd_model.specs.Bounds.{AreEach}
 use Rattle.ppd_model.specs.declared.flow.Item.{Item}
@@ -37,8 +37,8 @@ use Rattle.std.proofs.lemmas.Option.{same_Some, slice_get-map}
 use Rattle.std.specs.Prelude.{None, OnOk, Some, option_map, slice_get, ◌==◌}
 
 module _ (program : Program) (plan : Plan) (budget : ℕ) where
-  abbrev pub answer_of : Indexed → Result BlockTrace EmulError
-  answer_of i = (replay program plan i.log budget).answer
+  abbrev pub answer_of : LoggedInterval → Result BlockTrace EmulError
+  answer_of i = (replay program plan (log_by plan i) budget).answer
 
   -- ---- one replay
 
@@ -47,7 +47,7 @@ module _ (program : Program) (plan : Plan) (budget : ℕ) where
   fails_as q (Err (Diverged n w f)) = refl
   fails_as q (Err Memory) = refl
 
-  failure_as : (q : ℕ) (o : Option Indexed) → failure_or q (failure_of (replay_of program plan budget (log_in o))) None ≡ failure_in q (option_map (told_of program plan budget) o)
+  failure_as : (q : ℕ) (o : Option LoggedInterval) → failure_or q (failure_of (replay_of program plan budget (log_in plan o))) None ≡ failure_in q (option_map (told_of program plan budget) o)
   failure_as q None = refl
   failure_as q (Some i) = fails_as q (answer_of i)
 
@@ -56,7 +56,7 @@ module _ (program : Program) (plan : Plan) (budget : ℕ) where
   tells_as q (Err (Diverged n w f)) e = absurd (cc)
   tells_as q (Err Memory) e = refl
 
-  told_as : (q : ℕ) (is : List Indexed) (k : ℕ) → k < length is → failure_or q (failure_of (replay_of program plan budget (log_in (slice_get is k)))) None ≡ None
+  told_as : (q : ℕ) (is : List LoggedInterval) (k : ℕ) → k < length is → failure_or q (failure_of (replay_of program plan budget (log_in plan (slice_get is k)))) None ≡ None
       → slice_get (map (told_of program plan budget) is) k ≡ Some (Ok (get_or (map (λ i. result_unwrap_or (told_by (answer_of i)) []) is) k []))
   told_as q [] k lt e = absurd (omega arith)
   told_as q (i ∷ is) zero lt e = ap Some (tells_as q (answer_of i) e)
@@ -69,7 +69,7 @@ module _ (program : Program) (plan : Plan) (budget : ℕ) where
   gives_as (Err (Diverged n w f)) items e = absurd (cc)
   gives_as (Err Memory) items e = cc
 
-  pub given_as : (is : List Indexed) (k : ℕ) (items : List Item) → slice_get (map (told_of program plan budget) is) k ≡ Some (Ok items)
+  pub given_as : (is : List LoggedInterval) (k : ℕ) (items : List Item) → slice_get (map (told_of program plan budget) is) k ≡ Some (Ok items)
       → items ≡ get_or (map (λ i. result_unwrap_or (told_by (answer_of i)) []) is) k []
   given_as [] k items e = absurd (cc)
   given_as (i ∷ is) zero items e = gives_as (answer_of i) items (same_Some (told_of program plan budget i) (Ok items) e)
@@ -78,11 +78,12 @@ module _ (program : Program) (plan : Plan) (budget : ℕ) where
 -- ---- how many
 
 each_count : (plan : Plan) (tables : List (List Row)) (lists : List (List Entry)) (q : ℕ) → AreEach (AreIntervals plan) tables lists
-    → length (get_or tables q []) ≡ length (indexed plan (get_or lists q []))
+    → length (get_or tables q []) ≡ length (indexed (get_or lists q []))
 each_count plan [] [] q h = refl
 each_count plan [] (es ∷ lists) q h = absurd h
 each_count plan (r ∷ tables) [] q h = absurd h
-each_count plan (r ∷ tables) (es ∷ lists) zero h = sym (length-map r (indexed_of es)) ∙ ap length h.0.logs_are
+each_count plan (r ∷ tables) (es ∷ lists) zero h =
+    sym (length-map r (log_of es)) ∙ ap length h.0.logs_are ∙ length-map (indexed es) (log_by plan)
 each_count plan (r ∷ tables) (es ∷ lists) (suc q) h = each_count plan tables lists q h.1
 
 -- ---- texts
@@ -136,8 +137,8 @@ module _ (past : Past) (uncut : past.cut.now ≡ past.logs.now) (q k : ℕ) wher
   pub same_failure : first_failed_in past ((q, k) ∷ []) ≡ failure_at (known_by past []) (Some q) k
   same_failure =
       ap (λ (l : Logs). first_failed past.program.now past.plan.now past.budget l ((q, k) ∷ [])) uncut
-      ∙ failure_as past.program.now past.plan.now past.budget q (slice_get (indexed past.plan.now entries) k)
-      ∙ ap (failure_in q) (sym (told_here ∙ slice_get-map _ (indexed past.plan.now entries) k))
+      ∙ failure_as past.program.now past.plan.now past.budget q (slice_get (indexed entries) k)
+      ∙ ap (failure_in q) (sym (told_here ∙ slice_get-map _ (indexed entries) k))
 
   -- what the replays give of the logs
   same_items : items_in past q k ≡ get_or (seen_by past.program.now past.plan.now past.budget entries).items k []
@@ -147,7 +148,7 @@ module _ (past : Past) (uncut : past.cut.now ≡ past.logs.now) (q k : ℕ) wher
   pub are_replayed : (items : List Item) → told_at (known_by past []) q k ≡ Some (Ok items) → AreReplayed past q k items
   are_replayed items e = (
     no_failure q (failed_in past q k) (same_failure ∙ ap (failure_in q) e),
-    given_as past.program.now past.plan.now past.budget (indexed past.plan.now entries) k items (sym told_here ∙ e) ∙ sym same_items,
+    given_as past.program.now past.plan.now past.budget (indexed entries) k items (sym told_here ∙ e) ∙ sym same_items,
   )
 
   -- of an interval that is not there nothing is told
@@ -155,7 +156,7 @@ module _ (past : Past) (uncut : past.cut.now ≡ past.logs.now) (q k : ℕ) wher
   not_told h le =
       let count = each_count past.plan.now past.index.now.tables past.logs.now.lists q h in
       let long : length (told_of_entries past.program.now past.plan.now past.budget entries) ≤ k =
-      omega (arith, length-map (indexed past.plan.now entries) (told_of past.program.now past.plan.now past.budget), count) in
+      omega (arith, length-map (indexed entries) (told_of past.program.now past.plan.now past.budget), count) in
       told_here ∙ got_none (told_of_entries past.program.now past.plan.now past.budget entries) k long
 
   -- a replay that does not fail tells its items
@@ -164,12 +165,12 @@ module _ (past : Past) (uncut : past.cut.now ≡ past.logs.now) (q k : ℕ) wher
   tells items b e h lt f =
       let is : ◌≡◌ {A = Result (List Item) FlowError} (Ok (items_in past q k)) (Ok items) = f.1 in
       let count = each_count past.plan.now past.index.now.tables past.logs.now.lists q h in
-      let there : k < length (indexed past.plan.now entries) = omega (arith, count) in
+      let there : k < length (indexed entries) = omega (arith, count) in
       let found : items_in past q k ≡ items = cc in
       let same : get_or (seen_by past.program.now past.plan.now past.budget entries).items k [] ≡ items = sym same_items ∙ found in
       let none = sym (ap (λ (l : Logs). first_failed past.program.now past.plan.now past.budget l ((q, k) ∷ [])) uncut) ∙ f.0 in
       told_here
-      ∙ (told_as past.program.now past.plan.now past.budget q (indexed past.plan.now entries) k there none
+      ∙ (told_as past.program.now past.plan.now past.budget q (indexed entries) k there none
       ∙ ap (λ (i : List Item). Some (Ok i)) same)
 
   -- and else why
@@ -180,7 +181,7 @@ module _ (past : Past) (uncut : past.cut.now ≡ past.logs.now) (q k : ℕ) wher
   causes b e flow_error.Memory f = tt
 
   -- an interval with an item is there
-  items_there : (is : List Indexed) (m j : ℕ) (t : Item) → slice_get (get_or (map (λ i. result_unwrap_or (told_by (answer_of past.program.now past.plan.now past.budget i)) []) is) m []) j ≡ Some t → m < length is
+  items_there : (is : List LoggedInterval) (m j : ℕ) (t : Item) → slice_get (get_or (map (λ i. result_unwrap_or (told_by (answer_of past.program.now past.plan.now past.budget i)) []) is) m []) j ≡ Some t → m < length is
   items_there [] m zero t e = absurd (cc)
   items_there [] m (suc j) t e = absurd (cc)
   items_there (i ∷ is) zero j t e = omega arith
@@ -190,9 +191,9 @@ module _ (past : Past) (uncut : past.cut.now ≡ past.logs.now) (q k : ℕ) wher
   pub tells_items : (j : ℕ) (t : Item) → failed_in past q k ≡ None → slice_get (items_in past q k) j ≡ Some t → told_at (known_by past []) q k ≡ Some (Ok (items_in past q k))
   tells_items j t none e =
       let item = subst (λ (is : List Item). slice_get is j ≡ Some t) same_items e in
-      let there : k < length (indexed past.plan.now entries) = items_there (indexed past.plan.now entries) k j t item in
+      let there : k < length (indexed entries) = items_there (indexed entries) k j t item in
       let fine : failure_or q (failed_in past q k) None ≡ None = ap (λ (o : Option ℕ). failure_or q o None) none in
       let none_failed = sym (ap (λ (l : Logs). first_failed past.program.now past.plan.now past.budget l ((q, k) ∷ [])) uncut) ∙ fine in
       told_here
-      ∙ (told_as past.program.now past.plan.now past.budget q (indexed past.plan.now entries) k there none_failed
+      ∙ (told_as past.program.now past.plan.now past.budget q (indexed entries) k there none_failed
       ∙ ap (λ (i : List Item). Some (Ok i)) (sym same_items))

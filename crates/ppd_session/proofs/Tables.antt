@@ -7,7 +7,7 @@ use Rattle.ppd_ast.specs.declared.plan.Plan.{Plan}
 use Rattle.ppd_ast.specs.declared.program.Program.{Program}
 use Rattle.ppd_emul_model.specs.Replay.{replay}
 use Rattle.ppd_entry.specs.declared.entry.Entry.{Entry}
-use Rattle.ppd_entry.specs.IntervalLogs.{Indexed, indexed}
+use Rattle.ppd_entry.specs.IntervalLogs.{LoggedInterval, indexed, log_by}
 use Rattle.ppd_flow_past.specs.declared.flow_error.FlowError.TheVariants.{NoEvent}
 use Rattle.ppd_model.specs.declared.flow.Item.{Item}
 use Rattle.ppd_session.specs.Known.{Flow, Told, of_processes, told_by, told_of_entries}
@@ -98,8 +98,8 @@ module _ (f : ℕ → ℕ → ℕ → Flow) (rows : List (List Told)) (p k j : �
 -- ---- what replays tell
 
 module _ (program : Program) (plan : Plan) (budget : ℕ) where
-  abbrev pub told_of : Indexed → Told
-  told_of i = told_by (replay program plan i.log budget).answer
+  abbrev pub told_of : LoggedInterval → Told
+  told_of i = told_by (replay program plan (log_by plan i) budget).answer
 
   -- of a process that is there, and of none
   pub told_entries : (lists : List (List Entry)) (q : ℕ)
@@ -110,6 +110,6 @@ module _ (program : Program) (plan : Plan) (budget : ℕ) where
 
   -- of an interval, by its own log
   pub told_logs : (lists : List (List Entry)) (q k : ℕ)
-      → slice_get (get_or (map (told_of_entries program plan budget) lists) q []) k ≡ option_map told_of (slice_get (indexed plan (get_or lists q [])) k)
+      → slice_get (get_or (map (told_of_entries program plan budget) lists) q []) k ≡ option_map told_of (slice_get (indexed (get_or lists q [])) k)
   told_logs lists q k =
-      ap (λ ts. slice_get ts k) (told_entries lists q) ∙ slice_get-map told_of (indexed plan (get_or lists q [])) k
+      ap (λ ts. slice_get ts k) (told_entries lists q) ∙ slice_get-map told_of (indexed (get_or lists q [])) k

@@ -3,7 +3,7 @@
 use Rattle.ppd_ast.specs.declared.plan.Plan.{Plan}
 use Rattle.ppd_ast.specs.declared.program.Program.{Program}
 use Rattle.ppd_emul_model.specs.Replay.{replay}
-use Rattle.ppd_entry.specs.IntervalLogs.{indexed}
+use Rattle.ppd_entry.specs.IntervalLogs.{indexed, log_by}
 use Rattle.ppd_entry.specs.declared.entry.At.{At}
 use Rattle.ppd_entry.specs.declared.entry.Entry.{Entry}
 use Rattle.ppd_entry.specs.declared.entry.Logs.{Logs}
@@ -20,7 +20,7 @@ use Rattle.ppd_flow_past.specs.declared.flow_error.FlowError.TheVariants as flow
 use Rattle.ppd_flow_past.specs.declared.flow_error.FlowError.TheVariants.{NoEvent}
 use Rattle.ppd_model.specs.Extents.{Extent, extents}
 use Rattle.ppd_model.specs.FlowbackEdges.{edges, last}
-use Rattle.ppd_model.specs.Intervals.{Span, Split, items_of, splits}
+use Rattle.ppd_model.specs.Intervals.{Split, items_of, splits}
 use Rattle.ppd_model.specs.Races.{edges_of_story, races_among}
 use Rattle.ppd_model.specs.Story.{story}
 use Rattle.ppd_model.specs.declared.flow.FlowEdge.{FlowEdge}
@@ -106,7 +106,7 @@ of_extent x = record { block = x.block; parent = x.parent; closed = x.closed }
 -- the items of each interval of a process, by its replay from its own log
 abbrev pub told_of_entries : Program → Plan → ℕ → List Entry → List Told
 told_of_entries program plan budget entries =
-    map (λ i. told_by (replay program plan i.log budget).answer) (indexed plan entries)
+    map (λ i. told_by (replay program plan (log_by plan i) budget).answer) (indexed entries)
 
 -- what the replays of each process give
 abbrev pub seens : Program → Plan → ℕ → Logs → List Seen

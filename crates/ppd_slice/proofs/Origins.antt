@@ -165,7 +165,7 @@ module _ (past : Past) (p k j q : ℕ) where
         syncs = (sync_edges past.program.now past.logs.now xs p k j e.number).found
 
         control : List FlowEdge
-        control = bare_edge Control (control_origin past.program.now past.plan.now (seen_at xs p) p k j e.stmt) ∷ []
+        control = bare_edge Control (control_origin past.program.now past.plan.now (seen_at xs p) p k j e.stmt).found ∷ []
 
         by : (r : Result (List FlowEdge) Missing)
             → (read_edges past.program.now past.plan.now past.logs.now xs p k j e.reads).found ≡ r

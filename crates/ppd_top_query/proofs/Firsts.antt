@@ -113,8 +113,8 @@ module _ (r : Recording) where
   -- an interval that fails is among those of its process
   in_row : (p k n : ℕ) (entries : List Entry) → entries ≡ get_or r.logs.lists p [] → F p k ≡ Some n → k < length (seen_of entries).items
   in_row p k n entries e f =
-      let lt : k < length (indexed r.plan entries) = subst (λ es. k < length (indexed r.plan es)) (sym e) (there r.program r.plan r.header.budget r.logs p k n f) in
-      let count : length (seen_of entries).items ≡ length (indexed r.plan entries) = length-map (indexed r.plan entries) _ in
+      let lt : k < length (indexed entries) = subst (λ es. k < length (indexed es)) (sym e) (there r.program r.plan r.header.budget r.logs p k n f) in
+      let count : length (seen_of entries).items ≡ length (indexed entries) = length-map (indexed entries) _ in
       omega (arith, lt, count)
 
   own : (p : ℕ) (entries : List Entry) (lists : List (List Entry)) → AreFrom p (entries ∷ lists) → entries ≡ get_or r.logs.lists p []
@@ -130,7 +130,7 @@ module _ (r : Recording) where
   -- a process that is not there has no interval
   none_there : (p i k n : ℕ) → AreFrom p [] → F (p + i) k ≡ Some n → ⊥
   none_there p i k n h f =
-      let lt : k < length (indexed r.plan []) = subst (λ es. k < length (indexed r.plan es)) (sym (h i) ∙ no_entries i) (there r.program r.plan r.header.budget r.logs (p + i) k n f) in
+      let lt : k < length (indexed []) = subst (λ es. k < length (indexed es)) (sym (h i) ∙ no_entries i) (there r.program r.plan r.header.budget r.logs (p + i) k n f) in
       omega (arith, lt)
 
   all_clear : (p : ℕ) (lists : List (List Entry)) → AreFrom p lists → first_of (intervals_from p (map seen_of lists)) ≡ None → (i k n : ℕ) → F (p + i) k ≡ Some n → ⊥

@@ -1,13 +1,13 @@
 -- The intervals of logs that need be no run's.
 use Rattle.std.proofs.Common.{◌≡◌, refl}
-use Rattle.std.specs.Prelude.{ℕ, ℤ, pos, true, false, List, [], ◌∷◌, None, Some}
+use Rattle.std.specs.Prelude.{ℕ, ℤ, pos, true, false, List, [], ◌∷◌, None, Some, map}
 use Rattle.ppd_ast.specs.declared.plan.BlockKind.TheVariants as block
 use Rattle.ppd_ast.specs.declared.plan.Plan.{Plan}
 use Rattle.ppd_ast.specs.declared.plan.Start.TheVariants as start
 use Rattle.ppd_ast.specs.declared.status.Status.TheVariants as status
 use Rattle.ppd_entry.specs.declared.entry.Entry.{Entry}
 use Rattle.ppd_entry.specs.declared.entry.Entry.TheVariants as entry
-use Rattle.ppd_entry.specs.IntervalLogs.{Indexed, indexed}
+use Rattle.ppd_entry.specs.IntervalLogs.{IntervalLog, indexed, log_by}
 use Rattle.ppd_entry.specs.Pieces.{Piece, unit, nested, unfinished, postlog, finish}
 use Rattle.ppd_model.specs.Extents.{extents}
 use Rattle.rows_programs.proofs.Runs.Tables.{block_of, unit_of}
@@ -22,8 +22,12 @@ plan = record {
 }
 
 -- an interval whose prelog is this entry
-abbrev interval : ℕ → ℕ → ℕ → List ℤ → List (ℕ × Piece) → Indexed
-interval first block depth values pieces = record { first = first; log = record { block = block; values = values; depth = depth; pieces = pieces } }
+abbrev interval : ℕ → ℕ → ℕ → List ℤ → List (ℕ × Piece) → ℕ × IntervalLog
+interval first block depth values pieces = (first, record { block = block; values = values; depth = depth; pieces = pieces })
+
+-- the number of each interval's prelog, and its log
+abbrev logs : List Entry → List (ℕ × IntervalLog)
+logs entries = map (λ i. (i.extent.prelog, log_by plan i)) (indexed entries)
 
 abbrev never_entered : List Entry
 never_entered =
@@ -31,7 +35,7 @@ never_entered =
     ∷ entry.Unit 0 [] ∷ entry.Postlog 1 [] ∷ entry.End status.Ended 5 [] [] ∷ []
 
 -- a loop that was never entered has an interval, and is a piece of the process's, by number, block and postlog
-pub never_entered_logs : indexed plan never_entered ≡
+pub never_entered_logs : logs never_entered ≡
     interval 0 1 0 [] ((1, unit 0 []) ∷ (2, nested 1 2 (pos 4 ∷ [])) ∷ (5, unit 0 []) ∷ (6, postlog []) ∷ [])
     ∷ interval 2 2 0 (pos 3 ∷ []) ((3, unit 0 []) ∷ (4, postlog (pos 4 ∷ [])) ∷ []) ∷ []
 never_entered_logs = refl
@@ -45,7 +49,7 @@ abbrev unfinished_call : List Entry
 unfinished_call = entry.Prelog 1 [] ∷ entry.Unit 0 [] ∷ entry.Prelog 0 [] ∷ entry.Unit 0 [] ∷ entry.End status.Budget 5 [] [] ∷ []
 
 -- inside a call that was not left the End is the last piece, and the call is unfinished for its caller
-pub unfinished_logs : indexed plan unfinished_call ≡
+pub unfinished_logs : logs unfinished_call ≡
     interval 0 1 0 [] ((1, unit 0 []) ∷ (2, unfinished 1 0) ∷ [])
     ∷ interval 2 0 1 [] ((3, unit 0 []) ∷ (4, finish status.Budget 5) ∷ []) ∷ []
 unfinished_logs = refl

@@ -124,7 +124,7 @@ module _ (program : Program) (plan : Plan) (budget : ℕ) (h : List ℕ) (w : Wo
             absurd (none-some (Ok es) (sym (ap (λ o. (edges_if program plan logs seens p k j o).found) is) ∙ found))
         by (Some s) z =
             let is : slice_get (get_or (seen_at seens p).items k []) j ≡ Some (item.Nested m s.block s.values (is_some s.closed)) = item_is i at (nested m) g ∙ ap (λ o. first_of (item_of_span m o)) z in
-            let here : edges_of_nested program plan (seen_at seens p) p k j m s.block s.values (block_kind plan s.block) ≡ es = ok_is (some (sym (ap (λ o. (edges_if program plan logs seens p k j o).found) is) ∙ found)) in
+            let here : (edges_of_nested program plan (seen_at seens p) p k j m s.block s.values (block_kind plan s.block)).found ≡ es = ok_is (some (sym (ap (λ o. (edges_if program plan logs seens p k j o).found) is) ∙ found)) in
             subst (λ o. steps (edges_if program plan logs seens p k j o).replays ≤ length es * (N + N)) (sym is) (nested_little program plan budget h v p k j x there es edges_are i at m s.block s.values (block_kind plan s.block) here)
 
     pub all_little : steps_of_all (splits program plan budget (story program plan budget h)) (found_edges program plan (closed_logs program plan budget h) (all_seen program plan budget h) p k j).replays

@@ -17,7 +17,7 @@ use Rattle.ppd_ast.specs.declared.plan.Policy.{Policy}
 use Rattle.ppd_ast.specs.declared.plan.Start.TheVariants as start
 use Rattle.ppd_ast.specs.declared.program.Program.{Program}
 use Rattle.ppd_blocks.specs.Blocks.{plan_of}
-use Rattle.ppd_entry.specs.IntervalLogs.{Indexed, Indexing, begun_indexing, index_step}
+use Rattle.ppd_entry.specs.IntervalLogs.{Indexing, begun_indexing, index_step}
 use Rattle.ppd_entry.specs.declared.entry.Entry.TheVariants as entry
 use Rattle.ppd_index.specs.Refusals.{first_bad, first_in_lists, may_begin, standing}
 use Rattle.ppd_model.proofs.LogWords.{logs_from}
@@ -51,17 +51,17 @@ module _ (program : Program) (policy : Policy) (budget : ℕ) (v : IsValid progr
     first_fit : IsFit plan body p begun_indexing (entry.Prelog own [])
     first_fit =
         fits_by plan body p begun_indexing (entry.Prelog own [])
-        (ap (may_begin body (standing begun_indexing false)) (own_fits program policy v p there).1.1 ∙ eq-eqb body body refl) (own_fits program policy v p there).0
+        (ap (may_begin body (standing plan begun_indexing false)) (own_fits program policy v p there).1.1 ∙ eq-eqb body body refl) (own_fits program policy v p there).0
 
-    inside : Stands plan (index_step plan begun_indexing (entry.Prelog own [])) (own ∷ [])
+    inside : Stands plan (index_step begun_indexing (entry.Prelog own [])) (own ∷ [])
     inside = after_prelog plan begun_indexing [] own [] refl tt tt
 
     process_passes : first_bad program plan p (closed_log (log_of program plan budget p ms)) ≡ None
     process_passes =
         let values = values_of_unit plan program.starts first_unit in
         let found = under_there program policy v first_unit (started program plan p budget) (begun_under program policy v p budget) (order.until_end refl) in
-        let x : Indexing Indexed = index_step plan begun_indexing (entry.Prelog own []) in
-        let y : Indexing Indexed = index_step plan x (entry.Unit first_unit values) in
+        let x : Indexing = index_step begun_indexing (entry.Prelog own []) in
+        let y : Indexing = index_step x (entry.Unit first_unit values) in
         ap (λ es. first_bad program plan p es) (logged program policy v p there ms (begun_log program plan budget p))
         ∙ one_more plan body p begun_indexing (entry.Prelog own []) (entry.Unit first_unit values ∷ more program policy v p there (begun_log program plan budget p) ms) first_fit refl
         (one_more plan body p x (entry.Unit first_unit values) (more program policy v p there (begun_log program plan budget p) ms)

@@ -21,7 +21,7 @@ use Rattle.ppd_ast.specs.declared.program.Program.{Program}
 use Rattle.ppd_ast.specs.declared.status.Status.{Status}
 use Rattle.ppd_ast.specs.declared.status.Status.TheVariants as status
 use Rattle.ppd_blocks.specs.Blocks.{plan_of}
-use Rattle.ppd_entry.specs.IntervalLogs.{Indexed, Indexing, index_step}
+use Rattle.ppd_entry.specs.IntervalLogs.{Indexing, index_step}
 use Rattle.ppd_entry.specs.declared.entry.Entry.{Entry}
 use Rattle.ppd_entry.specs.declared.entry.Entry.TheVariants as entry
 use Rattle.ppd_index.proofs.Vocabulary.{fits_postlog, fits_unit}
@@ -68,36 +68,36 @@ module _ (program : Program) (policy : Policy) (v : IsValid program) (p : ℕ) (
 
   module _ (l : Logging) (t : Taken) (values : List ℤ) (es : List Entry) where
     -- the unit that starts, if one does
-    units_pass : (u : Option ℕ) (y : Indexing Indexed) (b : ℕ) (bs : List ℕ) → ((w : ℕ) → u ≡ Some w → fits_unit (slice_get plan.units w) values ≡ true) → Stands plan y (b ∷ bs)
-        → ((z : Indexing Indexed) → Stands plan z (b ∷ bs) → Passes plan body p z es) → Passes plan body p y ((units u values ++ []) ++ es)
+    units_pass : (u : Option ℕ) (y : Indexing) (b : ℕ) (bs : List ℕ) → ((w : ℕ) → u ≡ Some w → fits_unit (slice_get plan.units w) values ≡ true) → Stands plan y (b ∷ bs)
+        → ((z : Indexing) → Stands plan z (b ∷ bs) → Passes plan body p z es) → Passes plan body p y ((units u values ++ []) ++ es)
     units_pass None y b bs fits s next = next y s
     units_pass (Some w) y b bs fits s next =
-        one_more plan body p y (entry.Unit w values) es (fit_unit plan body p y b bs s w values (fits w refl)) refl (next (index_step plan y (entry.Unit w values)) (after_unit plan y w values (b ∷ bs) s))
+        one_more plan body p y (entry.Unit w values) es (fit_unit plan body p y b bs s w values (fits w refl)) refl (next (index_step y (entry.Unit w values)) (after_unit plan y w values (b ∷ bs) s))
 
     -- where some block is open
-    units_inside : (u : Option ℕ) (y : Indexing Indexed) (s : Proc) → ((w : ℕ) → u ≡ Some w → fits_unit (slice_get plan.units w) values ≡ true) → Stands plan y (Open s)
-        → ((z : Indexing Indexed) → Stands plan z (Open s) → Passes plan body p z es) → Passes plan body p y ((units u values ++ []) ++ es)
+    units_inside : (u : Option ℕ) (y : Indexing) (s : Proc) → ((w : ℕ) → u ≡ Some w → fits_unit (slice_get plan.units w) values ≡ true) → Stands plan y (Open s)
+        → ((z : Indexing) → Stands plan z (Open s) → Passes plan body p z es) → Passes plan body p y ((units u values ++ []) ++ es)
     units_inside u y s fits stands next =
         let i = inside_some (open_blocks program plan s.todo) (process_block program plan p) in
         units_pass u y i.0 i.1 fits (subst (Stands plan y) i.2 stands) (λ z h. next z (subst (Stands plan z) (sym i.2) h))
 
-    module _ (x : Indexing Indexed) (s after : Proc) (stands : Stands plan x (Open s)) (u : Option ℕ) (fits : (w : ℕ) → u ≡ Some w → fits_unit (slice_get plan.units w) values ≡ true)
-        (next : (z : Indexing Indexed) → Stands plan z (Open after) → Passes plan body p z es) where
+    module _ (x : Indexing) (s after : Proc) (stands : Stands plan x (Open s)) (u : Option ℕ) (fits : (w : ℕ) → u ≡ Some w → fits_unit (slice_get plan.units w) values ≡ true)
+        (next : (z : Indexing) → Stands plan z (Open after) → Passes plan body p z es) where
       opens_pass : (a : Mark) → IsPrelog program policy v (functions_in plan (Open s)) a → Open after ≡ a.block ∷ Open s → Passes plan body p x (news l t values (Some a) None None u None ++ es)
       opens_pass a h move =
           let i = inside_some (open_blocks program plan s.todo) (process_block program plan p) in
           one_more plan body p x (entry.Prelog a.block a.values) ((units u values ++ []) ++ es)
           (fit_prelog plan body p x i.0 i.1 (subst (Stands plan x) i.2 stands) a.block a.values
           (subst (λ bs. MayBegin plan (functions_in plan bs) a.block) i.2 h.begins) h.fits) refl
-          (units_inside u (index_step plan x (entry.Prelog a.block a.values)) after fits
-          (subst (Stands plan (index_step plan x (entry.Prelog a.block a.values))) (sym move) (after_prelog plan x (Open s) a.block a.values (next_later plan x.entry) stands.falls stands.are)) next)
+          (units_inside u (index_step x (entry.Prelog a.block a.values)) after fits
+          (subst (Stands plan (index_step x (entry.Prelog a.block a.values))) (sym move) (after_prelog plan x (Open s) a.block a.values (next_later plan x.entry) stands.falls stands.are)) next)
 
       closes_pass : (a : Mark) → IsPostlog program policy v a → Open s ≡ a.block ∷ Open after → Passes plan body p x (news l t values None None (Some a) u None ++ es)
       closes_pass a h move =
           let here : Stands plan x (a.block ∷ Open after) = subst (Stands plan x) move stands in
           one_more plan body p x (entry.Postlog a.block a.values) ((units u values ++ []) ++ es)
           (fit_postlog plan body p x a.block (Open after) here a.values h (eq-eqb a.block a.block refl)) refl
-          (units_inside u (index_step plan x (entry.Postlog a.block a.values)) after fits (after_postlog plan x a.block a.values a.block (Open after) here) next)
+          (units_inside u (index_step x (entry.Postlog a.block a.values)) after fits (after_postlog plan x a.block a.values a.block (Open after) here) next)
 
       passes_pass : (sy : Option Sync) → Open s ≡ Open after → Passes plan body p x (news l t values None sy None u None ++ es)
       passes_pass None move = units_inside u x after fits (subst (Stands plan x) move stands) next
@@ -105,13 +105,13 @@ module _ (program : Program) (policy : Policy) (v : IsValid program) (p : ℕ) (
           let i = inside_some (open_blocks program plan s.todo) (process_block program plan p) in
           let e : Entry = entry.Sync z.kind z.object z.number (passed_value t.need t.answer) l.reads l.writes in
           one_more plan body p x e ((units u values ++ []) ++ es) (fit_sync plan body p x i.0 i.1 (subst (Stands plan x) i.2 stands) z.kind z.object z.number (passed_value t.need t.answer) l.reads l.writes) refl
-          (units_inside u (index_step plan x e) after fits (subst (Stands plan (index_step plan x e)) move (after_sync plan x z.kind z.object z.number (passed_value t.need t.answer) l.reads l.writes (Open s) stands)) next)
+          (units_inside u (index_step x e) after fits (subst (Stands plan (index_step x e)) move (after_sync plan x z.kind z.object z.number (passed_value t.need t.answer) l.reads l.writes (Open s) stands)) next)
 
-    module _ (x : Indexing Indexed) (s : Proc) (stands : Stands plan x (Open s)) (none : es ≡ []) where
+    module _ (x : Indexing) (s : Proc) (stands : Stands plan x (Open s)) (none : es ≡ []) where
       ends_pass : (a : Mark) (how : Status) → fits_postlog (slice_get plan.blocks a.block) a.values ≡ true → how ≡ status.Ended → Open s ≡ a.block ∷ [] → Passes plan body p x (news l t values None None (Some a) None (Some how) ++ es)
       ends_pass a how fits ended move =
           let here : Stands plan x (a.block ∷ []) = subst (Stands plan x) move stands in
-          let y : Indexing Indexed = index_step plan x (entry.Postlog a.block a.values) in
+          let y : Indexing = index_step x (entry.Postlog a.block a.values) in
           one_more plan body p x (entry.Postlog a.block a.values) (entry.End how l.rest l.reads l.writes ∷ es) (fit_postlog plan body p x a.block [] here a.values fits (eq-eqb a.block a.block refl)) refl
           (subst (λ fs. Passes plan body p y (entry.End how l.rest l.reads l.writes ∷ fs)) (sym none)
           (subst (λ w. Passes plan body p y (entry.End w l.rest l.reads l.writes ∷ [])) (sym ended)
@@ -126,7 +126,7 @@ module _ (program : Program) (policy : Policy) (v : IsValid program) (p : ℕ) (
   -- ---- each step
 
   -- a step of these marks passes
-  module _ (l : Logging) (m : Moment) (es : List Entry) (x : Indexing Indexed) (after : Proc) (stands : Stands plan x (Open l.proc)) where
+  module _ (l : Logging) (m : Moment) (es : List Entry) (x : Indexing) (after : Proc) (stands : Stands plan x (Open l.proc)) where
     by_shape : (sy : Option Sync) (u : Option ℕ) (o c : Option Mark) (st : Option Status) → Shape sy u o c st
         → ((k : Mark) → o ≡ Some k → IsPrelog program policy v (functions_in plan (Open l.proc)) k)
         → ((k : Mark) → c ≡ Some k → st ≡ None → IsPostlog program policy v k)
@@ -134,7 +134,7 @@ module _ (program : Program) (policy : Policy) (v : IsValid program) (p : ℕ) (
         → ((how : Status) → c ≡ None → st ≡ Some how → IsInsideEnd how)
         → Moves o c st (Open l.proc) (Open after)
         → (st ≡ None → (w : ℕ) → u ≡ Some w → fits_unit (slice_get plan.units w) m.unit_values ≡ true)
-        → (st ≡ None → (z : Indexing Indexed) → Stands plan z (Open after) → Passes plan body p z es)
+        → (st ≡ None → (z : Indexing) → Stands plan z (Open after) → Passes plan body p z es)
         → ((how : Status) → st ≡ Some how → es ≡ [])
         → Passes plan body p x (news l m.taken m.unit_values o sy c u st ++ es)
     by_shape None u (Some a) None None (opens _ e) pre post final inside move fits next over = opens_pass l m.taken m.unit_values es x l.proc after stands u (fits refl) (next refl) a (pre a refl) move
@@ -167,7 +167,7 @@ module _ (program : Program) (policy : Policy) (v : IsValid program) (p : ℕ) (
 
   -- ---- all steps
 
-  module _ (m : Moment) (ms : List Moment) (l : Logging) (x : Indexing Indexed) (u : ℕ) (order : IsInOrder program plan p l.proc) (runs : l.proc.status ≡ None) (run : IsRun program plan l.proc (m ∷ ms)) (valued : IsValued plan m) (under : IsUnder program policy v u l.proc) (stands : Stands plan x (Open l.proc)) where
+  module _ (m : Moment) (ms : List Moment) (l : Logging) (x : Indexing) (u : ℕ) (order : IsInOrder program plan p l.proc) (runs : l.proc.status ≡ None) (run : IsRun program plan l.proc (m ∷ ms)) (valued : IsValued plan m) (under : IsUnder program policy v u l.proc) (stands : Stands plan x (Open l.proc)) where
     abbrev after : Proc
     after = act program plan l.proc m.taken.answer
 
@@ -184,7 +184,7 @@ module _ (program : Program) (policy : Policy) (v : IsValid program) (p : ℕ) (
     abbrev next_unit : ℕ
     next_unit = unwrap_or (unit_started (need_of program plan l.proc)) u
 
-    by_todo : (todo : List Todo) → l.proc.todo ≡ todo → EndsWithEnd program todo → (es : List Entry) → (after.status ≡ None → IsUnder program policy v next_unit after → (z : Indexing Indexed) → Stands plan z (Open after) → Passes plan body p z es) → (is_none after.status ≡ false → es ≡ [])
+    by_todo : (todo : List Todo) → l.proc.todo ≡ todo → EndsWithEnd program todo → (es : List Entry) → (after.status ≡ None → IsUnder program policy v next_unit after → (z : Indexing) → Stands plan z (Open after) → Passes plan body p z es) → (is_none after.status ≡ false → es ≡ [])
         → Passes plan body p x (entries_of program plan l m ++ es)
     by_todo [] is last es further over = absurd last
     by_todo (t ∷ ts) is last es further over =
@@ -205,7 +205,7 @@ module _ (program : Program) (policy : Policy) (v : IsValid program) (p : ℕ) (
         (λ none z h. further (status_is ∙ none) (goes_on none) z h)
         (λ how e. over (ap is_none (status_is ∙ e)))
 
-  pub pass : (ms : List Moment) (l : Logging) (x : Indexing Indexed) (u : ℕ) → IsInOrder program plan p l.proc → l.proc.status ≡ None → IsRun program plan l.proc ms → AreValued plan ms → IsUnder program policy v u l.proc → Stands plan x (Open l.proc)
+  pub pass : (ms : List Moment) (l : Logging) (x : Indexing) (u : ℕ) → IsInOrder program plan p l.proc → l.proc.status ≡ None → IsRun program plan l.proc ms → AreValued plan ms → IsUnder program policy v u l.proc → Stands plan x (Open l.proc)
       → Passes plan body p x (more l ms)
   unfolding more
   pass [] l x u order runs run valued under stands =

@@ -6,7 +6,7 @@ use Rattle.ppd_ast.specs.declared.status.Status.{Status}
 use Rattle.ppd_ast.specs.declared.status.Status.TheVariants as status
 use Rattle.ppd_ast.specs.declared.status.SyncKind.{SyncKind}
 use Rattle.ppd_entry.specs.Entries.{is_end}
-use Rattle.ppd_entry.specs.IntervalLogs.{Indexed, Indexing, index_step}
+use Rattle.ppd_entry.specs.IntervalLogs.{Indexing, index_step}
 use Rattle.ppd_entry.specs.declared.entry.At.{At}
 use Rattle.ppd_entry.specs.declared.entry.Entry.{Entry}
 use Rattle.ppd_entry.specs.declared.entry.Entry.TheVariants as entry
@@ -35,16 +35,16 @@ module _ (plan : Plan) where
 
   module _ (body p : ℕ) where
     -- an entry is not refused there
-    abbrev pub IsFit : Indexing Indexed → Entry → Type 0
-    IsFit x e = refusal plan body p (standing x false) e ≡ None
+    abbrev pub IsFit : Indexing → Entry → Type 0
+    IsFit x e = refusal plan body p (standing plan x false) e ≡ None
 
-    pub fits_by : (x : Indexing Indexed) (e : Entry) → is_paired plan body (standing x false) e ≡ true → is_fitting plan e ≡ true → IsFit x e
+    pub fits_by : (x : Indexing) (e : Entry) → is_paired plan body (standing plan x false) e ≡ true → is_fitting plan e ≡ true → IsFit x e
     fits_by x e paired fits =
         let here : At = record { process = p; entry = x.entry } in
         ap (λ b. if not b then Some (Unpaired here) else if not (is_fitting plan e) then Some (WrongValues here) else None) paired
         ∙ ap (λ b. if not b then Some (WrongValues here) else None) fits
 
-  module _ (body p : ℕ) (x : Indexing Indexed) (b : ℕ) (bs : List ℕ) (s : Stands plan x (b ∷ bs)) where
+  module _ (body p : ℕ) (x : Indexing) (b : ℕ) (bs : List ℕ) (s : Stands plan x (b ∷ bs)) where
     some_inside : is_some (innermost_of x.running x.intervals) ≡ true
     some_inside = ap is_some (innermost_by plan x.intervals x.running b bs s.are)
 
@@ -61,15 +61,15 @@ module _ (plan : Plan) where
     pub fit_prelog : (c : ℕ) (values : List ℤ) → MayBegin plan (functions_in plan (b ∷ bs)) c → is_fitting plan (entry.Prelog c values) ≡ true → IsFit body p x (entry.Prelog c values)
     fit_prelog c values begins fits =
         fits_by body p x (entry.Prelog c values)
-        (begins body (standing x false) some_inside (depth_by plan x.intervals x.running (b ∷ bs) s.are)) fits
+        (begins body (standing plan x false) some_inside (depth_by plan x.intervals x.running (b ∷ bs) s.are)) fits
 
     -- an end inside: the process was stopped, or waits
     pub fit_end : (how : Status) (rest : ℕ) (reads writes : List ℕ) → IsInsideEnd how → IsFit body p x (entry.End how rest reads writes)
     fit_end how rest reads writes inside =
-        fits_by body p x (entry.End how rest reads writes) (inside plan body (standing x false) rest reads writes some_inside) refl
+        fits_by body p x (entry.End how rest reads writes) (inside plan body (standing plan x false) rest reads writes some_inside) refl
 
   -- an end outside all: the process ended
-  pub fit_ended : (body p : ℕ) (x : Indexing Indexed) → Stands plan x [] → (rest : ℕ) (reads writes : List ℕ) → IsFit body p x (entry.End status.Ended rest reads writes)
+  pub fit_ended : (body p : ℕ) (x : Indexing) → Stands plan x [] → (rest : ℕ) (reads writes : List ℕ) → IsFit body p x (entry.End status.Ended rest reads writes)
   fit_ended body p x s rest reads writes =
       fits_by body p x (entry.End status.Ended rest reads writes)
       (ap (λ z. not z && not (is_some (innermost_of x.running x.intervals))) s.later
@@ -79,14 +79,14 @@ module _ (plan : Plan) where
 
   module _ (body p : ℕ) where
     -- these entries are not refused after those that gave this index
-    abbrev pub Passes : Indexing Indexed → List Entry → Type 0
+    abbrev pub Passes : Indexing → List Entry → Type 0
     Passes x es = first_from plan body p x false es ≡ None
 
-    pub one_more : (x : Indexing Indexed) (e : Entry) (es : List Entry) → IsFit body p x e → is_end e ≡ false → Passes (index_step plan x e) es → Passes x (e ∷ es)
+    pub one_more : (x : Indexing) (e : Entry) (es : List Entry) → IsFit body p x e → is_end e ≡ false → Passes (index_step x e) es → Passes x (e ∷ es)
     one_more x e es fit goes rest =
-        ap (λ f. option_or f (first_from plan body p (index_step plan x e) (is_end e) es)) fit
-        ∙ ap (λ b. first_from plan body p (index_step plan x e) b es) goes ∙ rest
+        ap (λ f. option_or f (first_from plan body p (index_step x e) (is_end e) es)) fit
+        ∙ ap (λ b. first_from plan body p (index_step x e) b es) goes ∙ rest
 
-    pub last_one : (x : Indexing Indexed) (how : Status) (rest : ℕ) (reads writes : List ℕ) → IsFit body p x (entry.End how rest reads writes) → Passes x (entry.End how rest reads writes ∷ [])
+    pub last_one : (x : Indexing) (how : Status) (rest : ℕ) (reads writes : List ℕ) → IsFit body p x (entry.End how rest reads writes) → Passes x (entry.End how rest reads writes ∷ [])
     last_one x how rest reads writes fit =
-        ap (λ f. option_or f (first_from plan body p (index_step plan x (entry.End how rest reads writes)) true [])) fit
+        ap (λ f. option_or f (first_from plan body p (index_step x (entry.End how rest reads writes)) true [])) fit

@@ -3,7 +3,7 @@ use Rattle.std.proofs.Common.{◌≡◌, ℕ, zero, suc, List, [], ◌∷◌, Op
 use Rattle.ppd_ast.specs.declared.plan.Plan.{Plan}
 use Rattle.ppd_ast.specs.declared.program.Program.{Program}
 use Rattle.ppd_ast.specs.declared.status.Status.{Status}
-use Rattle.ppd_entry.specs.IntervalLogs.{Indexing, Indexed}
+use Rattle.ppd_entry.specs.IntervalLogs.{Indexing}
 use Rattle.ppd_model.specs.declared.state.Logging.{Logging}
 use Rattle.ppd_model.specs.Logs.{log_step, status_of}
 use Rattle.ppd_model.specs.Marks.{Mark, opened, closed}
@@ -20,7 +20,7 @@ use Rattle.law_replay.proofs.Coming.PassingSteps.{step_passes}
 use Rattle.law_replay.proofs.Coming.StoppingSteps.{step_ends, step_stops}
 
 module _ (program : Program) (plan : Plan) where
-  pub steps_by : (l : Logging) (m : Moment) (ms : List Moment) (F : Indexing Indexed → Indexing Indexed) (n : ℕ)
+  pub steps_by : (l : Logging) (m : Moment) (ms : List Moment) (F : Indexing → Indexing) (n : ℕ)
       (o c : Option Mark) (s : Option Status) → Shape (sync_of m.taken) (unit_at program plan m) o c s
       → ((r n : ℕ) → r ≡ rest_by program plan l m o (sync_of m.taken) c s
       → IsNested program plan (next_proc program plan l m) ms n

@@ -8,7 +8,7 @@ use Rattle.ppd_ast.specs.declared.plan.Policy.{Policy}
 use Rattle.ppd_ast.specs.declared.program.Program.{Program}
 use Rattle.ppd_ast.specs.Valid.{IsValid}
 use Rattle.law_steps.specs.Blocks.{plan_of}
-use Rattle.ppd_entry.specs.IntervalLogs.{Indexed}
+use Rattle.ppd_entry.specs.IntervalLogs.{LoggedInterval}
 use Rattle.ppd_entry.proofs.Vocabulary.{no_interval}
 use Rattle.ppd_sem.specs.Process.{started}
 use Rattle.ppd_model.specs.Logs.{begun_log}
@@ -21,7 +21,7 @@ use Rattle.law_steps.specs.OpenBlocks.Stack.{IsInOrder, block_frames, functions_
 use Rattle.law_steps.proofs.OpenBlocks.Runs.{schedules_run}
 use Rattle.law_steps.proofs.OpenBlocks.Stacks.{steps_move}
 use Rattle.law_replay.specs.Coming.Openings.{LogsAreComing, Opening, opening_of}
-use Rattle.law_replay.proofs.Coming.Depths.{AreDeep, depth_at, final_depth, one_more}
+use Rattle.law_replay.proofs.Coming.Depths.{AreDeep, blocks_at, final_blocks}
 use Rattle.law_replay.proofs.Coming.DeepOpenings.{deep_openings, frames_in}
 use Rattle.law_replay.proofs.Coming.LogsNested.{AreDeepAt, begun_index, ended_index, logs_nested}
 use Rattle.law_replay.proofs.Coming.Stacked.{nested}
@@ -49,33 +49,29 @@ module _ (program : Program) (policy : Policy) (budget p : ℕ) (v : IsValid pro
   alone : stack program plan p (started program plan p budget) ≡ process_block program plan p ∷ []
   alone = steps_move.alone program plan p budget v
 
-  first_deep : depth_at (begun_index program plan budget p).intervals 0 ≡ functions_in plan
-      (process_block program plan p ∷ [])
-  first_deep = one_more plan (process_block program plan p) []
-
-  all_deep : AreDeep plan (begun_index program plan budget p).intervals (begun_index program plan budget p).running
+  all_deep : AreDeep (begun_index program plan budget p).intervals (begun_index program plan budget p).running
       (stack program plan p (started program plan p budget))
-  all_deep = subst (AreDeep plan (begun_index program plan budget p).intervals (0 ∷ [])) (sym alone) (first_deep, tt)
+  all_deep = subst (AreDeep (begun_index program plan budget p).intervals (0 ∷ [])) (sym alone) (refl, tt)
 
   deep_at : (k : ℕ) (o : Opening) → opening_of program plan budget p ms k ≡ Some o
-      → depth_at (ended_index program plan budget p ms).intervals k ≡ block_frames plan o.proc.frames
+      → functions_in plan (blocks_at (ended_index program plan budget p ms).intervals k) ≡ block_frames plan o.proc.frames
   deep_at zero o e =
       let one : 0 < 1 = omega arith in
-      final_depth plan program ms (begun_log program plan budget p) (begun_index program plan budget p) 0 one
-      ∙ first_deep ∙ ap (functions_in plan) (sym alone)
+      ap (functions_in plan)
+      (final_blocks program plan ms (begun_log program plan budget p) (begun_index program plan budget p) 0 one ∙ sym alone)
       ∙ steps_move.depth program policy p (started program plan p budget) v there order
       ∙ ap (λ z. block_frames plan (frames_in z)) e
   deep_at (suc q) o e =
       let one : 0 < 1 = omega arith in
       let same : 1 + q ≡ suc q = omega arith in
-      subst (λ k. depth_at (ended_index program plan budget p ms).intervals k ≡ block_frames plan o.proc.frames) same
+      subst (λ k. functions_in plan (blocks_at (ended_index program plan budget p ms).intervals k) ≡ block_frames plan o.proc.frames) same
       (deep_openings program policy v p there ms (begun_log program plan budget p)
       (begun_index program plan budget p) order refl run (one, tt) all_deep q o e)
 
   depths : (k : ℕ) → AreDeepAt program plan budget (opening_of program plan budget p ms k)
       (slice_get (ended_index program plan budget p ms).intervals k)
   depths k o i e there' =
-      ap (λ (z : Indexed). z.log.depth)
+      ap (λ (z : LoggedInterval). functions_in plan z.blocks)
       (sym (get_or_from_slice_get (ended_index program plan budget p ms).intervals k i no_interval there'))
       ∙ deep_at k o e
 

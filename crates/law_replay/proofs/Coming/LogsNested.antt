@@ -4,8 +4,8 @@ use Rattle.std.proofs.lemmas.Option.{none-some, same_Some}
 use Rattle.std.specs.Prelude.{slice_get}
 use Rattle.ppd_ast.specs.declared.plan.Plan.{Plan}
 use Rattle.ppd_ast.specs.declared.program.Program.{Program}
-use Rattle.ppd_entry.specs.IntervalLogs.{Indexed, Indexing, begun_indexing, index_step, interval_log}
-use Rattle.ppd_entry.proofs.Vocabulary.{log_in}
+use Rattle.ppd_entry.specs.IntervalLogs.{Indexing, LoggedInterval, begun_indexing, functions_in, index_step, interval_log}
+use Rattle.ppd_entry.proofs.Vocabulary.{log_in, no_interval}
 use Rattle.ppd_sem.specs.Process.{started}
 use Rattle.ppd_model.specs.Logs.{begun_log, closed_log, closed_logs, log_of}
 use Rattle.ppd_model.proofs.LogWords.{logs_from}
@@ -30,29 +30,29 @@ module _ (program : Program) (plan : Plan) (budget : ℕ) where
       log_there (q + 1) rest p (omega (arith, h))
       ∙ ap (λ z. closed_log (log_of program plan budget z (get_or rest p []))) e
 
-  abbrev pub begun_index : ℕ → Indexing Indexed
-  begun_index p = fold (index_step plan) begun_indexing (begun_log program plan budget p).entries
+  abbrev pub begun_index : ℕ → Indexing
+  begun_index p = fold index_step begun_indexing (begun_log program plan budget p).entries
 
-  abbrev pub ended_index : ℕ → List Moment → Indexing Indexed
+  abbrev pub ended_index : ℕ → List Moment → Indexing
   ended_index p ms = finals program plan (begun_log program plan budget p) ms (begun_index p)
 
   -- the depth of the interval that an opening began
-  abbrev pub AreDeepAt : Option Opening → Option Indexed → Type 0
-  AreDeepAt op o = (x : Opening) (i : Indexed) → op ≡ Some x → o ≡ Some i
-      → i.log.depth ≡ block_frames plan x.proc.frames
+  abbrev pub AreDeepAt : Option Opening → Option LoggedInterval → Type 0
+  AreDeepAt op o = (x : Opening) (i : LoggedInterval) → op ≡ Some x → o ≡ Some i
+      → functions_in plan i.blocks ≡ block_frames plan x.proc.frames
 
-  as_log : (k : ℕ) (op : Option Opening) (o : Option Indexed) → Begins program plan k op o → AreDeepAt op o
-      → AreAlike (IsLogOf program plan k) op (log_in o)
+  as_log : (k : ℕ) (op : Option Opening) (o : Option LoggedInterval) → Begins program plan k op o → AreDeepAt op o
+      → AreAlike (IsLogOf program plan k) op (log_in plan o)
   as_log k None None b deep = tt
   as_log k None (Some o) b deep = absurd (none-some o (sym b))
   as_log k (Some op) None b deep = absurd (none-some b.now b.there)
   as_log k (Some op) (Some o) b deep =
       let e : b.now ≡ o = same_Some b.now o (sym b.there) in
       record {
-        block = ap (λ (z : Indexed). z.log.block) (sym e) ∙ b.block;
-        values = ap (λ (z : Indexed). z.log.values) (sym e) ∙ b.values;
+        block = ap (λ (z : LoggedInterval). z.extent.block) (sym e) ∙ b.block;
+        values = ap (λ (z : LoggedInterval). z.values) (sym e) ∙ b.values;
         depth = deep op o refl refl;
-        pieces = ap (λ (z : Indexed). map (λ q. q.1) z.log.pieces) (sym e) ∙ b.pieces;
+        pieces = ap (λ (z : LoggedInterval). map (λ q. q.1) z.pieces) (sym e) ∙ b.pieces;
       }
 
   begins_at : (p : ℕ) (ms : List Moment) → IsNested program plan (started program plan p budget) ms 1 → (k : ℕ)
@@ -62,7 +62,7 @@ module _ (program : Program) (plan : Plan) (budget : ℕ) where
       (finals program plan (begun_log program plan budget p) ms) 0 1 =
       comes program plan ms (begun_log program plan budget p) 1 h in
       let i0 = get_or (begun_index p).intervals 0
-      (record { first = 0; log = record { block = 0; values = []; depth = 0; pieces = [] } }) in
+      no_interval in
       let one : 0 < 1 = omega arith in
       let g : Grows i0 (coming program plan (started program plan p budget) ms None 1 0).pieces
       (slice_get (ended_index p ms).intervals 0) =
@@ -90,12 +90,12 @@ module _ (program : Program) (plan : Plan) (budget : ℕ) where
       let e : get_or (closed_logs program plan budget h).lists p [] ≡ closed_log
       (log_of program plan budget (0 + p) ms) = log_there 0 (told program plan budget h).moments p there in
       let e0 : 0 + p ≡ p = omega arith in
-      let f : fold (index_step plan) begun_indexing
+      let f : fold index_step begun_indexing
       (closed_log (log_of program plan budget p ms)) ≡ ended_index p ms =
       finals_are program plan ms (begun_log program plan budget p) begun_indexing in
       subst (λ es. AreAlike (IsLogOf program plan k) (opening_of program plan budget p ms k)
       (interval_log plan es k)) (sym (e ∙ ap (λ z. closed_log (log_of program plan budget z ms)) e0))
       (subst (λ x. AreAlike (IsLogOf program plan k) (opening_of program plan budget p ms k)
-      (log_in (slice_get x.intervals k))) (sym f)
+      (log_in plan (slice_get x.intervals k))) (sym f)
       (as_log k (opening_of program plan budget p ms k) (slice_get (ended_index p ms).intervals k)
       (begins_at p ms nested k) deep))

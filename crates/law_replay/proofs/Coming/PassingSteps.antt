@@ -4,7 +4,7 @@ use Rattle.std.specs.Prelude.{slice_get, ℤ, fold}
 use Rattle.ppd_ast.specs.declared.plan.Plan.{Plan}
 use Rattle.ppd_ast.specs.declared.program.Program.{Program}
 use Rattle.ppd_entry.specs.declared.entry.Entry.TheVariants as entry
-use Rattle.ppd_entry.specs.IntervalLogs.{Indexed, Indexing, index_step}
+use Rattle.ppd_entry.specs.IntervalLogs.{LoggedInterval, Indexing, index_step}
 use Rattle.ppd_entry.proofs.Vocabulary.{with_piece}
 use Rattle.ppd_entry.specs.Pieces.{unit, sync}
 use Rattle.ppd_sem.specs.declared.proc.Proc.{Proc}
@@ -22,16 +22,16 @@ use Rattle.law_replay.proofs.Coming.Later.{Comes, Steps, next_proc, rest_by, ste
 use Rattle.law_replay.proofs.Coming.UnitSteps.{unit_at, unit_first}
 
 module _ (program : Program) (plan : Plan) where
-  abbrev pub pass_index : Logging → Taken → List ℤ → Option Sync → Option ℕ → Indexing Indexed → Indexing Indexed
-  pass_index l t vals sy u x = fold (index_step plan) x (news l t vals None sy None u None)
+  abbrev pub pass_index : Logging → Taken → List ℤ → Option Sync → Option ℕ → Indexing → Indexing
+  pass_index l t vals sy u x = fold index_step x (news l t vals None sy None u None)
 
-  abbrev pub sync_index : Logging → Taken → Sync → Indexing Indexed → Indexing Indexed
-  sync_index l t z x = index_step plan x (entry.Sync z.kind z.object z.number (passed_value t.need t.answer) l.reads l.writes)
+  abbrev pub sync_index : Logging → Taken → Sync → Indexing → Indexing
+  sync_index l t z x = index_step x (entry.Sync z.kind z.object z.number (passed_value t.need t.answer) l.reads l.writes)
 
-  module _ (l : Logging) (t : Taken) (vals : List ℤ) (s : Proc) (ms : List Moment) (F : Indexing Indexed → Indexing Indexed)
+  module _ (l : Logging) (t : Taken) (vals : List ℤ) (s : Proc) (ms : List Moment) (F : Indexing → Indexing)
       (n : ℕ) where
     abbrev PassOwn : Option Sync → Option ℕ → Type 0
-    PassOwn sy u = (x : Indexing Indexed) (k : ℕ) (i : Indexed) (next : ℕ) → length x.running ≡ n
+    PassOwn sy u = (x : Indexing) (k : ℕ) (i : LoggedInterval) (next : ℕ) → length x.running ≡ n
         → length x.intervals ≡ next → At x.intervals x.running None k i
         → Grows i ((sync_pieces t sy ++ unit_pieces u vals) ++ (coming program plan s ms None next
         (since_after l.rest (sync_pieces t sy ++ unit_pieces u vals))).pieces)
@@ -42,58 +42,58 @@ module _ (program : Program) (plan : Plan) where
     pass_own None None c x k i next hn hl at = c.own x k i next hn hl at
     pass_own None (Some u) c x k i next hn hl at =
         more x.entry (unit u vals) i (coming program plan s ms None next 0).pieces
-        (slice_get (F (with_unit plan vals (Some u) x)).intervals k)
-        (c.own (with_unit plan vals (Some u) x) k (with_piece x.entry (unit u vals) i) next hn
-        (unit_length plan vals (Some u) x ∙ hl) (unit_own plan vals (Some u) x k i at))
+        (slice_get (F (with_unit vals (Some u) x)).intervals k)
+        (c.own (with_unit vals (Some u) x) k (with_piece x.entry (unit u vals) i) next hn
+        (unit_length vals (Some u) x ∙ hl) (unit_own vals (Some u) x k i at))
     pass_own (Some z) u c x k i next hn hl at =
         let y = sync_index l t z x in
         let p = sync z.kind z.object z.number (passed_value t.need t.answer) in
         more x.entry p i (unit_pieces u vals ++ (coming program plan s ms None next 0).pieces)
-        (slice_get (F (with_unit plan vals u y)).intervals k)
+        (slice_get (F (with_unit vals u y)).intervals k)
         (unit_first program plan y.entry vals u (with_piece x.entry p i)
-        (coming program plan s ms None next 0).pieces (slice_get (F (with_unit plan vals u y)).intervals k)
-        (c.own (with_unit plan vals u y) k (unit_in plan vals y.entry u (with_piece x.entry p i)) next
-        (ap length (unit_running plan vals u y) ∙ hn)
-        (unit_length plan vals u y ∙ piece_length x.entry p x.running x.intervals ∙ hl)
-        (unit_own plan vals u y k (with_piece x.entry p i) (piece_own x.entry p x.intervals x.running k i at))))
+        (coming program plan s ms None next 0).pieces (slice_get (F (with_unit vals u y)).intervals k)
+        (c.own (with_unit vals u y) k (unit_in vals y.entry u (with_piece x.entry p i)) next
+        (ap length (unit_running vals u y) ∙ hn)
+        (unit_length vals u y ∙ piece_length x.entry p x.running x.intervals ∙ hl)
+        (unit_own vals u y k (with_piece x.entry p i) (piece_own x.entry p x.intervals x.running k i at))))
 
-  pub pass_running : (l : Logging) (t : Taken) (vals : List ℤ) (sy : Option Sync) (u : Option ℕ) (x : Indexing Indexed)
+  pub pass_running : (l : Logging) (t : Taken) (vals : List ℤ) (sy : Option Sync) (u : Option ℕ) (x : Indexing)
       → (pass_index l t vals sy u x).running ≡ x.running
-  pass_running l t vals None u x = unit_running plan vals u x
-  pass_running l t vals (Some z) u x = unit_running plan vals u (sync_index l t z x)
+  pass_running l t vals None u x = unit_running vals u x
+  pass_running l t vals (Some z) u x = unit_running vals u (sync_index l t z x)
 
-  pub pass_length : (l : Logging) (t : Taken) (vals : List ℤ) (sy : Option Sync) (u : Option ℕ) (x : Indexing Indexed)
+  pub pass_length : (l : Logging) (t : Taken) (vals : List ℤ) (sy : Option Sync) (u : Option ℕ) (x : Indexing)
       → length (pass_index l t vals sy u x).intervals ≡ length x.intervals
-  pass_length l t vals None u x = unit_length plan vals u x
+  pass_length l t vals None u x = unit_length vals u x
   pass_length l t vals (Some z) u x =
-      unit_length plan vals u (sync_index l t z x) ∙ piece_length x.entry
+      unit_length vals u (sync_index l t z x) ∙ piece_length x.entry
       (sync z.kind z.object z.number (passed_value t.need t.answer)) x.running x.intervals
 
-  pub pass_falls : (l : Logging) (t : Taken) (vals : List ℤ) (sy : Option Sync) (u : Option ℕ) (x : Indexing Indexed)
+  pub pass_falls : (l : Logging) (t : Taken) (vals : List ℤ) (sy : Option Sync) (u : Option ℕ) (x : Indexing)
       → Fall (length x.intervals) x.running
       → Fall (length (pass_index l t vals sy u x).intervals) (pass_index l t vals sy u x).running
-  pass_falls l t vals None u x f = unit_falls plan vals u x f
+  pass_falls l t vals None u x f = unit_falls vals u x f
   pass_falls l t vals (Some z) u x f =
-      unit_falls plan vals u (sync_index l t z x)
+      unit_falls vals u (sync_index l t z x)
       (piece_falls x.entry (sync z.kind z.object z.number (passed_value t.need t.answer)) x.running x.intervals x.running f)
 
-  pub pass_inner : (l : Logging) (t : Taken) (vals : List ℤ) (sy : Option Sync) (u : Option ℕ) (x : Indexing Indexed)
-      (j : Inner) (k : ℕ) (i : Indexed) → At x.intervals x.running (Some j) k i
+  pub pass_inner : (l : Logging) (t : Taken) (vals : List ℤ) (sy : Option Sync) (u : Option ℕ) (x : Indexing)
+      (j : Inner) (k : ℕ) (i : LoggedInterval) → At x.intervals x.running (Some j) k i
       → At (pass_index l t vals sy u x).intervals (pass_index l t vals sy u x).running (Some j) k i
-  pass_inner l t vals None u x j k i a = unit_inner plan vals u x j k i a
+  pass_inner l t vals None u x j k i a = unit_inner vals u x j k i a
   pass_inner l t vals (Some z) u x j k i a =
-      unit_inner plan vals u (sync_index l t z x) j k i
+      unit_inner vals u (sync_index l t z x) j k i
       (piece_inner x.entry (sync z.kind z.object z.number (passed_value t.need t.answer)) x.intervals x.running j k i a)
 
-  pub pass_past : (l : Logging) (t : Taken) (vals : List ℤ) (sy : Option Sync) (u : Option ℕ) (x : Indexing Indexed)
-      (k : ℕ) (i : Indexed) → Past x.intervals x.running k i
+  pub pass_past : (l : Logging) (t : Taken) (vals : List ℤ) (sy : Option Sync) (u : Option ℕ) (x : Indexing)
+      (k : ℕ) (i : LoggedInterval) → Past x.intervals x.running k i
       → Past (pass_index l t vals sy u x).intervals (pass_index l t vals sy u x).running k i
-  pass_past l t vals None u x k i a = unit_past plan vals u x k i a
+  pass_past l t vals None u x k i a = unit_past vals u x k i a
   pass_past l t vals (Some z) u x k i a =
-      unit_past plan vals u (sync_index l t z x) k i
+      unit_past vals u (sync_index l t z x) k i
       (piece_past x.entry (sync z.kind z.object z.number (passed_value t.need t.answer)) x.intervals x.running k i a)
 
-  pub step_passes : (l : Logging) (m : Moment) (ms : List Moment) (F : Indexing Indexed → Indexing Indexed) (n : ℕ)
+  pub step_passes : (l : Logging) (m : Moment) (ms : List Moment) (F : Indexing → Indexing) (n : ℕ)
       → Comes program plan (next_proc program plan l m) ms F
       (rest_by program plan l m None (sync_of m.taken) None None) n
       → Steps program plan l m ms None None None
@@ -109,11 +109,11 @@ module _ (program : Program) (plan : Plan) where
         (pass_falls l m.taken m.unit_values (sync_of m.taken) (unit_at program plan m) x f);
   }
     where
-      px : Indexing Indexed → Indexing Indexed
+      px : Indexing → Indexing
       px x = pass_index l m.taken m.unit_values (sync_of m.taken) (unit_at program plan m) x
 
-      ran : (x : Indexing Indexed) → length x.running ≡ n → length (px x).running ≡ n
+      ran : (x : Indexing) → length x.running ≡ n → length (px x).running ≡ n
       ran x h = ap length (pass_running l m.taken m.unit_values (sync_of m.taken) (unit_at program plan m) x) ∙ h
 
-      long : (x : Indexing Indexed) (next : ℕ) → length x.intervals ≡ next → length (px x).intervals ≡ next
+      long : (x : Indexing) (next : ℕ) → length x.intervals ≡ next → length (px x).intervals ≡ next
       long x next h = pass_length l m.taken m.unit_values (sync_of m.taken) (unit_at program plan m) x ∙ h

@@ -5,9 +5,9 @@ use Rattle.std.specs.Prelude.{ℤ, drop, fold}
 use Rattle.ppd_ast.specs.declared.plan.Plan.{Plan}
 use Rattle.ppd_ast.specs.declared.program.Program.{Program}
 use Rattle.ppd_ast.specs.declared.status.Status.{Status}
-use Rattle.ppd_entry.specs.IntervalLogs.{Indexed, Indexing, add_piece, index_step, interval_at, left_interval}
-use Rattle.ppd_entry.proofs.Vocabulary.{with_piece}
-use Rattle.ppd_entry.specs.Pieces.{Piece, unit, nested, postlog}
+use Rattle.ppd_entry.specs.IntervalLogs.{LoggedInterval, Indexing, add_piece, index_step, interval_at, left_interval}
+use Rattle.ppd_entry.proofs.Vocabulary.{with_piece, with_postlog}
+use Rattle.ppd_entry.specs.Pieces.{Piece, unit, nested}
 use Rattle.ppd_sem.specs.declared.proc.Need.{Need}
 use Rattle.ppd_sem.specs.declared.proc.Need.TheVariants.{Read, Write, Plain, Enter, Leave, Invoke, Back, P, V, Send, Offer, Done, Recv, End, Trap, Budget, Stopped}
 use Rattle.ppd_sem.specs.declared.proc.Proc.{Proc}
@@ -18,7 +18,7 @@ use Rattle.ppd_model.specs.Story.{unit_started}
 use Rattle.ppd_model.specs.Synchronizations.{Sync, sync_of}
 use Rattle.ppd_model.proofs.Extents.{Fall}
 use Rattle.law_replay.specs.Coming.Pieces.{Inner}
-use Rattle.law_replay.proofs.Coming.Indexes.{added_length, At, Past, falls_on, piece_inner, piece_own, piece_past}
+use Rattle.law_replay.proofs.Coming.Indexes.{At, Past, changed_length, falls_on, piece_inner, piece_own, piece_past}
 use Rattle.law_replay.proofs.Coming.IndexSteps.{piece_length, pop_inner, pop_leaves, pop_own, pop_past}
 
 pub data Shape (sy : Option Sync) (u : Option ℕ) : Option Mark → Option Mark → Option Status → Type 0 where
@@ -53,85 +53,85 @@ shape program plan s x Stopped e = passes
 
 -- ---- the numbers that run
 
-pub piece_falls : (n : ℕ) (p : Piece) (ks : List ℕ) (xs : List Indexed) (js : List ℕ) → Fall (length xs) js
+pub piece_falls : (n : ℕ) (p : Piece) (ks : List ℕ) (xs : List LoggedInterval) (js : List ℕ) → Fall (length xs) js
     → Fall (length (add_piece n p ks xs)) js
 piece_falls n p ks xs js f = subst (λ m. Fall m js) (sym (piece_length n p ks xs)) f
 
 -- ---- a postlog
 
-module _ (e : ℕ) (values : List ℤ) (xs : List Indexed) where
-  abbrev pub left_by : List ℕ → List Indexed
-  left_by ks = left_interval (record { intervals = xs; running = ks; entry = e }) ks values
+module _ (e : ℕ) (values : List ℤ) (xs : List LoggedInterval) where
+  abbrev pub left_by : List ℕ → List LoggedInterval
+  left_by ks = left_interval e values ks xs
 
   pub left_length : (ks : List ℕ) → length (left_by ks) ≡ length xs
   left_length [] = refl
-  left_length (j ∷ ks) = piece_length (interval_at xs j).first (nested j (interval_at xs j).log.block values) ks
-      (change (with_piece e (postlog values)) j xs) ∙ added_length e (postlog values) j xs
+  left_length (j ∷ ks) = piece_length (interval_at xs j).extent.prelog (nested j (interval_at xs j).extent.block values) ks
+      (change (with_postlog e values) j xs) ∙ changed_length (with_postlog e values) j xs
 
   pub left_falls : (ks : List ℕ) → Fall (length xs) ks → Fall (length (left_by ks)) (drop 1 ks)
   left_falls [] f = tt
   left_falls (j ∷ ks) f = subst (λ m. Fall m ks) (sym (left_length (j ∷ ks))) (falls_on j (length xs) ks f.1 f.0)
 
-  pub left_own : (ks : List ℕ) (k : ℕ) (i : Indexed) → At xs ks None k i
-      → Past (left_by ks) (drop 1 ks) k (with_piece e (postlog values) i)
+  pub left_own : (ks : List ℕ) (k : ℕ) (i : LoggedInterval) → At xs ks None k i
+      → Past (left_by ks) (drop 1 ks) k (with_postlog e values i)
   left_own [] k i a = absurd a.runs
   left_own (j ∷ ks) k i a = pop_own e values xs j ks k i a
 
-  pub left_past : (ks : List ℕ) (k : ℕ) (i : Indexed) → Past xs ks k i → Past (left_by ks) (drop 1 ks) k i
+  pub left_past : (ks : List ℕ) (k : ℕ) (i : LoggedInterval) → Past xs ks k i → Past (left_by ks) (drop 1 ks) k i
   left_past [] k i a = a
   left_past (j ∷ ks) k i a = pop_past e values xs j ks k i a
 
-  pub left_inner : (ks : List ℕ) (level m b k : ℕ) (i : Indexed)
+  pub left_inner : (ks : List ℕ) (level m b k : ℕ) (i : LoggedInterval)
       → At xs ks (Some (record { level = suc level; interval = m; block = b })) k i
       → At (left_by ks) (drop 1 ks) (Some (record { level = level; interval = m; block = b })) k i
   left_inner [] level m b k i a = absurd a.runs
   left_inner (j ∷ ks) level m b k i a = pop_inner e values xs j ks level m b k i a
 
   -- the interval inside is left, and is a piece
-  pub record Entered (ks : List ℕ) (m b k : ℕ) (i : Indexed) : Type 0 where
+  pub record Entered (ks : List ℕ) (m b k : ℕ) (i : LoggedInterval) : Type 0 where
     pub first : ℕ
     pub at : At (left_by ks) (drop 1 ks) None k (with_piece first (nested m b values) i)
 
-  pub left_leaves : (ks : List ℕ) (m b k : ℕ) (i : Indexed)
+  pub left_leaves : (ks : List ℕ) (m b k : ℕ) (i : LoggedInterval)
       → At xs ks (Some (record { level = zero; interval = m; block = b })) k i → Entered ks m b k i
   left_leaves [] m b k i a = absurd a.runs
   left_leaves (j ∷ ks) m b k i a =
-      record { first = (interval_at xs j).first; at = pop_leaves e values xs j ks m b k i a }
+      record { first = (interval_at xs j).extent.prelog; at = pop_leaves e values xs j ks m b k i a }
 
 -- ---- the unit that starts
 
-module _ (plan : Plan) (vals : List ℤ) where
-  abbrev pub with_unit : Option ℕ → Indexing Indexed → Indexing Indexed
-  with_unit u x = fold (index_step plan) x (units u vals ++ [])
+module _ (vals : List ℤ) where
+  abbrev pub with_unit : Option ℕ → Indexing → Indexing
+  with_unit u x = fold index_step x (units u vals ++ [])
 
-  pub unit_length : (u : Option ℕ) (x : Indexing Indexed) → length (with_unit u x).intervals ≡ length x.intervals
+  pub unit_length : (u : Option ℕ) (x : Indexing) → length (with_unit u x).intervals ≡ length x.intervals
   unit_length None x = refl
   unit_length (Some u) x = piece_length x.entry (unit u vals) x.running x.intervals
 
-  pub unit_running : (u : Option ℕ) (x : Indexing Indexed) → (with_unit u x).running ≡ x.running
+  pub unit_running : (u : Option ℕ) (x : Indexing) → (with_unit u x).running ≡ x.running
   unit_running None x = refl
   unit_running (Some u) x = refl
 
-  pub unit_falls : (u : Option ℕ) (x : Indexing Indexed) → Fall (length x.intervals) x.running
+  pub unit_falls : (u : Option ℕ) (x : Indexing) → Fall (length x.intervals) x.running
       → Fall (length (with_unit u x).intervals) (with_unit u x).running
   unit_falls None x f = f
   unit_falls (Some u) x f = piece_falls x.entry (unit u vals) x.running x.intervals x.running f
 
-  pub unit_inner : (u : Option ℕ) (x : Indexing Indexed) (m : Inner) (k : ℕ) (i : Indexed)
+  pub unit_inner : (u : Option ℕ) (x : Indexing) (m : Inner) (k : ℕ) (i : LoggedInterval)
       → At x.intervals x.running (Some m) k i → At (with_unit u x).intervals (with_unit u x).running (Some m) k i
   unit_inner None x m k i a = a
   unit_inner (Some u) x m k i a = piece_inner x.entry (unit u vals) x.intervals x.running m k i a
 
-  pub unit_past : (u : Option ℕ) (x : Indexing Indexed) (k : ℕ) (i : Indexed) → Past x.intervals x.running k i
+  pub unit_past : (u : Option ℕ) (x : Indexing) (k : ℕ) (i : LoggedInterval) → Past x.intervals x.running k i
       → Past (with_unit u x).intervals (with_unit u x).running k i
   unit_past None x k i a = a
   unit_past (Some u) x k i a = piece_past x.entry (unit u vals) x.intervals x.running k i a
 
-  abbrev pub unit_in : ℕ → Option ℕ → Indexed → Indexed
+  abbrev pub unit_in : ℕ → Option ℕ → LoggedInterval → LoggedInterval
   unit_in e None i = i
   unit_in e (Some u) i = with_piece e (unit u vals) i
 
-  pub unit_own : (u : Option ℕ) (x : Indexing Indexed) (k : ℕ) (i : Indexed) → At x.intervals x.running None k i
+  pub unit_own : (u : Option ℕ) (x : Indexing) (k : ℕ) (i : LoggedInterval) → At x.intervals x.running None k i
       → At (with_unit u x).intervals (with_unit u x).running None k (unit_in x.entry u i)
   unit_own None x k i a = a
   unit_own (Some u) x k i a = piece_own x.entry (unit u vals) x.intervals x.running k i a

@@ -7,8 +7,8 @@ use Rattle.ppd_ast.specs.declared.program.Program.{Program}
 use Rattle.ppd_ast.specs.declared.status.Status.{Status}
 use Rattle.ppd_ast.specs.declared.status.Status.TheVariants as status
 use Rattle.ppd_entry.specs.declared.entry.Entry.TheVariants as entry
-use Rattle.ppd_entry.specs.IntervalLogs.{Indexed, Indexing, add_piece, index_step}
-use Rattle.ppd_entry.proofs.Vocabulary.{with_piece}
+use Rattle.ppd_entry.specs.IntervalLogs.{LoggedInterval, Indexing, add_piece, index_step}
+use Rattle.ppd_entry.proofs.Vocabulary.{with_postlog}
 use Rattle.ppd_entry.specs.Pieces.{unfinished, postlog, finish}
 use Rattle.ppd_model.specs.declared.flow.Item.{Item}
 use Rattle.ppd_model.specs.declared.state.Logging.{Logging}
@@ -17,7 +17,7 @@ use Rattle.ppd_model.specs.Story.{Moment}
 use Rattle.ppd_model.specs.Synchronizations.{Sync}
 use Rattle.law_replay.specs.Coming.Pieces.{After, coming, event_items, own_ends}
 use Rattle.law_replay.specs.Coming.Openings.{Opening, opening}
-use Rattle.law_replay.proofs.Coming.Indexes.{Grows, IsInside, more}
+use Rattle.law_replay.proofs.Coming.Indexes.{Grows, IsInside, more_left}
 use Rattle.law_replay.proofs.Coming.IndexSteps.{end_inner, end_own, end_past, none_past, open_length, piece_length}
 use Rattle.law_replay.proofs.Coming.Shapes.{left_length, left_own, left_past}
 use Rattle.law_replay.proofs.Coming.Later.{Begins, Steps, Stops, next_proc, news}
@@ -32,23 +32,23 @@ module _ (program : Program) (plan : Plan) where
   end_pieces items m next since status.Budget after = refl
 
   -- it opens nothing that is later
-  pub none_begins : (xs : List Indexed) (next q : ℕ) (o : Option Opening) → o ≡ None → length xs ≡ next
+  pub none_begins : (xs : List LoggedInterval) (next q : ℕ) (o : Option Opening) → o ≡ None → length xs ≡ next
       → Begins program plan (next + q) o (slice_get xs (next + q))
   none_begins xs next q (Some z) e h = absurd (none-some z (sym e))
   none_begins xs next q None e h = none_past xs (next + q) (omega (arith, h))
 
-  abbrev pub end_index : Logging → Status → Indexing Indexed → Indexing Indexed
-  end_index l s x = index_step plan x (entry.End s l.rest l.reads l.writes)
+  abbrev pub end_index : Logging → Status → Indexing → Indexing
+  end_index l s x = index_step x (entry.End s l.rest l.reads l.writes)
 
-  pub end_length : (l : Logging) (s : Status) (x : Indexing Indexed) → length (end_index l s x).intervals ≡ length x.intervals
-  end_length l s x = open_length x.running (add_piece x.entry (finish s l.rest) x.running x.intervals)
+  pub end_length : (l : Logging) (s : Status) (x : Indexing) → length (end_index l s x).intervals ≡ length x.intervals
+  end_length l s x = open_length x.entry x.running (add_piece x.entry (finish s l.rest) x.running x.intervals)
       ∙ piece_length x.entry (finish s l.rest) x.running x.intervals
 
-  pub step_stops : (l : Logging) (m : Moment) (ms : List Moment) (F : Indexing Indexed → Indexing Indexed) (n : ℕ) (s : Status)
+  pub step_stops : (l : Logging) (m : Moment) (ms : List Moment) (F : Indexing → Indexing) (n : ℕ) (s : Status)
       (sy : Option Sync) (u : Option ℕ) → sy ≡ None → u ≡ None
       → Stops program plan (next_proc program plan l m) ms F
       → Steps program plan l m ms None None (Some s)
-      (λ x. F (fold (index_step plan) x (news l m.taken m.unit_values None sy None u (Some s)))) n
+      (λ x. F (fold index_step x (news l m.taken m.unit_values None sy None u (Some s)))) n
   step_stops l m ms F n s (Some z) u e eu c = absurd (none-some z (sym e))
   step_stops l m ms F n s None (Some z) e eu c = absurd (none-some z (sym eu))
   step_stops l m ms F n s None None e eu c = record {
@@ -72,25 +72,25 @@ module _ (program : Program) (plan : Plan) where
 
   -- ---- it closes the process's own interval
 
-  pub two_run : (xs : List Indexed) (ks : List ℕ) (level j b k : ℕ) → IsInside xs ks level j b k → length ks ≡ 1 → ⊥
+  pub two_run : (xs : List LoggedInterval) (ks : List ℕ) (level j b k : ℕ) → IsInside xs ks level j b k → length ks ≡ 1 → ⊥
   two_run xs [] level j b k h e = h
   two_run xs (r ∷ []) zero j b k h e = h.2
   two_run xs (r ∷ []) (suc level) j b k h e = h
   two_run xs (r ∷ q ∷ ks) level j b k h e = omega (arith, e)
 
-  pub step_ends : (l : Logging) (m : Moment) (ms : List Moment) (F : Indexing Indexed → Indexing Indexed) (n : ℕ) (a : Mark)
+  pub step_ends : (l : Logging) (m : Moment) (ms : List Moment) (F : Indexing → Indexing) (n : ℕ) (a : Mark)
       (s : Status) (sy : Option Sync) (u : Option ℕ) → sy ≡ None → u ≡ None → n ≡ 1
       → Stops program plan (next_proc program plan l m) ms F
       → Steps program plan l m ms None (Some a) (Some s)
-      (λ x. F (fold (index_step plan) x (news l m.taken m.unit_values None sy (Some a) u (Some s)))) n
+      (λ x. F (fold index_step x (news l m.taken m.unit_values None sy (Some a) u (Some s)))) n
   step_ends l m ms F n a s (Some z) u e eu en c = absurd (none-some z (sym e))
   step_ends l m ms F n a s None (Some z) e eu en c = absurd (none-some z (sym eu))
   step_ends l m ms F n a s None None e eu en c = record {
     own = λ x k i next hn hl at. subst (λ y. Grows i (postlog a.values ∷ []) (slice_get y.intervals k))
         (sym (c.still (end_index l s (left_index program plan a x))))
-        (more x.entry (postlog a.values) i [] (slice_get (end_index l s (left_index program plan a x)).intervals k)
+        (more_left x.entry a.values i [] (slice_get (end_index l s (left_index program plan a x)).intervals k)
         (end_past (x.entry + 1) (finish s l.rest) (left_index program plan a x).intervals
-        (left_index program plan a x).running k (with_piece x.entry (postlog a.values) i)
+        (left_index program plan a x).running k (with_postlog x.entry a.values i)
         (left_own x.entry a.values x.intervals x.running k i at)));
     inner = λ x j k i next since hn hl at. absurd (two_run x.intervals x.running j.level j.interval j.block k at.runs (hn ∙ en));
     past = λ x k i hn p. subst (λ y. Grows i [] (slice_get y.intervals k))

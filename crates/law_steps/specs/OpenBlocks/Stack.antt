@@ -8,13 +8,13 @@ use Rattle.ppd_ast.specs.declared.plan.Policy.{Policy}
 use Rattle.ppd_ast.specs.declared.program.Program.{Program}
 use Rattle.ppd_ast.specs.declared.status.Status.{Status}
 use Rattle.ppd_ast.specs.Lookups.{kind_of, body_of}
+pub use Rattle.ppd_model.specs.Extents.{functions_in}
 use Rattle.law_steps.specs.Blocks.{plan_of}
 use Rattle.law_steps.specs.Course.{GoesUntilEnd, IsOnCourse}
 use Rattle.ppd_sem.specs.declared.proc.Answer.{Answer}
 use Rattle.ppd_sem.specs.declared.proc.Frame.{Frame}
 use Rattle.ppd_sem.specs.declared.proc.Proc.{Proc}
 use Rattle.ppd_sem.specs.declared.proc.Todo.{Todo}
-use Rattle.ppd_sem.specs.Blocks.{block_kind, is_function}
 use Rattle.ppd_sem.specs.Process.{act, loop_of, need_of, started}
 use Rattle.ppd_sem.specs.Runs.{returns, bodies_in}
 use Rattle.ppd_sem.specs.Tables.{block_of}
@@ -56,11 +56,6 @@ abbrev pub block_frames : Plan → List Frame → ℕ
 block_frames plan [] = 0
 block_frames plan (f ∷ []) = 0
 block_frames plan (f ∷ g ∷ fs) = (if is_some (block_of plan (block.Function f.body)) then 1 else 0) + block_frames plan (g ∷ fs)
-
--- how many of these blocks are functions
-abbrev pub functions_in : Plan → List ℕ → ℕ
-functions_in plan [] = 0
-functions_in plan (b ∷ bs) = (if is_function (block_kind plan b) then 1 else 0) + functions_in plan bs
 
 -- ---- the states of a process
 

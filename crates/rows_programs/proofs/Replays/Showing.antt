@@ -3,7 +3,7 @@ use Rattle.std.specs.Prelude.{◌≡◌, ℕ, List, [], map, get_or, slice_get, 
 use Rattle.ppd_ast.specs.declared.plan.Plan.{Plan}
 use Rattle.ppd_ast.specs.declared.program.Program.{Program}
 use Rattle.ppd_entry.specs.declared.entry.Entry.{Entry}
-use Rattle.ppd_entry.specs.IntervalLogs.{Indexed, IntervalLog, indexed, interval_log}
+use Rattle.ppd_entry.specs.IntervalLogs.{IntervalLog, LoggedInterval, indexed, interval_log, log_by}
 use Rattle.ppd_model.specs.declared.flow.Item.{Item}
 use Rattle.ppd_model.specs.Story.{story}
 use Rattle.ppd_model.specs.Logs.{closed_logs}
@@ -12,7 +12,7 @@ use Rattle.ppd_emul_model.specs.Replay.{Replayed, replay}
 
 -- the replay of each interval of these entries
 abbrev pub replays_of : Program → Plan → ℕ → List Entry → List Replayed
-replays_of program plan budget entries = map (λ (i : Indexed). replay program plan i.log budget) (indexed plan entries)
+replays_of program plan budget entries = map (λ (i : LoggedInterval). replay program plan (log_by plan i) budget) (indexed entries)
 
 -- the replay of an interval that is there
 abbrev pub replay_of : Program → Plan → ℕ → Option IntervalLog → Option Replayed

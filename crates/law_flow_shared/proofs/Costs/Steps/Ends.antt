@@ -25,10 +25,11 @@ use Rattle.ppd_entry.specs.declared.entry.Entry.{Entry}
 use Rattle.ppd_entry.specs.declared.entry.Entry.TheVariants as entry
 use Rattle.ppd_flow_model.specs.Ends.{end_interval, end_item, ending, first_edge, innermost_from, sync_item}
 use Rattle.ppd_flow_model.specs.Seen.{seen_of}
+use Rattle.ppd_model.proofs.ExtentWords.{Extending}
 use Rattle.ppd_model.proofs.EdgeWords.{part_in}
 use Rattle.ppd_model.proofs.Items.{items_whole}
 use Rattle.ppd_model.proofs.Tested.{In}
-use Rattle.ppd_model.specs.Extents.{Extent, Indexing, extents}
+use Rattle.ppd_model.specs.Extents.{extents}
 use Rattle.ppd_model.specs.FlowbackEdges.{part_at}
 use Rattle.ppd_model.specs.Intervals.{Part, Span, Split, item_of, own, splits}
 use Rattle.ppd_model.specs.Items.{IsReferred}
@@ -146,7 +147,7 @@ module _ (program : Program) (plan : Plan) (budget : ℕ) (h : List ℕ) (v : Is
     last_ending = ap₂ (λ a es. ending a es) (sym total ∙ sym last_count) r.entries_are ∙ ending_is r.before stop [] refl r.no_end
 
     last_running : (at r.before).running ≡ x.running
-    last_running = sym (ap (λ (w : Indexing Extent). w.running) (ap at r.entries_are ∙ at_last r.before stop)) ∙ f.told_by.same
+    last_running = sym (ap (λ (w : Extending). w.running) (ap at r.entries_are ∙ at_last r.before stop)) ∙ f.told_by.same
 
     -- an interval that was opened before the step, or after it in the same edge, and runs at the end
     below : (i : Span) (m : ℕ) → slice_get x.spans m ≡ Some i → length done < i.opened → i.opened < length x.edges

@@ -15,8 +15,9 @@ use Rattle.ppd_flow_model.proofs.Vocabulary.{is_sync}
 use Rattle.ppd_flow_model.specs.Ends.{edge_at, end_interval, end_item, ending, ends_edge, first_edge, innermost_from, sync_item}
 use Rattle.ppd_flow_model.specs.Seen.{seen_of}
 use Rattle.ppd_flow_model.specs.Walk.{walk}
+use Rattle.ppd_model.proofs.ExtentWords.{Extending}
 use Rattle.ppd_model.proofs.EdgeWords.{part_in}
-use Rattle.ppd_model.specs.Extents.{Extent, Indexing, extents}
+use Rattle.ppd_model.specs.Extents.{extents}
 use Rattle.ppd_model.specs.FlowbackEdges.{part_at}
 use Rattle.ppd_model.specs.Intervals.{Part, Span, Split, item_of, own}
 use Rattle.ppd_model.specs.RecordedSets.{sync_in}
@@ -175,7 +176,7 @@ module _ (x : Split) (entries : List Entry) (h : IsTold entries x.trace.events x
     last_ending = ap₂ (λ a es. ending a es) (sym last_count) are ∙ ending_is before (entry.End st r reads writes) [] refl no_end
 
     last_running : (at before).running ≡ x.running
-    last_running = sym (ap (λ (y : Indexing Extent). y.running) (ap at are ∙ at_last before (entry.End st r reads writes))) ∙ h.same
+    last_running = sym (ap (λ (y : Extending). y.running) (ap at are ∙ at_last before (entry.End st r reads writes))) ∙ h.same
 
     last_by : (k first : ℕ) (i : Span) → end_interval entries (count_to events (length events)) ≡ k → slice_get x.spans k ≡ Some i → OpensAt entries events k first → Stands F x.spans k i.round first → Tiles F x.spans k first i.parts (length events)
         → EndsBy x entries (count_to events (length events)) (length events)

@@ -13,10 +13,10 @@ use Rattle.ppd_flow_model.specs.Ends.{edge_at, first_edge, is_sync_item, sync_it
 use Rattle.ppd_flow_model.specs.Seen.{seen_of}
 use Rattle.ppd_model.proofs.Changes.{change-at, some}
 use Rattle.ppd_model.proofs.CountedOn.{last_at}
-use Rattle.ppd_model.proofs.ExtentWords.{begun_extents, left_by as extents_left}
+use Rattle.ppd_model.proofs.ExtentWords.{Extending, begun_extents, extend, extent_found, left_by as extents_left}
 use Rattle.ppd_model.proofs.Extents.{Fall, IsIn, entry_number}
 use Rattle.ppd_model.proofs.IntervalWords.{item_of_event, item_of_span}
-use Rattle.ppd_model.specs.Extents.{Extent, Indexing, extend, extents}
+use Rattle.ppd_model.specs.Extents.{Extent, extents}
 use Rattle.ppd_model.specs.Intervals.{Part, Span, Split, item_of, nested, own}
 use Rattle.ppd_model.specs.RecordedSets.{sync_in}
 use Rattle.ppd_model.specs.declared.flow.Item.{Item}
@@ -75,7 +75,7 @@ count_below es m n e f is lt =
 
 -- ---- entries
 
-kept_prelog : (y : Indexing Extent) (es : List Entry) (m : ℕ) (x : Extent) → slice_get y.intervals m ≡ Some x → (z : Extent) × (slice_get (fold extend y es).intervals m ≡ Some z) × (z.prelog ≡ x.prelog)
+kept_prelog : (y : Extending) (es : List Entry) (m : ℕ) (x : Extent) → slice_get y.intervals m ≡ Some x → (z : Extent) × (slice_get (fold extend y es).intervals m ≡ Some z) × (z.prelog ≡ x.prelog)
 kept_prelog y [] m x e = (x, e, refl)
 kept_prelog y (a ∷ es) m x e =
     let one = stays y a m x e in
@@ -89,7 +89,7 @@ opened_at entries events k first o =
     let here : slice_get new.intervals k ≡ Some _ = ap (λ j. slice_get new.intervals j) o.number ∙ last_at (at o.before).intervals _ in
     let final : at entries ≡ fold extend new o.after = ap (λ es. at es) o.entries_are ∙ fold-append extend begun_extents o.before (entry.Prelog o.block o.values ∷ o.after) in
     let kept = kept_prelog new o.after k _ here in
-    (kept.0, ap (λ (y : Indexing Extent). slice_get y.intervals k) final ∙ kept.1, kept.2 ∙ entry_number o.before)
+    (kept.0, extent_found entries k (Some kept.0) (ap (λ (y : Extending). slice_get y.intervals k) final ∙ kept.1), kept.2 ∙ entry_number o.before)
 
 before_it : (entries before after : List Entry) → entries ≡ before ++ after → syncs_before entries (length before) ≡ syncs before
 before_it entries before after e = ap (λ l. length (filter_map sync_in (take (length before) l))) e ∙ ap (λ l. length (filter_map sync_in l)) (take_front before after)
@@ -104,15 +104,15 @@ inside_is entries events m lo mid h =
     let o : OpensAt entries events m lo = h.0 in
     let l : LeavesAt entries events m mid = h.1 in
     let begins = opened_at entries events m lo o in
-    let y : Indexing Extent = at l.before in
+    let y : Extending = at l.before in
     let falls : Fall (length y.intervals) (m ∷ l.rest) = subst (λ ks. Fall (length y.intervals) ks) l.runs (is_log l.before).falls in
     let there = slice_get_there y.intervals m falls.0 in
-    let left : Indexing Extent = extend y (entry.Postlog l.block l.values) in
+    let left : Extending = extend y (entry.Postlog l.block l.values) in
     let here : slice_get left.intervals m ≡ Some (record there.0 { last = Some y.entry; closed = true }) =
     ap (λ ks. slice_get (extents_left y.entry ks y.intervals) m) l.runs ∙ change-at (λ (z : Extent). record z { last = Some y.entry; closed = true }) m y.intervals ∙ ap (option_map (λ (z : Extent). record z { last = Some y.entry; closed = true })) there.1 in
     let out : IsIn m left.running → ⊥ = λ i. not_rest m l.rest falls (subst (λ ks. IsIn m (drop 1 ks)) l.runs i) in
     let final : at entries ≡ fold extend left l.after = ap (λ es. at es) l.entries_are ∙ fold-append extend begun_extents l.before (entry.Postlog l.block l.values ∷ l.after) in
-    let at_last : slice_get (extents entries) m ≡ Some (record there.0 { last = Some y.entry; closed = true }) = ap (λ (z : Indexing Extent). slice_get z.intervals m) final ∙ still_one left l.after m _ here out in
+    let at_last : slice_get (extents entries) m ≡ Some (record there.0 { last = Some y.entry; closed = true }) = extent_found entries m (Some (record there.0 { last = Some y.entry; closed = true })) (ap (λ (z : Extending). slice_get z.intervals m) final ∙ still_one left l.after m _ here out) in
     let same : record there.0 { last = Some y.entry; closed = true } ≡ begins.0 = some (sym at_last ∙ begins.1) in
     ap (syncs_inside entries) at_last
     ∙ ap₂ (λ a b. a - b)

@@ -5,8 +5,8 @@ use Rattle.std.proofs.lemmas.Bool.{cases_eq}
 use Rattle.std.proofs.lemmas.Option.{none-some}
 use Rattle.ppd_entry.specs.declared.entry.Entry.{Entry}
 use Rattle.ppd_entry.specs.declared.entry.Entry.TheVariants as entry
-use Rattle.ppd_model.specs.Extents.{Extent, extend, Indexing}
-use Rattle.ppd_model.proofs.ExtentWords.{begun_extents, ended_by, left_by}
+use Rattle.ppd_model.specs.Extents.{Extent}
+use Rattle.ppd_model.proofs.ExtentWords.{Extending, extend, begun_extents, ended_by, left_by}
 use Rattle.ppd_model.specs.World.{change}
 use Rattle.ppd_model.proofs.Changes.{change-at, change-else, length-change, some}
 use Rattle.ppd_model.proofs.CountedOn.{kept_at}
@@ -76,7 +76,7 @@ left_one j m [] xs x e = (x, e, became_same j x)
 left_one j m (k ∷ ks) xs x e = changed_one j (close_by j) (λ z. record { prelog = refl; last = inr refl }) k m xs x e
 
 -- an entry keeps each interval, in this way
-pub stays : (y : Indexing Extent) (e : Entry) (m : ℕ) (x : Extent) → slice_get y.intervals m ≡ Some x → (z : Extent) × (slice_get (extend y e).intervals m ≡ Some z) × Became y.entry x z
+pub stays : (y : Extending) (e : Entry) (m : ℕ) (x : Extent) → slice_get y.intervals m ≡ Some x → (z : Extent) × (slice_get (extend y e).intervals m ≡ Some z) × Became y.entry x z
 stays y (entry.Prelog b vs) m x at' = (x, kept_at y.intervals _ m x at', became_same y.entry x)
 stays y (entry.Postlog b vs) m x at' = left_one y.entry m y.running y.intervals x at'
 stays y (entry.End st rest reads writes) m x at' = ended_one y.entry m y.running y.intervals x at'
@@ -96,7 +96,7 @@ left_else : (j m : ℕ) (ks : List ℕ) (xs : List Extent) → (IsIn m ks → �
 left_else j m [] xs out = refl
 left_else j m (k ∷ ks) xs out = change-else (close_by j) k m xs (λ e. out (inl e))
 
-pub still_one : (y : Indexing Extent) (es : List Entry) (m : ℕ) (x : Extent) → slice_get y.intervals m ≡ Some x → (IsIn m y.running → ⊥) → slice_get (fold extend y es).intervals m ≡ Some x
+pub still_one : (y : Extending) (es : List Entry) (m : ℕ) (x : Extent) → slice_get y.intervals m ≡ Some x → (IsIn m y.running → ⊥) → slice_get (fold extend y es).intervals m ≡ Some x
 still_one y [] m x e out = e
 still_one y (entry.Prelog b vs ∷ es) m x e out =
     still_one (extend y (entry.Prelog b vs)) es m x (kept_at y.intervals _ m x e) (λ i. elim i [ inl f ↦ (let lt : m < length y.intervals = slice_get_below y.intervals m x e in omega (arith, lt, f)) | inr i' ↦ out i' ])
@@ -111,7 +111,7 @@ still_one y (entry.Sync kind object number value reads writes ∷ es) m x e out 
 
 -- running numbers fall and are of intervals; an interval stands after its prelog, and one that is not running has a
 -- last entry
-pub record IsLog (y : Indexing Extent) : Type 0 where
+pub record IsLog (y : Extending) : Type 0 where
   pub falls : Fall (length y.intervals) y.running
   pub prelogs : (m : ℕ) (x : Extent) → slice_get y.intervals m ≡ Some x → x.prelog < y.entry
   pub left : (m : ℕ) (x : Extent) → slice_get y.intervals m ≡ Some x → IsIn m y.running ⊎ ((l : ℕ) × (x.last ≡ Some l) × (l < y.entry))
@@ -123,7 +123,7 @@ new_cases (x ∷ xs) y zero j e = inl e
 new_cases (x ∷ xs) y (suc k) j e = elim (new_cases xs y k j e) [ inl a ↦ inl a | inr b ↦ inr (ap (λ n. suc n) b.0, b.1) ]
 
 -- what stood at a place before
-pub came : (y : Indexing Extent) (xs : List Extent) → length xs ≡ length y.intervals → ((m : ℕ) (x : Extent) → slice_get y.intervals m ≡ Some x → (z : Extent) × (slice_get xs m ≡ Some z) × Became y.entry x z)
+pub came : (y : Extending) (xs : List Extent) → length xs ≡ length y.intervals → ((m : ℕ) (x : Extent) → slice_get y.intervals m ≡ Some x → (z : Extent) × (slice_get xs m ≡ Some z) × Became y.entry x z)
     → (m : ℕ) (z : Extent) → slice_get xs m ≡ Some z → (x : Extent) × (slice_get y.intervals m ≡ Some x) × Became y.entry x z
 came y xs same stay m z e =
     let lt : m < length xs = slice_get_below xs m z e in
@@ -137,7 +137,7 @@ later_last j x z b h = elim b.last [
   | inr e ↦ (j, e, omega arith)
 ]
 
-log_one : (y : Indexing Extent) (e : Entry) → IsLog y → IsLog (extend y e)
+log_one : (y : Extending) (e : Entry) → IsLog y → IsLog (extend y e)
 log_one y (entry.Prelog b vs) h = record {
   falls = (let z = length-append y.intervals ((record { block = b; parent = slice_get y.running 0; prelog = y.entry; last = None; closed = false }) ∷ []) in omega (arith, z), h.falls);
   prelogs = λ m x f. elim (new_cases y.intervals _ m x f) [
@@ -201,7 +201,7 @@ log_one y (entry.Sync kind object number value reads writes) h = record {
   left = λ m x f. elim (h.left m x f) [ inl i ↦ inl i | inr l ↦ inr (l.0, l.1, (let lt = l.2 in omega (arith, lt))) ];
 }
 
-log_all : (y : Indexing Extent) (es : List Entry) → IsLog y → IsLog (fold extend y es)
+log_all : (y : Extending) (es : List Entry) → IsLog y → IsLog (fold extend y es)
 log_all y [] h = h
 log_all y (e ∷ es) h = log_all (extend y e) es (log_one y e h)
 

@@ -9,9 +9,9 @@ use Rattle.ppd_flow_model.proofs.Vocabulary.{is_in_extent}
 use Rattle.ppd_flow_model.specs.Ends.{innermost_from}
 use Rattle.ppd_model.proofs.Changes.{change-at, some}
 use Rattle.ppd_model.proofs.CountedOn.{kept_at}
-use Rattle.ppd_model.proofs.ExtentWords.{begun_extents, ended_by, left_by}
+use Rattle.ppd_model.proofs.ExtentWords.{Extending, begun_extents, ended_by, extend, extents_are, extents_by, left_by}
 use Rattle.ppd_model.proofs.Extents.{Fall, IsIn, close_by, ended_length, entry_number, in_below}
-use Rattle.ppd_model.specs.Extents.{Extent, Indexing, extend, extents}
+use Rattle.ppd_model.specs.Extents.{Extent, extents}
 use Rattle.ppd_model.specs.World.{change}
 use Rattle.std.proofs.Common.{Bool, List, Some, [], ap, arith, false, if◌then◌else◌, inl, inr, length, refl, subst, suc, sym, true, zero, ℕ, ◌++◌, ◌+◌, ◌<◌, ◌∙◌, ◌∷◌, ◌≡◌, ◌≤◌, ◌⊎◌}
 use Rattle.std.proofs.lemmas.Bool.{cases_lt}
@@ -39,7 +39,7 @@ last_one n m k (z ∷ xs) (suc j) x e is after =
 
 module _ (n k p : ℕ) where
   -- interval k, with this prelog, runs, or its last entry is not before entry n
-  record Goes (y : Indexing Extent) : Type 0 where
+  record Goes (y : Extending) : Type 0 where
     extent : Extent
     there : slice_get y.intervals k ≡ Some extent
     prelog : extent.prelog ≡ p
@@ -48,7 +48,7 @@ module _ (n k p : ℕ) where
   later : (j : ℕ) (x z : Extent) → n ≤ j → Became j x z → ((l : ℕ) × (x.last ≡ Some l) × (n ≤ l)) → (l : ℕ) × (z.last ≡ Some l) × (n ≤ l)
   later j x z le b h = elim b.last [ inl e ↦ (h.0, e ∙ h.1, h.2) | inr e ↦ (j, e, le) ]
 
-  goes_one : (y : Indexing Extent) (e : Entry) → n ≤ y.entry → Goes y → Goes (extend y e)
+  goes_one : (y : Extending) (e : Entry) → n ≤ y.entry → Goes y → Goes (extend y e)
   goes_one y (entry.Prelog b vs) le h = record {
     extent = h.extent;
     there = kept_at y.intervals _ k h.extent h.there;
@@ -85,16 +85,16 @@ module _ (n k p : ℕ) where
   goes_one y (entry.Unit u vs) le h = record { extent = h.extent; there = h.there; prelog = h.prelog; goes = h.goes }
   goes_one y (entry.Sync kind object number value reads writes) le h = record { extent = h.extent; there = h.there; prelog = h.prelog; goes = h.goes }
 
-  goes_all : (y : Indexing Extent) (es : List Entry) → n ≤ y.entry → Goes y → Goes (fold extend y es)
+  goes_all : (y : Extending) (es : List Entry) → n ≤ y.entry → Goes y → Goes (fold extend y es)
   goes_all y [] le h = h
   goes_all y (e ∷ es) le h = goes_all (extend y e) es (omega (arith, le)) (goes_one y e le h)
 
-  entry_on : (y : Indexing Extent) (es : List Entry) → n ≤ y.entry → n ≤ (fold extend y es).entry
+  entry_on : (y : Extending) (es : List Entry) → n ≤ y.entry → n ≤ (fold extend y es).entry
   entry_on y [] le = le
   entry_on y (e ∷ es) le = entry_on (extend y e) es (omega (arith, le))
 
   -- and at the end
-  at_end : (y : Indexing Extent) (st : Status) (rest : ℕ) (reads writes : List ℕ) → n ≤ y.entry → Goes y → (x : Extent) × (slice_get (extend y (entry.End st rest reads writes)).intervals k ≡ Some x) × (x.prelog ≡ p) × (n ≤ unwrap_or x.last 0)
+  at_end : (y : Extending) (st : Status) (rest : ℕ) (reads writes : List ℕ) → n ≤ y.entry → Goes y → (x : Extent) × (slice_get (extend y (entry.End st rest reads writes)).intervals k ≡ Some x) × (x.prelog ≡ p) × (n ≤ unwrap_or x.last 0)
   at_end y st rest reads writes le h = elim h.goes [
     | inl i ↦
         let s = ended_in y.entry k y.running y.intervals h.extent h.there i in
@@ -107,10 +107,10 @@ module _ (n k p : ℕ) where
 
 -- intervals from number low on begin at entry n or later
 module _ (n low : ℕ) where
-  abbrev AreLater : Indexing Extent → Type 0
+  abbrev AreLater : Extending → Type 0
   AreLater y = (j : ℕ) (x : Extent) → low ≤ j → slice_get y.intervals j ≡ Some x → n ≤ x.prelog
 
-  later_one : (y : Indexing Extent) (e : Entry) → n ≤ y.entry → AreLater y → AreLater (extend y e)
+  later_one : (y : Extending) (e : Entry) → n ≤ y.entry → AreLater y → AreLater (extend y e)
   later_one y (entry.Prelog b vs) le h j x ge f = elim (new_cases y.intervals _ j x f) [
     | inl old ↦ h j x ge old
     | inr new ↦ (let z : y.entry ≡ x.prelog = ap (λ (w : Extent). w.prelog) new.1 in omega (arith, z, le))
@@ -128,7 +128,7 @@ module _ (n low : ℕ) where
   later_one y (entry.Unit u vs) le h j x ge f = h j x ge f
   later_one y (entry.Sync kind object number value reads writes) le h j x ge f = h j x ge f
 
-  later_all : (y : Indexing Extent) (es : List Entry) → n ≤ y.entry → AreLater y → AreLater (fold extend y es)
+  later_all : (y : Extending) (es : List Entry) → n ≤ y.entry → AreLater y → AreLater (fold extend y es)
   later_all y [] le h = h
   later_all y (e ∷ es) le h = later_all (extend y e) es (omega (arith, le)) (later_one y e le h)
 
@@ -180,10 +180,10 @@ module _ (before mid : List Entry) (st : Status) (rest : ℕ) (reads writes : Li
   final_end = final ∙ fold-append extend (at before) mid (stop ∷ [])
 
   -- one that is there and does not run
-  past_is : (j : ℕ) (y : Extent) → j < length (at before).intervals → (IsIn j (at before).running → ⊥) → slice_get (extents all) j ≡ Some y → is_in_extent n y ≡ false
+  past_is : (j : ℕ) (y : Extent) → j < length (at before).intervals → (IsIn j (at before).running → ⊥) → slice_get (extents_by all) j ≡ Some y → is_in_extent n y ≡ false
   past_is j y lt out e =
       let old = slice_get_there (at before).intervals j lt in
-      let still : slice_get (extents all) j ≡ Some old.0 = ap (λ (z : Indexing Extent). slice_get z.intervals j) final ∙ still_one (at before) (mid ++ stop ∷ []) j old.0 old.1 out in
+      let still : slice_get (extents_by all) j ≡ Some old.0 = ap (λ (z : Extending). slice_get z.intervals j) final ∙ still_one (at before) (mid ++ stop ∷ []) j old.0 old.1 out in
       let same : old.0 ≡ y = some (sym still ∙ e) in
       elim ((is_log before).left j old.0 old.1) [
         | inl i ↦ absurd (out i)
@@ -193,13 +193,14 @@ module _ (before mid : List Entry) (st : Status) (rest : ℕ) (reads writes : Li
             subst (λ z. is_in_extent n z ≡ false) same (stands_past n old.0 l.0 l.1 (omega (arith, less, number)))
       ]
 
-  later_is : (j : ℕ) (y : Extent) → length (at before).intervals ≤ j → slice_get (extents all) j ≡ Some y → is_in_extent n y ≡ false
+  later_is : (j : ℕ) (y : Extent) → length (at before).intervals ≤ j → slice_get (extents_by all) j ≡ Some y → is_in_extent n y ≡ false
   later_is j y ge e =
       let none : AreLater n (length (at before).intervals) (at before) = λ i x le f. absurd (let lt : i < length (at before).intervals = slice_get_below (at before).intervals i x f in omega (arith, lt, le)) in
-      stands_before n y (later_all n (length (at before).intervals) (at before) (mid ++ stop ∷ []) entry_is none j y ge (ap (λ (z : Indexing Extent). slice_get z.intervals j) (sym final) ∙ e))
+      stands_before n y (later_all n (length (at before).intervals) (at before) (mid ++ stop ∷ []) entry_is none j y ge (ap (λ (z : Extending). slice_get z.intervals j) (sym final) ∙ e))
 
   pub innermost_is : (k : ℕ) (ks : List ℕ) → (at before).running ≡ k ∷ ks → innermost_from n 0 0 (extents all) ≡ k
   innermost_is k ks runs =
+      ap (innermost_from n 0 0) (extents_are all) ∙ (
       let falls : Fall (length (at before).intervals) (k ∷ ks) = subst (λ l. Fall (length (at before).intervals) l) runs (is_log before).falls in
       let there = slice_get_there (at before).intervals k falls.0 in
       let number : (at before).entry ≡ length before = entry_number before in
@@ -207,14 +208,14 @@ module _ (before mid : List Entry) (st : Status) (rest : ℕ) (reads writes : Li
       let begins : Goes n k there.0.prelog (at before) = record { extent = there.0; there = there.1; prelog = refl; goes = inl (subst (λ l. IsIn k l) (sym runs) (inl refl)) } in
       let now = at_end n k there.0.prelog (fold extend (at before) mid) st rest reads writes (entry_on n k there.0.prelog (at before) mid entry_is) (goes_all n k there.0.prelog (at before) mid entry_is begins) in
       let prelog = now.2 in
-      let at_all : slice_get (extents all) k ≡ Some now.0 = ap (λ (z : Indexing Extent). slice_get z.intervals k) final_end ∙ now.1 in
-      last_one n 0 0 (extents all) k now.0 at_all (stands_yes n now.0 (omega (arith, prelog, less, number)) now.3) (λ j y lt e. elim (cases_lt j (length (at before).intervals)) [
+      let at_all : slice_get (extents_by all) k ≡ Some now.0 = ap (λ (z : Extending). slice_get z.intervals k) final_end ∙ now.1 in
+      last_one n 0 0 (extents_by all) k now.0 at_all (stands_yes n now.0 (omega (arith, prelog, less, number)) now.3) (λ j y lt e. elim (cases_lt j (length (at before).intervals)) [
         | inl there' ↦ past_is j y there' (λ i. above_first (length (at before).intervals) k ks j falls lt (subst (λ l. IsIn j l) runs i)) e
         | inr more ↦ later_is j y more e
-      ]) ∙ (let z : 0 + k ≡ k = omega arith in z)
+      ]) ∙ (let z : 0 + k ≡ k = omega arith in z))
 
   pub innermost_none : (at before).running ≡ [] → innermost_from n 0 0 (extents all) ≡ 0
-  innermost_none runs = no_more n 0 0 (extents all) (λ j y e. elim (cases_lt j (length (at before).intervals)) [
+  innermost_none runs = ap (innermost_from n 0 0) (extents_are all) ∙ no_more n 0 0 (extents_by all) (λ j y e. elim (cases_lt j (length (at before).intervals)) [
     | inl there ↦ past_is j y there (λ i. subst (λ l. IsIn j l) runs i) e
     | inr more ↦ later_is j y more e
   ])

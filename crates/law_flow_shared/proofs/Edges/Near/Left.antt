@@ -9,10 +9,10 @@ use Rattle.ppd_ast.specs.declared.program.Program.{Program}
 use Rattle.ppd_entry.specs.declared.entry.Entry.{Entry}
 use Rattle.ppd_entry.specs.declared.entry.Entry.TheVariants as entry
 use Rattle.ppd_model.proofs.Changes.{change-at, some}
-use Rattle.ppd_model.proofs.ExtentWords.{begun_extents, left_by as extents_left}
+use Rattle.ppd_model.proofs.ExtentWords.{Extending, begun_extents, extend, extent_found, left_by as extents_left}
 use Rattle.ppd_model.proofs.Extents.{Fall, IsIn, entry_number}
 use Rattle.ppd_model.specs.Bounds.{AreEach}
-use Rattle.ppd_model.specs.Extents.{Extent, Indexing, extend, extents}
+use Rattle.ppd_model.specs.Extents.{Extent, extents}
 use Rattle.ppd_model.specs.Intervals.{Span, Split, begun_split, split_of}
 use Rattle.ppd_model.specs.Logs.{begun_log, closed_log, entries_of, log_of, log_step}
 use Rattle.ppd_model.specs.RecordedSets.{sync_in}
@@ -54,19 +54,19 @@ record IsLeft (entries : List Entry) (m place : ℕ) : Type 0 where
 
 left_at : (entries : List Entry) (events : List TracedEvent) (m mid : ℕ) (l : LeavesAt entries events m mid) → IsLeft entries m (length l.before)
 left_at entries events m mid l =
-    let y : Indexing Extent = at l.before in
+    let y : Extending = at l.before in
     let falls : Fall (length y.intervals) (m ∷ l.rest) = subst (λ ks. Fall (length y.intervals) ks) l.runs (is_log l.before).falls in
     let there = slice_get_there y.intervals m falls.0 in
     let number : y.entry ≡ length l.before = entry_number l.before in
     let low : there.0.prelog < y.entry = (is_log l.before).prelogs m there.0 there.1 in
-    let left : Indexing Extent = extend y (entry.Postlog l.block l.values) in
+    let left : Extending = extend y (entry.Postlog l.block l.values) in
     let here : slice_get left.intervals m ≡ Some (record there.0 { last = Some y.entry; closed = true }) =
     ap (λ ks. slice_get (extents_left y.entry ks y.intervals) m) l.runs ∙ change-at (λ (z : Extent). record z { last = Some y.entry; closed = true }) m y.intervals ∙ ap (option_map (λ (z : Extent). record z { last = Some y.entry; closed = true })) there.1 in
     let out : IsIn m left.running → ⊥ = λ i. not_in m l.rest m falls.1 (omega arith) (subst (λ ks. IsIn m (drop 1 ks)) l.runs i) in
     let final : at entries ≡ fold extend left l.after = ap (λ es. at es) l.entries_are ∙ fold-append extend begun_extents l.before (entry.Postlog l.block l.values ∷ l.after) in
     record {
       extent = record there.0 { last = Some y.entry; closed = true };
-      is_there = ap (λ (z : Indexing Extent). slice_get z.intervals m) final ∙ still_one left l.after m _ here out;
+      is_there = extent_found entries m (Some (record there.0 { last = Some y.entry; closed = true })) (ap (λ (z : Extending). slice_get z.intervals m) final ∙ still_one left l.after m _ here out);
       last = ap (λ k. Some k) number;
       after = omega (arith, low, number);
     }

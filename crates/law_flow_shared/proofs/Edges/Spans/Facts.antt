@@ -6,8 +6,7 @@ use Rattle.std.proofs.lemmas.Option.{none-some}
 use Rattle.ppd_entry.specs.declared.entry.Entry.{Entry}
 use Rattle.ppd_entry.specs.declared.entry.Entry.TheVariants as entry
 use Rattle.ppd_model.specs.declared.trace.TracedEvent.{TracedEvent}
-use Rattle.ppd_model.specs.Extents.{extend, Indexing, Extent}
-use Rattle.ppd_model.proofs.ExtentWords.{begun_extents}
+use Rattle.ppd_model.proofs.ExtentWords.{Extending, extend, begun_extents}
 use Rattle.ppd_model.specs.Intervals.{Part, own, Span}
 use Rattle.ppd_model.specs.RecordedSets.{sync_in}
 use Rattle.law_flow_shared.proofs.Edges.Spans.Tiles.{HaveGrown}
@@ -25,7 +24,7 @@ abbrev pub syncs : List Entry → ℕ
 syncs entries = length (filter_map sync_in entries)
 
 -- the intervals after these entries
-abbrev pub at : List Entry → Indexing Extent
+abbrev pub at : List Entry → Extending
 at entries = fold extend begun_extents entries
 
 pub count_front : (es fs : List TracedEvent) (n : ℕ) → n ≤ length es → count_to (es ++ fs) n ≡ count_to es n

@@ -7,8 +7,8 @@ use Rattle.ppd_entry.specs.declared.entry.Entry.{Entry}
 use Rattle.ppd_entry.specs.declared.entry.Entry.TheVariants as entry
 use Rattle.ppd_model.proofs.Changes.{length-change, some}
 use Rattle.ppd_model.proofs.CountedOn.{kept_at, last_at}
-use Rattle.ppd_model.proofs.ExtentWords.{left_by as extents_left}
-use Rattle.ppd_model.specs.Extents.{Extent, Indexing}
+use Rattle.ppd_model.proofs.ExtentWords.{Extending, left_by as extents_left}
+use Rattle.ppd_model.specs.Extents.{Extent}
 use Rattle.ppd_model.specs.FullTrace.{Tag}
 use Rattle.ppd_model.specs.Intervals.{Span, nested, with_part}
 use Rattle.ppd_model.specs.World.{change}
@@ -113,8 +113,8 @@ module _ (entries : List Entry) (events : List TracedEvent) (spans : List Span) 
   unfolding later after number changed
   open_told round parts runs =
       record {
-        same = ap (λ (y : Indexing Extent). y.running) (at_last entries (entry.Prelog b values)) ∙ ap₂ (λ k ks. k ∷ ks) h.size h.same;
-        size = ap (λ (y : Indexing Extent). length y.intervals) (at_last entries (entry.Prelog b values)) ∙ length-append (at entries).intervals _ ∙ ap (λ k. k + 1) (h.size ∙ sym long) ∙ sym (length-append (change (with_part (nested (length spans))) m spans) (new ∷ []));
+        same = ap (λ (y : Extending). y.running) (at_last entries (entry.Prelog b values)) ∙ ap₂ (λ k ks. k ∷ ks) h.size h.same;
+        size = ap (λ (y : Extending). length y.intervals) (at_last entries (entry.Prelog b values)) ∙ length-append (at entries).intervals _ ∙ ap (λ k. k + 1) (h.size ∙ sym long) ∙ sym (length-append (change (with_part (nested (length spans))) m spans) (new ∷ []));
         count = syncs_last entries (entry.Prelog b values) ∙ (let z : syncs entries + 0 ≡ syncs entries = omega arith in z) ∙ h.count;
         tiled = record {
           first = length events;
@@ -212,7 +212,7 @@ module _ (entries : List Entry) (events : List TracedEvent) (spans : List Span) 
       (stands_of done events now m rest t.first (around_on entries done grows' events events (none_more events) spans now grown' m rest t.first (changed_below f [] (λ i. refl) same_parts spans m t.span t.there t.runs) t.around))
 
   drop_running : (at entries).running ≡ m ∷ rest → (at done).running ≡ rest
-  drop_running e = ap (λ (y : Indexing Extent). y.running) (at_last entries (entry.Postlog b values)) ∙ ap (λ ks. drop 1 ks) e
+  drop_running e = ap (λ (y : Extending). y.running) (at_last entries (entry.Postlog b values)) ∙ ap (λ ks. drop 1 ks) e
 
   left_length : (j : ℕ) (ks : List ℕ) (xs : List Extent) → length (extents_left j ks xs) ≡ length xs
   left_length j [] xs = refl
@@ -221,7 +221,7 @@ module _ (entries : List Entry) (events : List TracedEvent) (spans : List Span) 
   pub close_told : IsTold done events now rest
   close_told = record {
     same = drop_running h.same;
-    size = ap (λ (y : Indexing Extent). length y.intervals) (at_last entries (entry.Postlog b values)) ∙ left_length (at entries).entry (at entries).running (at entries).intervals ∙ h.size ∙ sym (length-change f m spans);
+    size = ap (λ (y : Extending). length y.intervals) (at_last entries (entry.Postlog b values)) ∙ left_length (at entries).entry (at entries).running (at entries).intervals ∙ h.size ∙ sym (length-change f m spans);
     count = syncs_last entries (entry.Postlog b values) ∙ (let z : syncs entries + 0 ≡ syncs entries = omega arith in z) ∙ h.count;
     tiled = after_it rest refl t.around;
     placed = λ k j e. elim (changed_cases f [] (λ i. refl) same_parts spans m t.span t.there t.runs k j e) [

@@ -4,9 +4,9 @@ use Rattle.law_flow_shared.proofs.Edges.Spans.Tiles.{HaveGrown, Stands, Tiles, a
 use Rattle.law_flow_shared.proofs.Edges.Spans.Told.{AreTiled, Around, IsInnermost, IsPlaced, IsTold, around_on, at_last, changed_at, changed_below, changed_cases, grown_all, grown_by, none_more, placed_on, stands_of, syncs_last, tiles_on}
 use Rattle.law_flow_shared.proofs.Vocabulary.Events.{synchronizes}
 use Rattle.ppd_entry.specs.declared.entry.Entry.{Entry}
+use Rattle.ppd_model.proofs.ExtentWords.{Extending, extend}
 use Rattle.ppd_model.proofs.Changes.{length-change}
 use Rattle.ppd_model.proofs.CountedOn.{last_at}
-use Rattle.ppd_model.specs.Extents.{Extent, Indexing, extend}
 use Rattle.ppd_model.specs.Intervals.{Part, Span, change_first, own, with_part}
 use Rattle.ppd_model.specs.RecordedSets.{sync_in}
 use Rattle.ppd_model.specs.World.{change}
@@ -69,8 +69,8 @@ entry_told entries events spans running e same size plain h =
     let later : List Entry = entries ++ e ∷ [] in
     let grows : More entries later = (e ∷ [], refl) in
     record {
-      same = ap (λ (y : Indexing Extent). y.running) (at_last entries e) ∙ same ∙ h.same;
-      size = ap (λ (y : Indexing Extent). length y.intervals) (at_last entries e) ∙ size ∙ h.size;
+      same = ap (λ (y : Extending). y.running) (at_last entries e) ∙ same ∙ h.same;
+      size = ap (λ (y : Extending). length y.intervals) (at_last entries e) ∙ size ∙ h.size;
       count = syncs_last entries e ∙ ap (λ b. syncs entries + cond b 1 0) plain ∙ (let z : syncs entries + 0 ≡ syncs entries = omega arith in z) ∙ h.count;
       tiled = by running h.tiled;
       placed = λ k i f. placed_on entries later grows events events (none_more events) spans spans (grown_all spans) k i (h.placed k i f);
@@ -126,11 +126,11 @@ event_told entries events spans (m ∷ rest) te more lt o h =
   where
     same : Comes entries te more → (at (entries ++ more)).running ≡ m ∷ rest
     same (inl p) = ap (λ l. (at l).running) (ap (λ l. entries ++ l) p.0 ∙ append-nil entries) ∙ h.same
-    same (inr p) = ap (λ l. (at (entries ++ l)).running) p.1 ∙ ap (λ (y : Indexing Extent). y.running) (at_last entries p.0) ∙ p.4 ∙ h.same
+    same (inr p) = ap (λ l. (at (entries ++ l)).running) p.1 ∙ ap (λ (y : Extending). y.running) (at_last entries p.0) ∙ p.4 ∙ h.same
 
     size : Comes entries te more → length (at (entries ++ more)).intervals ≡ length spans
     size (inl p) = ap (λ l. length (at l).intervals) (ap (λ l. entries ++ l) p.0 ∙ append-nil entries) ∙ h.size
-    size (inr p) = ap (λ l. length (at (entries ++ l)).intervals) p.1 ∙ ap (λ (y : Indexing Extent). length y.intervals) (at_last entries p.0) ∙ p.5 ∙ h.size
+    size (inr p) = ap (λ l. length (at (entries ++ l)).intervals) p.1 ∙ ap (λ (y : Extending). length y.intervals) (at_last entries p.0) ∙ p.5 ∙ h.size
 
     total : count_to (events ++ te ∷ []) (length (events ++ te ∷ [])) ≡ count_to events (length events) + cond (is_some te.event.number) 1 0
     total = ap (λ k. count_to (events ++ te ∷ []) k) (length-append events (te ∷ [])) ∙ count_last events te

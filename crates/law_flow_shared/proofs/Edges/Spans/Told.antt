@@ -4,8 +4,8 @@ use Rattle.law_flow_shared.proofs.Edges.Spans.Facts.{Logged, More, MoreEvents, O
 use Rattle.law_flow_shared.proofs.Edges.Spans.Tiles.{Covers, HasGrown, HaveGrown, IsNowhere, Stands, Tiles, covers_grow, outermost, stands_grow, tiles_grow, within}
 use Rattle.law_flow_shared.proofs.Vocabulary.Events.{synchronizes}
 use Rattle.ppd_entry.specs.declared.entry.Entry.{Entry}
+use Rattle.ppd_model.proofs.ExtentWords.{extend}
 use Rattle.ppd_model.proofs.Changes.{change-at, change-else, some}
-use Rattle.ppd_model.specs.Extents.{extend}
 use Rattle.ppd_model.specs.Intervals.{Part, Span, nested}
 use Rattle.ppd_model.specs.RecordedSets.{sync_in}
 use Rattle.ppd_model.specs.World.{change}

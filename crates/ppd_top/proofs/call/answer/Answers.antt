@@ -1,4 +1,4 @@
-use Rattle.ppd_top_requests.proofs.Asked.{asks_drill, asks_query, asks_recording, asks_source}
+use Rattle.ppd_top_requests.proofs.Requested.{asks_drill, asks_query, asks_recording, asks_source}
 use Rattle.ppd_top.proofs.Inputs.{recording_input, source_input}
 use Rattle.ppd_top.proofs.call.answer.Goals as goal
 use Rattle.ppd_top.specs.Ran.Comes.{drill_done}
