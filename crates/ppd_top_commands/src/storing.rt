@@ -38,6 +38,32 @@ fn header_of(options: &Options) -> Header
     }
 }
 
+/// Stores the recording of a run, then writes its summary, which is this text, and answers the status.
+fn store_with<F: Shelf, O: Sink>(
+    alloc: Global,
+    task: &RecordTask<'_>,
+    run: &ClosedRun<'_>,
+    text: &[u8],
+    shelf: &mut F,
+    output: &mut O,
+) -> u8
+    requires { AreOfSomeRun task.now.source.now (header_for task.now.task.options) run.now.closed.logs }
+    ensures { Keeps (IsRecordingOf task.now.source.now
+        (header_for task.now.task.options) run.now.closed.logs) task.now.recording.now text.now
+        (keeping (F.held shelf.old) (F.failed_stores shelf.old) (O.written output.old) (O.faults output.old))
+        (keeping (F.held shelf.new) (F.failed_stores shelf.new) (O.written output.new) (O.faults output.new)) result }
+{
+    let header = header_of(&task.task.options);
+    let Ok(recording) = record(alloc, task.source, &header, &run.closed.logs) else {
+        return 5;
+    };
+    match shelf.store(alloc, task.recording, recording.as_slice()) {
+        Ok(()) => finish(output, text, 0),
+        Err(ShelfError::Failed) => 4,
+        Err(ShelfError::Memory) => 5,
+    }
+}
+
 /// Stores the recording of a run, then writes the summary, and answers the status. All that takes memory is made before
 /// the store.
 fn store<F: Shelf, O: Sink>(
@@ -60,15 +86,7 @@ fn store<F: Shelf, O: Sink>(
     let Ok(text) = summarize(rt, alloc, run) else {
         return 5;
     };
-    let header = header_of(&task.task.options);
-    let Ok(recording) = record(alloc, task.source, &header, &run.closed.logs) else {
-        return 5;
-    };
-    match shelf.store(alloc, task.recording, recording.as_slice()) {
-        Ok(()) => finish(output, &text, 0),
-        Err(ShelfError::Failed) => 4,
-        Err(ShelfError::Memory) => 5,
-    }
+    store_with(alloc, task, run, &text, shelf, output)
 }
 
 /// Runs a program by threads from its start to its end, stores the recording of the run, and writes the summary.

@@ -3,6 +3,3 @@ use Rattle.ppd_top_commands.proofs.recorded.converse.Goals as goal
 
 pub returns-in_default : goal.returns-in_default
 returns-in_default g c = nothing_yet _ _ _
-
-pub returns-in_default-new : goal.returns-in_default-new
-returns-in_default-new g c = nothing_yet _ _ _

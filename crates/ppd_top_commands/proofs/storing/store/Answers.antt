@@ -1,16 +1,9 @@
-use Rattle.std.proofs.Common.{◌∙◌, subst, sym}
-use Rattle.ppd_codec.specs.Recordings.{IsRecordingOf}
-use Rattle.ppd_top_commands.specs.Commands.Keeps.{kept}
-use Rattle.ppd_top_commands.specs.Commands.{header_of as header_for}
-use Rattle.ppd_top_commands.specs.Output.{Finished}
+use Rattle.std.proofs.Common.{◌≡◌, ◌∙◌, ℕ, List, subst}
+use Rattle.ppd_top_commands.specs.Commands.{Keeping, Keeps}
 use Rattle.ppd_top_commands.proofs.storing.store.Goals as goal
 
-pub returns-in-Ok-store : goal.returns-in-Ok-store
-returns-in-Ok-store g c =
-    let logs = c.args.run.now.closed.logs in
-    let source = c.args.task.now.source.now in
-    let made : IsRecordingOf source (header_for c.args.task.now.task.options) logs c.as_slice.result.now =
-    subst (IsRecordingOf source (header_for c.args.task.now.task.options) logs) (sym c.as_slice.ensures)
-    (subst (λ h. IsRecordingOf source h logs c.in-Ok-record.recording) c.header_of-header.ensures c.in-Ok-record.ensures) in
-    kept c.as_slice.result.now made c.in-Ok-store.ensures.bytes c.in-Ok-store.ensures.others
-    (subst (Finished (g.O.Sink.written c.args.output.now) (g.O.Sink.written c.finish.new.output) (g.O.Sink.faults c.args.output.now) (g.O.Sink.faults c.finish.new.output) c.finish.result 0) (c.deref.ensures.value ∙ c.in-Ok.ensures) c.finish.ensures.end)
+same_text : (P : List ℕ → Type 0) (name : List ℕ) (x y : Keeping) (status : ℕ) (a b : List ℕ) → a ≡ b → Keeps P name a x y status → Keeps P name b x y status
+same_text P name x y status a b e k = subst (λ s. Keeps P name s x y status) e k
+
+pub returns : goal.returns
+returns g c = same_text _ _ _ _ _ _ _ (c.deref.ensures.value ∙ c.in-Ok.ensures) c.store_with.ensures

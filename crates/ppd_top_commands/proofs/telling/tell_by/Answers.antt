@@ -1,0 +1,18 @@
+use Rattle.std.proofs.Common.{[], rules}
+use Rattle.ppd_codec_runs.specs.Pasts.{BelongTogether}
+use Rattle.ppd_top_commands.proofs.Conversing.{nothing_yet}
+use Rattle.ppd_top_commands.proofs.Pasts.{together}
+use Rattle.ppd_top_runs.proofs.ToldRuns.Told.{told_ends}
+use Rattle.ppd_top_commands.proofs.telling.tell_by.Goals as goal
+
+pub returns-in_default : goal.returns-in_default
+returns-in_default g c = nothing_yet _ _ _
+
+pub new-requires-clause-past : goal.new-requires-clause-past
+new-requires-clause-past g c =
+    let t : BelongTogether c.args.run.now.program.now c.args.run.now.plan c.args.run.now.closed.logs c.args.tables.now.index c.args.tables.now.graph c.args.run.now.closed.logs c.args.tables.now.index c.args.run.now.budget [] =
+    together c.args.run.now.program.now c.args.run.now.plan c.args.run.now.budget c.args.run.now.closed c.args.tables.now.index c.args.tables.now.graph c.requires.told c.requires.index c.requires.fitting c.requires.graph in
+    search rules
+
+pub tell_session-requires-clause-few : goal.tell_session-requires-clause-few
+tell_session-requires-clause-few g c = told_ends c.args.run.now.program.now c.args.run.now.plan c.args.run.now.budget c.args.run.now.closed c.requires.told
