@@ -1,10 +1,9 @@
 -- Schedules that agree with one that has no race have one story.
+use Rattle.ppd_model.specs.Setting.{Setting}
 use Rattle.std.proofs.Common.{◌≡◌, ℕ, zero, suc, pos, List, [], ◌∷◌, Some, None, true, refl, ap, sym, subst, ◌∙◌, arith, length, map, take_all, true≢false}
 use Rattle.std.specs.Prelude.{slice_get, get_or}
 use Rattle.std.proofs.lemmas.List.{ext_get_or}
 use Rattle.std.proofs.lemmas.Option.{none-some}
-use Rattle.ppd_ast.specs.declared.plan.Plan.{Plan}
-use Rattle.ppd_ast.specs.declared.program.Program.{Program}
 use Rattle.ppd_model.specs.declared.tracing.Story.{Story}
 use Rattle.ppd_model.specs.Agreement.{Agree}
 use Rattle.ppd_model.specs.Laws.{begins}
@@ -41,63 +40,63 @@ nothing_yet [] q = refl
 nothing_yet (x ∷ xs) zero = refl
 nothing_yet (x ∷ xs) (suc q) = nothing_yet xs q
 
-module _ (program : Program) (plan : Plan) (budget : ℕ) where
-  pub fresh : (q : ℕ) → synced_in ((view (begins program plan budget)).hist q) ≡ 0
-  fresh q = nothing_yet (begins program plan budget).world.procs q
+module _ (setting : Setting) where
+  pub fresh : (q : ℕ) → synced_in ((view (begins setting)).hist q) ≡ 0
+  fresh q = nothing_yet (begins setting).world.procs q
 
   -- at the end all steps are told
   ended : List ℕ → Telling
-  ended h = told_to program plan budget h (length h)
+  ended h = told_to setting h (length h)
 
-  ended_is : (h : List ℕ) → ended h ≡ told program plan budget h
+  ended_is : (h : List ℕ) → ended h ≡ told setting h
   unfolding ended
-  ended_is h = ap (λ (xs : List ℕ). told program plan budget xs) (take_all (length h) h (omega arith))
+  ended_is h = ap (λ (xs : List ℕ). told setting xs) (take_all (length h) h (omega arith))
 
-  pub final : (h : List ℕ) (w : sched.IsWhole program plan budget h) → IsFinal (run_of program plan budget h w.last w.runs)
+  pub final : (h : List ℕ) (w : sched.IsWhole setting h) → IsFinal (run_of setting h w.last w.runs)
   unfolding run_of ended
   final h w p free =
-      let t : Telling = told_to program plan budget h (length h) in
-      let good : Good program plan budget t = good_to program plan budget h (length h) in
-      let free2 : Enabled (machine program plan budget) (view t) (sorted program (next_event t p) (need program plan t.world p)) =
-      subst (λ (a : Want Line Tagged). Enabled (machine program plan budget) (view t) a) (want_is program plan budget t p good) free in
-      let can_step : enabled program plan t.world p ≡ true = enabled_back program plan budget t good.sizes (next_event t p) (need program plan t.world p) free2 in
-      let last_is : t.world ≡ w.last = ap (λ (a : Telling). a.world) (ended_is h) ∙ stories_are_of_runs program plan budget h w.last w.runs in
-      true≢false (sym can_step ∙ ap (λ (a : World). enabled program plan a p) last_is ∙ w.over.nobody p)
+      let t : Telling = told_to setting h (length h) in
+      let good : Good setting t = good_to setting h (length h) in
+      let free2 : Enabled (machine setting) (view t) (sorted setting.program (next_event t p) (need setting.program setting.plan t.world p)) =
+      subst (λ (a : Want Line Tagged). Enabled (machine setting) (view t) a) (want_is setting t p good) free in
+      let can_step : enabled setting.program setting.plan t.world p ≡ true = enabled_back setting t good.sizes (next_event t p) (need setting.program setting.plan t.world p) free2 in
+      let last_is : t.world ≡ w.last = ap (λ (a : Telling). a.world) (ended_is h) ∙ stories_are_of_runs setting h w.last w.runs in
+      true≢false (sym can_step ∙ ap (λ (a : World). enabled setting.program setting.plan a p) last_is ∙ w.over.nobody p)
 
   -- the run has the record of its schedule
-  pub recorded : (h : List ℕ) (w : sched.IsWhole program plan budget h) (syncs : List (List s.Sync)) → sync_record program plan budget h ≡ syncs → HasRecord (run_of program plan budget h w.last w.runs) (sheet (λ q. get_or syncs q []))
+  pub recorded : (h : List ℕ) (w : sched.IsWhole setting h) (syncs : List (List s.Sync)) → sync_record setting h ≡ syncs → HasRecord (run_of setting h w.last w.runs) (sheet (λ q. get_or syncs q []))
   unfolding run_of ended
   recorded h w syncs e =
-      has_record program plan budget (run_of program plan budget h w.last w.runs) (λ q. get_or syncs q [])
+      has_record setting (run_of setting h w.last w.runs) (λ q. get_or syncs q [])
       (λ p. sym (syncs_at (map steps_of (ended h).moments) p)
       ∙ ap (λ (t : Telling). get_or (record_of (record { steps = map steps_of t.moments; cells = t.world.shared; writers = t.writers })) p []) (ended_is h)
       ∙ ap (λ (ss : List (List s.Sync)). get_or ss p []) e)
 
-  pub run_ordered : (h : List ℕ) (w : sched.IsWhole program plan budget h) → races program plan budget h ≡ [] → IsOrdered (run_of program plan budget h w.last w.runs)
+  pub run_ordered : (h : List ℕ) (w : sched.IsWhole setting h) → races setting h ≡ [] → IsOrdered (run_of setting h w.last w.runs)
   unfolding run_of ended
   run_ordered h w none =
-      ordered program plan budget (run_of program plan budget h w.last w.runs) fresh (story program plan budget h)
+      ordered setting (run_of setting h w.last w.runs) fresh (story setting h)
       (λ p. ap (λ (t : Telling). slice_get (map steps_of t.moments) p) (sym (ended_is h)))
-      (ap (λ (t : Telling). length t.world.shared) (sym (ended_is h)) ∙ (good_to program plan budget h (length h)).sizes.cells)
+      (ap (λ (t : Telling). length t.world.shared) (sym (ended_is h)) ∙ (good_to setting h (length h)).sizes.cells)
       none
 
-  runs_agree : (h h' : List ℕ) (a : Agree program plan budget h h') → races program plan budget h ≡ [] → Agrees (run_of program plan budget h a.first.last a.first.runs) (run_of program plan budget h' a.second.last a.second.runs)
+  runs_agree : (h h' : List ℕ) (a : Agree setting h h') → races setting h ≡ [] → Agrees (run_of setting h a.first.last a.first.runs) (run_of setting h' a.second.last a.second.runs)
   runs_agree h h' a none =
-      agree (run_of program plan budget h a.first.last a.first.runs) (sheet (λ q. get_or (sync_record program plan budget h) q []))
-      (recorded h a.first (sync_record program plan budget h) refl)
+      agree (run_of setting h a.first.last a.first.runs) (sheet (λ q. get_or (sync_record setting h) q []))
+      (recorded h a.first (sync_record setting h) refl)
       (run_ordered h a.first none)
-      (run_of program plan budget h' a.second.last a.second.runs)
-      (recorded h' a.second (sync_record program plan budget h) (sym a.records))
+      (run_of setting h' a.second.last a.second.runs)
+      (recorded h' a.second (sync_record setting h) (sym a.records))
       (final h a.first) (final h' a.second)
 
   -- runs that come to the same have one story
-  pub story_by : (h h' : List ℕ) (w w' : World) (e : run_from program plan (started_world program plan budget) h ≡ Some w) (e' : run_from program plan (started_world program plan budget) h' ≡ Some w') → Agrees (run_of program plan budget h w e) (run_of program plan budget h' w' e') → story program plan budget h ≡ story program plan budget h'
+  pub story_by : (h h' : List ℕ) (w w' : World) (e : run_from setting.program setting.plan (started_world setting) h ≡ Some w) (e' : run_from setting.program setting.plan (started_world setting) h' ≡ Some w') → Agrees (run_of setting h w e) (run_of setting h' w' e') → story setting h ≡ story setting h'
   unfolding run_of ended
   story_by h h' w w' e e' g =
       let t : Telling = ended h in
       let t' : Telling = ended h' in
-      let good : Good program plan budget t = good_to program plan budget h (length h) in
-      let good' : Good program plan budget t' = good_to program plan budget h' (length h') in
+      let good : Good setting t = good_to setting h (length h) in
+      let good' : Good setting t' = good_to setting h' (length h') in
       let steps : map steps_of t.moments ≡ map steps_of t'.moments = ext_slice (map steps_of t.moments) (map steps_of t'.moments) (λ p. sym (g.hist p)) in
       let cells : t.world.shared ≡ t'.world.shared = ext_get_or (pos 0) t.world.shared t'.world.shared (good.sizes.cells ∙ sym good'.sizes.cells) (λ x lt. ap (λ (v : Tagged). v.0) (sym (g.cells x))) in
       let writers : t.writers ≡ t'.writers = ext_get_or None t.writers t'.writers (good.sizes.writers ∙ sym good'.sizes.writers) (λ x lt. ap (λ (v : Tagged). v.1) (sym (g.cells x))) in
@@ -105,14 +104,14 @@ module _ (program : Program) (plan : Plan) (budget : ℕ) where
       ∙ (λ i. record { steps = steps i; cells = cells i; writers = writers i })
       ∙ ap (λ (x : Telling). record { steps = map steps_of x.moments; cells = x.world.shared; writers = x.writers }) (ended_is h')
 
-  pub one_story : (h h' : List ℕ) → Agree program plan budget h h' → races program plan budget h ≡ [] → story program plan budget h ≡ story program plan budget h'
+  pub one_story : (h h' : List ℕ) → Agree setting h h' → races setting h ≡ [] → story setting h ≡ story setting h'
   one_story h h' a none = story_by h h' a.first.last a.second.last a.first.runs a.second.runs (runs_agree h h' a none)
 
 pub agreeing_stories : AgreeingSchedulesHaveOneStory
-agreeing_stories program plan budget h h' a none = one_story program plan budget h h' a none
+agreeing_stories setting h h' a none = one_story setting h h' a none
 
 pub agreeing_histories : AgreeingSchedulesHaveOneHistory
-agreeing_histories program plan budget h h' a none = one_history program plan budget h h' (one_story program plan budget h h' a none)
+agreeing_histories setting h h' a none = one_history setting h h' (one_story setting h h' a none)
 
 pub agreeing_races : AgreeingSchedulesHaveNoRace
-agreeing_races program plan budget h h' a none = ap (λ (s : Story). races_among (edges_of_story program s)) (sym (one_story program plan budget h h' a none)) ∙ none
+agreeing_races setting h h' a none = ap (λ (s : Story). races_among (edges_of_story setting.program s)) (sym (one_story setting h h' a none)) ∙ none

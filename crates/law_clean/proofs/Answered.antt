@@ -1,4 +1,6 @@
 -- What is found of an item by logs, their races and replays of cut logs is what is to be answered.
+use Rattle.law_steps.specs.Policies.{setting_by}
+use Rattle.ppd_model.specs.Setting.{setting_of}
 use Rattle.law_clean.proofs.CleanItems.{IsIn, IsOwn, at', event_found, event_placed, inside_found, inside_placed, left_own, own_state}
 use Rattle.law_clean.proofs.EdgeEnds.{EndsEdge, edge_ends, edge_own}
 use Rattle.law_clean.proofs.FullEdges.{clean_edges_found}
@@ -80,48 +82,48 @@ neither : (a b : Bool) → (a || b) ≡ false → (a ≡ false) × (b ≡ false)
 neither true b e = absurd (true≢false e)
 neither false b e = (refl, e)
 
-module _ (program : Program) (policy : Policy) (budget : ℕ) (h : List ℕ) (p k j : ℕ) (y : Split) (i0 : Span) (v : IsValid program) (whole : IsWhole program (plan_of program policy) budget h)
-    (at : slice_get (splits program (plan_of program policy) budget (story program (plan_of program policy) budget h)) p ≡ Some y)
+module _ (program : Program) (policy : Policy) (budget : ℕ) (h : List ℕ) (p k j : ℕ) (y : Split) (i0 : Span) (v : IsValid program) (whole : IsWhole (setting_by program policy budget) h)
+    (at : slice_get (splits (setting_by program policy budget) (story (setting_by program policy budget) h)) p ≡ Some y)
     (at_k : slice_get y.spans k ≡ Some i0)
-    (there : p < length (story program (plan_of program policy) budget h).steps) where
+    (there : p < length (story (setting_by program policy budget) h).steps) where
   abbrev plan : Plan
   plan = plan_of program policy
 
   abbrev s : Story
-  s = story program plan budget h
+  s = story (setting_of program plan budget) h
 
   abbrev Rec : List (List Sync)
-  Rec = sync_record program plan budget h
+  Rec = sync_record (setting_of program plan budget) h
 
   abbrev Rs : List Race
-  Rs = races program plan budget h
+  Rs = races (setting_of program plan budget) h
 
   abbrev logs : Logs
-  logs = closed_logs program plan budget h
+  logs = closed_logs (setting_of program plan budget) h
 
   abbrev entries : List Entry
   entries = get_or logs.lists p []
 
   abbrev far : ℕ
-  far = edge_in program plan budget h p
+  far = edge_in (setting_of program plan budget) h p
 
   abbrev begun : ℕ
   begun = first_edge (get_or logs.lists p []) k
 
-  far_is : edge_in program plan budget h p ≡ length (filter_map sync_of (get_or s.steps p []))
+  far_is : edge_in (setting_of program plan budget) h p ≡ length (filter_map sync_of (get_or s.steps p []))
   far_is = ap length (record_at s.steps p)
 
-  fy : Facts program plan budget h v p y
-  fy = facts program plan budget h v p y at
+  fy : Facts (setting_of program plan budget) h v p y
+  fy = facts (setting_of program plan budget) h v p y at
 
-  y_whole : HasWholeItems (splits program plan budget s) y p
-  y_whole = items_whole program plan budget h p y v at
+  y_whole : HasWholeItems (splits (setting_of program plan budget) s) y p
+  y_whole = items_whole (setting_of program plan budget) h p y v at
 
-  all_syncs : length (filter_map sync_in (get_or logs.lists p [])) ≡ edge_in program plan budget h p
-  all_syncs = total_syncs program plan budget h p y at
+  all_syncs : length (filter_map sync_in (get_or logs.lists p [])) ≡ edge_in (setting_of program plan budget) h p
+  all_syncs = total_syncs (setting_of program plan budget) h p y at
 
   tree : IsTree y.spans y.running
-  tree = subst (λ (w : Split). IsTree w.spans w.running) (split_is program plan budget h p y at) (has_tree program plan s p budget (get_or s.steps p []))
+  tree = subst (λ (w : Split). IsTree w.spans w.running) (split_is (setting_of program plan budget) h p y at) (has_tree program plan s p budget (get_or s.steps p []))
 
   -- ---- edges of items
 
@@ -174,7 +176,7 @@ module _ (program : Program) (policy : Policy) (budget : ℕ) (h : List ℕ) (p 
   Has i = any_raced (is_past program Rec (edge p i)) Rs
 
   grown : (e i : ℕ) → e ≤ i → i ≤ far → Has e ≡ true → Has i ≡ true
-  grown e i le up h' = let f : edge_in program plan budget h p ≡ length (filter_map sync_of (get_or s.steps p [])) = far_is in grows_to program s p there e i le (omega (arith, up, f)) h'
+  grown e i le up h' = let f : edge_in (setting_of program plan budget) h p ≡ length (filter_map sync_of (get_or s.steps p [])) = far_is in grows_to program s p there e i le (omega (arith, up, f)) h'
 
   -- the first of them from the one in which the interval begins
   abbrev first : Option ℕ
@@ -193,28 +195,28 @@ module _ (program : Program) (policy : Policy) (budget : ℕ) (h : List ℕ) (p 
   -- ---- what is to be answered
 
   abbrev wanted : CleanOr
-  wanted = by_part program plan budget h p k j first y (slice_get i0.parts j)
+  wanted = by_part (setting_of program plan budget) h p k j first y (slice_get i0.parts j)
 
   abbrev by_spans : Split → Option Span → CleanOr
-  by_spans x o = option_map_or (λ i. by_part program plan budget h p k j first x (slice_get i.parts j)) o no_item
+  by_spans x o = option_map_or (λ i. by_part (setting_of program plan budget) h p k j first x (slice_get i.parts j)) o no_item
 
-  answer_is : answer_of program plan budget h p k j ≡ by_part program plan budget h p k j first y (slice_get i0.parts j)
+  answer_is : answer_of (setting_of program plan budget) h p k j ≡ by_part (setting_of program plan budget) h p k j first y (slice_get i0.parts j)
   answer_is = ap (λ (o : Option Split). option_map_or (λ x. by_spans x (slice_get x.spans k)) o no_item) at ∙ ap (by_spans y) at_k
 
   abbrev here : Part → Lies
   here q = lies (get_or logs.lists p []) y q
 
-  not_clean : (q : Part) → is_clean program s p (here q) ≡ false → by_part program plan budget h p k j first y (Some q) ≡ unclean_or p first no_item
+  not_clean : (q : Part) → is_clean program s p (here q) ≡ false → by_part (setting_of program plan budget) h p k j first y (Some q) ≡ unclean_or p first no_item
   not_clean q e =
-      ap (λ b. if b then first_item (item_of y q) (unwrap_or (edges program plan budget s p k j) []) else unclean_or p first no_item) e
+      ap (λ b. if b then first_item (item_of y q) (unwrap_or (edges (setting_of program plan budget) s p k j) []) else unclean_or p first no_item) e
 
-  is_so : (q : Part) → is_clean program s p (here q) ≡ true → by_part program plan budget h p k j first y (Some q) ≡ first_item (item_of y q) (unwrap_or (edges program plan budget s p k j) [])
+  is_so : (q : Part) → is_clean program s p (here q) ≡ true → by_part (setting_of program plan budget) h p k j first y (Some q) ≡ first_item (item_of y q) (unwrap_or (edges (setting_of program plan budget) s p k j) [])
   is_so q e =
-      ap (λ b. if b then first_item (item_of y q) (unwrap_or (edges program plan budget s p k j) []) else unclean_or p first no_item) e
+      ap (λ b. if b then first_item (item_of y q) (unwrap_or (edges (setting_of program plan budget) s p k j) []) else unclean_or p first no_item) e
 
   raced_part : (q : Part) (e : ℕ) → (here q).edge ≡ e → e ≤ far → Has e ≡ true → is_clean program s p (here q) ≡ false
   raced_part q e is le h' =
-      let f : edge_in program plan budget h p ≡ length (filter_map sync_of (get_or s.steps p [])) = far_is in
+      let f : edge_in (setting_of program plan budget) h p ≡ length (filter_map sync_of (get_or s.steps p [])) = far_is in
       has_unclean program s p there (here q) (omega (arith, is, le, f)) (subst (λ z. Has z ≡ true) (sym is) h')
 
   -- a race that leads to the synchronization which ends an edge is in the past of the next edge
@@ -229,31 +231,31 @@ module _ (program : Program) (policy : Policy) (budget : ℕ) (h : List ℕ) (p 
       next q i b = elim (cases_eq q p) [
         | inr apart ↦ across apart e refl b
         | inl same ↦
-            let none : edge_in program plan budget [] p ≡ 0 = edge_is_count program plan budget [] p ∙ ap (λ ts. length (filter_map sync_of ts)) (none_did program plan budget p) in
-            let ends : EndsEdge program plan budget h p e = edge_ends program plan budget h p e lt none in
-            let one : length (option_to_list (sync_of (moment_of program plan (told program plan budget ends.before) p).taken)) ≡ 1 = one_of (sync_of (moment_of program plan (told program plan budget ends.before) p).taken) ends.is_sync in
-            let grew : edge_in program plan budget (ends.before ++ p ∷ []) p ≡ edge_in program plan budget ends.before p + length (option_to_list (sync_of (moment_of program plan (told program plan budget ends.before) p).taken)) =
-            edge_own program plan budget ends.before p ends.there in
-            let is : edge_in program plan budget ends.before p ≡ e = ends.edge_is in
-            let under : i < edge_in program plan budget (ends.before ++ p ∷ []) q =
-            records_closed program plan budget (ends.before ++ p ∷ []) ends.rest whole.last (subst (λ l. run program plan budget l ≡ Some whole.last) ends.schedule_is whole.runs) (node q i) (node p e)
-            (subst (λ l. Before program (sync_record program plan budget l) (node q i) (node p e)) ends.schedule_is b) (omega (arith, grew, one, is)) in
-            let mine : i < edge_in program plan budget (ends.before ++ p ∷ []) p = subst (λ z. i < edge_in program plan budget (ends.before ++ p ∷ []) z) same under in
+            let none : edge_in (setting_of program plan budget) [] p ≡ 0 = edge_is_count (setting_of program plan budget) [] p ∙ ap (λ ts. length (filter_map sync_of ts)) (none_did program plan budget p) in
+            let ends : EndsEdge (setting_of program plan budget) h p e = edge_ends (setting_of program plan budget) h p e lt none in
+            let one : length (option_to_list (sync_of (moment_of program plan (told (setting_of program plan budget) ends.before) p).taken)) ≡ 1 = one_of (sync_of (moment_of program plan (told (setting_of program plan budget) ends.before) p).taken) ends.is_sync in
+            let grew : edge_in (setting_of program plan budget) (ends.before ++ p ∷ []) p ≡ edge_in (setting_of program plan budget) ends.before p + length (option_to_list (sync_of (moment_of program plan (told (setting_of program plan budget) ends.before) p).taken)) =
+            edge_own (setting_of program plan budget) ends.before p ends.there in
+            let is : edge_in (setting_of program plan budget) ends.before p ≡ e = ends.edge_is in
+            let under : i < edge_in (setting_of program plan budget) (ends.before ++ p ∷ []) q =
+            records_closed (setting_of program plan budget) (ends.before ++ p ∷ []) ends.rest whole.last (subst (λ l. run (setting_of program plan budget) l ≡ Some whole.last) ends.schedule_is whole.runs) (node q i) (node p e)
+            (subst (λ l. Before program (sync_record (setting_of program plan budget) l) (node q i) (node p e)) ends.schedule_is b) (omega (arith, grew, one, is)) in
+            let mine : i < edge_in (setting_of program plan budget) (ends.before ++ p ∷ []) p = subst (λ z. i < edge_in (setting_of program plan budget) (ends.before ++ p ∷ []) z) same under in
             earlier same (omega (arith, mine, grew, one, is))
       ]
 
   -- ---- where the first edge whose past has a race is one in which the interval begins
 
   part_of : (q : Part) → part_at y k j ≡ Some q → ((n : ℕ) × (q ≡ own n) × (n < length y.trace.events)) ⊎ ((m : ℕ) × (i : Span) × (q ≡ nested m) × (slice_get y.spans m ≡ Some i))
-  part_of (own n) place = let t = item_there y (splits program plan budget s) p k j (own n) y_whole place in by (slice_get y.trace.events n) refl t.2
+  part_of (own n) place = let t = item_there y (splits (setting_of program plan budget) s) p k j (own n) y_whole place in by (slice_get y.trace.events n) refl t.2
     where
-      by : (o : Option TracedEvent) → slice_get y.trace.events n ≡ o → first_of (item_of_event o) ≡ Some (item_there y (splits program plan budget s) p k j (own n) y_whole place).0
+      by : (o : Option TracedEvent) → slice_get y.trace.events n ≡ o → first_of (item_of_event o) ≡ Some (item_there y (splits (setting_of program plan budget) s) p k j (own n) y_whole place).0
           → ((m : ℕ) × (own n ≡ own m) × (m < length y.trace.events)) ⊎ ((m : ℕ) × (i : Span) × (own n ≡ nested m) × (slice_get y.spans m ≡ Some i))
       by None is f = absurd (none-some _ f)
       by (Some e) is f = inl (n, refl, slice_get_below y.trace.events n e is)
-  part_of (nested m) place = let t = item_there y (splits program plan budget s) p k j (nested m) y_whole place in by (slice_get y.spans m) refl t.2
+  part_of (nested m) place = let t = item_there y (splits (setting_of program plan budget) s) p k j (nested m) y_whole place in by (slice_get y.spans m) refl t.2
     where
-      by : (o : Option Span) → slice_get y.spans m ≡ o → first_of (item_of_span m o) ≡ Some (item_there y (splits program plan budget s) p k j (nested m) y_whole place).0
+      by : (o : Option Span) → slice_get y.spans m ≡ o → first_of (item_of_span m o) ≡ Some (item_there y (splits (setting_of program plan budget) s) p k j (nested m) y_whole place).0
           → ((n : ℕ) × (nested m ≡ own n) × (n < length y.trace.events)) ⊎ ((n : ℕ) × (i : Span) × (nested m ≡ nested n) × (slice_get y.spans n ≡ Some i))
       by None is f = absurd (none-some _ f)
       by (Some i) is f = inr (m, i, refl, is)
@@ -269,7 +271,7 @@ module _ (program : Program) (policy : Policy) (budget : ℕ) (h : List ℕ) (p 
         (subst (λ z. begun ≤ (here z).edge) (sym span.2) (inside_begun span.0 span.1 place' span.3), subst (λ z. (here z).edge ≤ far) (sym span.2) (left_le span.0))
   ]
 
-  begins_raced : (u : ℕ) → IsFirst Has begun (far + 1) u → u ≤ begun → (o : Option Part) → slice_get i0.parts j ≡ o → by_part program plan budget h p k j first y o ≡ unclean (edge p u)
+  begins_raced : (u : ℕ) → IsFirst Has begun (far + 1) u → u ≤ begun → (o : Option Part) → slice_get i0.parts j ≡ o → by_part (setting_of program plan budget) h p k j first y o ≡ unclean (edge p u)
   begins_raced u f le None e =
       let a : u ≤ left_edge (get_or logs.lists p []) k = (let b = begun_le in omega (arith, le, b)) in
       ap reached (first_is u f) ∙ ap (λ b. if b then unclean (edge p u) else no_item) (le-leb u (left_edge (get_or logs.lists p []) k) a)
@@ -282,13 +284,13 @@ module _ (program : Program) (policy : Policy) (budget : ℕ) (h : List ℕ) (p 
 
   -- ---- where it is later, or there is none
 
-  module _ (o : Option ℕ) (inside : (u : ℕ) → o ≡ Some u → u ≤ edge_in program (plan_of program policy) budget h p)
-      (clear : (e : ℕ) → e ≤ edge_in program (plan_of program policy) budget h p → IsIn (edge_in program (plan_of program policy) budget h p) o e
-      → any_raced (is_past program (sync_record program (plan_of program policy) budget h) (edge p e)) (races program (plan_of program policy) budget h) ≡ false)
+  module _ (o : Option ℕ) (inside : (u : ℕ) → o ≡ Some u → u ≤ edge_in (setting_by program policy budget) h p)
+      (clear : (e : ℕ) → e ≤ edge_in (setting_by program policy budget) h p → IsIn (edge_in (setting_by program policy budget) h p) o e
+      → any_raced (is_past program (sync_record (setting_by program policy budget) h) (edge p e)) (races (setting_by program policy budget) h) ≡ false)
       (pos : (u : ℕ) → o ≡ Some u → 0 < u)
       (raced : (u : ℕ) → o ≡ Some u → IsFirst Has begun (far + 1) u) (none : o ≡ None → NonePasses Has begun (far + 1)) where
     abbrev xs : List Seen
-    xs = seens program plan budget logs Rec Rs p k j o
+    xs = seens (setting_of program plan budget) logs Rec Rs p k j o
 
     own_is : IsOwn program policy budget h p k j y v whole at there o inside clear
     own_is = own_state program policy budget h p k j y v whole at there o inside clear o refl pos
@@ -302,11 +304,11 @@ module _ (program : Program) (policy : Policy) (budget : ℕ) (h : List ℕ) (p 
     abbrev x : Split
     x = own_is.begun.split
 
-    at_y : slice_get (splits program plan budget (story program plan budget (own_is.begun.before ++ own_is.begun.rest))) p ≡ Some y
-    at_y = subst (λ l. slice_get (splits program plan budget (story program plan budget l)) p ≡ Some y) own_is.begun.schedule_is at
+    at_y : slice_get (splits (setting_of program plan budget) (story (setting_of program plan budget) (own_is.begun.before ++ own_is.begun.rest))) p ≡ Some y
+    at_y = subst (λ l. slice_get (splits (setting_of program plan budget) (story (setting_of program plan budget) l)) p ≡ Some y) own_is.begun.schedule_is at
 
-    entries_same : get_or (closed_logs program plan budget (own_is.begun.before ++ own_is.begun.rest)).lists p [] ≡ get_or logs.lists p []
-    entries_same = ap (λ l. get_or (closed_logs program plan budget l).lists p []) (sym own_is.begun.schedule_is)
+    entries_same : get_or (closed_logs (setting_of program plan budget) (own_is.begun.before ++ own_is.begun.rest)).lists p [] ≡ get_or logs.lists p []
+    entries_same = ap (λ l. get_or (closed_logs (setting_of program plan budget) l).lists p []) (sym own_is.begun.schedule_is)
 
     kept : (q : Part) → part_at x k j ≡ Some q → part_at y k j ≡ Some q
     kept q e = part_kept program policy budget g rest p v x y own_is.begun.there at_y k j q e
@@ -322,7 +324,7 @@ module _ (program : Program) (policy : Policy) (budget : ℕ) (h : List ℕ) (p 
     ]
 
     -- how far it was seen
-    seen_to : (u : ℕ) → o ≡ Some u → u ≤ edge_in program plan budget own_is.begun.before p
+    seen_to : (u : ℕ) → o ≡ Some u → u ≤ edge_in (setting_of program plan budget) own_is.begun.before p
     seen_to u e = elim own_is.kind [
       | inl whole_log ↦ absurd (none-some u (sym whole_log.0 ∙ e))
       | inr found ↦ (let same : found.0 ≡ u = some (sym found.1 ∙ e) in let up = found.2 in omega (arith, same, up))
@@ -335,7 +337,7 @@ module _ (program : Program) (policy : Policy) (budget : ℕ) (h : List ℕ) (p 
         let stays : slice_get y.spans k ≡ Some l.0 = closed_stays program policy budget g rest p v x y own_is.begun.there at_y k l.0 l.1 l.2 in
         ap (λ w. part_in w j) (l.1 ∙ sym stays) ∙ place
 
-    late : (q : Part) → part_at y k j ≡ Some q → (u : ℕ) → o ≡ Some u → u ≤ (here q).edge → by_part program plan budget h p k j first y (Some q) ≡ unclean (edge p u)
+    late : (q : Part) → part_at y k j ≡ Some q → (u : ℕ) → o ≡ Some u → u ≤ (here q).edge → by_part (setting_of program plan budget) h p k j first y (Some q) ≡ unclean (edge p u)
     late q place u e le =
         let between = edge_between q place in
         let f = raced u e in
@@ -347,7 +349,7 @@ module _ (program : Program) (policy : Policy) (budget : ℕ) (h : List ℕ) (p 
     first_o None e = first_none (none e)
     first_o (Some u) e = first_is u (raced u e)
 
-    reach_none : part_at x k j ≡ None → (z : Option ℕ) → o ≡ z → (r : Option Part) → slice_get i0.parts j ≡ r → reached z ≡ by_part program plan budget h p k j first y r
+    reach_none : part_at x k j ≡ None → (z : Option ℕ) → o ≡ z → (r : Option Part) → slice_get i0.parts j ≡ r → reached z ≡ by_part (setting_of program plan budget) h p k j first y r
     reach_none gone z e None f = ap reached (sym (first_o z e))
     reach_none gone None e (Some q) f =
         let place : part_at y k j ≡ Some q = ap (λ w. part_in w j) at_k ∙ f in
@@ -375,12 +377,12 @@ module _ (program : Program) (policy : Policy) (budget : ℕ) (h : List ℕ) (p 
     ]
 
     record IsHere (q : Part) (t : Item) : Type 0 where
-      edge_is : edge_of_item program plan budget logs Rec Rs p k j xs t ≡ (here q).edge
+      edge_is : edge_of_item (setting_of program plan budget) logs Rec Rs p k j xs t ≡ (here q).edge
       sync_is : is_sync_item t ≡ (here q).ends
       item_is : IsIn far o (here q).edge → item_of y q ≡ t ∷ []
 
-    x_whole : HasWholeItems (splits program plan budget (story program plan budget own_is.begun.before)) own_is.begun.split p
-    x_whole = items_whole program plan budget g p x v own_is.begun.there
+    x_whole : HasWholeItems (splits (setting_of program plan budget) (story (setting_of program plan budget) own_is.begun.before)) own_is.begun.split p
+    x_whole = items_whole (setting_of program plan budget) g p x v own_is.begun.there
 
     is_here : (q : Part) (t : Item) → part_at x k j ≡ Some q → item_if x (Some q) ≡ Some t → IsHere q t
     is_here (own n) t place it = by (slice_get x.trace.events n) refl it
@@ -396,7 +398,7 @@ module _ (program : Program) (policy : Policy) (budget : ℕ) (h : List ℕ) (p 
             ∙ edge_same program policy budget g rest p v x y own_is.begun.there at_y (get_or logs.lists p []) k j (own n) place
             ∙ event_at n (slice_get_below y.trace.events n l.0 l.1) (kept (own n) place) in
             record {
-              edge_is = ap (edge_of_item program plan budget logs Rec Rs p k j xs) (sym same) ∙ edge;
+              edge_is = ap (edge_of_item (setting_of program plan budget) logs Rec Rs p k j xs) (sym same) ∙ edge;
               sync_is = ap is_sync_item (sym same) ∙ ap (λ (w : Event). is_some w.number) (sym event) ∙ sym (ap (λ (o : Option TracedEvent). is_some (option_and_then (λ e. e.event.number) o)) l.1);
               item_is = λ inn. ap item_of_event l.1 ∙ ap (λ (w : Event). item.Own w ∷ []) event ∙ ap (λ z. z ∷ []) same;
             }
@@ -407,7 +409,7 @@ module _ (program : Program) (policy : Policy) (budget : ℕ) (h : List ℕ) (p 
         by (Some i) is f =
             let same : item.Nested m i.block i.values (is_some i.closed) ≡ t = some f in
             record {
-              edge_is = ap (edge_of_item program plan budget logs Rec Rs p k j xs) (sym same);
+              edge_is = ap (edge_of_item (setting_of program plan budget) logs Rec Rs p k j xs) (sym same);
               sync_is = ap is_sync_item (sym same);
               item_is = λ inn. ap (item_of_span m) (stays i is inn) ∙ ap (λ z. z ∷ []) same;
             }
@@ -428,7 +430,7 @@ module _ (program : Program) (policy : Policy) (budget : ℕ) (h : List ℕ) (p 
       le = (edge_between q place).1
 
       within : (here q).edge ≤ length (filter_map sync_of (get_or s.steps p []))
-      within = let f : edge_in program plan budget h p ≡ length (filter_map sync_of (get_or s.steps p [])) = far_is in let a = le in omega (arith, a, f)
+      within = let f : edge_in (setting_of program plan budget) h p ≡ length (filter_map sync_of (get_or s.steps p [])) = far_is in let a = le in omega (arith, a, f)
 
       is_clean_so : is_clean program s p (here q) ≡ true
       is_clean_so = by (is_clean program s p (here q)) refl
@@ -440,7 +442,7 @@ module _ (program : Program) (policy : Policy) (budget : ℕ) (h : List ℕ) (p 
             | inr leads ↦ absurd (true≢false (sym leads.1 ∙ no leads.0))
           ]
 
-      same_edges : (found_edges program plan logs xs p k j).found ≡ (found_edges program plan logs (all_seen program plan budget h) p k j).found
+      same_edges : (found_edges program plan logs xs p k j).found ≡ (found_edges program plan logs (all_seen (setting_of program plan budget) h) p k j).found
       same_edges = elim (part_of q place) [
         | inl event ↦
             event_found program policy budget h p k j y v whole at there o inside clear own_is event.0 (place ∙ ap (λ z. Some z) event.1) event.2 (subst (λ z. IsIn far o (here z).edge) event.1 inn) (event_le event.0)
@@ -449,27 +451,27 @@ module _ (program : Program) (policy : Policy) (budget : ℕ) (h : List ℕ) (p 
             inside_found program policy budget h p k j y v whole at there o inside clear own_is span.0 span.1 (place ∙ ap (λ z. Some z) span.2) span.3 (subst (λ z. IsIn far o (here z).edge) span.2 inn)
       ]
 
-      edges_are : (found_edges program plan logs xs p k j).found ≡ option_map (λ es. Ok es) (edges program plan budget s p k j)
+      edges_are : (found_edges program plan logs xs p k j).found ≡ option_map (λ es. Ok es) (edges (setting_of program plan budget) s p k j)
       edges_are = same_edges ∙ clean_edges_found program policy budget h whole.last p k j y q v whole.runs at place there within is_clean_so
 
-      some_edges : (es : List FlowEdge) × (edges program plan budget s p k j ≡ Some es)
+      some_edges : (es : List FlowEdge) × (edges (setting_of program plan budget) s p k j ≡ Some es)
       some_edges = elim (part_of q place) [
         | inl event ↦
             let f = get_there y.trace.events event.0 event.2 in
-            (_, ap (edges_in program plan (splits program plan budget s) k j) at ∙ ap (edges_if program plan (splits program plan budget s) y) (place ∙ ap (λ z. Some z) event.1) ∙ ap (option_map (edges_of_event program (splits program plan budget s))) f.1)
+            (_, ap (edges_in program plan (splits (setting_of program plan budget) s) k j) at ∙ ap (edges_if program plan (splits (setting_of program plan budget) s) y) (place ∙ ap (λ z. Some z) event.1) ∙ ap (option_map (edges_of_event program (splits (setting_of program plan budget) s))) f.1)
         | inr span ↦
-            (_, ap (edges_in program plan (splits program plan budget s) k j) at ∙ ap (edges_if program plan (splits program plan budget s) y) (place ∙ ap (λ z. Some z) span.2) ∙ ap (option_map (model_edges_of_nested plan (splits program plan budget s))) span.3)
+            (_, ap (edges_in program plan (splits (setting_of program plan budget) s) k j) at ∙ ap (edges_if program plan (splits (setting_of program plan budget) s) y) (place ∙ ap (λ z. Some z) span.2) ∙ ap (option_map (model_edges_of_nested plan (splits (setting_of program plan budget) s))) span.3)
       ]
 
-      clean_answer : (t : Item) → item_of y q ≡ t ∷ [] → with_edges program plan budget logs Rec Rs p k j t (found_edges program plan logs xs p k j).found ≡ by_part program plan budget h p k j first y (Some q)
+      clean_answer : (t : Item) → item_of y q ≡ t ∷ [] → with_edges (setting_of program plan budget) logs Rec Rs p k j t (found_edges program plan logs xs p k j).found ≡ by_part (setting_of program plan budget) h p k j first y (Some q)
       clean_answer t it =
           let es = some_edges in
-          ap (with_edges program plan budget logs Rec Rs p k j t) (edges_are ∙ ap (option_map (λ fs. Ok fs)) es.1)
+          ap (with_edges (setting_of program plan budget) logs Rec Rs p k j t) (edges_are ∙ ap (option_map (λ fs. Ok fs)) es.1)
           ∙ sym (ap₂ (λ ts fs. first_item ts (unwrap_or fs [])) it es.1) ∙ sym (is_so q is_clean_so)
 
     decide : (q : Part) (t : Item) → part_at y k j ≡ Some q → IsHere q t → (z : Option ℕ) → o ≡ z
-        → (if is_unclean program plan budget logs Rec Rs p k j xs z t then unclean_or p z no_item else with_edges program plan budget logs Rec Rs p k j t (found_edges program plan logs xs p k j).found)
-        ≡ by_part program plan budget h p k j first y (Some q)
+        → (if is_unclean (setting_of program plan budget) logs Rec Rs p k j xs z t then unclean_or p z no_item else with_edges (setting_of program plan budget) logs Rec Rs p k j t (found_edges program plan logs xs p k j).found)
+        ≡ by_part (setting_of program plan budget) h p k j first y (Some q)
     decide q t place here_is None e =
         let le : (here q).edge ≤ far = (edge_between q place).1 in
         let inn : IsIn far o (here q).edge = subst (λ z. IsIn far z (here q).edge) (sym e) le in
@@ -480,46 +482,46 @@ module _ (program : Program) (policy : Policy) (budget : ℕ) (h : List ℕ) (p 
             let lt = ends_before q place ends in
             true≢false (sym (leads_next (here q).edge lt leads) ∙ clear ((here q).edge + 1) (omega (arith, lt)) (subst (λ z. IsIn far z ((here q).edge + 1)) (sym e) (omega (arith, lt)))))
     decide q t place here_is (Some u) e =
-        by (is_unclean program plan budget logs Rec Rs p k j xs (Some u) t) refl
+        by (is_unclean (setting_of program plan budget) logs Rec Rs p k j xs (Some u) t) refl
       where
-        at_edge : edge_of_item program plan budget logs Rec Rs p k j xs t ≡ (here q).edge
+        at_edge : edge_of_item (setting_of program plan budget) logs Rec Rs p k j xs t ≡ (here q).edge
         at_edge = here_is.edge_is
 
         f : IsFirst Has begun (far + 1) u
         f = raced u e
 
-        by : (b : Bool) → is_unclean program plan budget logs Rec Rs p k j xs (Some u) t ≡ b
-            → (if b then unclean (edge p u) else with_edges program plan budget logs Rec Rs p k j t (found_edges program plan logs xs p k j).found) ≡ by_part program plan budget h p k j first y (Some q)
-        by true is = elim (either (nat_le u (edge_of_item program plan budget logs Rec Rs p k j xs t)) (is_sync_item t && leads_from_race program Rec Rs (edge p (edge_of_item program plan budget logs Rec Rs p k j xs t))) is) [
-          | inl le ↦ sym (late q place u e (let l : u ≤ edge_of_item program plan budget logs Rec Rs p k j xs t = leb-true u (edge_of_item program plan budget logs Rec Rs p k j xs t) le in let a = at_edge in omega (arith, l, a)))
+        by : (b : Bool) → is_unclean (setting_of program plan budget) logs Rec Rs p k j xs (Some u) t ≡ b
+            → (if b then unclean (edge p u) else with_edges (setting_of program plan budget) logs Rec Rs p k j t (found_edges program plan logs xs p k j).found) ≡ by_part (setting_of program plan budget) h p k j first y (Some q)
+        by true is = elim (either (nat_le u (edge_of_item (setting_of program plan budget) logs Rec Rs p k j xs t)) (is_sync_item t && leads_from_race program Rec Rs (edge p (edge_of_item (setting_of program plan budget) logs Rec Rs p k j xs t))) is) [
+          | inl le ↦ sym (late q place u e (let l : u ≤ edge_of_item (setting_of program plan budget) logs Rec Rs p k j xs t = leb-true u (edge_of_item (setting_of program plan budget) logs Rec Rs p k j xs t) le in let a = at_edge in omega (arith, l, a)))
           | inr lead ↦
-              let b = both (is_sync_item t) (leads_from_race program Rec Rs (edge p (edge_of_item program plan budget logs Rec Rs p k j xs t))) lead in
-              let within : (here q).edge ≤ length (filter_map sync_of (get_or s.steps p [])) = (let w : edge_in program plan budget h p ≡ length (filter_map sync_of (get_or s.steps p [])) = far_is in let a = (edge_between q place).1 in omega (arith, a, w)) in
+              let b = both (is_sync_item t) (leads_from_race program Rec Rs (edge p (edge_of_item (setting_of program plan budget) logs Rec Rs p k j xs t))) lead in
+              let within : (here q).edge ≤ length (filter_map sync_of (get_or s.steps p [])) = (let w : edge_in (setting_of program plan budget) h p ≡ length (filter_map sync_of (get_or s.steps p [])) = far_is in let a = (edge_between q place).1 in omega (arith, a, w)) in
               sym (not_clean q (leads_unclean program s p there (here q) within (sym here_is.sync_is ∙ b.0) (subst (λ z. leads_from_race program Rec Rs (edge p z) ≡ true) at_edge b.1))
               ∙ ap (λ z. unclean_or p z no_item) (first_is u f))
         ]
         by false is =
-            let n = neither (nat_le u (edge_of_item program plan budget logs Rec Rs p k j xs t)) (is_sync_item t && leads_from_race program Rec Rs (edge p (edge_of_item program plan budget logs Rec Rs p k j xs t))) is in
-            let lt : edge_of_item program plan budget logs Rec Rs p k j xs t < u = leb-false u (edge_of_item program plan budget logs Rec Rs p k j xs t) n.0 in
+            let n = neither (nat_le u (edge_of_item (setting_of program plan budget) logs Rec Rs p k j xs t)) (is_sync_item t && leads_from_race program Rec Rs (edge p (edge_of_item (setting_of program plan budget) logs Rec Rs p k j xs t))) is in
+            let lt : edge_of_item (setting_of program plan budget) logs Rec Rs p k j xs t < u = leb-false u (edge_of_item (setting_of program plan budget) logs Rec Rs p k j xs t) n.0 in
             let inn : IsIn far o (here q).edge = subst (λ z. IsIn far z (here q).edge) (sym e) (let a = at_edge in omega (arith, lt, a)) in
             clean_answer q place inn (λ ends. subst (λ z. leads_from_race program Rec Rs (edge p z) ≡ false) at_edge
-            (not_both (is_sync_item t) (leads_from_race program Rec Rs (edge p (edge_of_item program plan budget logs Rec Rs p k j xs t))) (here_is.sync_is ∙ ends) n.1)) t (here_is.item_is inn)
+            (not_both (is_sync_item t) (leads_from_race program Rec Rs (edge p (edge_of_item (setting_of program plan budget) logs Rec Rs p k j xs t))) (here_is.sync_is ∙ ends) n.1)) t (here_is.item_is inn)
 
-    by_place : (w : Option Part) → part_at x k j ≡ w → by_first program plan budget logs Rec Rs p k j o ≡ by_part program plan budget h p k j first y (slice_get i0.parts j)
+    by_place : (w : Option Part) → part_at x k j ≡ w → by_first (setting_of program plan budget) logs Rec Rs p k j o ≡ by_part (setting_of program plan budget) h p k j first y (slice_get i0.parts j)
     by_place None e =
-        ap (λ (q : Seen). by_item program plan budget logs Rec Rs p k j o xs (slice_get (get_or q.items k []) j)) own_is.begun.seen_is
-        ∙ ap (by_item program plan budget logs Rec Rs p k j o xs) (no_item_there x (splits program plan budget (story program plan budget own_is.begun.before)) p k j x_whole e)
+        ap (λ (q : Seen). by_item (setting_of program plan budget) logs Rec Rs p k j o xs (slice_get (get_or q.items k []) j)) own_is.begun.seen_is
+        ∙ ap (by_item (setting_of program plan budget) logs Rec Rs p k j o xs) (no_item_there x (splits (setting_of program plan budget) (story (setting_of program plan budget) own_is.begun.before)) p k j x_whole e)
         ∙ reach_none e o refl (slice_get i0.parts j) refl
     by_place (Some q) e =
-        let t = item_there x (splits program plan budget (story program plan budget own_is.begun.before)) p k j q x_whole e in
+        let t = item_there x (splits (setting_of program plan budget) (story (setting_of program plan budget) own_is.begun.before)) p k j q x_whole e in
         let place : part_at y k j ≡ Some q = kept q e in
         let is : slice_get i0.parts j ≡ Some q = ap (λ w. part_in w j) (sym at_k) ∙ place in
-        ap (λ (z : Seen). by_item program plan budget logs Rec Rs p k j o xs (slice_get (get_or z.items k []) j)) own_is.begun.seen_is
-        ∙ ap (by_item program plan budget logs Rec Rs p k j o xs) t.1
+        ap (λ (z : Seen). by_item (setting_of program plan budget) logs Rec Rs p k j o xs (slice_get (get_or z.items k []) j)) own_is.begun.seen_is
+        ∙ ap (by_item (setting_of program plan budget) logs Rec Rs p k j o xs) t.1
         ∙ decide q t.0 place (is_here q t.0 e t.2) o refl
-        ∙ ap (by_part program plan budget h p k j first y) (sym is)
+        ∙ ap (by_part (setting_of program plan budget) h p k j first y) (sym is)
 
-    pub by_first_is : by_first program plan budget logs Rec Rs p k j o ≡ by_part program plan budget h p k j first y (slice_get i0.parts j)
+    pub by_first_is : by_first (setting_of program plan budget) logs Rec Rs p k j o ≡ by_part (setting_of program plan budget) h p k j first y (slice_get i0.parts j)
     by_first_is = by_place (part_at x k j) refl
 
   -- ---- all of it
@@ -533,17 +535,17 @@ module _ (program : Program) (policy : Policy) (budget : ℕ) (h : List ℕ) (p 
   begun_far : begun ≤ far
   begun_far = let a = begun_le in let b = left_le k in omega (arith, a, b)
 
-  by_find : from_first program plan budget logs Rec Rs p k j first ≡ by_part program plan budget h p k j first y (slice_get i0.parts j)
+  by_find : from_first (setting_of program plan budget) logs Rec Rs p k j first ≡ by_part (setting_of program plan budget) h p k j first y (slice_get i0.parts j)
   by_find = elim (first_between Has begun far) [
     | inl none ↦
-        ap (from_first program plan budget logs Rec Rs p k j) none.0
+        ap (from_first (setting_of program plan budget) logs Rec Rs p k j) none.0
         ∙ by_first_is None (λ u e. absurd (none-some u e)) (λ e le is. below_clear e (far + 1) (let b = begun_far in omega (arith, b)) none.1 (omega (arith, le)) le)
         (λ u e. absurd (none-some u e)) (λ u e. absurd (none-some u e)) (λ e. none.1)
-    | inr found ↦ ap (from_first program plan budget logs Rec Rs p k j) found.1 ∙ by found.0 found.2 (nat_le found.0 begun) refl
+    | inr found ↦ ap (from_first (setting_of program plan budget) logs Rec Rs p k j) found.1 ∙ by found.0 found.2 (nat_le found.0 begun) refl
   ]
     where
       by : (u : ℕ) → IsFirst Has begun (far + 1) u → (b : Bool) → nat_le u begun ≡ b
-          → (if b then unclean (edge p u) else by_first program plan budget logs Rec Rs p k j (Some u)) ≡ by_part program plan budget h p k j first y (slice_get i0.parts j)
+          → (if b then unclean (edge p u) else by_first (setting_of program plan budget) logs Rec Rs p k j (Some u)) ≡ by_part (setting_of program plan budget) h p k j first y (slice_get i0.parts j)
       by u f true is = sym (begins_raced u f (leb-true u begun is) (slice_get i0.parts j) refl)
       by u f false is =
           let lt : begun < u = leb-false u begun is in
@@ -551,7 +553,7 @@ module _ (program : Program) (policy : Policy) (budget : ℕ) (h : List ℕ) (p 
           by_first_is (Some u) (λ w e. subst (λ z. z ≤ far) (some e) (omega (arith, up))) (λ e le under. below_clear e u lt f.none under le)
           (λ w e. subst (λ z. 0 < z) (some e) (omega (arith, lt))) (λ w e. subst (λ z. IsFirst Has begun (far + 1) z) (some e) f) (λ e. absurd (none-some u (sym e)))
 
-  pub answered_here : clean_by program plan budget logs Rs p k j ≡ answer_of program plan budget h p k j
+  pub answered_here : clean_by (setting_of program plan budget) logs Rs p k j ≡ answer_of (setting_of program plan budget) h p k j
   answered_here =
-      ap (λ rec. from_first program plan budget logs rec Rs p k j (first_raced program rec Rs (get_or logs.lists p []) p k)) (record_syncs program plan budget h).closed
+      ap (λ rec. from_first (setting_of program plan budget) logs rec Rs p k j (first_raced program rec Rs (get_or logs.lists p []) p k)) (record_syncs (setting_of program plan budget) h).closed
       ∙ by_find ∙ sym answer_is

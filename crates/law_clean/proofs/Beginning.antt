@@ -1,4 +1,5 @@
 -- A process that begins with something spent: its states, its log, its intervals and where they begin.
+use Rattle.ppd_model.specs.Setting.{setting_of}
 use Rattle.std.proofs.Common.{◌≡◌, ℕ, zero, suc, ◌+◌, ◌<◌, ◌≤◌, true, List, [], ◌∷◌, Option, Some, None, refl, ap, sym, subst, ◌∙◌, arith, length, get_or, append-nil, map, true≢false}
 use Rattle.std.specs.Prelude.{fold, is_some, slice_get}
 use Rattle.std.proofs.lemmas.Bool.{le-leb}
@@ -144,7 +145,7 @@ module _ (program : Program) (policy : Policy) (v : IsValid program) (budget p d
     -- ---- the log
 
     abbrev pub begun : Logging
-    begun = raised_log d (begun_log program plan budget p)
+    begun = raised_log d (begun_log (setting_of program plan budget) p)
 
     abbrev begun_index : Indexing
     begun_index = fold index_step begun_indexing begun.entries

@@ -1,5 +1,7 @@
 -- The logs of a clean item's past, cut after the last wanted edge of each process: each interval is replayed to what it
 -- has by then.
+use Rattle.law_steps.specs.Policies.{setting_by}
+use Rattle.ppd_model.specs.Setting.{setting_of}
 use Rattle.law_clean.proofs.CutEdges.{cut_log, g, replays_of_cut}
 use Rattle.law_clean.proofs.EdgeEnds.{EndsEdge}
 use Rattle.law_clean.proofs.PastClear.{clear_before, clear_own}
@@ -24,27 +26,27 @@ use Rattle.std.proofs.Common.{[], List, Some, arith, inl, inr, length, refl, sub
 use Rattle.std.proofs.lemmas.Bool.{cases_lt}
 use Rattle.std.specs.Prelude.{filter_map, get_or, slice_get}
 
-module _ (program : Program) (policy : Policy) (budget : ℕ) (h : List ℕ) (p : ℕ) (l : Lies) (v : IsValid program) (whole : IsWhole program (plan_of program policy) budget h)
-    (there : p < length (story program (plan_of program policy) budget h).steps)
-    (within : l.edge ≤ length (filter_map sync_of (get_or (story program (plan_of program policy) budget h).steps p [])))
-    (clean : is_clean program (story program (plan_of program policy) budget h) p l ≡ true) where
+module _ (program : Program) (policy : Policy) (budget : ℕ) (h : List ℕ) (p : ℕ) (l : Lies) (v : IsValid program) (whole : IsWhole (setting_by program policy budget) h)
+    (there : p < length (story (setting_by program policy budget) h).steps)
+    (within : l.edge ≤ length (filter_map sync_of (get_or (story (setting_by program policy budget) h).steps p [])))
+    (clean : is_clean program (story (setting_by program policy budget) h) p l ≡ true) where
   abbrev plan : Plan
   plan = plan_of program policy
 
   abbrev s : Story
-  s = story program plan budget h
+  s = story (setting_of program plan budget) h
 
   abbrev IsWanted : ℕ → ℕ → Type 0
   IsWanted q i = ((q ≡ p) × (i ≡ l.edge)) ⊎ EdgeBefore program (record_of s) (edge q i) (edge p l.edge)
 
   -- no race has a wanted edge, or an edge of the same process before one
-  pub clear_to : (q i : ℕ) → IsWanted q i → (e : ℕ) → e ≤ i → IsUnracedIn program plan budget h q e
+  pub clear_to : (q i : ℕ) → IsWanted q i → (e : ℕ) → e ≤ i → IsUnracedIn (setting_of program plan budget) h q e
   clear_to q i (inl same) e le = elim (cases_lt e l.edge) [
-    | inl lt ↦ subst (λ z. IsUnracedIn program plan budget h z e) (sym same.0) (clear_before program s p l clean p e (earlier refl lt))
+    | inl lt ↦ subst (λ z. IsUnracedIn (setting_of program plan budget) h z e) (sym same.0) (clear_before program s p l clean p e (earlier refl lt))
     | inr ge ↦
         let i_is : i ≡ l.edge = same.1 in
         let is : l.edge ≡ e = omega (arith, ge, le, i_is) in
-        subst (λ z. IsUnracedIn program plan budget h z e) (sym same.0) (subst (λ z. IsUnracedIn program plan budget h p z) is (clear_own program s p l clean))
+        subst (λ z. IsUnracedIn (setting_of program plan budget) h z e) (sym same.0) (subst (λ z. IsUnracedIn (setting_of program plan budget) h p z) is (clear_own program s p l clean))
   ]
   clear_to q i (inr (earlier same lt)) e le =
       let less : i < l.edge = lt in
@@ -55,7 +57,7 @@ module _ (program : Program) (policy : Policy) (budget : ℕ) (h : List ℕ) (p 
       (across apart j is (before_back program (record_of s) (i - e) q e (node p j) (subst (λ z. Before program (record_of s) (node q z) (node p j)) (sym sum) b)))
 
   -- the log of process q, cut after the synchronization that ends a wanted edge
-  pub clean_cut : (q i : ℕ) (wanted : IsWanted q i) (ends : EndsEdge program plan budget h q i) (x : Split)
-      → slice_get (splits program plan budget (story program plan budget (g program policy budget h q i v whole ends (clear_to q i wanted)))) q ≡ Some x
-      → (k : ℕ) → replay_of program plan budget (interval_log plan (cut_log program policy budget h q i v whole ends (clear_to q i wanted)) k) ≡ modelled_of x (slice_get x.spans k)
+  pub clean_cut : (q i : ℕ) (wanted : IsWanted q i) (ends : EndsEdge (setting_of program plan budget) h q i) (x : Split)
+      → slice_get (splits (setting_of program plan budget) (story (setting_of program plan budget) (g program policy budget h q i v whole ends (clear_to q i wanted)))) q ≡ Some x
+      → (k : ℕ) → replay_of (setting_of program plan budget) (interval_log plan (cut_log program policy budget h q i v whole ends (clear_to q i wanted)) k) ≡ modelled_of x (slice_get x.spans k)
   clean_cut q i wanted ends x at k = replays_of_cut program policy budget h q i v whole ends (clear_to q i wanted) x at k

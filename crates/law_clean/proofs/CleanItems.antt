@@ -1,4 +1,6 @@
 -- The edges of a clean item by replays of logs that are cut where no race was.
+use Rattle.law_steps.specs.Policies.{setting_by}
+use Rattle.ppd_model.specs.Setting.{setting_of}
 use Rattle.law_clean.proofs.CutEvents.{event_edges_same}
 use Rattle.law_clean.proofs.CutShared.{HasEnded, HasPlace, IsBegun, event_there, here_in}
 use Rattle.law_clean.proofs.EdgeEnds.{EndsEdge, edge_ends, edge_own}
@@ -72,37 +74,37 @@ abbrev pub IsIn : ℕ → Option ℕ → ℕ → Type 0
 IsIn far None e = e ≤ far
 IsIn far (Some u) e = e < u
 
-module _ (program : Program) (policy : Policy) (budget : ℕ) (h : List ℕ) (p k j : ℕ) (y : Split) (v : IsValid program) (whole : IsWhole program (plan_of program policy) budget h)
-    (at : slice_get (splits program (plan_of program policy) budget (story program (plan_of program policy) budget h)) p ≡ Some y)
-    (there : p < length (story program (plan_of program policy) budget h).steps)
-    (o : Option ℕ) (inside : (u : ℕ) → o ≡ Some u → u ≤ edge_in program (plan_of program policy) budget h p)
-    (clear : (e : ℕ) → e ≤ edge_in program (plan_of program policy) budget h p → IsIn (edge_in program (plan_of program policy) budget h p) o e
-    → any_raced (is_past program (sync_record program (plan_of program policy) budget h) (edge p e)) (races program (plan_of program policy) budget h) ≡ false) where
+module _ (program : Program) (policy : Policy) (budget : ℕ) (h : List ℕ) (p k j : ℕ) (y : Split) (v : IsValid program) (whole : IsWhole (setting_by program policy budget) h)
+    (at : slice_get (splits (setting_by program policy budget) (story (setting_by program policy budget) h)) p ≡ Some y)
+    (there : p < length (story (setting_by program policy budget) h).steps)
+    (o : Option ℕ) (inside : (u : ℕ) → o ≡ Some u → u ≤ edge_in (setting_by program policy budget) h p)
+    (clear : (e : ℕ) → e ≤ edge_in (setting_by program policy budget) h p → IsIn (edge_in (setting_by program policy budget) h p) o e
+    → any_raced (is_past program (sync_record (setting_by program policy budget) h) (edge p e)) (races (setting_by program policy budget) h) ≡ false) where
   abbrev plan : Plan
   plan = plan_of program policy
 
   abbrev s : Story
-  s = story program plan budget h
+  s = story (setting_of program plan budget) h
 
   abbrev Rec : List (List Sync)
-  Rec = sync_record program plan budget h
+  Rec = sync_record (setting_of program plan budget) h
 
   abbrev Rs : List Race
-  Rs = races program plan budget h
+  Rs = races (setting_of program plan budget) h
 
   abbrev logs : Logs
-  logs = closed_logs program plan budget h
+  logs = closed_logs (setting_of program plan budget) h
 
   abbrev far : ℕ
-  far = edge_in program plan budget h p
+  far = edge_in (setting_of program plan budget) h p
 
   abbrev xs : List Seen
-  xs = seens program plan budget logs Rec Rs p k j o
+  xs = seens (setting_of program plan budget) logs Rec Rs p k j o
 
   abbrev last : ℕ → Option ℕ
   last q = last_wanted program Rec Rs p o q
 
-  far_is : edge_in program plan budget h p ≡ length (filter_map sync_of (get_or s.steps p []))
+  far_is : edge_in (setting_of program plan budget) h p ≡ length (filter_map sync_of (get_or s.steps p []))
   far_is = ap length (record_at s.steps p)
 
   abbrev Begun : ℕ → Type 0
@@ -111,7 +113,7 @@ module _ (program : Program) (policy : Policy) (budget : ℕ) (h : List ℕ) (p 
   abbrev Ended : ℕ → ℕ → Type 0
   Ended q i = HasEnded program policy budget h whole.last v whole.runs xs q i
 
-  unraced : (e : ℕ) → e ≤ far → IsIn far o e → IsUnracedIn program plan budget h p e
+  unraced : (e : ℕ) → e ≤ far → IsIn far o e → IsUnracedIn (setting_of program plan budget) h p e
   unraced e le is = false_from_ne_true (is_raced Rs (edge p e)) (λ raced.
       true≢false (sym (race_of_edge (is_past program Rec (edge p e)) Rs (edge p e) raced self) ∙ clear e le is))
     where
@@ -123,20 +125,20 @@ module _ (program : Program) (policy : Policy) (budget : ℕ) (h : List ℕ) (p 
   own_last_is : last p ≡ own_last program Rec Rs p o
   own_last_is = ap (λ b. if b then own_last program Rec Rs p o else other_last program Rec Rs p (unwrap_or o (length (get_or Rec p []))) p) (eq-eqb p p refl)
 
-  own_seen : (z : Option ℕ) → own_last program Rec Rs p o ≡ z → seen_at xs p ≡ seen_by program plan budget (cut z (closed_log (log_of program plan budget p (get_or (told program plan budget h).moments p []))))
+  own_seen : (z : Option ℕ) → own_last program Rec Rs p o ≡ z → seen_at xs p ≡ seen_by (setting_of program plan budget) (cut z (closed_log (log_of (setting_of program plan budget) p (get_or (told (setting_of program plan budget) h).moments p []))))
   own_seen z e =
       seen_there program policy budget h v whole last p y at
-      ∙ ap (λ n. seen_by program plan budget (cut n (closed_log (log_of program plan budget p (get_or (told program plan budget h).moments p []))))) (own_last_is ∙ e)
+      ∙ ap (λ n. seen_by (setting_of program plan budget) (cut n (closed_log (log_of (setting_of program plan budget) p (get_or (told (setting_of program plan budget) h).moments p []))))) (own_last_is ∙ e)
 
   pub record IsOwn : Type 0 where
     pub begun : Begun p
-    pub kind : ((o ≡ None) × (begun.split ≡ y) × (begun.before ≡ h)) ⊎ ((u : ℕ) × (o ≡ Some u) × (u ≤ edge_in program plan budget begun.before p))
+    pub kind : ((o ≡ None) × (begun.split ≡ y) × (begun.before ≡ h)) ⊎ ((u : ℕ) × (o ≡ Some u) × (u ≤ edge_in (setting_of program plan budget) begun.before p))
 
-  whole_is : o ≡ None → seen_at xs p ≡ seen_by program plan budget (closed_log (log_of program plan budget p (get_or (told program plan budget h).moments p [])))
+  whole_is : o ≡ None → seen_at xs p ≡ seen_by (setting_of program plan budget) (closed_log (log_of (setting_of program plan budget) p (get_or (told (setting_of program plan budget) h).moments p [])))
   whole_is e =
       own_seen (Some (length (get_or Rec p []))) (ap (own_last program Rec Rs p) e)
-      ∙ ap (seen_by program plan budget) (stays_whole (length (get_or Rec p [])) (closed_log (log_of program plan budget p (get_or (told program plan budget h).moments p [])))
-      (let a = closed_syncs (log_of program plan budget p (get_or (told program plan budget h).moments p [])) in let b = syncs_in_log program plan budget h p in omega (arith, a, b)))
+      ∙ ap (seen_by (setting_of program plan budget)) (stays_whole (length (get_or Rec p [])) (closed_log (log_of (setting_of program plan budget) p (get_or (told (setting_of program plan budget) h).moments p [])))
+      (let a = closed_syncs (log_of (setting_of program plan budget) p (get_or (told (setting_of program plan budget) h).moments p [])) in let b = syncs_in_log (setting_of program plan budget) h p in omega (arith, a, b)))
 
   pub own_state : (z : Option ℕ) → o ≡ z → ((u : ℕ) → z ≡ Some u → 0 < u) → IsOwn
   own_state None e pos =
@@ -168,10 +170,10 @@ module _ (program : Program) (policy : Policy) (budget : ℕ) (h : List ℕ) (p 
       let c = both (is_edge_before program Rec (edge q r.0) (edge p top)) (not (is_raced_to program Rec Rs q r.0)) r.4 in
       let unlike : nat_eq q p ≡ false = false_from_ne_true (nat_eq q p) (λ e. apart (eqb-true q p e)) in
       let is : last q ≡ Some r.0 = ap (λ b. if b then own_last program Rec Rs p o else other_last program Rec Rs p top q) unlike ∙ r.1 in
-      let under : r.0 < edge_in program plan budget h q = there_is q r.0 top apart ((tests_edges program Rec (edge q r.0) (edge p top)).0 c.0) in
-      let z = has_split program plan budget h q r.0 under in
+      let under : r.0 < edge_in (setting_of program plan budget) h q = there_is q r.0 top apart ((tests_edges program Rec (edge q r.0) (edge p top)).0 c.0) in
+      let z = has_split (setting_of program plan budget) h q r.0 under in
       let e = cut_begun program policy budget h v whole xs q r.0 under (not_raced program Rec Rs q r.0 (unnot (is_raced_to program Rec Rs q r.0) c.1))
-      (seen_there program policy budget h v whole last q z.0 z.1 ∙ ap (λ n. seen_by program plan budget (cut n (closed_log (log_of program plan budget q (get_or (told program plan budget h).moments q []))))) is) in
+      (seen_there program policy budget h v whole last q z.0 z.1 ∙ ap (λ n. seen_by (setting_of program plan budget) (cut n (closed_log (log_of (setting_of program plan budget) q (get_or (told (setting_of program plan budget) h).moments q []))))) is) in
       let ended = e.ended in
       let most = r.2 in
       record { begun = e.begun; ended = omega (arith, ended, most) }
@@ -223,14 +225,14 @@ module _ (program : Program) (policy : Policy) (budget : ℕ) (h : List ℕ) (p 
   in_next None e is lt = omega (arith, lt)
   in_next (Some u) e is lt = omega (arith, is)
 
-  total : length (filter_map sync_in (get_or logs.lists p [])) ≡ edge_in program plan budget h p
-  total = total_syncs program plan budget h p y at
+  total : length (filter_map sync_in (get_or logs.lists p [])) ≡ edge_in (setting_of program plan budget) h p
+  total = total_syncs (setting_of program plan budget) h p y at
 
   module _ (own_is : IsOwn) where
     -- an edge of the process itself had ended
-    own_ended : (i : ℕ) → IsIn far o i → i < far → i < edge_in program plan budget own_is.begun.before p
+    own_ended : (i : ℕ) → IsIn far o i → i < far → i < edge_in (setting_of program plan budget) own_is.begun.before p
     own_ended i is lt = elim own_is.kind [
-      | inl none ↦ subst (λ l. i < edge_in program plan budget l p) (sym none.2) lt
+      | inl none ↦ subst (λ l. i < edge_in (setting_of program plan budget) l p) (sym none.2) lt
       | inr some' ↦ (let under : i < some'.0 = subst (λ z. IsIn far z i) some'.1 is in let up = some'.2 in omega (arith, under, up))
     ]
 
@@ -260,10 +262,10 @@ module _ (program : Program) (policy : Policy) (budget : ℕ) (h : List ℕ) (p 
         | inl same ↦
             let g : List ℕ = own_is.begun.before in
             let is : h ≡ g ++ own_is.begun.rest = own_is.begun.schedule_is in
-            let closed : i < edge_in program plan budget g q =
-            records_closed program plan budget g own_is.begun.rest whole.last (subst (λ l. run program plan budget l ≡ Some whole.last) is whole.runs) (node q i) (node p e)
-            (subst (λ l. Before program (sync_record program plan budget l) (node q i) (node p e)) is b) (own_ended e is_in lt) in
-            subst (λ z. Ended z i) (sym same) (record { begun = own_is.begun; ended = subst (λ z. i < edge_in program plan budget g z) same closed })
+            let closed : i < edge_in (setting_of program plan budget) g q =
+            records_closed (setting_of program plan budget) g own_is.begun.rest whole.last (subst (λ l. run (setting_of program plan budget) l ≡ Some whole.last) is whole.runs) (node q i) (node p e)
+            (subst (λ l. Before program (sync_record (setting_of program plan budget) l) (node q i) (node p e)) is b) (own_ended e is_in lt) in
+            subst (λ z. Ended z i) (sym same) (record { begun = own_is.begun; ended = subst (λ z. i < edge_in (setting_of program plan budget) g z) same closed })
         | inr apart ↦ others q i apart
             (and_from (is_edge_before program Rec (edge q i) (edge p top)) (not (is_raced_to program Rec Rs q i))
             ((tests_edges program Rec (edge q i) (edge p top)).1 (climb_to q i (e + 1) top (across apart e refl b) (in_next o e is_in lt) (top_far o refl)))
@@ -272,11 +274,11 @@ module _ (program : Program) (policy : Policy) (budget : ℕ) (h : List ℕ) (p 
 
     -- ---- an event
 
-    pub at' : slice_get (splits program plan budget (story program plan budget (own_is.begun.before ++ own_is.begun.rest))) p ≡ Some y
-    at' = subst (λ l. slice_get (splits program plan budget (story program plan budget l)) p ≡ Some y) own_is.begun.schedule_is at
+    pub at' : slice_get (splits (setting_of program plan budget) (story (setting_of program plan budget) (own_is.begun.before ++ own_is.begun.rest))) p ≡ Some y
+    at' = subst (λ l. slice_get (splits (setting_of program plan budget) (story (setting_of program plan budget) l)) p ≡ Some y) own_is.begun.schedule_is at
 
-    entries_same : get_or (closed_logs program plan budget (own_is.begun.before ++ own_is.begun.rest)).lists p [] ≡ get_or logs.lists p []
-    entries_same = ap (λ l. get_or (closed_logs program plan budget l).lists p []) (sym own_is.begun.schedule_is)
+    entries_same : get_or (closed_logs (setting_of program plan budget) (own_is.begun.before ++ own_is.begun.rest)).lists p [] ≡ get_or logs.lists p []
+    entries_same = ap (λ l. get_or (closed_logs (setting_of program plan budget) l).lists p []) (sym own_is.begun.schedule_is)
 
     pub event_in : (n : ℕ) → part_at y k j ≡ Some (own n) → n < length y.trace.events → IsIn far o (edge_of_event y n) → HasPlace program policy budget h whole.last v whole.runs xs p k j
     event_in n place lt is = elim own_is.kind [
@@ -312,8 +314,8 @@ module _ (program : Program) (policy : Policy) (budget : ℕ) (h : List ℕ) (p 
           (event_there program policy budget own_is.begun.before own_is.begun.rest p v own_is.begun.split y own_is.begun.there at' (edge_of_event y n) n (omega (arith, under, up)) lt (omega (arith, num)))
     ]
 
-    fy : Facts program plan budget h v p y
-    fy = facts program plan budget h v p y at
+    fy : Facts (setting_of program plan budget) h v p y
+    fy = facts (setting_of program plan budget) h v p y at
 
     module _ (n : ℕ) (place : part_at y k j ≡ Some (own n)) (lt : n < length y.trace.events) (is : IsIn far o (edge_of_event y n)) (le : edge_of_event y n ≤ far) where
       here : HasPlace program policy budget h whole.last v whole.runs xs p k j
@@ -327,8 +329,8 @@ module _ (program : Program) (policy : Policy) (budget : ℕ) (h : List ℕ) (p 
       same_number : (e : TracedEvent) → slice_get (event_in n place lt is).begun.split.trace.events (event_in n place lt is).number ≡ Some e → (f : TracedEvent) × (slice_get y.trace.events n ≡ Some f) × (f.event.number ≡ e.event.number)
       same_number e at_e =
           let p' = event_in n place lt is in
-          let at'' : slice_get (splits program plan budget (story program plan budget (p'.begun.before ++ p'.begun.rest))) p ≡ Some y =
-          subst (λ l. slice_get (splits program plan budget (story program plan budget l)) p ≡ Some y) p'.begun.schedule_is at in
+          let at'' : slice_get (splits (setting_of program plan budget) (story (setting_of program plan budget) (p'.begun.before ++ p'.begun.rest))) p ≡ Some y =
+          subst (λ l. slice_get (splits (setting_of program plan budget) (story (setting_of program plan budget) l)) p ≡ Some y) p'.begun.schedule_is at in
           let f = event_kept program policy budget p'.begun.before p'.begun.rest p v p'.begun.split y p'.begun.there at'' p'.number e at_e in
           let there' : part_at y k j ≡ Some (own p'.number) = part_kept program policy budget p'.begun.before p'.begun.rest p v p'.begun.split y p'.begun.there at'' k j (own p'.number) p'.placed in
           let num : p'.number ≡ n = ap number_of (some (sym there' ∙ place)) in
@@ -339,7 +341,7 @@ module _ (program : Program) (policy : Policy) (budget : ℕ) (h : List ℕ) (p 
           number_of (nested m) = m
 
       pub event_found : ((f : TracedEvent) → slice_get y.trace.events n ≡ Some f → is_some f.event.number ≡ true → (edge_of_event y n < far) × (leads_from_race program Rec Rs (edge p (edge_of_event y n)) ≡ false))
-          → (found_edges program plan logs xs p k j).found ≡ (found_edges program plan logs (all_seen program plan budget h) p k j).found
+          → (found_edges program plan logs xs p k j).found ≡ (found_edges program plan logs (all_seen (setting_of program plan budget) h) p k j).found
       event_found ends =
           event_edges_same program policy budget h whole.last v whole.runs xs p k j y at (event_in n place lt is)
           (λ q i b. keeps (edge_of_event y n) is le q i (subst (λ z. EdgeBefore program Rec (edge q i) (edge p z)) here_is b))
@@ -350,19 +352,19 @@ module _ (program : Program) (policy : Policy) (budget : ℕ) (h : List ℕ) (p 
 
     -- ---- an interval inside
 
-    pub left_own : (m : ℕ) (i : Span) → slice_get y.spans m ≡ Some i → (u : ℕ) → o ≡ Some u → u ≤ edge_in program plan budget own_is.begun.before p → IsIn far o (left_edge (get_or logs.lists p []) m)
+    pub left_own : (m : ℕ) (i : Span) → slice_get y.spans m ≡ Some i → (u : ℕ) → o ≡ Some u → u ≤ edge_in (setting_of program plan budget) own_is.begun.before p → IsIn far o (left_edge (get_or logs.lists p []) m)
         → (x : Span) × (slice_get own_is.begun.split.spans m ≡ Some x) × (is_some x.closed ≡ true)
     left_own m i at_m u e up is =
         let under : left_edge (get_or logs.lists p []) m < u = subst (λ z. IsIn far z (left_edge (get_or logs.lists p []) m)) e is in
-        let few : edge_in program plan budget own_is.begun.before p ≤ length (filter_map sync_in (get_or (closed_logs program plan budget (own_is.begun.before ++ own_is.begun.rest)).lists p [])) =
+        let few : edge_in (setting_of program plan budget) own_is.begun.before p ≤ length (filter_map sync_in (get_or (closed_logs (setting_of program plan budget) (own_is.begun.before ++ own_is.begun.rest)).lists p [])) =
         (let all : length (filter_map sync_in (get_or logs.lists p [])) ≡ far = total in
-        let grown : edge_in program plan budget own_is.begun.before p ≤ edge_in program plan budget (own_is.begun.before ++ own_is.begun.rest) p =
-        fewer program plan budget own_is.begun.before own_is.begun.rest whole.last (subst (λ l. run program plan budget l ≡ Some whole.last) own_is.begun.schedule_is whole.runs) p in
-        let same : edge_in program plan budget (own_is.begun.before ++ own_is.begun.rest) p ≡ far = ap (λ l. edge_in program plan budget l p) (sym own_is.begun.schedule_is) in
-        let es : length (filter_map sync_in (get_or (closed_logs program plan budget (own_is.begun.before ++ own_is.begun.rest)).lists p [])) ≡ length (filter_map sync_in (get_or logs.lists p [])) = ap (λ zs. length (filter_map sync_in zs)) entries_same in
+        let grown : edge_in (setting_of program plan budget) own_is.begun.before p ≤ edge_in (setting_of program plan budget) (own_is.begun.before ++ own_is.begun.rest) p =
+        fewer (setting_of program plan budget) own_is.begun.before own_is.begun.rest whole.last (subst (λ l. run (setting_of program plan budget) l ≡ Some whole.last) own_is.begun.schedule_is whole.runs) p in
+        let same : edge_in (setting_of program plan budget) (own_is.begun.before ++ own_is.begun.rest) p ≡ far = ap (λ l. edge_in (setting_of program plan budget) l p) (sym own_is.begun.schedule_is) in
+        let es : length (filter_map sync_in (get_or (closed_logs (setting_of program plan budget) (own_is.begun.before ++ own_is.begun.rest)).lists p [])) ≡ length (filter_map sync_in (get_or logs.lists p [])) = ap (λ zs. length (filter_map sync_in zs)) entries_same in
         omega (arith, all, grown, same, es)) in
         left_then program policy budget own_is.begun.before own_is.begun.rest p v own_is.begun.split y own_is.begun.there at' m i at_m few
-        (subst (λ zs. left_edge zs m < edge_in program plan budget own_is.begun.before p) (sym entries_same) (omega (arith, under, up)))
+        (subst (λ zs. left_edge zs m < edge_in (setting_of program plan budget) own_is.begun.before p) (sym entries_same) (omega (arith, under, up)))
 
     pub inside_placed : (m : ℕ) (i : Span) → part_at y k j ≡ Some (nested m) → slice_get y.spans m ≡ Some i → IsIn far o (left_edge (get_or logs.lists p []) m) → part_at own_is.begun.split k j ≡ Some (nested m)
     inside_placed m i place at_m is = elim own_is.kind [
@@ -372,15 +374,15 @@ module _ (program : Program) (policy : Policy) (budget : ℕ) (h : List ℕ) (p 
     ]
 
     pub inside_found : (m : ℕ) (i : Span) → part_at y k j ≡ Some (nested m) → slice_get y.spans m ≡ Some i → IsIn far o (left_edge (get_or logs.lists p []) m)
-        → (found_edges program plan logs xs p k j).found ≡ (found_edges program plan logs (all_seen program plan budget h) p k j).found
+        → (found_edges program plan logs xs p k j).found ≡ (found_edges program plan logs (all_seen (setting_of program plan budget) h) p k j).found
     inside_found m i place at_m is = elim own_is.kind [
       | inl none ↦
-          let whole' : HasWholeItems (splits program plan budget s) y p = items_whole program plan budget h p y v at in
-          let item_is : slice_get (get_or (seen_of y).items k []) j ≡ Some (item.Nested m i.block i.values (is_some i.closed)) = nested_at y (splits program plan budget s) p k j m i whole' place at_m in
+          let whole' : HasWholeItems (splits (setting_of program plan budget) s) y p = items_whole (setting_of program plan budget) h p y v at in
+          let item_is : slice_get (get_or (seen_of y).items k []) j ≡ Some (item.Nested m i.block i.values (is_some i.closed)) = nested_at y (splits (setting_of program plan budget) s) p k j m i whole' place at_m in
           let mine : seen_at xs p ≡ seen_of y = own_is.begun.seen_is ∙ ap (λ (z : Split). seen_of z) none.1 in
           ap (λ o. (edges_if program plan logs xs p k j o).found) (ap (λ (q : Seen). slice_get (get_or q.items k []) j) mine ∙ item_is)
           ∙ ap (λ q. Some (Ok (edges_of_nested program plan q p k j m i.block i.values (block_kind plan i.block)).found)) (mine ∙ sym fy.seen_is)
-          ∙ sym (ap (λ o. (edges_if program plan logs (all_seen program plan budget h) p k j o).found) (ap (λ (q : Seen). slice_get (get_or q.items k []) j) fy.seen_is ∙ item_is))
+          ∙ sym (ap (λ o. (edges_if program plan logs (all_seen (setting_of program plan budget) h) p k j o).found) (ap (λ (q : Seen). slice_get (get_or q.items k []) j) fy.seen_is ∙ item_is))
       | inr found ↦ (let l = left_own m i at_m found.0 found.1 found.2 is in
           inside_edges_same program policy budget h whole.last v whole.runs xs p k j y at own_is.begun m l.0
           (nested_back program policy budget own_is.begun.before own_is.begun.rest p v own_is.begun.split y own_is.begun.there at' k j m l.0 l.1 l.2 place) l.1 l.2)

@@ -1,5 +1,7 @@
 -- In a whole schedule with races, the log of a process is cut after the synchronization that ends an edge, and no race
 -- has this edge or one before it: then each interval is replayed to what it has by then.
+use Rattle.law_steps.specs.Policies.{setting_by}
+use Rattle.ppd_model.specs.Setting.{setting_of}
 use Rattle.std.proofs.Common.{◌≡◌, ℕ, suc, ◌+◌, ◌-◌, ◌<◌, ◌≤◌, List, [], ◌∷◌, ◌++◌, Some, None, refl, ap, sym, subst, ◌∙◌, arith, length, inl, inr, length-append}
 use Rattle.std.proofs.lemmas.List.Sums.{fold-append}
 use Rattle.std.specs.Prelude.{fold, is_some, slice_get, get_or}
@@ -39,8 +41,8 @@ use Rattle.law_clean.proofs.Stopped.{after_all}
 nothing_after : (m : List ℕ) (p : ℕ) (more : List ℕ) → [] ≡ m ++ p ∷ more → ⊥
 nothing_after m p more e = let z : 0 ≡ length m + suc (length more) = ap length e ∙ length-append m (p ∷ more) in omega (arith, z)
 
-module _ (program : Program) (policy : Policy) (budget : ℕ) (h : List ℕ) (p i : ℕ) (v : IsValid program) (whole : IsWhole program (plan_of program policy) budget h)
-    (ends : EndsEdge program (plan_of program policy) budget h p i) (clear : (e : ℕ) → e ≤ i → IsUnracedIn program (plan_of program policy) budget h p e) where
+module _ (program : Program) (policy : Policy) (budget : ℕ) (h : List ℕ) (p i : ℕ) (v : IsValid program) (whole : IsWhole (setting_by program policy budget) h)
+    (ends : EndsEdge (setting_by program policy budget) h p i) (clear : (e : ℕ) → e ≤ i → IsUnracedIn (setting_by program policy budget) h p e) where
   abbrev plan : Plan
   plan = plan_of program policy
 
@@ -48,32 +50,32 @@ module _ (program : Program) (policy : Policy) (budget : ℕ) (h : List ℕ) (p 
   g = ends.before ++ p ∷ []
 
   abbrev pub ms : List Moment
-  ms = get_or (told program plan budget ends.before).moments p []
+  ms = get_or (told (setting_of program plan budget) ends.before).moments p []
 
   abbrev pub m : Moment
-  m = moment_of program plan (told program plan budget ends.before) p
+  m = moment_of program plan (told (setting_of program plan budget) ends.before) p
 
   abbrev pub s0 : Proc
   s0 = started program plan p budget
 
   pub there : program.functions + p < length program.bodies
   there =
-      let below : p < length (told program plan budget ends.before).world.procs = ends.there in
-      let many : length (told program plan budget ends.before).world.procs ≡ length program.bodies - program.functions = (objects_stay program plan budget ends.before).processes in
+      let below : p < length (told (setting_of program plan budget) ends.before).world.procs = ends.there in
+      let many : length (told (setting_of program plan budget) ends.before).world.procs ≡ length program.bodies - program.functions = (objects_stay (setting_of program plan budget) ends.before).processes in
       omega (arith, below, many)
 
-  whole' : IsWhole program plan budget (g ++ ends.rest)
-  whole' = subst (IsWhole program plan budget) ends.schedule_is whole
+  whole' : IsWhole (setting_of program plan budget) (g ++ ends.rest)
+  whole' = subst (IsWhole (setting_of program plan budget)) ends.schedule_is whole
 
-  runs_before : (w : World) × (run program plan budget ends.before ≡ Some w)
+  runs_before : (w : World) × (run (setting_of program plan budget) ends.before ≡ Some w)
   runs_before =
-      let a = run_begins program plan (started_world program plan budget) g ends.rest whole'.last whole'.runs in
-      run_begins program plan (started_world program plan budget) ends.before (p ∷ []) a.0 a.1
+      let a = run_begins program plan (started_world (setting_of program plan budget)) g ends.rest whole'.last whole'.runs in
+      run_begins program plan (started_world (setting_of program plan budget)) ends.before (p ∷ []) a.0 a.1
 
   -- ---- the process after g
 
-  pub more : get_or (told program plan budget g).moments p [] ≡ ms ++ m ∷ []
-  more = own_more program plan budget ends.before p ends.there
+  pub more : get_or (told (setting_of program plan budget) g).moments p [] ≡ ms ++ m ∷ []
+  more = own_more (setting_of program plan budget) ends.before p ends.there
 
   same_state : (xs : List Moment) (s : Proc) → after_all program plan s xs ≡ fold (act_on program plan) s (steps_of xs)
   same_state [] s = refl
@@ -83,34 +85,34 @@ module _ (program : Program) (policy : Policy) (budget : ℕ) (h : List ℕ) (p 
   need_is = ap (need_of program plan) (same_state ms s0) ∙ sym (ap (need_at program plan) (process_is program plan budget ends.before p there))
 
   abbrev pub kept : Logging
-  kept = log_of program plan budget p (get_or (told program plan budget g).moments p [])
+  kept = log_of (setting_of program plan budget) p (get_or (told (setting_of program plan budget) g).moments p [])
 
-  pub kept_is : kept ≡ log_step program plan (log_of program plan budget p ms) m
-  kept_is = ap (log_of program plan budget p) more ∙ fold-append (log_step program plan) (begun_log program plan budget p) ms (m ∷ [])
+  pub kept_is : kept ≡ log_step program plan (log_of (setting_of program plan budget) p ms) m
+  kept_is = ap (log_of (setting_of program plan budget) p) more ∙ fold-append (log_step program plan) (begun_log (setting_of program plan budget) p) ms (m ∷ [])
 
-  fresh : IsFresh program plan budget kept
-  fresh = subst (IsFresh program plan budget) (sym kept_is) (synced_fresh program plan budget (log_of program plan budget p ms) m ends.is_sync)
+  fresh : IsFresh (setting_of program plan budget) kept
+  fresh = subst (IsFresh (setting_of program plan budget)) (sym kept_is) (synced_fresh (setting_of program plan budget) (log_of (setting_of program plan budget) p ms) m ends.is_sync)
 
   pub runs_on : kept.proc.status ≡ None
   runs_on =
       ap (λ (l : Logging). l.proc.status) kept_is
-      ∙ ap (λ (s : Proc). (act program plan s m.taken.answer).status) (log_proc program plan budget ms (begun_log program plan budget p))
-      ∙ synced_runs program plan budget (after_all program plan s0 ms) m.taken.answer (ap (λ n. is_some (kind_of_sync n)) need_is ∙ sync_need m.taken ends.is_sync)
+      ∙ ap (λ (s : Proc). (act program plan s m.taken.answer).status) (log_proc (setting_of program plan budget) ms (begun_log (setting_of program plan budget) p))
+      ∙ synced_runs (setting_of program plan budget) (after_all program plan s0 ms) m.taken.answer (ap (λ n. is_some (kind_of_sync n)) need_is ∙ sync_need m.taken ends.is_sync)
 
   -- ---- its reads
 
-  reads_clear : AreUnracedReads program plan budget g (g ++ ends.rest) p
+  reads_clear : AreUnracedReads (setting_of program plan budget) g (g ++ ends.rest) p
   reads_clear b after c at reads =
-      subst (λ l. IsUnracedIn program plan budget l p (edge_in program plan budget b p)) ends.schedule_is
-      (clear (edge_in program plan budget b p)
-      (let is : edge_in program plan budget ends.before p ≡ i = ends.edge_is in
+      subst (λ l. IsUnracedIn (setting_of program plan budget) l p (edge_in (setting_of program plan budget) b p)) ends.schedule_is
+      (clear (edge_in (setting_of program plan budget) b p)
+      (let is : edge_in (setting_of program plan budget) ends.before p ≡ i = ends.edge_is in
       elim (compare ends.before p [] b p after at) [
-        | inl same ↦ (let e : edge_in program plan budget b p ≡ edge_in program plan budget ends.before p = ap (λ l. edge_in program plan budget l p) same.0 in omega (arith, e, is))
+        | inl same ↦ (let e : edge_in (setting_of program plan budget) b p ≡ edge_in (setting_of program plan budget) ends.before p = ap (λ l. edge_in (setting_of program plan budget) l p) same.0 in omega (arith, e, is))
         | inr (inl x) ↦ absurd (nothing_after x.0 p after x.2)
         | inr (inr x) ↦
-            let up : edge_in program plan budget b p ≤ edge_in program plan budget (b ++ p ∷ x.0) p =
-            fewer program plan budget b (p ∷ x.0) runs_before.0 (subst (λ l. run program plan budget l ≡ Some runs_before.0) x.1 runs_before.1) p in
-            let e : edge_in program plan budget ends.before p ≡ edge_in program plan budget (b ++ p ∷ x.0) p = ap (λ l. edge_in program plan budget l p) x.1 in
+            let up : edge_in (setting_of program plan budget) b p ≤ edge_in (setting_of program plan budget) (b ++ p ∷ x.0) p =
+            fewer (setting_of program plan budget) b (p ∷ x.0) runs_before.0 (subst (λ l. run (setting_of program plan budget) l ≡ Some runs_before.0) x.1 runs_before.1) p in
+            let e : edge_in (setting_of program plan budget) ends.before p ≡ edge_in (setting_of program plan budget) (b ++ p ∷ x.0) p = ap (λ l. edge_in (setting_of program plan budget) l p) x.1 in
             omega (arith, up, e, is)
       ]))
 
@@ -118,11 +120,11 @@ module _ (program : Program) (policy : Policy) (budget : ℕ) (h : List ℕ) (p 
   abbrev pub cut_log : List Entry
   cut_log = kept.entries ++ stop ∷ []
 
-  pub replays_of_cut : (x : Split) → slice_get (splits program plan budget (story program plan budget g)) p ≡ Some x
-      → (k : ℕ) → replay_of program plan budget (interval_log plan cut_log k) ≡ modelled_of x (slice_get x.spans k)
+  pub replays_of_cut : (x : Split) → slice_get (splits (setting_of program plan budget) (story (setting_of program plan budget) g)) p ≡ Some x
+      → (k : ℕ) → replay_of (setting_of program plan budget) (interval_log plan cut_log k) ≡ modelled_of x (slice_get x.spans k)
   replays_of_cut x at k =
       let f = fresh in
-      ap (λ e. replay_of program plan budget (interval_log plan (kept.entries ++ e ∷ []) k))
+      ap (λ e. replay_of (setting_of program plan budget) (interval_log plan (kept.entries ++ e ∷ []) k))
       (ap (λ n. entry.End status.Budget n [] []) (sym f.rest)
       ∙ ap (λ rs. entry.End status.Budget kept.rest rs []) (sym f.reads)
       ∙ ap (λ ws. entry.End status.Budget kept.rest kept.reads ws) (sym f.writes))

@@ -1,5 +1,7 @@
 -- The edges of an event of a clean past: the search by the whole logs, over what the processes have after beginnings of
 -- the schedule, finds those that it finds over what they have at the end.
+use Rattle.law_steps.specs.Policies.{setting_by}
+use Rattle.ppd_model.specs.Setting.{setting_of}
 use Rattle.std.proofs.Common.{◌≡◌, ℕ, true, zero, suc, ◌+◌, List, [], ◌∷◌, ◌++◌, length, Option, Some, None, Result, Ok, Err, refl, ap, ap₂, sym, subst, ◌∙◌, arith}
 use Rattle.std.proofs.lemmas.Option.{none-some}
 use Rattle.std.specs.Prelude.{is_some, slice_get, zip, get_or}
@@ -73,29 +75,29 @@ more_both {q = q} {q' = q'} r r' e f = ap (λ (z : Result (List FlowEdge) Missin
     by (Err m) = refl
 
 module _ (program : Program) (policy : Policy) (budget : ℕ) (h : List ℕ) (w : World) (v : IsValid program)
-    (r : run program (plan_of program policy) budget h ≡ Some w) (xs : List Seen) (p k j : ℕ) (y : Split)
-    (at : slice_get (splits program (plan_of program policy) budget (story program (plan_of program policy) budget h)) p ≡ Some y)
+    (r : run (setting_by program policy budget) h ≡ Some w) (xs : List Seen) (p k j : ℕ) (y : Split)
+    (at : slice_get (splits (setting_by program policy budget) (story (setting_by program policy budget) h)) p ≡ Some y)
     (place : HasPlace program policy budget h w v r xs p k j)
-    (keeps : (q i : ℕ) → EdgeBefore program (sync_record program (plan_of program policy) budget h) (edge q i) (edge p (here_in program policy budget h w v r xs p k j y at place)) → HasEnded program policy budget h w v r xs q i)
+    (keeps : (q i : ℕ) → EdgeBefore program (sync_record (setting_by program policy budget) h) (edge q i) (edge p (here_in program policy budget h w v r xs p k j y at place)) → HasEnded program policy budget h w v r xs q i)
     (keeps_ends : (e : TracedEvent) → slice_get place.begun.split.trace.events place.number ≡ Some e → is_some e.event.number ≡ true
-    → (q i : ℕ) → Before program (sync_record program (plan_of program policy) budget h) (node q i) (node p (here_in program policy budget h w v r xs p k j y at place)) → HasEnded program policy budget h w v r xs q i) where
+    → (q i : ℕ) → Before program (sync_record (setting_by program policy budget) h) (node q i) (node p (here_in program policy budget h w v r xs p k j y at place)) → HasEnded program policy budget h w v r xs q i) where
   abbrev plan : Plan
   plan = plan_of program policy
 
   abbrev all : List Seen
-  all = all_seen program plan budget h
+  all = all_seen (setting_of program plan budget) h
 
   abbrev logs : Logs
-  logs = closed_logs program plan budget h
+  logs = closed_logs (setting_of program plan budget) h
 
   abbrev b : IsBegun program policy budget h w v r xs p
   b = place.begun
 
-  fy : Facts program plan budget h v p y
-  fy = facts program plan budget h v p y at
+  fy : Facts (setting_of program plan budget) h v p y
+  fy = facts (setting_of program plan budget) h v p y at
 
-  at' : slice_get (splits program plan budget (story program plan budget (b.before ++ b.rest))) p ≡ Some y
-  at' = subst (λ l. slice_get (splits program plan budget (story program plan budget l)) p ≡ Some y) b.schedule_is at
+  at' : slice_get (splits (setting_of program plan budget) (story (setting_of program plan budget) (b.before ++ b.rest))) p ≡ Some y
+  at' = subst (λ l. slice_get (splits (setting_of program plan budget) (story (setting_of program plan budget) l)) p ≡ Some y) b.schedule_is at
 
   -- one read of the event
   one_read : (e : TracedEvent) → slice_get b.split.trace.events place.number ≡ Some e → (i : ℕ) (a : Access) (t : Tag) → slice_get (zip e.event.reads e.writers) i ≡ Some (a, t) → (s : Spot) → a.spot ≡ s
@@ -122,9 +124,9 @@ module _ (program : Program) (policy : Policy) (budget : ℕ) (h : List ℕ) (w 
 
   event_same : (e : TracedEvent) → slice_get b.split.trace.events place.number ≡ Some e → (event_edges program plan logs xs p k j e.event).found ≡ (event_edges program plan logs all p k j e.event).found
   event_same e is =
-      let fx : Facts program plan budget b.before v p b.split = facts program plan budget b.before v p b.split b.there in
+      let fx : Facts (setting_of program plan budget) b.before v p b.split = facts (setting_of program plan budget) b.before v p b.split b.there in
       let many : length e.event.reads ≡ length e.writers =
-      each_at p 0 b.split.trace.events place.number e (subst (EachNamesEarlier p 0) (sym fx.events_are) (name_earlier program plan budget (story program plan budget b.before) p (did (told program plan budget b.before) p))) is in
+      each_at p 0 b.split.trace.events place.number e (subst (EachNamesEarlier p 0) (sym fx.events_are) (name_earlier (setting_of program plan budget) (story (setting_of program plan budget) b.before) p (did (told (setting_of program plan budget) b.before) p))) is in
       more_both (last_edges program plan logs xs p k j e.event) (last_edges program plan logs all p k j e.event) (all_reads e is e.event.reads e.writers many (λ i a t g. (i, g)))
       (ap₂ (λ es o. es ++ bare_edge Control o ∷ []) (sync_same e is e.event.number refl)
       (ap (λ q. (control_origin program plan q p k j e.event.stmt).found) b.seen_is

@@ -1,5 +1,6 @@
 -- The log of a process in a whole schedule, cut as the definition says, is the log after the synchronization that ends
 -- the edge, and the end of a cut log.
+use Rattle.ppd_model.specs.Setting.{Setting}
 use Rattle.std.specs.Option.{option_map_or}
 use Rattle.std.proofs.Common.{◌≡◌, ℕ, suc, ◌+◌, ℤ, true, false, List, [], ◌∷◌, ◌++◌, length, Option, Some, None, refl, ap, ap₂, sym, ◌∙◌, arith, append_assoc, append-nil, length-append, true≢false, inl, inr, ◌⊎◌, ◌||◌}
 use Rattle.std.proofs.lemmas.Bool.{cond-true}
@@ -199,39 +200,39 @@ module _ (program : Program) (plan : Plan) where
 
 -- ---- the cut of a process's log
 
-module _ (program : Program) (plan : Plan) (budget p : ℕ) (before : List Moment) (m : Moment) (more : List Moment) where
+module _ (setting : Setting) (p : ℕ) (before : List Moment) (m : Moment) (more : List Moment) where
   abbrev front : Logging
-  front = fold (log_step program plan) (begun_log program plan budget p) before
+  front = fold (log_step setting.program setting.plan) (begun_log setting p) before
 
   abbrev kept : Logging
-  kept = log_step program plan front m
+  kept = log_step setting.program setting.plan front m
 
   -- m is synchronization i, none of the steps before it ends the process, and where it starts no unit none comes next
-  pub cut_is : (i : ℕ) → is_some (sync_of m.taken) ≡ true → length (filter_map sync_of (steps_of before)) ≡ i → GoOn program plan before
-      → (unit_started m.taken.need ≡ None → is_unit (slice_get (tail program plan kept more) 0) ≡ false)
-      → cut (Some i) (closed_log (fold (log_step program plan) (begun_log program plan budget p) (before ++ m ∷ more))) ≡ kept.entries ++ stop ∷ []
+  pub cut_is : (i : ℕ) → is_some (sync_of m.taken) ≡ true → length (filter_map sync_of (steps_of before)) ≡ i → GoOn setting.program setting.plan before
+      → (unit_started m.taken.need ≡ None → is_unit (slice_get (tail setting.program setting.plan kept more) 0) ≡ false)
+      → cut (Some i) (closed_log (fold (log_step setting.program setting.plan) (begun_log setting p) (before ++ m ∷ more))) ≡ kept.entries ++ stop ∷ []
   cut_is i sync count go next =
-      ap (cut (Some i)) all ∙ cut_there front.entries s.entry us (tail program plan kept more) i s.is_sync s.ends counted none (shape (unit_started m.taken.need) refl)
+      ap (cut (Some i)) all ∙ cut_there front.entries s.entry us (tail setting.program setting.plan kept more) i s.is_sync s.ends counted none (shape (unit_started m.taken.need) refl)
       ∙ ap (λ es. (front.entries ++ es) ++ stop ∷ []) (sym s.entries_are)
     where
-      s : IsSynced program plan front m
-      s = synced program plan front m sync
+      s : IsSynced setting.program setting.plan front m
+      s = synced setting.program setting.plan front m sync
 
       us : List Entry
       us = units (unit_started m.taken.need) m.unit_values
 
-      all : closed_log (fold (log_step program plan) (begun_log program plan budget p) (before ++ m ∷ more)) ≡ front.entries ++ s.entry ∷ (us ++ tail program plan kept more)
+      all : closed_log (fold (log_step setting.program setting.plan) (begun_log setting p) (before ++ m ∷ more)) ≡ front.entries ++ s.entry ∷ (us ++ tail setting.program setting.plan kept more)
       all =
-          ap closed_log (fold-append (log_step program plan) (begun_log program plan budget p) before (m ∷ more)) ∙ log_tail program plan (m ∷ more) front
-          ∙ ap (λ es. front.entries ++ (es ++ tail program plan kept more)) s.entries_are
+          ap closed_log (fold-append (log_step setting.program setting.plan) (begun_log setting p) before (m ∷ more)) ∙ log_tail setting.program setting.plan (m ∷ more) front
+          ∙ ap (λ es. front.entries ++ (es ++ tail setting.program setting.plan kept more)) s.entries_are
 
       counted : syncs front.entries ≡ i
-      counted = ap length (syncs_are program plan before (begun_log program plan budget p)) ∙ count
+      counted = ap length (syncs_are setting.program setting.plan before (begun_log setting p)) ∙ count
 
       none : list_any is_end front.entries ≡ false
-      none = unended program plan before (begun_log program plan budget p) go refl
+      none = unended setting.program setting.plan before (begun_log setting p) go refl
 
       shape : (o : Option ℕ) → unit_started m.taken.need ≡ o
-          → ((u : ℕ) × (values : List ℤ) × (us ≡ entry.Unit u values ∷ [])) ⊎ ((us ≡ []) × (is_unit (slice_get (tail program plan kept more) 0) ≡ false))
+          → ((u : ℕ) × (values : List ℤ) × (us ≡ entry.Unit u values ∷ [])) ⊎ ((us ≡ []) × (is_unit (slice_get (tail setting.program setting.plan kept more) 0) ≡ false))
       shape None e = inr (ap (λ o. units o m.unit_values) e, next e)
       shape (Some u) e = inl (u, m.unit_values, ap (λ o. units o m.unit_values) e)

@@ -1,4 +1,6 @@
 -- The definition's cut of a process's whole log is its log after the synchronization, and the end of a cut log.
+use Rattle.law_steps.specs.Policies.{setting_by}
+use Rattle.ppd_model.specs.Setting.{setting_of}
 use Rattle.std.proofs.Common.{◌≡◌, ℕ, ◌≤◌, true, false, List, [], ◌∷◌, ◌++◌, length, Option, Some, None, refl, ap, sym, subst, ◌∙◌, append_assoc, true≢false}
 use Rattle.std.specs.Prelude.{is_some, slice_get, get_or}
 use Rattle.ppd_ast.specs.declared.plan.Plan.{Plan}
@@ -51,8 +53,8 @@ module _ (program : Program) (plan : Plan) where
       by None is = is
       by (Some x) is = absurd (true≢false (sym e ∙ ap (λ n. is_some (kind_of_sync n)) (ap (λ o. need_by_status program plan o s) is)))
 
-module _ (program : Program) (policy : Policy) (budget : ℕ) (h : List ℕ) (p i : ℕ) (v : IsValid program) (whole : IsWhole program (plan_of program policy) budget h)
-    (ends : EndsEdge program (plan_of program policy) budget h p i) (clear : (e : ℕ) → e ≤ i → IsUnracedIn program (plan_of program policy) budget h p e) where
+module _ (program : Program) (policy : Policy) (budget : ℕ) (h : List ℕ) (p i : ℕ) (v : IsValid program) (whole : IsWhole (setting_by program policy budget) h)
+    (ends : EndsEdge (setting_by program policy budget) h p i) (clear : (e : ℕ) → e ≤ i → IsUnracedIn (setting_by program policy budget) h p e) where
   abbrev plan : Plan
   plan = plan_of program policy
 
@@ -65,13 +67,13 @@ module _ (program : Program) (policy : Policy) (budget : ℕ) (h : List ℕ) (p 
   abbrev start : Proc
   start = s0 program policy budget h p i v whole ends clear
 
-  pub later : (xs : List Moment) × (get_or (told program plan budget (g program policy budget h p i v whole ends clear ++ ends.rest)).moments p []
-      ≡ get_or (told program plan budget (g program policy budget h p i v whole ends clear)).moments p [] ++ xs)
-  later = moments_grow program plan budget ends.rest (g program policy budget h p i v whole ends clear) p
+  pub later : (xs : List Moment) × (get_or (told (setting_of program plan budget) (g program policy budget h p i v whole ends clear ++ ends.rest)).moments p []
+      ≡ get_or (told (setting_of program plan budget) (g program policy budget h p i v whole ends clear)).moments p [] ++ xs)
+  later = moments_grow (setting_of program plan budget) ends.rest (g program policy budget h p i v whole ends clear) p
 
-  all : get_or (told program plan budget h).moments p [] ≡ before ++ it ∷ later.0
+  all : get_or (told (setting_of program plan budget) h).moments p [] ≡ before ++ it ∷ later.0
   all =
-      ap (λ l. get_or (told program plan budget l).moments p []) ends.schedule_is ∙ later.1
+      ap (λ l. get_or (told (setting_of program plan budget) l).moments p []) ends.schedule_is ∙ later.1
       ∙ ap (λ z. z ++ later.0) (more program policy budget h p i v whole ends clear) ∙ append_assoc before (it ∷ []) later.0
 
   still : (after_all program plan start before).status ≡ None
@@ -80,21 +82,21 @@ module _ (program : Program) (policy : Policy) (budget : ℕ) (h : List ℕ) (p 
       (ap (λ n. is_some (kind_of_sync n)) (need_is program policy budget h p i v whole ends clear) ∙ sync_need it.taken ends.is_sync)
 
   abbrev it_runs : IsRun program plan start (before ++ it ∷ later.0)
-  it_runs = subst (IsRun program plan start) all (schedules_run program plan budget h p v whole (there program policy budget h p i v whole ends clear))
+  it_runs = subst (IsRun program plan start) all (schedules_run (setting_of program plan budget) h p v whole (there program policy budget h p i v whole ends clear))
 
   -- where the synchronization is an offer, no unit comes next
-  next : unit_started it.taken.need ≡ None → is_unit (slice_get (tail program plan (log_step program plan (log_of program plan budget p before) it) later.0) 0) ≡ false
+  next : unit_started it.taken.need ≡ None → is_unit (slice_get (tail program plan (log_step program plan (log_of (setting_of program plan budget) p before) it) later.0) 0) ≡ false
   next none =
       let rest = rest_runs program plan before (it ∷ later.0) start it_runs in
-      let state : (log_of program plan budget p before).proc ≡ after_all program plan start before = log_proc program plan budget before (begun_log program plan budget p) in
-      let after : (log_step program plan (log_of program plan budget p before) it).proc ≡ act program plan (after_all program plan start before) it.taken.answer = ap (λ s. act program plan s it.taken.answer) state in
-      no_unit program plan (after_all program plan start before) it (log_step program plan (log_of program plan budget p before) it) later.0 (sync_need it.taken ends.is_sync) rest.0 after
+      let state : (log_of (setting_of program plan budget) p before).proc ≡ after_all program plan start before = log_proc (setting_of program plan budget) before (begun_log (setting_of program plan budget) p) in
+      let after : (log_step program plan (log_of (setting_of program plan budget) p before) it).proc ≡ act program plan (after_all program plan start before) it.taken.answer = ap (λ s. act program plan s it.taken.answer) state in
+      no_unit program plan (after_all program plan start before) it (log_step program plan (log_of (setting_of program plan budget) p before) it) later.0 (sync_need it.taken ends.is_sync) rest.0 after
       (subst (λ s. IsRun program plan s later.0) (sym after) rest.3) none
 
   -- the cut of the whole log
-  pub cut_of_log : cut (Some i) (closed_log (log_of program plan budget p (get_or (told program plan budget h).moments p []))) ≡ cut_log program policy budget h p i v whole ends clear
+  pub cut_of_log : cut (Some i) (closed_log (log_of (setting_of program plan budget) p (get_or (told (setting_of program plan budget) h).moments p []))) ≡ cut_log program policy budget h p i v whole ends clear
   cut_of_log =
-      ap (λ xs. cut (Some i) (closed_log (log_of program plan budget p xs))) all
-      ∙ cut_is program plan budget p before it later.0 i ends.is_sync (sym (ap length (own_syncs_are program plan budget ends.before p)) ∙ ends.edge_is)
+      ap (λ xs. cut (Some i) (closed_log (log_of (setting_of program plan budget) p xs))) all
+      ∙ cut_is (setting_of program plan budget) p before it later.0 i ends.is_sync (sym (ap length (own_syncs_are (setting_of program plan budget) ends.before p)) ∙ ends.edge_is)
       (goes_on program plan before (it ∷ later.0) start refl it_runs still) next
       ∙ ap (λ (l : Logging). l.entries ++ stop ∷ []) (sym (kept_is program policy budget h p i v whole ends clear))

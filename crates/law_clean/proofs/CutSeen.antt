@@ -1,4 +1,6 @@
 -- What replays of a cut log give of its process: what the process has in its intervals by then.
+use Rattle.law_steps.specs.Policies.{setting_by}
+use Rattle.ppd_model.specs.Setting.{Setting, setting_of}
 use Rattle.std.specs.Result.{result_unwrap_or}
 use Rattle.std.proofs.Common.{◌≡◌, ℕ, zero, suc, ◌+◌, ◌≤◌, List, [], ◌∷◌, ◌++◌, map, get_or, Option, Some, None, refl, ap, ap₂, sym, subst, ◌∙◌, arith}
 use Rattle.std.proofs.lemmas.List.Sums.{fold-append}
@@ -41,12 +43,12 @@ use Rattle.law_clean.proofs.EdgeEnds.{EndsEdge}
 
 -- ---- items
 
-module _ (program : Program) (plan : Plan) (budget : ℕ) (is : List LoggedInterval) (x : Split)
-    (same : (k : ℕ) → replay_of program plan budget (log_in plan (slice_get is k)) ≡ modelled_of x (slice_get x.spans k)) where
+module _ (setting : Setting) (is : List LoggedInterval) (x : Split)
+    (same : (k : ℕ) → replay_of setting (log_in setting.plan (slice_get is k)) ≡ modelled_of x (slice_get x.spans k)) where
   abbrev by_log : LoggedInterval → List Item
-  by_log i = result_unwrap_or (told_by (replay program plan (log_by plan i) budget).answer) []
+  by_log i = result_unwrap_or (told_by (replay setting.program setting.plan (log_by setting.plan i) setting.budget).answer) []
 
-  logged : (o : Option LoggedInterval) → option_map by_log o ≡ option_map (λ (r : Replayed). result_unwrap_or (told_by r.answer) []) (replay_of program plan budget (log_in plan o))
+  logged : (o : Option LoggedInterval) → option_map by_log o ≡ option_map (λ (r : Replayed). result_unwrap_or (told_by r.answer) []) (replay_of setting (log_in setting.plan o))
   logged None = refl
   logged (Some i) = refl
 
@@ -73,21 +75,21 @@ same_parents [] (z ∷ xs) h = absurd h
 same_parents (i ∷ ss) [] h = absurd h
 same_parents (i ∷ ss) (z ∷ xs) h = ap₂ (λ b bs. b ∷ bs) (sym h.0.round) (same_parents ss xs h.1)
 
-pub rounds_same : (program : Program) (plan : Plan) (budget : ℕ) (h : List ℕ) (p : ℕ) (x : Split) → slice_get (splits program plan budget (story program plan budget h)) p ≡ Some x
+pub rounds_same : (setting : Setting) (h : List ℕ) (p : ℕ) (x : Split) → slice_get (splits setting (story setting h)) p ≡ Some x
     → rounds_by (map (λ (i : Span). slice_get i.round 0) x.spans) ≡ map (λ (i : Span). i.round) x.spans
-rounds_same program plan budget h p x e =
-    let s : Story = story program plan budget h in
+rounds_same setting h p x e =
+    let s : Story = story setting h in
     let z : 0 + p ≡ p = omega arith in
-    let is : split_of program plan budget s p (get_or s.steps p []) ≡ x = ap (λ k. split_of program plan budget s k (get_or s.steps p [])) (sym z) ∙ split_found program plan budget s 0 s.steps p x e in
-    subst (λ (y : Split). rounds_by (map (λ (i : Span). slice_get i.round 0) y.spans) ≡ map (λ (i : Span). i.round) y.spans) is (rounds_of_split program plan s p budget (get_or s.steps p []))
+    let is : split_of setting s p (get_or s.steps p []) ≡ x = ap (λ k. split_of setting s k (get_or s.steps p [])) (sym z) ∙ split_found setting s 0 s.steps p x e in
+    subst (λ (y : Split). rounds_by (map (λ (i : Span). slice_get i.round 0) y.spans) ≡ map (λ (i : Span). i.round) y.spans) is (rounds_of_split setting.program setting.plan s p setting.budget (get_or s.steps p []))
 
 -- the log of a process that has intervals
-module _ (program : Program) (plan : Plan) (budget : ℕ) where
-  pub logging_at : (s : Story) (q : ℕ) (ms : List (List Moment)) (p : ℕ) (x : Split) → slice_get (splits_from program plan budget s q (map steps_of_moments ms)) p ≡ Some x
-      → slice_get (logs_from program plan budget q ms) p ≡ Some (log_of program plan budget (q + p) (get_or ms p []))
+module _ (setting : Setting) where
+  pub logging_at : (s : Story) (q : ℕ) (ms : List (List Moment)) (p : ℕ) (x : Split) → slice_get (splits_from setting s q (map steps_of_moments ms)) p ≡ Some x
+      → slice_get (logs_from setting q ms) p ≡ Some (log_of setting (q + p) (get_or ms p []))
   logging_at s q [] p x e = absurd (none-some x e)
-  logging_at s q (m ∷ ms) zero x e = let z : q ≡ q + 0 = omega arith in ap (λ k. Some (log_of program plan budget k m)) z
-  logging_at s q (m ∷ ms) (suc p) x e = let z : (q + 1) + p ≡ q + suc p = omega arith in logging_at s (q + 1) ms p x e ∙ ap (λ k. Some (log_of program plan budget k (get_or ms p []))) z
+  logging_at s q (m ∷ ms) zero x e = let z : q ≡ q + 0 = omega arith in ap (λ k. Some (log_of setting k m)) z
+  logging_at s q (m ∷ ms) (suc p) x e = let z : (q + 1) + p ≡ q + suc p = omega arith in logging_at s (q + 1) ms p x e ∙ ap (λ k. Some (log_of setting k (get_or ms p []))) z
 
 -- the intervals of a log that ends with a stop are those of one that ends blocked
 stopped_extents : (l : Logging) → l.proc.status ≡ None → extents (closed_log l) ≡ extents (l.entries ++ stop ∷ [])
@@ -97,8 +99,8 @@ stopped_extents l runs =
     ∙ ap (λ (e : Extending). e.intervals) (fold-append extend begun_extents l.entries (entry.End status.Blocked l.rest l.reads l.writes ∷ []))
     ∙ sym (extents_are (l.entries ++ stop ∷ []) ∙ ap (λ (e : Extending). e.intervals) (fold-append extend begun_extents l.entries (stop ∷ [])))
 
-module _ (program : Program) (policy : Policy) (budget : ℕ) (h : List ℕ) (p i : ℕ) (v : IsValid program) (whole : IsWhole program (plan_of program policy) budget h)
-    (ends : EndsEdge program (plan_of program policy) budget h p i) (clear : (e : ℕ) → e ≤ i → IsUnracedIn program (plan_of program policy) budget h p e) where
+module _ (program : Program) (policy : Policy) (budget : ℕ) (h : List ℕ) (p i : ℕ) (v : IsValid program) (whole : IsWhole (setting_by program policy budget) h)
+    (ends : EndsEdge (setting_by program policy budget) h p i) (clear : (e : ℕ) → e ≤ i → IsUnracedIn (setting_by program policy budget) h p e) where
   abbrev plan : Plan
   plan = plan_of program policy
 
@@ -111,16 +113,16 @@ module _ (program : Program) (policy : Policy) (budget : ℕ) (h : List ℕ) (p 
   abbrev seen : List (List Item) → List ℕ → List (List ℕ) → Seen
   seen items blocks rounds = record { items = items; blocks = blocks; rounds = rounds }
 
-  pub cut_seen : (x : Split) → slice_get (splits program plan budget (story program plan budget begun)) p ≡ Some x → seen_by program plan budget entries ≡ seen_of x
+  pub cut_seen : (x : Split) → slice_get (splits (setting_of program plan budget) (story (setting_of program plan budget) begun)) p ≡ Some x → seen_by (setting_of program plan budget) entries ≡ seen_of x
   cut_seen x at =
       let l : Logging = kept program policy budget h p i v whole ends clear in
       let z : 0 + p ≡ p = omega arith in
-      let there : slice_get (loggings program plan budget begun) p ≡ Some l =
-      logging_at program plan budget (story program plan budget begun) 0 (told program plan budget begun).moments p x at
-      ∙ ap (λ k. Some (log_of program plan budget k (get_or (told program plan budget begun).moments p []))) z in
+      let there : slice_get (loggings (setting_of program plan budget) begun) p ≡ Some l =
+      logging_at (setting_of program plan budget) (story (setting_of program plan budget) begun) 0 (told (setting_of program plan budget) begun).moments p x at
+      ∙ ap (λ k. Some (log_of (setting_of program plan budget) k (get_or (told (setting_of program plan budget) begun).moments p []))) z in
       let each : AreEach IsSameInterval x.spans (extents entries) =
-      subst (AreEach IsSameInterval x.spans) (stopped_extents l (runs_on program policy budget h p i v whole ends clear)) (intervals_of_logs program plan budget begun p x l at there).closed_are in
+      subst (AreEach IsSameInterval x.spans) (stopped_extents l (runs_on program policy budget h p i v whole ends clear)) (intervals_of_logs (setting_of program plan budget) begun p x l at there).closed_are in
       ap₂ (λ a b. seen a b (rounds_by (map (λ (z : Extent). z.parent) (extents entries))))
-      (items_same program plan budget (indexed entries) x (replays_of_cut program policy budget h p i v whole ends clear x at)) (same_blocks x.spans (extents entries) each)
+      (items_same (setting_of program plan budget) (indexed entries) x (replays_of_cut program policy budget h p i v whole ends clear x at)) (same_blocks x.spans (extents entries) each)
       ∙ ap (seen (map (items_of x) x.spans) (map (λ (i : Span). i.block) x.spans))
-      (ap rounds_by (same_parents x.spans (extents entries) each) ∙ rounds_same program plan budget begun p x at)
+      (ap rounds_by (same_parents x.spans (extents entries) each) ∙ rounds_same (setting_of program plan budget) begun p x at)

@@ -1,6 +1,8 @@
 -- The search for shared writes and pairs by the whole logs, over what processes have in their intervals after
 -- beginnings of the schedule: it finds what it finds over what they have at the end, where each edge before the place,
 -- and each that ends before its synchronization, had ended.
+use Rattle.law_steps.specs.Policies.{setting_by}
+use Rattle.ppd_model.specs.Setting.{setting_of}
 use Rattle.std.proofs.Common.{◌≡◌, ℕ, ◌<◌, ◌≤◌, arith, Bool, true, false, List, [], ◌∷◌, ◌++◌, length, Option, Some, None, Result, refl, ap, ap₂, sym, subst, ◌∙◌, inl, inr, ◌⊎◌, append_assoc, if◌then◌else◌}
 use Rattle.std.proofs.lemmas.Bool.{cases_lt, or_right}
 use Rattle.std.proofs.lemmas.List.Sums.{fold-append}
@@ -87,24 +89,24 @@ greatest_in before es a e = elim (fold_in before es None a e) [ inl nothing ↦ 
 -- ---- one process
 
 module _ (program : Program) (policy : Policy) (budget : ℕ) (g rest : List ℕ) (q : ℕ) (v : IsValid program) (x y : Split)
-    (at_g : slice_get (splits program (plan_of program policy) budget (story program (plan_of program policy) budget g)) q ≡ Some x)
-    (at : slice_get (splits program (plan_of program policy) budget (story program (plan_of program policy) budget (g ++ rest))) q ≡ Some y) where
+    (at_g : slice_get (splits (setting_by program policy budget) (story (setting_by program policy budget) g)) q ≡ Some x)
+    (at : slice_get (splits (setting_by program policy budget) (story (setting_by program policy budget) (g ++ rest))) q ≡ Some y) where
   abbrev plan : Plan
   plan = plan_of program policy
 
-  fx : Facts program plan budget g v q x
-  fx = facts program plan budget g v q x at_g
+  fx : Facts (setting_of program plan budget) g v q x
+  fx = facts (setting_of program plan budget) g v q x at_g
 
-  fy : Facts program plan budget (g ++ rest) v q y
-  fy = facts program plan budget (g ++ rest) v q y at
+  fy : Facts (setting_of program plan budget) (g ++ rest) v q y
+  fy = facts (setting_of program plan budget) (g ++ rest) v q y at
 
   abbrev entries : List Entry
-  entries = get_or (closed_logs program plan budget (g ++ rest)).lists q []
+  entries = get_or (closed_logs (setting_of program plan budget) (g ++ rest)).lists q []
 
-  grown : (more : List Taken) × (did (told program plan budget (g ++ rest)) q ≡ did (told program plan budget g) q ++ more)
+  grown : (more : List Taken) × (did (told (setting_of program plan budget) (g ++ rest)) q ≡ did (told (setting_of program plan budget) g) q ++ more)
   grown =
-      let m = did_more program plan 0 q (told program plan budget g) rest in
-      (m.0, ap (λ (t : Telling). did t q) (fold-append (tell program plan) (begins program plan budget) g rest) ∙ m.1)
+      let m = did_more program plan 0 q (told (setting_of program plan budget) g) rest in
+      (m.0, ap (λ (t : Telling). did t q) (fold-append (tell program plan) (begins (setting_of program plan budget)) g rest) ∙ m.1)
 
   -- the event that ends an edge
   record Ended (i : ℕ) : Type 0 where
@@ -113,24 +115,24 @@ module _ (program : Program) (policy : Policy) (budget : ℕ) (g rest : List ℕ
     pub is_sync : synchronizes (slice_get y.trace.events number) ≡ true
     pub counted : count_to y.trace.events number ≡ i
 
-  ended : (i : ℕ) → i < edge_in program plan budget g q → Ended i
+  ended : (i : ℕ) → i < edge_in (setting_of program plan budget) g q → Ended i
   ended i lt =
-      let s = slice_get_there (filter_map sync_of (did (told program plan budget g) q)) i (subst (λ z. i < z) (edge_is_count program plan budget g q) lt) in
-      let st : IsSyncStep (did (told program plan budget g) q) i s.0 = sync_step (did (told program plan budget g) q) i s.0 s.1 in
+      let s = slice_get_there (filter_map sync_of (did (told (setting_of program plan budget) g) q)) i (subst (λ z. i < z) (edge_is_count (setting_of program plan budget) g q) lt) in
+      let st : IsSyncStep (did (told (setting_of program plan budget) g) q) i s.0 = sync_step (did (told (setting_of program plan budget) g) q) i s.0 s.1 in
       let event = sync_event st.step (ap is_some st.is) in
-      let a : HasEvent program plan budget g v q x fx st.before st.step = ev_at program plan budget g v q x fx st.before st.step st.after st.are event in
-      let whole : did (told program plan budget (g ++ rest)) q ≡ st.before ++ st.step ∷ (st.after ++ grown.0) =
+      let a : HasEvent (setting_of program plan budget) g v q x fx st.before st.step = ev_at (setting_of program plan budget) g v q x fx st.before st.step st.after st.are event in
+      let whole : did (told (setting_of program plan budget) (g ++ rest)) q ≡ st.before ++ st.step ∷ (st.after ++ grown.0) =
       grown.1 ∙ ap (λ l. l ++ grown.0) st.are ∙ append_assoc st.before (st.step ∷ st.after) grown.0 in
-      let b : HasEvent program plan budget (g ++ rest) v q y fy st.before st.step = ev_at program plan budget (g ++ rest) v q y fy st.before st.step (st.after ++ grown.0) whole event in
+      let b : HasEvent (setting_of program plan budget) (g ++ rest) v q y fy st.before st.step = ev_at (setting_of program plan budget) (g ++ rest) v q y fy st.before st.step (st.after ++ grown.0) whole event in
       record {
         number = events_in st.before;
         within = a.within;
         is_sync = b.is_sync ∙ ap is_some st.is;
-        counted = ev_count program plan budget (g ++ rest) v q y fy st.before (st.step ∷ (st.after ++ grown.0)) whole ∙ st.place;
+        counted = ev_count (setting_of program plan budget) (g ++ rest) v q y fy st.before (st.step ∷ (st.after ++ grown.0)) whole ∙ st.place;
       }
 
   -- an event in an edge that had ended was there by then
-  pub event_there : (i n : ℕ) → i < edge_in program plan budget g q → n < length y.trace.events → count_to y.trace.events n ≤ i → n < length x.trace.events
+  pub event_there : (i n : ℕ) → i < edge_in (setting_of program plan budget) g q → n < length y.trace.events → count_to y.trace.events n ≤ i → n < length x.trace.events
   event_there i n lt within le =
       let e : Ended i = ended i lt in
       let inside = e.within in
@@ -144,12 +146,12 @@ module _ (program : Program) (policy : Policy) (budget : ℕ) (g rest : List ℕ
       ]
 
   -- where an edge ends, and the walk from there
-  pub ends_same : (i : ℕ) → i < edge_in program plan budget g q
+  pub ends_same : (i : ℕ) → i < edge_in (setting_of program plan budget) g q
       → (end_item entries (seen_of x) i ≡ end_item entries (seen_of y) i)
       × ((c : ℕ) → (walk (seen_of x) c (end_interval entries i) (end_item entries (seen_of x) i)).found ≡ (walk (seen_of y) c (end_interval entries i) (end_item entries (seen_of y) i)).found)
   ends_same i lt =
       let e : Ended i = ended i lt in
-      let r : RecordsAccesses (story program plan budget (g ++ rest)) q entries = fy.records in
+      let r : RecordsAccesses (story (setting_of program plan budget) (g ++ rest)) q entries = fy.records in
       let ends : EndsAt y entries (count_to y.trace.events e.number) e.number = at_sync y entries fy.told_by r.before r.status r.rest _ _ r.entries_are r.no_end e.number e.is_sync in
       let there : part_at y (end_interval entries i) (end_item entries (seen_of y) i) ≡ Some (own e.number) =
       subst (λ z. part_at y (end_interval entries z) (end_item entries (seen_of y) z) ≡ Some (own e.number)) e.counted ends.there in
@@ -162,15 +164,15 @@ module _ (program : Program) (policy : Policy) (budget : ℕ) (g rest : List ℕ
 -- ---- all of them
 
 module _ (program : Program) (policy : Policy) (budget : ℕ) (h : List ℕ) (w : World) (v : IsValid program)
-    (r : run program (plan_of program policy) budget h ≡ Some w) (xs : List Seen) where
+    (r : run (setting_by program policy budget) h ≡ Some w) (xs : List Seen) where
   abbrev all : List Seen
-  all = all_seen program (plan_of program policy) budget h
+  all = all_seen (setting_by program policy budget) h
 
   abbrev logs : Logs
-  logs = closed_logs program (plan_of program policy) budget h
+  logs = closed_logs (setting_by program policy budget) h
 
   abbrev Rec : List (List Sync)
-  Rec = sync_record program (plan_of program policy) budget h
+  Rec = sync_record (setting_by program policy budget) h
 
   -- what is seen of process q is what it has after a beginning of the schedule
   pub record IsBegun (q : ℕ) : Type 0 where
@@ -178,13 +180,13 @@ module _ (program : Program) (policy : Policy) (budget : ℕ) (h : List ℕ) (w 
     pub rest : List ℕ
     pub schedule_is : h ≡ before ++ rest
     pub split : Split
-    pub there : slice_get (splits program (plan_of program policy) budget (story program (plan_of program policy) budget before)) q ≡ Some split
+    pub there : slice_get (splits (setting_by program policy budget) (story (setting_by program policy budget) before)) q ≡ Some split
     pub seen_is : seen_at xs q ≡ seen_of split
 
   -- in which edge i had ended
   pub record HasEnded (q i : ℕ) : Type 0 where
     pub begun : IsBegun q
-    pub ended : i < edge_in program (plan_of program policy) budget begun.before q
+    pub ended : i < edge_in (setting_by program policy budget) begun.before q
 
   -- in which event n was, at this place
   pub record HasPlace (q k j : ℕ) : Type 0 where
@@ -194,25 +196,25 @@ module _ (program : Program) (policy : Policy) (budget : ℕ) (h : List ℕ) (w 
     pub placed : part_at begun.split k j ≡ Some (own number)
 
   record EndsAlike (l : List ℕ) (q i : ℕ) (s : Seen) : Type 0 where
-    pub item : end_item (get_or (closed_logs program (plan_of program policy) budget l).lists q []) s i
-        ≡ end_item (get_or (closed_logs program (plan_of program policy) budget l).lists q []) (seen_at (all_seen program (plan_of program policy) budget l) q) i
-    pub walks : (c : ℕ) → (walk s c (end_interval (get_or (closed_logs program (plan_of program policy) budget l).lists q []) i) (end_item (get_or (closed_logs program (plan_of program policy) budget l).lists q []) s i)).found
-        ≡ (walk (seen_at (all_seen program (plan_of program policy) budget l) q) c (end_interval (get_or (closed_logs program (plan_of program policy) budget l).lists q []) i) (end_item (get_or (closed_logs program (plan_of program policy) budget l).lists q []) (seen_at (all_seen program (plan_of program policy) budget l) q) i)).found
+    pub item : end_item (get_or (closed_logs (setting_by program policy budget) l).lists q []) s i
+        ≡ end_item (get_or (closed_logs (setting_by program policy budget) l).lists q []) (seen_at (all_seen (setting_by program policy budget) l) q) i
+    pub walks : (c : ℕ) → (walk s c (end_interval (get_or (closed_logs (setting_by program policy budget) l).lists q []) i) (end_item (get_or (closed_logs (setting_by program policy budget) l).lists q []) s i)).found
+        ≡ (walk (seen_at (all_seen (setting_by program policy budget) l) q) c (end_interval (get_or (closed_logs (setting_by program policy budget) l).lists q []) i) (end_item (get_or (closed_logs (setting_by program policy budget) l).lists q []) (seen_at (all_seen (setting_by program policy budget) l) q) i)).found
 
-  ends_alike : (g rest : List ℕ) (q i : ℕ) (x : Split) → slice_get (splits program (plan_of program policy) budget (story program (plan_of program policy) budget g)) q ≡ Some x
-      → i < edge_in program (plan_of program policy) budget g q → EndsAlike (g ++ rest) q i (seen_of x)
+  ends_alike : (g rest : List ℕ) (q i : ℕ) (x : Split) → slice_get (splits (setting_by program policy budget) (story (setting_by program policy budget) g)) q ≡ Some x
+      → i < edge_in (setting_by program policy budget) g q → EndsAlike (g ++ rest) q i (seen_of x)
   ends_alike g rest q i x at_g lt =
-      let s = slice_get_there (filter_map sync_of (did (told program (plan_of program policy) budget g) q)) i (subst (λ z. i < z) (edge_is_count program (plan_of program policy) budget g q) lt) in
-      let st : IsSyncStep (did (told program (plan_of program policy) budget g) q) i s.0 = sync_step (did (told program (plan_of program policy) budget g) q) i s.0 s.1 in
-      let m = did_more program (plan_of program policy) 0 q (told program (plan_of program policy) budget g) rest in
-      let whole : did (told program (plan_of program policy) budget (g ++ rest)) q ≡ st.before ++ st.step ∷ (st.after ++ m.0) =
-      ap (λ (t : Telling). did t q) (fold-append (tell program (plan_of program policy)) (begins program (plan_of program policy) budget) g rest) ∙ m.1
+      let s = slice_get_there (filter_map sync_of (did (told (setting_by program policy budget) g) q)) i (subst (λ z. i < z) (edge_is_count (setting_by program policy budget) g q) lt) in
+      let st : IsSyncStep (did (told (setting_by program policy budget) g) q) i s.0 = sync_step (did (told (setting_by program policy budget) g) q) i s.0 s.1 in
+      let m = did_more program (plan_of program policy) 0 q (told (setting_by program policy budget) g) rest in
+      let whole : did (told (setting_by program policy budget) (g ++ rest)) q ≡ st.before ++ st.step ∷ (st.after ++ m.0) =
+      ap (λ (t : Telling). did t q) (fold-append (tell program (plan_of program policy)) (begins (setting_by program policy budget)) g rest) ∙ m.1
       ∙ ap (λ l. l ++ m.0) st.are ∙ append_assoc st.before (st.step ∷ st.after) m.0 in
-      let below : q < length (told program (plan_of program policy) budget (g ++ rest)).moments = below_moments (told program (plan_of program policy) budget (g ++ rest)).moments q st.before st.step (st.after ++ m.0) whole in
-      let y = split_there program (plan_of program policy) budget (story program (plan_of program policy) budget (g ++ rest)) 0 (told program (plan_of program policy) budget (g ++ rest)).moments q below in
-      let f : Facts program (plan_of program policy) budget (g ++ rest) v q y.0 = facts program (plan_of program policy) budget (g ++ rest) v q y.0 y.1 in
+      let below : q < length (told (setting_by program policy budget) (g ++ rest)).moments = below_moments (told (setting_by program policy budget) (g ++ rest)).moments q st.before st.step (st.after ++ m.0) whole in
+      let y = split_there (setting_by program policy budget) (story (setting_by program policy budget) (g ++ rest)) 0 (told (setting_by program policy budget) (g ++ rest)).moments q below in
+      let f : Facts (setting_by program policy budget) (g ++ rest) v q y.0 = facts (setting_by program policy budget) (g ++ rest) v q y.0 y.1 in
       let e = ends_same program policy budget g rest q v x y.0 at_g y.1 i lt in
-      let es : List Entry = get_or (closed_logs program (plan_of program policy) budget (g ++ rest)).lists q [] in
+      let es : List Entry = get_or (closed_logs (setting_by program policy budget) (g ++ rest)).lists q [] in
       record {
         item = e.0 ∙ ap (λ z. end_item es z i) (sym f.seen_is);
         walks = λ c. e.1 c ∙ ap (λ z. (walk z c (end_interval es i) (end_item es z i)).found) (sym f.seen_is);
@@ -223,29 +225,29 @@ module _ (program : Program) (policy : Policy) (budget : ℕ) (h : List ℕ) (w 
       subst (EndsAlike h q i) (sym k.begun.seen_is) (subst (λ l. EndsAlike l q i (seen_of k.begun.split)) (sym k.begun.schedule_is) (ends_alike k.begun.before k.begun.rest q i k.begun.split k.begun.there k.ended))
 
   record PlaceAlike (l : List ℕ) (q k j : ℕ) (s : Seen) : Type 0 where
-    pub edge : edge_at (get_or (closed_logs program (plan_of program policy) budget l).lists q []) s k j
-        ≡ edge_at (get_or (closed_logs program (plan_of program policy) budget l).lists q []) (seen_at (all_seen program (plan_of program policy) budget l) q) k j
-    pub walks : (c : ℕ) → (walk s c k j).found ≡ (walk (seen_at (all_seen program (plan_of program policy) budget l) q) c k j).found
+    pub edge : edge_at (get_or (closed_logs (setting_by program policy budget) l).lists q []) s k j
+        ≡ edge_at (get_or (closed_logs (setting_by program policy budget) l).lists q []) (seen_at (all_seen (setting_by program policy budget) l) q) k j
+    pub walks : (c : ℕ) → (walk s c k j).found ≡ (walk (seen_at (all_seen (setting_by program policy budget) l) q) c k j).found
 
-  place_alike : (g rest : List ℕ) (q k j n : ℕ) (x y : Split) → slice_get (splits program (plan_of program policy) budget (story program (plan_of program policy) budget g)) q ≡ Some x
-      → slice_get (splits program (plan_of program policy) budget (story program (plan_of program policy) budget (g ++ rest))) q ≡ Some y
+  place_alike : (g rest : List ℕ) (q k j n : ℕ) (x y : Split) → slice_get (splits (setting_by program policy budget) (story (setting_by program policy budget) g)) q ≡ Some x
+      → slice_get (splits (setting_by program policy budget) (story (setting_by program policy budget) (g ++ rest))) q ≡ Some y
       → part_at x k j ≡ Some (own n) → n < length x.trace.events → PlaceAlike (g ++ rest) q k j (seen_of x)
   place_alike g rest q k j n x y at_g at place lt =
-      let f : Facts program (plan_of program policy) budget (g ++ rest) v q y = facts program (plan_of program policy) budget (g ++ rest) v q y at in
-      let es : List Entry = get_or (closed_logs program (plan_of program policy) budget (g ++ rest)).lists q [] in
+      let f : Facts (setting_by program policy budget) (g ++ rest) v q y = facts (setting_by program policy budget) (g ++ rest) v q y at in
+      let es : List Entry = get_or (closed_logs (setting_by program policy budget) (g ++ rest)).lists q [] in
       record {
         edge = edge_same program policy budget g rest q v x y at_g at es k j (own n) place ∙ ap (λ z. edge_at es z k j) (sym f.seen_is);
         walks = λ c. sym (walk_same program policy budget g rest q v x y at_g at c k j n place lt) ∙ ap (λ z. (walk z c k j).found) (sym f.seen_is);
       }
 
-  place_kept : (q k j : ℕ) (y : Split) → slice_get (splits program (plan_of program policy) budget (story program (plan_of program policy) budget h)) q ≡ Some y → HasPlace q k j → PlaceAlike h q k j (seen_at xs q)
+  place_kept : (q k j : ℕ) (y : Split) → slice_get (splits (setting_by program policy budget) (story (setting_by program policy budget) h)) q ≡ Some y → HasPlace q k j → PlaceAlike h q k j (seen_at xs q)
   place_kept q k j y at p =
       let b = p.begun in
       subst (PlaceAlike h q k j) (sym b.seen_is)
       (subst (λ l. PlaceAlike l q k j (seen_of b.split)) (sym b.schedule_is)
-      (place_alike b.before b.rest q k j p.number b.split y b.there (subst (λ l. slice_get (splits program (plan_of program policy) budget (story program (plan_of program policy) budget l)) q ≡ Some y) b.schedule_is at) p.placed p.within))
+      (place_alike b.before b.rest q k j p.number b.split y b.there (subst (λ l. slice_get (splits (setting_by program policy budget) (story (setting_by program policy budget) l)) q ≡ Some y) b.schedule_is at) p.placed p.within))
 
-  module _ (p k j : ℕ) (y : Split) (at : slice_get (splits program (plan_of program policy) budget (story program (plan_of program policy) budget h)) p ≡ Some y) (place : HasPlace p k j) where
+  module _ (p k j : ℕ) (y : Split) (at : slice_get (splits (setting_by program policy budget) (story (setting_by program policy budget) h)) p ≡ Some y) (place : HasPlace p k j) where
     -- the edge of the place
     abbrev pub here_in : ℕ
     here_in = edge_at (get_or logs.lists p []) (seen_at all p) k j
@@ -273,11 +275,11 @@ module _ (program : Program) (policy : Policy) (budget : ℕ) (h : List ℕ) (w 
             let m : In b (filter (λ a. is_before_in program logs a (edge p here_in)) (writing logs c)) =
             greatest_in (is_before_in program logs) (filter (λ a. is_before_in program logs a (edge p here_in)) (writing logs c)) b e in
             let f = in_filter (λ a. is_before_in program logs a (edge p here_in)) b (writing logs c) m in
-            let was : EdgeBefore program Rec b (edge p here_in) = (before_is program (plan_of program policy) budget h w v r b (edge p here_in)).0 f.1 in
+            let was : EdgeBefore program Rec b (edge p here_in) = (before_is (setting_by program policy budget) h w v r b (edge p here_in)).0 f.1 in
             ap (written_at logs c b) ((end_kept b.process b.edge (keeps b.process b.edge was)).walks c)
 
     partners : ArePartners program Rec (pairs_of program Rec)
-    partners = partners_found program Rec (λ a b s e f. (are_counted program (plan_of program policy) budget h).once a b s e f)
+    partners = partners_found program Rec (λ a b s e f. (are_counted (setting_by program policy budget) h).once a b s e f)
 
     -- and so is the pair of a synchronization there
     pub pair_same : ((q i : ℕ) → Before program Rec (node q i) (node p here_in) → HasEnded q i) → (pair_origin program logs xs p k j).found ≡ (pair_origin program logs all p k j).found
@@ -290,7 +292,7 @@ module _ (program : Program) (policy : Policy) (budget : ℕ) (h : List ℕ) (w 
         by Initial e = refl
         by (Node b) e =
             let named : pair_at (pairs_of program Rec) (node p here_in) ≡ Node b =
-            ap (λ rec. pair_at (pairs_of program rec) (node p here_in)) (sym (record_syncs program (plan_of program policy) budget h).closed) ∙ e in
+            ap (λ rec. pair_at (pairs_of program rec) (node p here_in)) (sym (record_syncs (setting_by program policy budget) h).closed) ∙ e in
             let was : Before program Rec b (node p here_in) =
             direct (or_right (is_next Rec b (node p here_in)) (leads_at program (sync_at Rec b) (sync_at Rec (node p here_in))) ((partners.leads b (node p here_in)).1 (ap node_of named))) in
             ap (λ z. Some (origin.Item b.process (end_interval (get_or logs.lists b.process []) b.sync) z)) (end_kept b.process b.sync (keeps b.process b.sync was)).item

@@ -1,4 +1,6 @@
 -- An interval that was left: as an item, and with the edges that are found of it, it is the same in a cut as at the end.
+use Rattle.law_steps.specs.Policies.{setting_by}
+use Rattle.ppd_model.specs.Setting.{setting_of}
 use Rattle.law_clean.proofs.CutShared.{IsBegun}
 use Rattle.law_clean.proofs.Items.{closed_stays, part_kept, ref_kept}
 use Rattle.law_clean.proofs.SpansEarlier.{IsNamed, each_there, spans_named}
@@ -59,16 +61,16 @@ nested_at z xs p k j m i w place is = by (slice_get z.spans k) refl place
         ∙ ap (item_if z) f ∙ ap (λ s. first_of (item_of_span m s)) is
 
 module _ (program : Program) (policy : Policy) (budget : ℕ) (g rest : List ℕ) (p : ℕ) (v : IsValid program) (x y : Split)
-    (at_g : slice_get (splits program (plan_of program policy) budget (story program (plan_of program policy) budget g)) p ≡ Some x)
-    (at : slice_get (splits program (plan_of program policy) budget (story program (plan_of program policy) budget (g ++ rest))) p ≡ Some y) where
+    (at_g : slice_get (splits (setting_by program policy budget) (story (setting_by program policy budget) g)) p ≡ Some x)
+    (at : slice_get (splits (setting_by program policy budget) (story (setting_by program policy budget) (g ++ rest))) p ≡ Some y) where
   abbrev plan : Plan
   plan = plan_of program policy
 
   abbrev now : List Split
-  now = splits program plan budget (story program plan budget g)
+  now = splits (setting_of program plan budget) (story (setting_of program plan budget) g)
 
   abbrev whole : List Split
-  whole = splits program plan budget (story program plan budget (g ++ rest))
+  whole = splits (setting_of program plan budget) (story (setting_of program plan budget) (g ++ rest))
 
   -- what names an event that is there by then names it at one place
   kept : (w : Tag) → IsEarlier p (length x.trace.events) w → option_map_or (ref now) w origin.Initial ≡ option_map_or (ref whole) w origin.Initial
@@ -93,11 +95,11 @@ module _ (program : Program) (policy : Policy) (budget : ℕ) (g rest : List ℕ
   results (block.Loop s) i h = values Left (map (λ c. Some (Local i.frame c)) (postlog_cells plan i.block)) i.values i.left h
   results kind i h = values Returned (None ∷ []) i.values i.left h
 
-  named : (m : ℕ) (i : Span) → slice_get x.spans m ≡ Some i → IsNamed program plan (story program plan budget g) p (length x.trace.events) i
+  named : (m : ℕ) (i : Span) → slice_get x.spans m ≡ Some i → IsNamed program plan (story (setting_of program plan budget) g) p (length x.trace.events) i
   named m i is =
-      each_there (IsNamed program plan (story program plan budget g) p (length x.trace.events)) x.spans m i
-      (subst (λ (z : Split). Each (IsNamed program plan (story program plan budget g) p (length z.trace.events)) z.spans) (split_is program plan budget g p x at_g)
-      (spans_named program plan (story program plan budget g) p budget (get_or (story program plan budget g).steps p []))) is
+      each_there (IsNamed program plan (story (setting_of program plan budget) g) p (length x.trace.events)) x.spans m i
+      (subst (λ (z : Split). Each (IsNamed program plan (story (setting_of program plan budget) g) p (length z.trace.events)) z.spans) (split_is (setting_of program plan budget) g p x at_g)
+      (spans_named program plan (story (setting_of program plan budget) g) p budget (get_or (story (setting_of program plan budget) g).steps p []))) is
 
   model_same : (m : ℕ) (i : Span) → slice_get x.spans m ≡ Some i → model_edges_of_nested plan now i ≡ model_edges_of_nested plan whole i
   model_same m i is =
@@ -121,18 +123,18 @@ module _ (program : Program) (policy : Policy) (budget : ℕ) (g rest : List ℕ
     inside_same = parts_g.inside m i place is ∙ model_same m i is ∙ sym (parts.inside m i place' is')
 
     pub here_is : slice_get (get_or (seen_of x).items k []) j ≡ Some (item.Nested m i.block i.values (is_some i.closed))
-    here_is = nested_at x now p k j m i (items_whole program plan budget g p x v at_g) place is
+    here_is = nested_at x now p k j m i (items_whole (setting_of program plan budget) g p x v at_g) place is
 
     pub there_is : slice_get (get_or (seen_of y).items k []) j ≡ Some (item.Nested m i.block i.values (is_some i.closed))
-    there_is = nested_at y whole p k j m i (items_whole program plan budget (g ++ rest) p y v at) place' is'
+    there_is = nested_at y whole p k j m i (items_whole (setting_of program plan budget) (g ++ rest) p y v at) place' is'
 
 -- the edges found of it by what its process has after a beginning of the schedule are those by the whole
 pub inside_edges_same : (program : Program) (policy : Policy) (budget : ℕ) (h : List ℕ) (w : World) (v : IsValid program)
-    (r : run program (plan_of program policy) budget h ≡ Some w) (xs : List Seen) (p k j : ℕ) (y : Split)
-    → slice_get (splits program (plan_of program policy) budget (story program (plan_of program policy) budget h)) p ≡ Some y
+    (r : run (setting_by program policy budget) h ≡ Some w) (xs : List Seen) (p k j : ℕ) (y : Split)
+    → slice_get (splits (setting_by program policy budget) (story (setting_by program policy budget) h)) p ≡ Some y
     → (b : IsBegun program policy budget h w v r xs p) (m : ℕ) (i : Span) → part_at b.split k j ≡ Some (nested m) → slice_get b.split.spans m ≡ Some i → is_some i.closed ≡ true
-    → (found_edges program (plan_of program policy) (closed_logs program (plan_of program policy) budget h) xs p k j).found
-    ≡ (found_edges program (plan_of program policy) (closed_logs program (plan_of program policy) budget h) (all_seen program (plan_of program policy) budget h) p k j).found
+    → (found_edges program (plan_of program policy) (closed_logs (setting_by program policy budget) h) xs p k j).found
+    ≡ (found_edges program (plan_of program policy) (closed_logs (setting_by program policy budget) h) (all_seen (setting_by program policy budget) h) p k j).found
 inside_edges_same program policy budget h w v r xs p k j y at b m i place is closed =
     ap (λ o. (edges_if program plan logs xs p k j o).found) (ap (λ (q : Seen). slice_get (get_or q.items k []) j) b.seen_is ∙ here_is program policy budget b.before b.rest p v b.split y b.there at' k j m i place is closed)
     ∙ ap (λ q. Some (Ok (edges_of_nested program plan q p k j m i.block i.values (block_kind plan i.block)).found)) b.seen_is
@@ -144,13 +146,13 @@ inside_edges_same program policy budget h w v r xs p k j y at b m i place is clo
     plan = plan_of program policy
 
     logs : Logs
-    logs = closed_logs program (plan_of program policy) budget h
+    logs = closed_logs (setting_by program policy budget) h
 
     all : List Seen
-    all = all_seen program (plan_of program policy) budget h
+    all = all_seen (setting_by program policy budget) h
 
-    fy : Facts program (plan_of program policy) budget h v p y
-    fy = facts program (plan_of program policy) budget h v p y at
+    fy : Facts (setting_by program policy budget) h v p y
+    fy = facts (setting_by program policy budget) h v p y at
 
-    at' : slice_get (splits program (plan_of program policy) budget (story program (plan_of program policy) budget (b.before ++ b.rest))) p ≡ Some y
-    at' = subst (λ l. slice_get (splits program (plan_of program policy) budget (story program (plan_of program policy) budget l)) p ≡ Some y) b.schedule_is at
+    at' : slice_get (splits (setting_by program policy budget) (story (setting_by program policy budget) (b.before ++ b.rest))) p ≡ Some y
+    at' = subst (λ l. slice_get (splits (setting_by program policy budget) (story (setting_by program policy budget) l)) p ≡ Some y) b.schedule_is at

@@ -1,5 +1,7 @@
 -- What a process has in its intervals after a beginning of a schedule, and at its end: items stay where they are, and
 -- events are referred to as before.
+use Rattle.law_steps.specs.Policies.{setting_by}
+use Rattle.ppd_model.specs.Setting.{setting_of}
 use Rattle.law_clean.proofs.CutRuns.{moments_grow}
 use Rattle.law_clean.proofs.TwoStories.{IsAlike, bare, splits_alike}
 use Rattle.law_flow_own.proofs.Places.LeafTells.{later_at, split_is}
@@ -29,34 +31,34 @@ use Rattle.std.proofs.lemmas.Option.{none-some}
 use Rattle.std.specs.Prelude.{get_or, is_some, slice_get}
 
 module _ (program : Program) (policy : Policy) (budget : ℕ) (g rest : List ℕ) (p : ℕ) (v : IsValid program) (x y : Split)
-    (at_g : slice_get (splits program (plan_of program policy) budget (story program (plan_of program policy) budget g)) p ≡ Some x)
-    (at : slice_get (splits program (plan_of program policy) budget (story program (plan_of program policy) budget (g ++ rest))) p ≡ Some y) where
+    (at_g : slice_get (splits (setting_by program policy budget) (story (setting_by program policy budget) g)) p ≡ Some x)
+    (at : slice_get (splits (setting_by program policy budget) (story (setting_by program policy budget) (g ++ rest))) p ≡ Some y) where
   abbrev plan : Plan
   plan = plan_of program policy
 
   abbrev now : Story
-  now = story program plan budget g
+  now = story (setting_of program plan budget) g
 
   abbrev whole : Story
-  whole = story program plan budget (g ++ rest)
+  whole = story (setting_of program plan budget) (g ++ rest)
 
   abbrev ms : List Moment
-  ms = get_or (told program plan budget g).moments p []
+  ms = get_or (told (setting_of program plan budget) g).moments p []
 
   -- the process after g, with the pairs that the whole story has
   abbrev cut : Split
-  cut = split_of program plan budget whole p (steps_of ms)
+  cut = split_of (setting_of program plan budget) whole p (steps_of ms)
 
-  pub steps_are : get_or whole.steps p [] ≡ steps_of ms ++ steps_of (moments_grow program plan budget rest g p).0
-  steps_are = own_steps_are program plan budget (g ++ rest) p ∙ ap steps_of (moments_grow program plan budget rest g p).1 ∙ steps_append ms (moments_grow program plan budget rest g p).0
+  pub steps_are : get_or whole.steps p [] ≡ steps_of ms ++ steps_of (moments_grow (setting_of program plan budget) rest g p).0
+  steps_are = own_steps_are (setting_of program plan budget) (g ++ rest) p ∙ ap steps_of (moments_grow (setting_of program plan budget) rest g p).1 ∙ steps_append ms (moments_grow (setting_of program plan budget) rest g p).0
 
   later : IsLater cut y
-  later = later_at program policy budget (g ++ rest) p y v at (steps_of ms) (steps_of (moments_grow program plan budget rest g p).0) steps_are
+  later = later_at program policy budget (g ++ rest) p y v at (steps_of ms) (steps_of (moments_grow (setting_of program plan budget) rest g p).0) steps_are
 
   pub alike : IsAlike cut x
   alike =
       let start : Split = begun_split program plan p (started program plan p budget) in
-      subst (IsAlike cut) (ap (λ steps. split_of program plan budget now p steps) (sym (own_steps_are program plan budget g p)) ∙ split_is program plan budget g p x at_g)
+      subst (IsAlike cut) (ap (λ steps. split_of (setting_of program plan budget) now p steps) (sym (own_steps_are (setting_of program plan budget) g p)) ∙ split_is (setting_of program plan budget) g p x at_g)
       (splits_alike program plan whole now p (steps_of ms) start start (record { events = []; is = refl; alike = refl }))
 
   pub spans_are : x.spans ≡ cut.spans
@@ -110,12 +112,12 @@ module _ (program : Program) (policy : Policy) (budget : ℕ) (g rest : List ℕ
   closed_item m i is closed = ap (item_of_span m) (closed_stays m i is closed) ∙ sym (ap (item_of_span m) is)
 
   -- an event is referred to as before
-  pub ref_kept : (n : ℕ) → n < length x.trace.events → ref (splits program plan budget now) (record { process = p; number = n }) ≡ ref (splits program plan budget whole) (record { process = p; number = n })
+  pub ref_kept : (n : ℕ) → n < length x.trace.events → ref (splits (setting_of program plan budget) now) (record { process = p; number = n }) ≡ ref (splits (setting_of program plan budget) whole) (record { process = p; number = n })
   ref_kept n lt =
       let e = slice_get_there x.trace.events n lt in
       let f = event_kept n e.0 e.1 in
-      let first : IsReferred (splits program plan budget now) x p n = (items_whole program plan budget g p x v at_g).events n lt in
-      let second : IsReferred (splits program plan budget whole) y p n = (items_whole program plan budget (g ++ rest) p y v at).events n (slice_get_below y.trace.events n f.0 f.1) in
+      let first : IsReferred (splits (setting_of program plan budget) now) x p n = (items_whole (setting_of program plan budget) g p x v at_g).events n lt in
+      let second : IsReferred (splits (setting_of program plan budget) whole) y p n = (items_whole (setting_of program plan budget) (g ++ rest) p y v at).events n (slice_get_below y.trace.events n f.0 f.1) in
       let same = second.placed.once first.interval first.item (part_kept first.interval first.item (own n) first.placed.there) in
       first.ref_is ∙ ap (λ k. origin.Item p k first.item) same.0
       ∙ ap (λ j. origin.Item p second.interval j) same.1 ∙ sym second.ref_is

@@ -1,5 +1,7 @@
 -- The search within a process: over what it has after a beginning of a schedule it finds of an event what it finds over
 -- what it has at the end.
+use Rattle.law_steps.specs.Policies.{setting_by}
+use Rattle.ppd_model.specs.Setting.{setting_of}
 use Rattle.std.proofs.Common.{◌≡◌, ℕ, zero, suc, ◌+◌, ◌<◌, List, [], ◌∷◌, ◌++◌, length, Option, Some, None, refl, ap, sym, subst, ◌∙◌, arith}
 use Rattle.ppd_model.specs.declared.flow.Origin.TheVariants as origin
 use Rattle.std.specs.Option.{option_map_or}
@@ -69,17 +71,17 @@ event_at z xs p k j n e w place is = by (slice_get z.spans k) refl place
         ∙ ap (item_if z) f ∙ ap (λ o. first_of (item_of_event o)) is
 
 module _ (program : Program) (policy : Policy) (budget : ℕ) (g rest : List ℕ) (p : ℕ) (v : IsValid program) (x y : Split)
-    (at_g : slice_get (splits program (plan_of program policy) budget (story program (plan_of program policy) budget g)) p ≡ Some x)
-    (at : slice_get (splits program (plan_of program policy) budget (story program (plan_of program policy) budget (g ++ rest))) p ≡ Some y)
+    (at_g : slice_get (splits (setting_by program policy budget) (story (setting_by program policy budget) g)) p ≡ Some x)
+    (at : slice_get (splits (setting_by program policy budget) (story (setting_by program policy budget) (g ++ rest))) p ≡ Some y)
     (k j n : ℕ) (place : part_at x k j ≡ Some (own n)) (e : TracedEvent) (is : slice_get x.trace.events n ≡ Some e) where
   abbrev plan : Plan
   plan = plan_of program policy
 
   abbrev now : List Split
-  now = splits program plan budget (story program plan budget g)
+  now = splits (setting_of program plan budget) (story (setting_of program plan budget) g)
 
   abbrev whole : List Split
-  whole = splits program plan budget (story program plan budget (g ++ rest))
+  whole = splits (setting_of program plan budget) (story (setting_of program plan budget) (g ++ rest))
 
   -- the event at the end
   pub later : (f : TracedEvent) × (slice_get y.trace.events n ≡ Some f) × (record f { paired = None } ≡ record e { paired = None })
@@ -106,11 +108,11 @@ module _ (program : Program) (policy : Policy) (budget : ℕ) (g rest : List ℕ
 
   names : NamesEarlier p n e
   names =
-      let fx : Facts program plan budget g v p x = facts program plan budget g v p x at_g in
+      let fx : Facts (setting_of program plan budget) g v p x = facts (setting_of program plan budget) g v p x at_g in
       let z : 0 + n ≡ n = omega arith in
       subst (λ m. NamesEarlier p m e) z
       (names_at p 0 x.trace.events n e
-      (subst (EachNamesEarlier p 0) (sym fx.events_are) (name_earlier program plan budget (story program plan budget g) p (did (told program plan budget g) p))) is)
+      (subst (EachNamesEarlier p 0) (sym fx.events_are) (name_earlier (setting_of program plan budget) (story (setting_of program plan budget) g) p (did (told (setting_of program plan budget) g) p))) is)
 
   parts_g : HasOwnParts program plan now x p k j
   parts_g = own_parts program policy budget g p k j x v at_g
@@ -141,9 +143,9 @@ module _ (program : Program) (policy : Policy) (budget : ℕ) (g rest : List ℕ
   -- the item
   pub item_same : slice_get (get_or (seen_of x).items k []) j ≡ slice_get (get_or (seen_of y).items k []) j
   item_same =
-      event_at x now p k j n e (items_whole program plan budget g p x v at_g) place is
+      event_at x now p k j n e (items_whole (setting_of program plan budget) g p x v at_g) place is
       ∙ ap (λ (t : TracedEvent). Some (item.Own t.event)) (sym later.2)
-      ∙ sym (event_at y whole p k j n f (items_whole program plan budget (g ++ rest) p y v at) place' later.1)
+      ∙ sym (event_at y whole p k j n f (items_whole (setting_of program plan budget) (g ++ rest) p y v at) place' later.1)
 
   pub item_is : slice_get (get_or (seen_of x).items k []) j ≡ Some (item.Own e.event)
-  item_is = event_at x now p k j n e (items_whole program plan budget g p x v at_g) place is
+  item_is = event_at x now p k j n e (items_whole (setting_of program plan budget) g p x v at_g) place is

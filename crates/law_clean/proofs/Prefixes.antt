@@ -1,5 +1,7 @@
 -- What a process has in its intervals after a beginning of a schedule is a beginning of what it has at the end: by the
 -- whole log, the edges of its places, the places where its edges end, and the walks from its places are the same.
+use Rattle.law_steps.specs.Policies.{setting_by}
+use Rattle.ppd_model.specs.Setting.{setting_of}
 use Rattle.law_clean.proofs.Items.{event_kept, part_kept, span_kept}
 use Rattle.law_clean.proofs.Walks.{walk_equal}
 use Rattle.law_flow_shared.proofs.Edges.Back.Walks.{map_at}
@@ -84,16 +86,16 @@ module _ (entries : List Entry) where
 -- ---- a process
 
 module _ (program : Program) (policy : Policy) (budget : ℕ) (g rest : List ℕ) (p : ℕ) (v : IsValid program) (x y : Split)
-    (at_g : slice_get (splits program (plan_of program policy) budget (story program (plan_of program policy) budget g)) p ≡ Some x)
-    (at : slice_get (splits program (plan_of program policy) budget (story program (plan_of program policy) budget (g ++ rest))) p ≡ Some y) where
+    (at_g : slice_get (splits (setting_by program policy budget) (story (setting_by program policy budget) g)) p ≡ Some x)
+    (at : slice_get (splits (setting_by program policy budget) (story (setting_by program policy budget) (g ++ rest))) p ≡ Some y) where
   abbrev plan : Plan
   plan = plan_of program policy
 
-  x_whole : HasWholeItems (splits program plan budget (story program plan budget g)) x p
-  x_whole = items_whole program plan budget g p x v at_g
+  x_whole : HasWholeItems (splits (setting_of program plan budget) (story (setting_of program plan budget) g)) x p
+  x_whole = items_whole (setting_of program plan budget) g p x v at_g
 
-  y_whole : HasWholeItems (splits program plan budget (story program plan budget (g ++ rest))) y p
-  y_whole = items_whole program plan budget (g ++ rest) p y v at
+  y_whole : HasWholeItems (splits (setting_of program plan budget) (story (setting_of program plan budget) (g ++ rest))) y p
+  y_whole = items_whole (setting_of program plan budget) (g ++ rest) p y v at
 
   module _ (entries : List Entry) where
     own_like : (n : ℕ) (t : Item) (o : Option TracedEvent) → slice_get x.trace.events n ≡ o → first_of (item_of_event o) ≡ Some t
@@ -163,10 +165,10 @@ module _ (program : Program) (policy : Policy) (budget : ℕ) (g rest : List ℕ
     -- an event that is there by then is at the same place
     pub place_back : (k j n : ℕ) → part_at y k j ≡ Some (own n) → n < length x.trace.events → part_at x k j ≡ Some (own n)
     place_back k j n e lt =
-        let first : IsReferred (splits program plan budget (story program plan budget g)) x p n = x_whole.events n lt in
+        let first : IsReferred (splits (setting_of program plan budget) (story (setting_of program plan budget) g)) x p n = x_whole.events n lt in
         let f = slice_get_there x.trace.events n lt in
         let kept = event_kept program policy budget g rest p v x y at_g at n f.0 f.1 in
-        let second : IsReferred (splits program plan budget (story program plan budget (g ++ rest))) y p n = y_whole.events n (slice_get_below y.trace.events n kept.0 kept.1) in
+        let second : IsReferred (splits (setting_of program plan budget) (story (setting_of program plan budget) (g ++ rest))) y p n = y_whole.events n (slice_get_below y.trace.events n kept.0 kept.1) in
         let a = second.placed.once k j e in
         let b = second.placed.once first.interval first.item (part_kept program policy budget g rest p v x y at_g at first.interval first.item (own n) first.placed.there) in
         ap (λ z. part_at x z j) (a.0 ∙ sym b.0) ∙ ap (part_at x first.interval) (a.1 ∙ sym b.1) ∙ first.placed.there
@@ -188,11 +190,11 @@ module _ (program : Program) (policy : Policy) (budget : ℕ) (g rest : List ℕ
   -- the walk from a place
   pub walk_same : (c k j n : ℕ) → part_at x k j ≡ Some (own n) → n < length x.trace.events → (walk (seen_of y) c k j).found ≡ (walk (seen_of x) c k j).found
   walk_same c k j n e lt =
-      let fx : Facts program plan budget g v p x = facts program plan budget g v p x at_g in
-      let fy : Facts program plan budget (g ++ rest) v p y = facts program plan budget (g ++ rest) v p y at in
+      let fx : Facts (setting_of program plan budget) g v p x = facts (setting_of program plan budget) g v p x at_g in
+      let fy : Facts (setting_of program plan budget) (g ++ rest) v p y = facts (setting_of program plan budget) (g ++ rest) v p y at in
       let f = slice_get_there x.trace.events n lt in
       let kept = event_kept program policy budget g rest p v x y at_g at n f.0 f.1 in
-      let ax : IsAt x (get_or (closed_logs program plan budget g).lists p []) n k j = at_place x (get_or (closed_logs program plan budget g).lists p []) fx.told_by k j n e lt in
-      let ay : IsAt y (get_or (closed_logs program plan budget (g ++ rest)).lists p []) n k j =
-      at_place y (get_or (closed_logs program plan budget (g ++ rest)).lists p []) fy.told_by k j n (part_kept program policy budget g rest p v x y at_g at k j (own n) e) (slice_get_below y.trace.events n kept.0 kept.1) in
+      let ax : IsAt x (get_or (closed_logs (setting_of program plan budget) g).lists p []) n k j = at_place x (get_or (closed_logs (setting_of program plan budget) g).lists p []) fx.told_by k j n e lt in
+      let ay : IsAt y (get_or (closed_logs (setting_of program plan budget) (g ++ rest)).lists p []) n k j =
+      at_place y (get_or (closed_logs (setting_of program plan budget) (g ++ rest)).lists p []) fy.told_by k j n (part_kept program policy budget g rest p v x y at_g at k j (own n) e) (slice_get_below y.trace.events n kept.0 kept.1) in
       walk_equal program policy budget g rest p v x y at_g at c n (omega (arith, lt)) (walk (seen_of x) c k j).found (walk (seen_of y) c k j).found (ax.walks c) (ay.walks c)

@@ -1,4 +1,6 @@
 -- What a process had by then: an interval that was left in an edge that had ended, at its place.
+use Rattle.law_steps.specs.Policies.{setting_by}
+use Rattle.ppd_model.specs.Setting.{Setting, setting_of}
 use Rattle.law_clean.proofs.CutIs.{log_tail, syncs_are, tail}
 use Rattle.law_clean.proofs.CutRuns.{moments_grow}
 use Rattle.law_clean.proofs.CutSeen.{logging_at}
@@ -59,18 +61,18 @@ second_at R (a ∷ xs) (b ∷ ys) zero y h e = (a, refl, subst (R a) (some e) h.
 second_at R (a ∷ xs) (b ∷ ys) (suc m) y h e = second_at R xs ys m y h.1 e
 
 -- the log of a process in a schedule
-pub log_there : (program : Program) (plan : Plan) (budget : ℕ) (h : List ℕ) (p : ℕ) (y : Split) → slice_get (splits program plan budget (story program plan budget h)) p ≡ Some y
-    → slice_get (loggings program plan budget h) p ≡ Some (log_of program plan budget p (get_or (told program plan budget h).moments p []))
-log_there program plan budget h p y at =
+pub log_there : (setting : Setting) (h : List ℕ) (p : ℕ) (y : Split) → slice_get (splits setting (story setting h)) p ≡ Some y
+    → slice_get (loggings setting h) p ≡ Some (log_of setting p (get_or (told setting h).moments p []))
+log_there setting h p y at =
     let z : 0 + p ≡ p = omega arith in
-    logging_at program plan budget (story program plan budget h) 0 (told program plan budget h).moments p y at
-    ∙ ap (λ k. Some (log_of program plan budget k (get_or (told program plan budget h).moments p []))) z
+    logging_at setting (story setting h) 0 (told setting h).moments p y at
+    ∙ ap (λ k. Some (log_of setting k (get_or (told setting h).moments p []))) z
 
 -- a process did so many synchronizations as its log has
-pub syncs_in_log : (program : Program) (plan : Plan) (budget : ℕ) (h : List ℕ) (p : ℕ) → edge_in program plan budget h p ≡ length (filter_map sync_in (log_of program plan budget p (get_or (told program plan budget h).moments p [])).entries)
-syncs_in_log program plan budget h p =
-    ap length (own_syncs_are program plan budget h p)
-    ∙ sym (ap length (syncs_are program plan (get_or (told program plan budget h).moments p []) (begun_log program plan budget p)))
+pub syncs_in_log : (setting : Setting) (h : List ℕ) (p : ℕ) → edge_in setting h p ≡ length (filter_map sync_in (log_of setting p (get_or (told setting h).moments p [])).entries)
+syncs_in_log setting h p =
+    ap length (own_syncs_are setting h p)
+    ∙ sym (ap length (syncs_are setting.program setting.plan (get_or (told setting h).moments p []) (begun_log setting p)))
 
 -- the end of a process is no synchronization
 pub closed_syncs : (l : Logging) → length (filter_map sync_in (closed_log l)) ≡ length (filter_map sync_in l.entries)
@@ -80,33 +82,33 @@ closed_syncs l = by (is_none l.proc.status)
     by true = ap length (filter_map-append sync_in l.entries (entry.End status.Blocked l.rest l.reads l.writes ∷ []) ∙ append-nil (filter_map sync_in l.entries))
     by false = ap (λ es. length (filter_map sync_in es)) (append-nil l.entries)
 
-pub total_syncs : (program : Program) (plan : Plan) (budget : ℕ) (h : List ℕ) (p : ℕ) (y : Split) → slice_get (splits program plan budget (story program plan budget h)) p ≡ Some y
-    → length (filter_map sync_in (get_or (closed_logs program plan budget h).lists p [])) ≡ edge_in program plan budget h p
-total_syncs program plan budget h p y at =
-    ap (λ es. length (filter_map sync_in es)) (entries_are program plan budget h p y at)
-    ∙ closed_syncs (log_of program plan budget p (get_or (told program plan budget h).moments p [])) ∙ sym (syncs_in_log program plan budget h p)
+pub total_syncs : (setting : Setting) (h : List ℕ) (p : ℕ) (y : Split) → slice_get (splits setting (story setting h)) p ≡ Some y
+    → length (filter_map sync_in (get_or (closed_logs setting h).lists p [])) ≡ edge_in setting h p
+total_syncs setting h p y at =
+    ap (λ es. length (filter_map sync_in es)) (entries_are setting h p y at)
+    ∙ closed_syncs (log_of setting p (get_or (told setting h).moments p [])) ∙ sym (syncs_in_log setting h p)
 
 module _ (program : Program) (policy : Policy) (budget : ℕ) (g rest : List ℕ) (p : ℕ) (v : IsValid program) (x y : Split)
-    (at_g : slice_get (splits program (plan_of program policy) budget (story program (plan_of program policy) budget g)) p ≡ Some x)
-    (at : slice_get (splits program (plan_of program policy) budget (story program (plan_of program policy) budget (g ++ rest))) p ≡ Some y) where
+    (at_g : slice_get (splits (setting_by program policy budget) (story (setting_by program policy budget) g)) p ≡ Some x)
+    (at : slice_get (splits (setting_by program policy budget) (story (setting_by program policy budget) (g ++ rest))) p ≡ Some y) where
   abbrev plan : Plan
   plan = plan_of program policy
 
   abbrev entries : List Entry
-  entries = get_or (closed_logs program plan budget (g ++ rest)).lists p []
+  entries = get_or (closed_logs (setting_of program plan budget) (g ++ rest)).lists p []
 
   abbrev kept : Logging
-  kept = log_of program plan budget p (get_or (told program plan budget g).moments p [])
+  kept = log_of (setting_of program plan budget) p (get_or (told (setting_of program plan budget) g).moments p [])
 
-  pub more : (more : List Moment) × (get_or (told program plan budget (g ++ rest)).moments p [] ≡ get_or (told program plan budget g).moments p [] ++ more)
-  more = moments_grow program plan budget rest g p
+  pub more : (more : List Moment) × (get_or (told (setting_of program plan budget) (g ++ rest)).moments p [] ≡ get_or (told (setting_of program plan budget) g).moments p [] ++ more)
+  more = moments_grow (setting_of program plan budget) rest g p
 
   -- the log begins with what it was by then
   pub entries_begin : entries ≡ kept.entries ++ tail program plan kept more.0
   entries_begin =
-      entries_are program plan budget (g ++ rest) p y at
-      ∙ ap (λ ms. closed_log (log_of program plan budget p ms)) more.1
-      ∙ ap closed_log (fold-append (log_step program plan) (begun_log program plan budget p) (get_or (told program plan budget g).moments p []) more.0)
+      entries_are (setting_of program plan budget) (g ++ rest) p y at
+      ∙ ap (λ ms. closed_log (log_of (setting_of program plan budget) p ms)) more.1
+      ∙ ap closed_log (fold-append (log_step program plan) (begun_log (setting_of program plan budget) p) (get_or (told (setting_of program plan budget) g).moments p []) more.0)
       ∙ log_tail program plan more.0 kept
 
   abbrev Each : List Span → List Entry → Type 0
@@ -114,33 +116,33 @@ module _ (program : Program) (policy : Policy) (budget : ℕ) (g rest : List ℕ
 
   y_each : AreEach IsSameInterval y.spans (extents entries)
   y_each =
-      subst (Each y.spans) (sym (entries_are program plan budget (g ++ rest) p y at))
-      (intervals_of_logs program plan budget (g ++ rest) p y (log_of program plan budget p (get_or (told program plan budget (g ++ rest)).moments p [])) at (log_there program plan budget (g ++ rest) p y at)).closed_are
+      subst (Each y.spans) (sym (entries_are (setting_of program plan budget) (g ++ rest) p y at))
+      (intervals_of_logs (setting_of program plan budget) (g ++ rest) p y (log_of (setting_of program plan budget) p (get_or (told (setting_of program plan budget) (g ++ rest)).moments p [])) at (log_there (setting_of program plan budget) (g ++ rest) p y at)).closed_are
 
   x_each : AreEach IsSameInterval x.spans (extents kept.entries)
-  x_each = (intervals_of_logs program plan budget g p x kept at_g (log_there program plan budget g p x at_g)).kept_are
+  x_each = (intervals_of_logs (setting_of program plan budget) g p x kept at_g (log_there (setting_of program plan budget) g p x at_g)).kept_are
 
   -- an interval that was left in an edge that had ended
-  module _ (m : ℕ) (j : Span) (is : slice_get y.spans m ≡ Some j) (few : edge_in program plan budget g p ≤ length (filter_map sync_in (get_or (closed_logs program plan budget (g ++ rest)).lists p [])))
-      (lt : left_edge (get_or (closed_logs program plan budget (g ++ rest)).lists p []) m < edge_in program plan budget g p) where
+  module _ (m : ℕ) (j : Span) (is : slice_get y.spans m ≡ Some j) (few : edge_in (setting_of program plan budget) g p ≤ length (filter_map sync_in (get_or (closed_logs (setting_of program plan budget) (g ++ rest)).lists p [])))
+      (lt : left_edge (get_or (closed_logs (setting_of program plan budget) (g ++ rest)).lists p []) m < edge_in (setting_of program plan budget) g p) where
     z : (z : Extent) × (slice_get (extents entries) m ≡ Some z) × IsSameInterval j z
     z = first_at IsSameInterval y.spans (extents entries) m j y_each is
 
-    under : left_in entries (Some z.0) < edge_in program plan budget g p
-    under = subst (λ o. left_in entries o < edge_in program plan budget g p) z.1 lt
+    under : left_in entries (Some z.0) < edge_in (setting_of program plan budget) g p
+    under = subst (λ o. left_in entries o < edge_in (setting_of program plan budget) g p) z.1 lt
 
     by_closed : (b : Bool) → z.0.closed ≡ b → (i : Span) × (slice_get x.spans m ≡ Some i) × (is_some i.closed ≡ true)
     by_closed false c =
-        let all : length (filter_map sync_in entries) < edge_in program plan budget g p =
-        subst (λ b. (if b then syncs_before entries (unwrap_or z.0.last 0) else length (filter_map sync_in entries)) < edge_in program plan budget g p) c under in
+        let all : length (filter_map sync_in entries) < edge_in (setting_of program plan budget) g p =
+        subst (λ b. (if b then syncs_before entries (unwrap_or z.0.last 0) else length (filter_map sync_in entries)) < edge_in (setting_of program plan budget) g p) c under in
         absurd (omega (arith, all, few))
     by_closed true c =
         let l = (extents_match entries m z.0 z.1).left c in
-        let less : syncs_before entries (unwrap_or z.0.last 0) < edge_in program plan budget g p =
-        subst (λ b. (if b then syncs_before entries (unwrap_or z.0.last 0) else length (filter_map sync_in entries)) < edge_in program plan budget g p) c under in
-        let here : syncs_before entries l.0 < edge_in program plan budget g p = subst (λ o. syncs_before entries (unwrap_or o 0) < edge_in program plan budget g p) l.1 less in
+        let less : syncs_before entries (unwrap_or z.0.last 0) < edge_in (setting_of program plan budget) g p =
+        subst (λ b. (if b then syncs_before entries (unwrap_or z.0.last 0) else length (filter_map sync_in entries)) < edge_in (setting_of program plan budget) g p) c under in
+        let here : syncs_before entries l.0 < edge_in (setting_of program plan budget) g p = subst (λ o. syncs_before entries (unwrap_or o 0) < edge_in (setting_of program plan budget) g p) l.1 less in
         let there : syncs_before (kept.entries ++ tail program plan kept more.0) l.0 < length (filter_map sync_in kept.entries) =
-        subst (λ es. syncs_before es l.0 < length (filter_map sync_in kept.entries)) entries_begin (subst (λ n. syncs_before entries l.0 < n) (syncs_in_log program plan budget g p) here) in
+        subst (λ es. syncs_before es l.0 < length (filter_map sync_in kept.entries)) entries_begin (subst (λ n. syncs_before entries l.0 < n) (syncs_in_log (setting_of program plan budget) g p) here) in
         let old = left_before kept.entries (tail program plan kept more.0) m z.0 l.0 (ap (λ es. slice_get (extents es) m) (sym entries_begin) ∙ z.1) c l.1 there in
         let i = second_at IsSameInterval x.spans (extents kept.entries) m old.0 x_each old.1 in
         let same : IsSameInterval i.0 old.0 = i.2 in
@@ -151,13 +153,13 @@ module _ (program : Program) (policy : Policy) (budget : ℕ) (g rest : List ℕ
 
   -- ---- its place
 
-  fx : Facts program plan budget g v p x
-  fx = facts program plan budget g v p x at_g
+  fx : Facts (setting_of program plan budget) g v p x
+  fx = facts (setting_of program plan budget) g v p x at_g
 
   tree : IsTree y.spans y.running
   tree =
-      subst (λ (w : Split). IsTree w.spans w.running) (split_is program plan budget (g ++ rest) p y at)
-      (has_tree program plan (story program plan budget (g ++ rest)) p budget (get_or (story program plan budget (g ++ rest)).steps p []))
+      subst (λ (w : Split). IsTree w.spans w.running) (split_is (setting_of program plan budget) (g ++ rest) p y at)
+      (has_tree program plan (story (setting_of program plan budget) (g ++ rest)) p budget (get_or (story (setting_of program plan budget) (g ++ rest)).steps p []))
 
   span_of : (o : Option Span) (j : ℕ) (q : Part) → part_in o j ≡ Some q → (i : Span) × (o ≡ Some i) × (slice_get i.parts j ≡ Some q)
   span_of None j q e = absurd (none-some q e)
@@ -177,11 +179,11 @@ module _ (program : Program) (policy : Policy) (budget : ℕ) (g rest : List ℕ
       let parent : IsParent y.spans k m span.0.round = tree.parent k j m span.0 span.1 span.2 in
       let stays : slice_get y.spans m ≡ Some i = closed_stays program policy budget g rest p v x y at_g at m i is closed in
       let round : i.round ≡ k ∷ span.0.round = ap (λ (w : Span). w.round) (some (sym stays ∙ parent.is_there)) ∙ parent.round_is in
-      let placed : IsPlaced (get_or (closed_logs program plan budget g).lists p []) x.trace.events x.spans m i = fx.told_by.placed m i is in
+      let placed : IsPlaced (get_or (closed_logs (setting_of program plan budget) g).lists p []) x.trace.events x.spans m i = fx.told_by.placed m i is in
       by (i.round) round placed.first placed.stands
     where
       by : (round : List ℕ) → round ≡ k ∷ (span_of (slice_get y.spans k) j (nested m) place).0.round → (first : ℕ)
-          → Stands (Logged (get_or (closed_logs program plan budget g).lists p []) x.trace.events) x.spans m round first → part_at x k j ≡ Some (nested m)
+          → Stands (Logged (get_or (closed_logs (setting_of program plan budget) g).lists p []) x.trace.events) x.spans m round first → part_at x k j ≡ Some (nested m)
       by [] e first s = absurd (none-some k (ap head_of e))
       by (l ∷ ls) e first (within o ps qs low there same_round less parts_are nowhere outer tiles) =
           let l_is : l ≡ k = some (ap head_of e) in

@@ -1,4 +1,5 @@
 -- The replay of an interval from a log that was cut off gives the items that the interval had by then.
+use Rattle.ppd_model.specs.Setting.{setting_of}
 use Rattle.std.proofs.Common.{◌≡◌, ℕ, zero, suc, ◌+◌, ◌<◌, ◌≤◌, List, Option, Some, None, Ok, refl, ap, ap₂, sym, subst, ◌∙◌, length}
 use Rattle.std.specs.Prelude.{fold, slice_get}
 use Rattle.ppd_ast.specs.declared.plan.Plan.{Plan}
@@ -50,7 +51,7 @@ module _ (program : Program) (policy : Policy) (v : IsValid program) (budget p d
         ∙ ap₂ (λ n items. record { steps = n; answer = Ok (record { items = items }) }) (sym span.steps) (sym span.items)
 
     alike : (k : ℕ) (o : Option Opening) (l : Option IntervalLog) (i : Option Span) → Begins k ≡ o → AreAlike (IsLogOf program used k) o l → AreAlike (λ o i. IsSpanOf program used k o end i) o i
-        → replay_of program used budget l ≡ modelled_of end i
+        → replay_of (setting_of program used budget) l ≡ modelled_of end i
     alike k None None None e log span = refl
     alike k None None (Some i) e log span = absurd span
     alike k None (Some l) i e log span = absurd log
@@ -58,9 +59,9 @@ module _ (program : Program) (policy : Policy) (v : IsValid program) (budget p d
     alike k (Some o) (Some l) None e log span = absurd span
     alike k (Some o) (Some l) (Some i) e log span = ap Some (interval k o l i e log span)
 
-    pub replays_alike : (k : ℕ) → replay_of program used budget (log_in used (slice_get (fold index_step begun_indexing
+    pub replays_alike : (k : ℕ) → replay_of (setting_of program used budget) (log_in used (slice_get (fold index_step begun_indexing
         (closed_log (fold (log_step program used) (begun program policy v budget p d le there ms run) ms))).intervals k)) ≡ modelled_of end (slice_get end.spans k)
     replays_alike k =
-        ap (λ x. replay_of program used budget (log_in used (slice_get x.intervals k))) (finals_are program used ms (begun program policy v budget p d le there ms run) begun_indexing)
+        ap (λ x. replay_of (setting_of program used budget) (log_in used (slice_get x.intervals k))) (finals_are program used ms (begun program policy v budget p d le there ms run) begun_indexing)
         ∙ alike k (Begins k) (log_in used (slice_get (index program policy v budget p d le there ms run).intervals k)) (slice_get end.spans k) refl
         (logs_alike program policy v budget p d le there ms run k) (spans_alike program policy v budget p d le there ms run story k)

@@ -1,4 +1,5 @@
 -- shared int x, y; sem s; process a { y = 3; print(y); V(s); x = 1; } process b { x = 2; }
+use Rattle.ppd_model.specs.Setting.{setting_of}
 use Rattle.law_clean.specs.Cuts.{cut_logs}
 use Rattle.std.proofs.Common.{◌≡◌, refl}
 use Rattle.std.specs.Prelude.{ℕ, pos, true, false, List, [], ◌∷◌, Some, None}
@@ -59,7 +60,7 @@ plan = record {
 abbrev order : List ℕ
 order = 0 ∷ 0 ∷ 0 ∷ 0 ∷ 0 ∷ 0 ∷ 1 ∷ 1 ∷ []
 
-pub race_list : races program plan 100000 (0 ∷ 0 ∷ 0 ∷ 0 ∷ 0 ∷ 0 ∷ 1 ∷ 1 ∷ []) ≡ race 0 1 1 0 0 WriteWrite ∷ []
+pub race_list : races (setting_of program plan 100000) (0 ∷ 0 ∷ 0 ∷ 0 ∷ 0 ∷ 0 ∷ 1 ∷ 1 ∷ []) ≡ race 0 1 1 0 0 WriteWrite ∷ []
 unfolding terms
 race_list = refl
 
@@ -72,33 +73,33 @@ print_edges = (record { kind = Read; spot = Some (Shared 1); value = Some (pos 3
 abbrev give_item : Item
 give_item = Own (record { stmt = 2; reads = []; writes = []; value = None; number = Some 1; trap = None })
 
-pub print_is : answer_of program plan 100000 order 0 0 1 ≡ clean print_item print_edges
+pub print_is : answer_of (setting_of program plan 100000) order 0 0 1 ≡ clean print_item print_edges
 unfolding terms
 print_is = refl
 
-pub give_is : answer_of program plan 100000 order 0 0 2 ≡ clean give_item ((record { kind = Control; spot = None; value = None; from = Entry }) ∷ [])
+pub give_is : answer_of (setting_of program plan 100000) order 0 0 2 ≡ clean give_item ((record { kind = Control; spot = None; value = None; from = Entry }) ∷ [])
 unfolding terms
 give_is = refl
 
-pub raced_write : answer_of program plan 100000 order 0 0 3 ≡ unclean (edge 0 1)
+pub raced_write : answer_of (setting_of program plan 100000) order 0 0 3 ≡ unclean (edge 0 1)
 unfolding terms
 raced_write = refl
 
-pub past_the_end : answer_of program plan 100000 order 0 0 9 ≡ unclean (edge 0 1)
+pub past_the_end : answer_of (setting_of program plan 100000) order 0 0 9 ≡ unclean (edge 0 1)
 unfolding terms
 past_the_end = refl
 
-pub other_write : answer_of program plan 100000 order 1 0 0 ≡ unclean (edge 1 0)
+pub other_write : answer_of (setting_of program plan 100000) order 1 0 0 ≡ unclean (edge 1 0)
 unfolding terms
 other_write = refl
 
 -- ---- the same by logs, races and replays of cut logs
 
 abbrev logs : Logs
-logs = closed_logs program plan 100000 (0 ∷ 0 ∷ 0 ∷ 0 ∷ 0 ∷ 0 ∷ 1 ∷ 1 ∷ [])
+logs = closed_logs (setting_of program plan 100000) (0 ∷ 0 ∷ 0 ∷ 0 ∷ 0 ∷ 0 ∷ 1 ∷ 1 ∷ [])
 
 abbrev found : ℕ → ℕ → ℕ → CleanOr
-found p k j = clean_by program plan 100000 (closed_logs program plan 100000 (0 ∷ 0 ∷ 0 ∷ 0 ∷ 0 ∷ 0 ∷ 1 ∷ 1 ∷ [])) (race 0 1 1 0 0 WriteWrite ∷ []) p k j
+found p k j = clean_by (setting_of program plan 100000) (closed_logs (setting_of program plan 100000) (0 ∷ 0 ∷ 0 ∷ 0 ∷ 0 ∷ 0 ∷ 1 ∷ 1 ∷ [])) (race 0 1 1 0 0 WriteWrite ∷ []) p k j
 
 pub print_found : found 0 0 1 ≡ clean print_item print_edges
 unfolding terms

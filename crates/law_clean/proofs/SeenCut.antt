@@ -1,5 +1,7 @@
 -- What replays of cut logs give of each process: what it has after a beginning of the schedule, if no race has an edge
 -- of it up to there.
+use Rattle.law_steps.specs.Policies.{setting_by}
+use Rattle.ppd_model.specs.Setting.{Setting, setting_of}
 use Rattle.std.specs.Option.{option_map_or}
 use Rattle.std.proofs.Common.{◌≡◌, ℕ, zero, suc, ◌+◌, ◌<◌, ◌≤◌, true, false, List, [], ◌∷◌, ◌++◌, length, map, Option, Some, None, refl, ap, ap₂, sym, subst, ◌∙◌, arith, append-nil, true≢false, if◌then◌else◌}
 use Rattle.std.proofs.lemmas.Option.{get_or_from_slice_get, none-some, slice_get-map}
@@ -86,50 +88,50 @@ one_of None e = absurd (true≢false (sym e))
 one_of (Some z) e = refl
 
 -- a process that synchronized has intervals
-pub has_split : (program : Program) (plan : Plan) (budget : ℕ) (g : List ℕ) (q i : ℕ) → i < edge_in program plan budget g q → (x : Split) × (slice_get (splits program plan budget (story program plan budget g)) q ≡ Some x)
-has_split program plan budget g q i lt =
-    let t = slice_get_there (filter_map sync_of (did (told program plan budget g) q)) i (subst (λ z. i < z) (edge_is_count program plan budget g q) lt) in
-    let st : IsSyncStep (did (told program plan budget g) q) i t.0 = sync_step (did (told program plan budget g) q) i t.0 t.1 in
-    split_there program plan budget (story program plan budget g) 0 (told program plan budget g).moments q
-    (below_moments (told program plan budget g).moments q st.before st.step st.after st.are)
+pub has_split : (setting : Setting) (g : List ℕ) (q i : ℕ) → i < edge_in setting g q → (x : Split) × (slice_get (splits setting (story setting g)) q ≡ Some x)
+has_split setting g q i lt =
+    let t = slice_get_there (filter_map sync_of (did (told setting g) q)) i (subst (λ z. i < z) (edge_is_count setting g q) lt) in
+    let st : IsSyncStep (did (told setting g) q) i t.0 = sync_step (did (told setting g) q) i t.0 t.1 in
+    split_there setting (story setting g) 0 (told setting g).moments q
+    (below_moments (told setting g).moments q st.before st.step st.after st.are)
 
-module _ (program : Program) (policy : Policy) (budget : ℕ) (h : List ℕ) (v : IsValid program) (whole : IsWhole program (plan_of program policy) budget h) where
+module _ (program : Program) (policy : Policy) (budget : ℕ) (h : List ℕ) (v : IsValid program) (whole : IsWhole (setting_by program policy budget) h) where
   abbrev plan : Plan
   plan = plan_of program policy
 
   abbrev own_log : ℕ → List Entry
-  own_log q = closed_log (log_of program plan budget q (get_or (told program plan budget h).moments q []))
+  own_log q = closed_log (log_of (setting_of program plan budget) q (get_or (told (setting_of program plan budget) h).moments q []))
 
   -- the replays of cut logs
-  pub seen_there : (last : ℕ → Option ℕ) (q : ℕ) (y : Split) → slice_get (splits program plan budget (story program plan budget h)) q ≡ Some y
-      → seen_at (map (λ es. seen_by program plan budget es) (cut_logs last (closed_logs program plan budget h)).lists) q
-      ≡ seen_by program plan budget (cut (last q) (closed_log (log_of program plan budget q (get_or (told program plan budget h).moments q []))))
+  pub seen_there : (last : ℕ → Option ℕ) (q : ℕ) (y : Split) → slice_get (splits (setting_of program plan budget) (story (setting_of program plan budget) h)) q ≡ Some y
+      → seen_at (map (λ es. seen_by (setting_of program plan budget) es) (cut_logs last (closed_logs (setting_of program plan budget) h)).lists) q
+      ≡ seen_by (setting_of program plan budget) (cut (last q) (closed_log (log_of (setting_of program plan budget) q (get_or (told (setting_of program plan budget) h).moments q []))))
   seen_there last q y at =
-      let lists : List (List Entry) = (closed_logs program plan budget h).lists in
-      let listed : slice_get lists q ≡ Some (closed_log (log_of program plan budget (0 + q) (get_or (told program plan budget h).moments q []))) =
-      slice_get-map closed_log (logs_from program plan budget 0 (told program plan budget h).moments) q
-      ∙ ap (option_map closed_log) (logging_at program plan budget (story program plan budget h) 0 (told program plan budget h).moments q y at) in
+      let lists : List (List Entry) = (closed_logs (setting_of program plan budget) h).lists in
+      let listed : slice_get lists q ≡ Some (closed_log (log_of (setting_of program plan budget) (0 + q) (get_or (told (setting_of program plan budget) h).moments q []))) =
+      slice_get-map closed_log (logs_from (setting_of program plan budget) 0 (told (setting_of program plan budget) h).moments) q
+      ∙ ap (option_map closed_log) (logging_at (setting_of program plan budget) (story (setting_of program plan budget) h) 0 (told (setting_of program plan budget) h).moments q y at) in
       let z : 0 + q ≡ q = omega arith in
-      get_or_from_slice_get (map (λ es. seen_by program plan budget es) (cut_from last 0 lists)) q
-      (seen_by program plan budget (cut (last (0 + q)) (closed_log (log_of program plan budget (0 + q) (get_or (told program plan budget h).moments q [])))))
+      get_or_from_slice_get (map (λ es. seen_by (setting_of program plan budget) es) (cut_from last 0 lists)) q
+      (seen_by (setting_of program plan budget) (cut (last (0 + q)) (closed_log (log_of (setting_of program plan budget) (0 + q) (get_or (told (setting_of program plan budget) h).moments q [])))))
       (record { items = []; blocks = []; rounds = [] })
-      (slice_get-map (λ es. seen_by program plan budget es) (cut_from last 0 lists) q
-      ∙ ap (option_map (λ es. seen_by program plan budget es)) (cut_from_at last lists 0 q (closed_log (log_of program plan budget (0 + q) (get_or (told program plan budget h).moments q []))) listed))
-      ∙ ap (λ k. seen_by program plan budget (cut (last k) (closed_log (log_of program plan budget k (get_or (told program plan budget h).moments q []))))) z
+      (slice_get-map (λ es. seen_by (setting_of program plan budget) es) (cut_from last 0 lists) q
+      ∙ ap (option_map (λ es. seen_by (setting_of program plan budget) es)) (cut_from_at last lists 0 q (closed_log (log_of (setting_of program plan budget) (0 + q) (get_or (told (setting_of program plan budget) h).moments q []))) listed))
+      ∙ ap (λ k. seen_by (setting_of program plan budget) (cut (last k) (closed_log (log_of (setting_of program plan budget) k (get_or (told (setting_of program plan budget) h).moments q []))))) z
 
   -- ---- where a synchronization ends the last edge
 
-  pub cut_begun : (xs : List Seen) (q i : ℕ) → i < edge_in program plan budget h q → ((e : ℕ) → e ≤ i → IsUnracedIn program plan budget h q e)
-      → seen_at xs q ≡ seen_by program plan budget (cut (Some i) (own_log q)) → HasEnded program policy budget h whole.last v whole.runs xs q i
+  pub cut_begun : (xs : List Seen) (q i : ℕ) → i < edge_in (setting_of program plan budget) h q → ((e : ℕ) → e ≤ i → IsUnracedIn (setting_of program plan budget) h q e)
+      → seen_at xs q ≡ seen_by (setting_of program plan budget) (cut (Some i) (own_log q)) → HasEnded program policy budget h whole.last v whole.runs xs q i
   cut_begun xs q i ended clear seen =
-      let none : edge_in program plan budget [] q ≡ 0 = edge_is_count program plan budget [] q ∙ ap (λ ts. length (filter_map sync_of ts)) (none_did program plan budget q) in
-      let ends : EndsEdge program plan budget h q i = edge_ends program plan budget h q i ended none in
+      let none : edge_in (setting_of program plan budget) [] q ≡ 0 = edge_is_count (setting_of program plan budget) [] q ∙ ap (λ ts. length (filter_map sync_of ts)) (none_did program plan budget q) in
+      let ends : EndsEdge (setting_of program plan budget) h q i = edge_ends (setting_of program plan budget) h q i ended none in
       let g : List ℕ = ends.before ++ q ∷ [] in
-      let more : length (option_to_list (sync_of (moment_of program plan (told program plan budget ends.before) q).taken)) ≡ 1 = one_of (sync_of (moment_of program plan (told program plan budget ends.before) q).taken) ends.is_sync in
-      let grew : edge_in program plan budget g q ≡ edge_in program plan budget ends.before q + length (option_to_list (sync_of (moment_of program plan (told program plan budget ends.before) q).taken)) =
-      edge_own program plan budget ends.before q ends.there in
-      let is : edge_in program plan budget ends.before q ≡ i = ends.edge_is in
-      let x = has_split program plan budget g q i (omega (arith, grew, more, is)) in
+      let more : length (option_to_list (sync_of (moment_of program plan (told (setting_of program plan budget) ends.before) q).taken)) ≡ 1 = one_of (sync_of (moment_of program plan (told (setting_of program plan budget) ends.before) q).taken) ends.is_sync in
+      let grew : edge_in (setting_of program plan budget) g q ≡ edge_in (setting_of program plan budget) ends.before q + length (option_to_list (sync_of (moment_of program plan (told (setting_of program plan budget) ends.before) q).taken)) =
+      edge_own (setting_of program plan budget) ends.before q ends.there in
+      let is : edge_in (setting_of program plan budget) ends.before q ≡ i = ends.edge_is in
+      let x = has_split (setting_of program plan budget) g q i (omega (arith, grew, more, is)) in
       record {
         begun = record {
           before = g;
@@ -138,7 +140,7 @@ module _ (program : Program) (policy : Policy) (budget : ℕ) (h : List ℕ) (v 
           split = x.0;
           there = x.1;
           seen_is = seen
-              ∙ ap (seen_by program plan budget) (cut_of_log program policy budget h q i v whole ends clear)
+              ∙ ap (seen_by (setting_of program plan budget)) (cut_of_log program policy budget h q i v whole ends clear)
               ∙ cut_seen program policy budget h q i v whole ends clear x.0 x.1;
         };
         ended = omega (arith, grew, more, is);
@@ -146,50 +148,50 @@ module _ (program : Program) (policy : Policy) (budget : ℕ) (h : List ℕ) (v 
 
   -- ---- where none does, and the log stays whole
 
-  module _ (p : ℕ) (y : Split) (at : slice_get (splits program plan budget (story program plan budget h)) p ≡ Some y)
-      (clear : (e : ℕ) → e ≤ edge_in program plan budget h p → IsUnracedIn program plan budget h p e) where
+  module _ (p : ℕ) (y : Split) (at : slice_get (splits (setting_of program plan budget) (story (setting_of program plan budget) h)) p ≡ Some y)
+      (clear : (e : ℕ) → e ≤ edge_in (setting_of program plan budget) h p → IsUnracedIn (setting_of program plan budget) h p e) where
     there : program.functions + p < length program.bodies
-    there = process_there program plan budget h p y at
+    there = process_there (setting_of program plan budget) h p y at
 
     h_is : h ++ [] ≡ h
     h_is = append-nil h
 
-    runs : run program plan budget (h ++ []) ≡ Some whole.last
-    runs = subst (λ l. run program plan budget l ≡ Some whole.last) (sym h_is) whole.runs
+    runs : run (setting_of program plan budget) (h ++ []) ≡ Some whole.last
+    runs = subst (λ l. run (setting_of program plan budget) l ≡ Some whole.last) (sym h_is) whole.runs
 
-    reads_clear : AreUnracedReads program plan budget h (h ++ []) p
+    reads_clear : AreUnracedReads (setting_of program plan budget) h (h ++ []) p
     reads_clear b more c is reads =
-        subst (λ l. IsUnracedIn program plan budget l p (edge_in program plan budget b p)) (sym h_is)
-        (clear (edge_in program plan budget b p)
-        (let up : edge_in program plan budget b p ≤ edge_in program plan budget (b ++ p ∷ more) p = fewer program plan budget b (p ∷ more) whole.last (subst (λ l. run program plan budget l ≡ Some whole.last) is whole.runs) p in
-        subst (λ l. edge_in program plan budget b p ≤ edge_in program plan budget l p) (sym is) up))
+        subst (λ l. IsUnracedIn (setting_of program plan budget) l p (edge_in (setting_of program plan budget) b p)) (sym h_is)
+        (clear (edge_in (setting_of program plan budget) b p)
+        (let up : edge_in (setting_of program plan budget) b p ≤ edge_in (setting_of program plan budget) (b ++ p ∷ more) p = fewer (setting_of program plan budget) b (p ∷ more) whole.last (subst (λ l. run (setting_of program plan budget) l ≡ Some whole.last) is whole.runs) p in
+        subst (λ l. edge_in (setting_of program plan budget) b p ≤ edge_in (setting_of program plan budget) l p) (sym is) up))
 
-    reads : AreRead plan (begun_in_force program plan p) (get_or (told program plan budget h).moments p [])
+    reads : AreRead plan (begun_in_force program plan p) (get_or (told (setting_of program plan budget) h).moments p [])
     reads = unraced_reads program policy budget h [] whole.last p v runs reads_clear
 
-    replays : (k : ℕ) → replay_of program plan budget (interval_log plan (own_log p) k) ≡ modelled_of y (slice_get y.spans k)
+    replays : (k : ℕ) → replay_of (setting_of program plan budget) (interval_log plan (own_log p) k) ≡ modelled_of y (slice_get y.spans k)
     replays k =
-        replays_alike program policy v budget p 0 (omega arith) there (get_or (told program plan budget h).moments p []) (schedules_run program plan budget h p v whole there) (story program plan budget h) reads k
-        ∙ ap (λ (z : Split). modelled_of z (slice_get z.spans k)) (ap (split_of program plan budget (story program plan budget h) p) (sym (own_steps_are program plan budget h p)) ∙ split_is program plan budget h p y at)
+        replays_alike program policy v budget p 0 (omega arith) there (get_or (told (setting_of program plan budget) h).moments p []) (schedules_run (setting_of program plan budget) h p v whole there) (story (setting_of program plan budget) h) reads k
+        ∙ ap (λ (z : Split). modelled_of z (slice_get z.spans k)) (ap (split_of (setting_of program plan budget) (story (setting_of program plan budget) h) p) (sym (own_steps_are (setting_of program plan budget) h p)) ∙ split_is (setting_of program plan budget) h p y at)
 
     abbrev seen : List (List Item) → List ℕ → List (List ℕ) → Seen
     seen items blocks rounds = record { items = items; blocks = blocks; rounds = rounds }
 
-    logged : slice_get (loggings program plan budget h) p ≡ Some (log_of program plan budget p (get_or (told program plan budget h).moments p []))
+    logged : slice_get (loggings (setting_of program plan budget) h) p ≡ Some (log_of (setting_of program plan budget) p (get_or (told (setting_of program plan budget) h).moments p []))
     logged =
         let z : 0 + p ≡ p = omega arith in
-        logging_at program plan budget (story program plan budget h) 0 (told program plan budget h).moments p y at
-        ∙ ap (λ k. Some (log_of program plan budget k (get_or (told program plan budget h).moments p []))) z
+        logging_at (setting_of program plan budget) (story (setting_of program plan budget) h) 0 (told (setting_of program plan budget) h).moments p y at
+        ∙ ap (λ k. Some (log_of (setting_of program plan budget) k (get_or (told (setting_of program plan budget) h).moments p []))) z
 
-    whole_seen : seen_by program plan budget (own_log p) ≡ seen_of y
+    whole_seen : seen_by (setting_of program plan budget) (own_log p) ≡ seen_of y
     whole_seen =
         let entries : List Entry = own_log p in
-        let each : AreEach IsSameInterval y.spans (extents entries) = (intervals_of_logs program plan budget h p y (log_of program plan budget p (get_or (told program plan budget h).moments p [])) at logged).closed_are in
+        let each : AreEach IsSameInterval y.spans (extents entries) = (intervals_of_logs (setting_of program plan budget) h p y (log_of (setting_of program plan budget) p (get_or (told (setting_of program plan budget) h).moments p [])) at logged).closed_are in
         ap₂ (λ a b. seen a b (rounds_by (map (λ (z : Extent). z.parent) (extents entries))))
-        (items_same program plan budget (indexed entries) y replays) (same_blocks y.spans (extents entries) each)
+        (items_same (setting_of program plan budget) (indexed entries) y replays) (same_blocks y.spans (extents entries) each)
         ∙ ap (seen (map (items_of y) y.spans) (map (λ (i : Span). i.block) y.spans))
-        (ap rounds_by (same_parents y.spans (extents entries) each) ∙ rounds_same program plan budget h p y at)
+        (ap rounds_by (same_parents y.spans (extents entries) each) ∙ rounds_same (setting_of program plan budget) h p y at)
 
-    pub whole_begun : (xs : List Seen) → seen_at xs p ≡ seen_by program plan budget (own_log p)
+    pub whole_begun : (xs : List Seen) → seen_at xs p ≡ seen_by (setting_of program plan budget) (own_log p)
         → (b : IsBegun program policy budget h whole.last v whole.runs xs p) × (b.split ≡ y) × (b.before ≡ h)
     whole_begun xs seen_is = (record { before = h; rest = []; schedule_is = sym h_is; split = y; there = at; seen_is = seen_is ∙ whole_seen }, refl, refl)

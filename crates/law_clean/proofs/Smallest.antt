@@ -1,4 +1,5 @@
 -- shared int x; process a { x = 2; print(x + 3); }
+use Rattle.ppd_model.specs.Setting.{setting_of}
 use Rattle.std.proofs.Common.{◌≡◌, refl}
 use Rattle.std.specs.Prelude.{pos, true, false, [], ◌∷◌, None}
 use Rattle.ppd_ast.specs.Term.{terms}
@@ -35,6 +36,6 @@ plan = record {
   units = (record { start = start.Entry 0; cells = 0 ∷ [] }) ∷ [];
 }
 
-pub past_the_end : answer_of program plan 100000 (0 ∷ 0 ∷ 0 ∷ 0 ∷ []) 0 0 3 ≡ no_item
+pub past_the_end : answer_of (setting_of program plan 100000) (0 ∷ 0 ∷ 0 ∷ 0 ∷ []) 0 0 3 ≡ no_item
 unfolding terms
 past_the_end = refl

@@ -1,8 +1,8 @@
 -- What the proofs speak of: definitions that no contract cites.
+use Rattle.ppd_model.specs.Setting.{Setting}
 use Rattle.ppd_model.specs.Races.{races_among, edges_of_story}
 use Rattle.std.specs.Prelude.{◌≡◌, false, ℕ, ◌⊎◌, ◌<◌, Bool, ◌||◌, List, ◌∷◌, ◌++◌, length, Some, IsTrue}
 use Rattle.ppd_ast.specs.declared.program.Program.{Program}
-use Rattle.ppd_ast.specs.declared.plan.Plan.{Plan}
 use Rattle.ppd_model.specs.declared.graph.EdgeId.{EdgeId}
 use Rattle.ppd_model.specs.declared.tracing.Story.{Story}
 use Rattle.ppd_model.specs.HappenedBefore.{EdgeBefore, edge}
@@ -31,13 +31,13 @@ UnracedMeansOrder =
 -- one's edge is before the other's
 abbrev pub UnracedGoForward : Type 0
 UnracedGoForward =
-    (program : Program) (plan : Plan) (budget : ℕ) (g : List ℕ) (q : ℕ) (more : List ℕ) (p : ℕ) (rest : List ℕ)
+    (setting : Setting) (g : List ℕ) (q : ℕ) (more : List ℕ) (p : ℕ) (rest : List ℕ)
     (w : World)
-    → run program plan budget ((g ++ q ∷ more) ++ p ∷ rest) ≡ Some w
-    → IsUnracedIn program plan budget ((g ++ q ∷ more) ++ p ∷ rest) q (edge_in program plan budget g q)
-    ⊎ IsUnracedIn program plan budget ((g ++ q ∷ more) ++ p ∷ rest) p (edge_in program plan budget (g ++ q ∷ more) p)
-    → (q ≡ p → ⊥) → (c : ℕ) → c < length program.starts → (first second : Bool) → IsTrue (first || second)
-    → IsAccess c first (need_after program plan budget g q)
-    → IsAccess c second (need_after program plan budget (g ++ q ∷ more) p)
-    → EdgeBefore program (sync_record program plan budget ((g ++ q ∷ more) ++ p ∷ rest))
-    (edge q (edge_in program plan budget g q)) (edge p (edge_in program plan budget (g ++ q ∷ more) p))
+    → run setting ((g ++ q ∷ more) ++ p ∷ rest) ≡ Some w
+    → IsUnracedIn setting ((g ++ q ∷ more) ++ p ∷ rest) q (edge_in setting g q)
+    ⊎ IsUnracedIn setting ((g ++ q ∷ more) ++ p ∷ rest) p (edge_in setting (g ++ q ∷ more) p)
+    → (q ≡ p → ⊥) → (c : ℕ) → c < length setting.program.starts → (first second : Bool) → IsTrue (first || second)
+    → IsAccess c first (need_after setting g q)
+    → IsAccess c second (need_after setting (g ++ q ∷ more) p)
+    → EdgeBefore setting.program (sync_record setting ((g ++ q ∷ more) ++ p ∷ rest))
+    (edge q (edge_in setting g q)) (edge p (edge_in setting (g ++ q ∷ more) p))

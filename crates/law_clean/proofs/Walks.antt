@@ -1,12 +1,12 @@
 -- A walk back over the events of a process after a beginning of a schedule, and one over the same events at its end,
 -- find the same write.
+use Rattle.law_steps.specs.Policies.{setting_by}
 use Rattle.std.proofs.Common.{◌≡◌, ℕ, ◌+◌, ◌<◌, ◌≤◌, ℤ, true, false, List, ◌++◌, length, Some, refl, ap, sym, ◌∙◌, arith, true≢false}
 use Rattle.std.specs.Prelude.{slice_get, Result}
 use Rattle.ppd_ast.specs.declared.plan.Policy.{Policy}
 use Rattle.ppd_ast.specs.declared.program.Program.{Program}
 use Rattle.ppd_ast.specs.Valid.{IsValid}
 use Rattle.ppd_ast.proofs.ValidLaws.{slice_get_there, slice_get_below}
-use Rattle.ppd_blocks.specs.Blocks.{plan_of}
 use Rattle.ppd_model.specs.declared.flow.Origin.{Origin}
 use Rattle.ppd_model.specs.declared.trace.TracedEvent.{TracedEvent}
 use Rattle.ppd_model.specs.FlowbackEdges.{part_at}
@@ -43,8 +43,8 @@ back_alike : (es fs : List TracedEvent) (n : ℕ) → LookAlike es fs n → Look
 back_alike es fs n a = record { syncs = sym a.syncs; writes = λ c. sym (a.writes c) }
 
 module _ (program : Program) (policy : Policy) (budget : ℕ) (g rest : List ℕ) (p : ℕ) (v : IsValid program) (x y : Split)
-    (at_g : slice_get (splits program (plan_of program policy) budget (story program (plan_of program policy) budget g)) p ≡ Some x)
-    (at : slice_get (splits program (plan_of program policy) budget (story program (plan_of program policy) budget (g ++ rest))) p ≡ Some y) where
+    (at_g : slice_get (splits (setting_by program policy budget) (story (setting_by program policy budget) g)) p ≡ Some x)
+    (at : slice_get (splits (setting_by program policy budget) (story (setting_by program policy budget) (g ++ rest))) p ≡ Some y) where
   events_alike : (n : ℕ) → n < length x.trace.events → LookAlike x.trace.events y.trace.events n
   events_alike n lt =
       let e = slice_get_there x.trace.events n lt in
@@ -65,8 +65,8 @@ module _ (program : Program) (policy : Policy) (budget : ℕ) (g rest : List ℕ
     found_kept k i u w h h' =
         let l : IsLastWriter x.trace.events c 0 n h.0 u = h.2 in
         let f : IsFoundAt y w h.0 u = found_is y c n h.0 u (writer_kept x.trace.events y.trace.events n here c 0 h.0 u l) w h' in
-        let r : IsReferred (splits program (plan_of program policy) budget (story program (plan_of program policy) budget (g ++ rest))) y p h.0 =
-        (items_whole program (plan_of program policy) budget (g ++ rest) p y v at).events h.0 (within (part_kept program policy budget g rest p v x y at_g at k i (own h.0) h.1) l.to) in
+        let r : IsReferred (splits (setting_by program policy budget) (story (setting_by program policy budget) (g ++ rest))) y p h.0 =
+        (items_whole (setting_by program policy budget) (g ++ rest) p y v at).events h.0 (within (part_kept program policy budget g rest p v x y at_g at k i (own h.0) h.1) l.to) in
         let first = r.placed.once k i (part_kept program policy budget g rest p v x y at_g at k i (own h.0) h.1) in
         let second = r.placed.once f.interval f.item f.there in
         f.is ∙ ap (λ z. Found z f.item u) (second.0 ∙ sym first.0) ∙ ap (λ z. Found k z u) (second.1 ∙ sym first.1)

@@ -1,7 +1,6 @@
 -- What is answered of an item in a run with races.
+use Rattle.ppd_model.specs.Setting.{Setting}
 use Rattle.law_clean.specs.Pasts.{first_raced, is_clean, left_edge, lies}
-use Rattle.ppd_ast.specs.declared.plan.Plan.{Plan}
-use Rattle.ppd_ast.specs.declared.program.Program.{Program}
 use Rattle.ppd_flow_model.specs.Shared.{Missing}
 use Rattle.ppd_model.specs.FlowbackEdges.{edges}
 use Rattle.ppd_model.specs.HappenedBefore.{edge}
@@ -33,24 +32,24 @@ unclean_or p (Some i) otherwise = unclean (edge p i)
 abbrev pub is_reached : ℕ → Option ℕ → Bool
 is_reached last o = option_map_or (λ u. nat_le u last) o false
 
-module _ (program : Program) (plan : Plan) (budget : ℕ) (h : List ℕ) (p k j : ℕ) where
+module _ (setting : Setting) (h : List ℕ) (p k j : ℕ) where
   -- interval k of process p, in its split, where this is the first edge whose past has a race: of an item that is not
   -- there, that edge if the interval reaches it
   abbrev pub by_part : Option ℕ → Split → Option Part → CleanOr
   by_part first x None =
-      if is_reached (left_edge (get_or (closed_logs program plan budget h).lists p []) k) first
+      if is_reached (left_edge (get_or (closed_logs setting h).lists p []) k) first
       then unclean_or p first no_item else no_item
   by_part first x (Some part) =
-      if is_clean program (story program plan budget h) p
-      (lies (get_or (closed_logs program plan budget h).lists p []) x part) then
-      option_map_or (λ t. clean t (unwrap_or (edges program plan budget (story program plan budget h) p k j) []))
+      if is_clean setting.program (story setting h) p
+      (lies (get_or (closed_logs setting h).lists p []) x part) then
+      option_map_or (λ t. clean t (unwrap_or (edges setting (story setting h) p k j) []))
       (slice_get (item_of x part) 0) no_item
       else unclean_or p first no_item
 
   -- what is to be answered of item j of interval k of process p
   abbrev pub answer_of : CleanOr
   answer_of =
-      let first = first_raced program (sync_record program plan budget h) (races program plan budget h)
-      (get_or (closed_logs program plan budget h).lists p []) p k in
+      let first = first_raced setting.program (sync_record setting h) (races setting h)
+      (get_or (closed_logs setting h).lists p []) p k in
       option_map_or (λ x. option_map_or (λ i. by_part first x (slice_get i.parts j)) (slice_get x.spans k) no_item)
-      (slice_get (splits program plan budget (story program plan budget h)) p) no_item
+      (slice_get (splits setting (story setting h)) p) no_item

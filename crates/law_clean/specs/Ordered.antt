@@ -1,7 +1,8 @@
 -- What holds in a run with races of the edges that no race has.
+use Rattle.law_steps.specs.Policies.{setting_by}
+use Rattle.ppd_model.specs.Setting.{Setting}
 use Rattle.std.specs.Prelude.{◌≡◌, ℕ, ◌<◌, false, List, ◌∷◌, ◌++◌, length, Some, get_or, []}
 use Rattle.ppd_ast.specs.Valid.{IsValid}
-use Rattle.ppd_ast.specs.declared.plan.Plan.{Plan}
 use Rattle.ppd_ast.specs.declared.plan.Policy.{Policy}
 use Rattle.ppd_ast.specs.declared.program.Program.{Program}
 use Rattle.ppd_blocks.specs.Blocks.{plan_of}
@@ -18,36 +19,36 @@ use Rattle.law_replay.specs.InForce.Values.{AreRead, begun_in_force}
 use Rattle.law_clean.specs.Pasts.{is_raced}
 
 -- no race of the schedule has this edge
-abbrev pub IsUnracedIn : Program → Plan → ℕ → List ℕ → ℕ → ℕ → Type 0
-IsUnracedIn program plan budget h p i = is_raced (races program plan budget h) (edge p i) ≡ false
+abbrev pub IsUnracedIn : Setting → List ℕ → ℕ → ℕ → Type 0
+IsUnracedIn setting h p i = is_raced (races setting h) (edge p i) ≡ false
 
 -- each read of process p in a beginning g of the schedule h is in an edge that no race of h has
-abbrev pub AreUnracedReads : Program → Plan → ℕ → (g h : List ℕ) → ℕ → Type 0
-AreUnracedReads program plan budget g h p =
-    (b more : List ℕ) (c : ℕ) → g ≡ b ++ p ∷ more → need_after program plan budget b p ≡ Read c
-    → IsUnracedIn program plan budget h p (edge_in program plan budget b p)
+abbrev pub AreUnracedReads : Setting → (g h : List ℕ) → ℕ → Type 0
+AreUnracedReads setting g h p =
+    (b more : List ℕ) (c : ℕ) → g ≡ b ++ p ∷ more → need_after setting b p ≡ Read c
+    → IsUnracedIn setting h p (edge_in setting b p)
 
 -- then each of these reads is answered by the value in force
 abbrev pub UnracedReadsAreInForce : Type 0
 UnracedReadsAreInForce =
     (program : Program) (policy : Policy) (budget : ℕ) (g rest : List ℕ) (w : World) (p : ℕ)
-    → IsValid program → run program (plan_of program policy) budget (g ++ rest) ≡ Some w
-    → AreUnracedReads program (plan_of program policy) budget g (g ++ rest) p
+    → IsValid program → run (setting_by program policy budget) (g ++ rest) ≡ Some w
+    → AreUnracedReads (setting_by program policy budget) g (g ++ rest) p
     → AreRead (plan_of program policy) (begun_in_force program (plan_of program policy) p)
-    (get_or (told program (plan_of program policy) budget g).moments p [])
+    (get_or (told (setting_by program policy budget) g).moments p [])
 
 -- no race of h has the edge of process p after g, or an edge before it
-abbrev pub IsCleanAt : Program → Plan → ℕ → (g h : List ℕ) → ℕ → Type 0
-IsCleanAt program plan budget g h p =
-    IsUnracedIn program plan budget h p (edge_in program plan budget g p)
-    × ((q i : ℕ) → EdgeBefore program (sync_record program plan budget h) (edge q i)
-    (edge p (edge_in program plan budget g p)) → IsUnracedIn program plan budget h q i)
+abbrev pub IsCleanAt : Setting → (g h : List ℕ) → ℕ → Type 0
+IsCleanAt setting g h p =
+    IsUnracedIn setting h p (edge_in setting g p)
+    × ((q i : ℕ) → EdgeBefore setting.program (sync_record setting h) (edge q i)
+    (edge p (edge_in setting g p)) → IsUnracedIn setting h q i)
 
 -- then a shared read there is answered by the greatest write before it
 abbrev pub CleanReadsAreFound : Type 0
 CleanReadsAreFound =
-    (program : Program) (plan : Plan) (budget : ℕ) (g : List ℕ) (p : ℕ) (rest : List ℕ) (w : World)
-    → run program plan budget (g ++ p ∷ rest) ≡ Some w
-    → IsCleanAt program plan budget g (g ++ p ∷ rest) p
-    → (c : ℕ) → c < length program.starts → need_after program plan budget g p ≡ Read c
-    → IsFound program plan budget g (g ++ p ∷ rest) p c
+    (setting : Setting) (g : List ℕ) (p : ℕ) (rest : List ℕ) (w : World)
+    → run setting (g ++ p ∷ rest) ≡ Some w
+    → IsCleanAt setting g (g ++ p ∷ rest) p
+    → (c : ℕ) → c < length setting.program.starts → need_after setting g p ≡ Read c
+    → IsFound setting g (g ++ p ∷ rest) p c

@@ -1,8 +1,8 @@
 -- What `clean_edges` finds of an item, by the logs, their races and the replays of cut logs.
+use Rattle.ppd_model.specs.Setting.{Setting}
 use Rattle.law_clean.specs.Answers.{CleanOr, clean, is_reached, no_item, unclean, unclean_or, unwritten}
 use Rattle.law_clean.specs.Cuts.{cut_logs}
 use Rattle.law_clean.specs.Pasts.{any_raced, first_raced, left_edge}
-use Rattle.ppd_ast.specs.declared.plan.Plan.{Plan}
 use Rattle.ppd_ast.specs.declared.program.Program.{Program}
 use Rattle.ppd_entry.specs.declared.entry.Entry.{Entry}
 use Rattle.ppd_entry.specs.declared.entry.Logs.{Logs}
@@ -53,10 +53,10 @@ module _ (program : Program) (rec : List (List Sync)) (races : List Race) where
 
 -- ---- by logs, of which this is the record
 
-module _ (program : Program) (plan : Plan) (budget : ℕ) (logs : Logs) (rec : List (List Sync)) (races : List Race) (p k j : ℕ) where
+module _ (setting : Setting) (logs : Logs) (rec : List (List Sync)) (races : List Race) (p k j : ℕ) where
   -- what the replays of the cut logs give
   abbrev pub seens : Option ℕ → List Seen
-  seens o = map (λ es. seen_by program plan budget es) (cut_logs (last_wanted program rec races p o) logs).lists
+  seens o = map (λ es. seen_by setting es) (cut_logs (last_wanted setting.program rec races p o) logs).lists
 
   -- the edge of an item at place j
   abbrev pub edge_of_item : List Seen → Item → ℕ
@@ -68,7 +68,7 @@ module _ (program : Program) (plan : Plan) (budget : ℕ) (logs : Logs) (rec : L
   is_unclean xs None t = false
   is_unclean xs (Some u) t =
       nat_le u (edge_of_item xs t)
-      || (is_sync_item t && leads_from_race program rec races (edge p (edge_of_item xs t)))
+      || (is_sync_item t && leads_from_race setting.program rec races (edge p (edge_of_item xs t)))
 
   abbrev pub with_edges : Item → Option (Result (List FlowEdge) Missing) → CleanOr
   with_edges t None = no_item
@@ -80,7 +80,7 @@ module _ (program : Program) (plan : Plan) (budget : ℕ) (logs : Logs) (rec : L
   by_item o xs None =
       if is_reached (left_edge (get_or logs.lists p []) k) o then unclean_or p o no_item else no_item
   by_item o xs (Some t) =
-      if is_unclean xs o t then unclean_or p o no_item else with_edges t (found_edges program plan logs xs p k j).found
+      if is_unclean xs o t then unclean_or p o no_item else with_edges t (found_edges setting.program setting.plan logs xs p k j).found
 
   abbrev pub by_first : Option ℕ → CleanOr
   by_first o = by_item o (seens o) (slice_get (get_or (seen_at (seens o) p).items k []) j)
@@ -92,7 +92,7 @@ module _ (program : Program) (plan : Plan) (budget : ℕ) (logs : Logs) (rec : L
       if nat_le u (first_edge (get_or logs.lists p []) k) then unclean (edge p u) else by_first (Some u)
 
 -- what is found of item j of interval k of process p
-abbrev pub clean_by : Program → Plan → ℕ → Logs → List Race → ℕ → ℕ → ℕ → CleanOr
-clean_by program plan budget logs races p k j =
-    from_first program plan budget logs (record_in logs) races p k j
-    (first_raced program (record_in logs) races (get_or logs.lists p []) p k)
+abbrev pub clean_by : Setting → Logs → List Race → ℕ → ℕ → ℕ → CleanOr
+clean_by setting logs races p k j =
+    from_first setting logs (record_in logs) races p k j
+    (first_raced setting.program (record_in logs) races (get_or logs.lists p []) p k)

@@ -1,7 +1,6 @@
 -- What is told of a run by a schedule without a race are all flowback edges of that schedule.
+use Rattle.ppd_model.specs.Setting.{Setting}
 use Rattle.ppd_ast.specs.Valid.{IsValid}
-use Rattle.ppd_ast.specs.declared.plan.Plan.{Plan}
-use Rattle.ppd_ast.specs.declared.program.Program.{Program}
 use Rattle.ppd_flow_past.specs.declared.flow_error.FlowError.TheVariants.{NoEvent}
 use Rattle.ppd_model.proofs.EdgeWords.{edges_if, edges_in, part_in}
 use Rattle.ppd_model.proofs.IntervalWords.{items_at, items_in, splits_from}
@@ -29,7 +28,7 @@ use Rattle.ppd_text.specs.Edges.{why_text}
 use Rattle.law_headline.proofs.Tables.{count_in, count_row, told_in, told_in_span, told_row}
 use Rattle.law_headline.proofs.Values.{told_as, told_here}
 use Rattle.law_headline.specs.Answered.{AreEdgesOf, AsksEdges, HasEdges, HasItsEdges, IsItem, MissesNoEdge, told_if}
-use Rattle.law_headline.specs.Runs.{Run, plan_in, splits_in, story_in}
+use Rattle.law_headline.specs.Runs.{Run, plan_in, splits_in, story_in, setting_in}
 use Rattle.std.proofs.Common.{Err, List, Ok, Option, [], ap, arith, get_or, inl, inr, length, lt-ltb, map, nat_lt, refl, suc, sym, true, zero, ℕ, ◌+◌, ◌<◌, ◌∙◌, ◌∷◌, ◌≡◌}
 use Rattle.std.proofs.lemmas.Bool.{cases_lt}
 use Rattle.std.proofs.lemmas.Option.{none-some, slice_get_past, slice_get_within}
@@ -41,12 +40,12 @@ found None es e = absurd (cc)
 found (Some fs) es e = cc
 
 -- an event of a process's trace is one of the process in its intervals
-module _ (follow : ProcessesFollowTheirSteps) (program : Program) (plan : Plan) (budget : ℕ) (h : List ℕ) where
+module _ (follow : ProcessesFollowTheirSteps) (setting : Setting) (h : List ℕ) where
   abbrev told_story : Story
-  told_story = story program plan budget h
+  told_story = story setting h
 
-  trace_at : (k p n : ℕ) (e : TracedEvent) (steps : List (List Taken)) → slice_get (get_or (events_from program plan budget told_story k steps) p []) n ≡ Some e
-      → (y : Split) × (slice_get (splits_from program plan budget told_story k steps) p ≡ Some y) × (slice_get y.trace.events n ≡ Some e)
+  trace_at : (k p n : ℕ) (e : TracedEvent) (steps : List (List Taken)) → slice_get (get_or (events_from setting told_story k steps) p []) n ≡ Some e
+      → (y : Split) × (slice_get (splits_from setting told_story k steps) p ≡ Some y) × (slice_get y.trace.events n ≡ Some e)
   trace_at k p zero e [] is = absurd (none-some e (nowhere p ∙ is))
     where
       nowhere : (p : ℕ) → ◌≡◌ {A = Option TracedEvent} None (slice_get (get_or [] p []) zero)
@@ -58,24 +57,24 @@ module _ (follow : ProcessesFollowTheirSteps) (program : Program) (plan : Plan) 
       nowhere zero = refl
       nowhere (suc p) = refl
   trace_at k zero n e (s ∷ rest) is = (
-    split_of program plan budget told_story k s,
+    split_of setting told_story k s,
     refl,
-    ap (λ (t : Tracing). slice_get t.events n) ((follow program plan budget h).split told_story k s) ∙ is,
+    ap (λ (t : Tracing). slice_get t.events n) ((follow setting h).split told_story k s) ∙ is,
   )
   trace_at k (suc p) n e (s ∷ rest) is = trace_at (k + 1) p n e rest is
 
 module _ (items_whole : ItemsAreWhole) (r : Run) (valid : IsValid r.program) (h : List ℕ) (free : races_among (edges_of_story r.program (story_in r h)) ≡ []) where
   abbrev known : Known
-  known = known_of_run r.program (plan_in r) r.budget h
+  known = known_of_run (setting_in r) h
 
   abbrev xs : List Split
   xs = splits_in r h
 
   abbrev flows : ℕ → ℕ → ℕ → Flow
-  flows = flow_told r.program (plan_in r) r.budget (story_in r h)
+  flows = flow_told (setting_in r) (story_in r h)
 
   abbrev edges_at : (p k j : ℕ) → Option (List FlowEdge)
-  edges_at p k j = edges r.program (plan_in r) r.budget (story_in r h) p k j
+  edges_at p k j = edges (setting_in r) (story_in r h) p k j
 
   module _ (p k j : ℕ) where
     abbrev rows : List (List Told)
@@ -93,7 +92,7 @@ module _ (items_whole : ItemsAreWhole) (r : Run) (valid : IsValid r.program) (h 
         (ap (edges_in r.program (plan_in r) xs k j) e ∙ ap (λ o. edges_if r.program (plan_in r) xs y (part_in o j)) f)
     in_span y e (Some i) f =
         let is : slice_get (get_or (map told_of_split (splits_in r h)) p []) k ≡ Some (Ok (items_of y i)) = told_row xs p k ∙ (ap (told_in k) e ∙ ap (told_in_span y) f) in
-        let count : length (items_of y i) ≡ length i.parts = (items_whole r.program (plan_in r) r.budget h p y valid e).whole k i f in
+        let count : length (items_of y i) ≡ length i.parts = (items_whole (setting_in r) h p y valid e).whole k i f in
         elim (cases_lt j (length (items_of y i))) [
           | inl lt ↦ table ∙ flow_inside flows (map told_of_split (splits_in r h)) p k j (items_of y i) is lt
           | inr le ↦
@@ -117,11 +116,11 @@ module _ (items_whole : ItemsAreWhole) (r : Run) (valid : IsValid r.program) (h 
 
   -- ---- no edge is missing
 
-  event_has : ProcessesFollowTheirSteps → (p n : ℕ) (e : TracedEvent) → slice_get (get_or (full_trace r.program (plan_in r) r.budget (story r.program (plan_in r) r.budget h)).events p []) n ≡ Some e → HasItsEdges r h known p n e
+  event_has : ProcessesFollowTheirSteps → (p n : ℕ) (e : TracedEvent) → slice_get (get_or (full_trace (setting_in r) (story (setting_in r) h)).events p []) n ≡ Some e → HasItsEdges r h known p n e
   event_has follow p n e is =
-      let at = trace_at follow r.program (plan_in r) r.budget h 0 p n e (story_in r h).steps is in
+      let at = trace_at follow (setting_in r) h 0 p n e (story_in r h).steps is in
       let y : Split = at.0 in
-      let referred : IsReferred xs y p n = (items_whole r.program (plan_in r) r.budget h p y valid at.1).events n (slice_get_within y.trace.events n e at.2) in
+      let referred : IsReferred xs y p n = (items_whole (setting_in r) h p y valid at.1).events n (slice_get_within y.trace.events n e at.2) in
       record {
         interval = referred.interval;
         item = referred.item;
@@ -169,7 +168,7 @@ module _ (items_whole : ItemsAreWhole) (r : Run) (valid : IsValid r.program) (h 
 
   pub misses_none : ProcessesFollowTheirSteps → RunsAreAnswered → MissesNoEdge r h known
   misses_none follow run_answered = record {
-    lines = run_answered r.program (plan_in r) r.budget h;
+    lines = run_answered (setting_in r) h;
     events = event_has follow;
     items = λ p k j es e. flow_is p k j ∙ ap (λ o. ok_or o NoEvent) e;
     requested = λ line p k j item es a there has. requested p k j item es there has line a;

@@ -1,4 +1,5 @@
 -- The races of a schedule are exactly the conflicts that its record leaves unordered.
+use Rattle.ppd_model.specs.Setting.{Setting}
 use Rattle.ppd_model.specs.Synchronizations.{sync_of}
 use Rattle.std.specs.Prelude.{filter_map}
 use Rattle.std.specs.Bool.{beq}
@@ -6,7 +7,6 @@ use Rattle.std.proofs.Common.{◌≡◌, ℕ, zero, suc, ◌+◌, ◌-◌, ◌<�
 use Rattle.std.proofs.lemmas.Bool.{and_from, cases_lt, or_cases, or_left, or_right}
 use Rattle.std.proofs.lemmas.Option.{none-some}
 use Rattle.std.specs.List.{range_with_len}
-use Rattle.ppd_ast.specs.declared.plan.Plan.{Plan}
 use Rattle.ppd_ast.specs.declared.program.Program.{Program}
 use Rattle.ppd_ast.specs.Valid.{IsValid}
 use Rattle.ppd_model.specs.declared.graph.EdgeId.{EdgeId}
@@ -195,18 +195,18 @@ module _ (tests_edges : IsTestOfEdges) (program : Program) (s : Story) (r : Race
       (and_from first_has second_has (access_is s r.p r.i r.cell (first_writes r.kind) c.first) (access_is s r.q r.j r.cell (second_writes r.kind) c.second))
       (unordered_is tests_edges program s (edge r.p r.i) (edge r.q r.j) c.unordered))
 
-pub races_listed : IsTestOfEdges → AccessesAreOfCells → ObjectsStay → (program : Program) (plan : Plan) (budget : ℕ) (h : List ℕ) → IsValid program
-    → ListsExactly program (story program plan budget h) (races program plan budget h)
-races_listed tests_edges accesses_there objects_stay program plan budget h valid =
-    let edges : Edges = edges_of_story program (story program plan budget h) in
+pub races_listed : IsTestOfEdges → AccessesAreOfCells → ObjectsStay → (setting : Setting) (h : List ℕ) → IsValid setting.program
+    → ListsExactly setting.program (story setting h) (races setting h)
+races_listed tests_edges accesses_there objects_stay setting h valid =
+    let edges : Edges = edges_of_story setting.program (story setting h) in
     record {
       all_and_only = λ r. (
-        λ c. of_listed tests_edges program (story program plan budget h) r (of_contains (races program plan budget h) r c),
+        λ c. of_listed tests_edges setting.program (story setting h) r (of_contains (races setting h) r c),
         λ u.
-            let a = access_at (story program plan budget h) r.p r.i r.cell (first_writes r.kind) u.first in
-            let there = accesses_there program plan budget h r.p a.0 (record { edge = r.i; cell = r.cell; writes = first_writes r.kind }) valid a.1 in
-            let cells = (objects_stay program plan budget h).cells in
-            in_contains (races program plan budget h) r (in_listed tests_edges program (story program plan budget h) r (omega (arith, there, cells)) u),
+            let a = access_at (story setting h) r.p r.i r.cell (first_writes r.kind) u.first in
+            let there = accesses_there setting h r.p a.0 (record { edge = r.i; cell = r.cell; writes = first_writes r.kind }) valid a.1 in
+            let cells = (objects_stay setting h).cells in
+            in_contains (races setting h) r (in_listed tests_edges setting.program (story setting h) r (omega (arith, there, cells)) u),
       );
-      each_once = one_place (races program plan budget h) (filter_once (is_race edges) (candidates edges) (candidates_once edges));
+      each_once = one_place (races setting h) (filter_once (is_race edges) (candidates edges) (candidates_once edges));
     }

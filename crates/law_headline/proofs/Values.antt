@@ -1,9 +1,8 @@
 -- What is told of a run by a schedule without a race are the values of that schedule.
+use Rattle.ppd_model.specs.Setting.{Setting}
 use Rattle.ppd_model.specs.Races.{races_among, edges_of_story}
 use Rattle.std.specs.Prelude.{None, Some, slice_get}
 use Rattle.std.proofs.Common.{◌≡◌, ℕ, zero, suc, ◌+◌, ◌<◌, List, [], ◌∷◌, Option, Ok, arith, get_or, length, map, refl, ap, ap₂, ◌∙◌}
-use Rattle.ppd_ast.specs.declared.plan.Plan.{Plan}
-use Rattle.ppd_ast.specs.declared.program.Program.{Program}
 use Rattle.ppd_ast.specs.Valid.{IsValid}
 use Rattle.ppd_flow_model.specs.Seen.{Seen, seen_of}
 use Rattle.ppd_model.specs.declared.flow.Item.{Item}
@@ -22,7 +21,7 @@ use Rattle.ppd_session.proofs.Tables.{cell_at}
 use Rattle.law_whole.specs.Joined.{events_in, events_of_items, joined}
 use Rattle.law_whole.specs.Laws.{JoinedAreEvents, bare}
 use Rattle.law_headline.specs.Answered.{AreValuesOf, events_told, items_told, told_if}
-use Rattle.law_headline.specs.Runs.{Run, plan_in, splits_in, story_in}
+use Rattle.law_headline.specs.Runs.{Run, plan_in, splits_in, story_in, setting_in}
 use Rattle.law_headline.proofs.Tables.{told_in, told_in_span, told_row}
 use Rattle.ppd_session.proofs.KnownWords.{of_cells, last_told}
 
@@ -45,15 +44,15 @@ told_events y =
     ap (λ is. events_in (record { items = is; blocks = []; rounds = [] })) (map-map items_told (λ (i : Span). Ok (items_of y i)) y.spans)
     ∙ events_same (record { items = map (items_of y) y.spans; blocks = []; rounds = [] }) (seen_of y) refl
 
-module _ (follow : ProcessesFollowTheirSteps) (program : Program) (plan : Plan) (budget : ℕ) (h : List ℕ) where
+module _ (follow : ProcessesFollowTheirSteps) (setting : Setting) (h : List ℕ) where
   abbrev told_story : Story
-  told_story = story program plan budget h
+  told_story = story setting h
 
   -- a process in its intervals has its trace
-  pub traced : (k : ℕ) (steps : List (List Taken)) → map (λ (y : Split). bare y.trace.events) (splits_from program plan budget told_story k steps) ≡ map bare (events_from program plan budget told_story k steps)
+  pub traced : (k : ℕ) (steps : List (List Taken)) → map (λ (y : Split). bare y.trace.events) (splits_from setting told_story k steps) ≡ map bare (events_from setting told_story k steps)
   traced k [] = refl
   traced k (s ∷ rest) =
-      ap₂ (λ y ys. y ∷ ys) (ap (λ (t : Tracing). bare t.events) ((follow program plan budget h).split told_story k s))
+      ap₂ (λ y ys. y ∷ ys) (ap (λ (t : Tracing). bare t.events) ((follow setting h).split told_story k s))
       (traced (k + 1) rest)
 
 -- ---- the values
@@ -68,7 +67,7 @@ told_as k (Some y) = if_there y k (slice_get y.spans k)
 
 module _ (r : Run) (valid : IsValid r.program) (h : List ℕ) (free : races_among (edges_of_story r.program (story_in r h)) ≡ []) where
   abbrev known : Known
-  known = known_of_run r.program (plan_in r) r.budget h
+  known = known_of_run (setting_in r) h
 
   pub rows_are : known.items ≡ map told_of_split (splits_in r h)
   rows_are = ap (λ rs. unless_raced rs (map told_of_split (splits_in r h))) free
@@ -76,20 +75,20 @@ module _ (r : Run) (valid : IsValid r.program) (h : List ℕ) (free : races_amon
   pub told_here : (p k : ℕ) → told_at known p k ≡ told_in k (slice_get (splits_in r h) p)
   told_here p k = ap (λ rows. slice_get (get_or rows p []) k) rows_are ∙ told_row (splits_in r h) p k
 
-  events_are : ProcessesFollowTheirSteps → JoinedAreEvents → map events_told known.items ≡ map bare (events_from r.program (plan_in r) r.budget (story_in r h) 0 (story_in r h).steps)
+  events_are : ProcessesFollowTheirSteps → JoinedAreEvents → map events_told known.items ≡ map bare (events_from (setting_in r) (story_in r h) 0 (story_in r h).steps)
   events_are follow joined_events =
       ap (λ rows. map events_told rows) rows_are
       ∙ (map-map events_told told_of_split (splits_in r h)
       ∙ (map_same (λ y. events_told (told_of_split y)) (λ (y : Split). bare y.trace.events) (splits_in r h)
-      (λ p y e. told_events y ∙ joined_events r.program (plan_in r) r.budget h p y valid e)
-      ∙ traced follow r.program (plan_in r) r.budget h 0 (story_in r h).steps))
+      (λ p y e. told_events y ∙ joined_events (setting_in r) h p y valid e)
+      ∙ traced follow (setting_in r) h 0 (story_in r h).steps))
 
-  last_is : (c : ℕ) → c < length r.program.starts → slice_get known.lasts c ≡ Some (last_told r.program (plan_in r) r.budget (story_in r h) c)
+  last_is : (c : ℕ) → c < length r.program.starts → slice_get known.lasts c ≡ Some (last_told (setting_in r) (story_in r h) c)
   last_is c lt =
       let z : 0 + c ≡ c = omega arith in
-      ap (λ rs. slice_get (unless_raced rs (of_cells (last_told r.program (plan_in r) r.budget (story_in r h)) 0 (length r.program.starts))) c) free
-      ∙ (cell_at (last_told r.program (plan_in r) r.budget (story_in r h)) 0 (length r.program.starts) c lt
-      ∙ ap (λ i. Some (last_told r.program (plan_in r) r.budget (story_in r h) i)) z)
+      ap (λ rs. slice_get (unless_raced rs (of_cells (last_told (setting_in r) (story_in r h)) 0 (length r.program.starts))) c) free
+      ∙ (cell_at (last_told (setting_in r) (story_in r h)) 0 (length r.program.starts) c lt
+      ∙ ap (λ i. Some (last_told (setting_in r) (story_in r h) i)) z)
 
   pub values_are : ProcessesFollowTheirSteps → JoinedAreEvents → AreValuesOf r h known
   values_are follow joined_events = record {

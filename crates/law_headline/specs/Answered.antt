@@ -16,7 +16,7 @@ use Rattle.ppd_session.specs.Texts.{failure_of, flow_at, text_of, told_at}
 use Rattle.ppd_text.specs.Edges.{why_text}
 use Rattle.law_whole.specs.Joined.{events_in}
 use Rattle.law_whole.specs.Laws.{bare}
-use Rattle.law_headline.specs.Runs.{Run, plan_in, splits_in, story_in}
+use Rattle.law_headline.specs.Runs.{Run, plan_in, splits_in, story_in, setting_in}
 
 -- ---- values
 
@@ -38,16 +38,16 @@ told_if (Some items) = Some (Ok items)
 -- events of its full trace; interval by interval; and the last values with the writes that they are from
 pub record AreValuesOf (r : Run) (h : List ℕ) (x : Known) : Type 0 where
   pub events : map events_told x.items
-      ≡ map bare (full_trace r.program (plan_in r) r.budget (story r.program (plan_in r) r.budget h)).events
-  pub intervals : (p k : ℕ) → told_at x p k ≡ told_if (items r.program (plan_in r) r.budget (story_in r h) p k)
+      ≡ map bare (full_trace (setting_in r) (story (setting_in r) h)).events
+  pub intervals : (p k : ℕ) → told_at x p k ≡ told_if (items (setting_in r) (story_in r h) p k)
   pub lasts : (c : ℕ) → c < length r.program.starts
-      → slice_get x.lasts c ≡ Some (Ok (last r.program (plan_in r) r.budget (story_in r h) c))
+      → slice_get x.lasts c ≡ Some (Ok (last (setting_in r) (story_in r h) c))
 
 -- ---- flowback edges
 
 -- these are the flowback edges, in order, of item j of interval k of process p in this schedule
 abbrev pub HasEdges : Run → (h : List ℕ) → (p k j : ℕ) → List FlowEdge → Type 0
-HasEdges r h p k j es = edges r.program (plan_in r) r.budget (story_in r h) p k j ≡ Some es
+HasEdges r h p k j es = edges (setting_in r) (story_in r h) p k j ≡ Some es
 
 -- the edges that are answered of an item are its edges in this schedule
 abbrev pub AreEdgesOf : Run → (h : List ℕ) → Known → Type 0
@@ -56,7 +56,7 @@ AreEdgesOf r h x = (p k j : ℕ) (es : List FlowEdge) → flow_at x p k j ≡ Ok
 -- item j of interval k of process p in this schedule
 abbrev pub IsItem : Run → (h : List ℕ) → (p k j : ℕ) → Item → Type 0
 IsItem r h p k j item =
-    (is : List Item) × (items r.program (plan_in r) r.budget (story_in r h) p k ≡ Some is)
+    (is : List Item) × (items (setting_in r) (story_in r h) p k ≡ Some is)
     × (slice_get is j ≡ Some item)
 
 -- the line asks for the edges of item j of interval k of process p: by `why`, the process's name, and both numbers
@@ -84,7 +84,7 @@ pub record MissesNoEdge (r : Run) (h : List ℕ) (x : Known) : Type 0 where
   pub lines : (line : List ℕ) → failure_of x line ≡ None
   pub events : (p n : ℕ) (e : TracedEvent)
       → slice_get
-      (get_or (full_trace r.program (plan_in r) r.budget (story r.program (plan_in r) r.budget h)).events p []) n
+      (get_or (full_trace (setting_in r) (story (setting_in r) h)).events p []) n
       ≡ Some e
       → HasItsEdges r h x p n e
   pub items : (p k j : ℕ) (es : List FlowEdge) → HasEdges r h p k j es → flow_at x p k j ≡ Ok es

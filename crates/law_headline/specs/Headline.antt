@@ -5,7 +5,7 @@ use Rattle.ppd_model.specs.Schedule.{IsWhole}
 use Rattle.ppd_session.specs.Known.{Known}
 use Rattle.law_headline.specs.Answered.{AreEdgesOf, AreValuesOf, MissesNoEdge}
 use Rattle.law_headline.specs.Replayed.{AreByReExecuting}
-use Rattle.law_headline.specs.Runs.{AgreesWith, Run, plan_in, story_in}
+use Rattle.law_headline.specs.Runs.{AgreesWith, Run, plan_in, story_in, setting_in}
 use Rattle.law_headline.specs.Unordered.{ListsExactly}
 
 -- what the headline says of a run and of what is told of it: of its source, program and schedule, of its race report,
@@ -14,7 +14,7 @@ pub record Headline (r : Run) (x : Known) : Type 0 where
   -- for every accepted program
   pub every_accepted_program : IsRead r.source r.program
   -- and every interleaving that the threads take
-  pub every_interleaving : IsWhole r.program (plan_in r) r.budget r.schedule
+  pub every_interleaving : IsWhole (setting_in r) r.schedule
   -- the race report lists exactly the conflicting pairs of internal edges that the recorded synchronization leaves
   -- unordered
   pub race_report_lists_exactly : ListsExactly r.program (story_in r r.schedule) x.races

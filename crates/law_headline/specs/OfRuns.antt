@@ -3,9 +3,9 @@ use Rattle.ppd_check.specs.Read.{IsRead}
 use Rattle.ppd_model.specs.Schedule.{IsWhole}
 use Rattle.ppd_session.specs.Known.{known_of_run}
 use Rattle.law_headline.specs.Headline.{Headline}
-use Rattle.law_headline.specs.Runs.{Run, plan_in}
+use Rattle.law_headline.specs.Runs.{Run, plan_in, setting_in}
 
 abbrev pub RunsHaveTheHeadline : Type 0
 RunsHaveTheHeadline =
-    (r : Run) → IsRead r.source r.program → IsWhole r.program (plan_in r) r.budget r.schedule
-    → Headline r (known_of_run r.program (plan_in r) r.budget r.schedule)
+    (r : Run) → IsRead r.source r.program → IsWhole (setting_in r) r.schedule
+    → Headline r (known_of_run (setting_in r) r.schedule)

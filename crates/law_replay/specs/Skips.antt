@@ -1,4 +1,6 @@
 -- A loop or a call that is gone past by the postlog of its interval.
+use Rattle.law_steps.specs.Policies.{setting_by}
+use Rattle.ppd_model.specs.Setting.{Setting}
 use Rattle.std.specs.Prelude.{◌≡◌, ℕ, suc, ◌+◌, ℤ, List, take, slice_get, Some, get_or, []}
 use Rattle.ppd_ast.specs.declared.plan.Plan.{Plan}
 use Rattle.ppd_ast.specs.declared.plan.Policy.{Policy}
@@ -16,8 +18,8 @@ use Rattle.ppd_model.specs.States.{state_of}
 use Rattle.ppd_model.specs.Story.{story}
 
 -- process p of a story after the first n of its steps
-abbrev pub state_after : Program → Plan → ℕ → Story → ℕ → ℕ → Proc
-state_after program plan budget story p n = state_of program plan budget p (take n (get_or story.steps p []))
+abbrev pub state_after : Setting → Story → ℕ → ℕ → Proc
+state_after setting story p n = state_of setting p (take n (get_or story.steps p []))
 
 -- what comes next is to enter the loop that is block b, or to call the function that is block b
 abbrev pub BeginsBlock : ℕ → Need → Type 0
@@ -43,9 +45,9 @@ abbrev pub SkipsGoPast : Type 0
 SkipsGoPast =
     (program : Program) (policy : Policy) (budget : ℕ) (h : List ℕ) (p k n : ℕ) (i : Span)
     → IsValid program
-    → slice_get (intervals program (plan_of program policy) budget
-    (story program (plan_of program policy) budget h) p) (suc k) ≡ Some i
+    → slice_get (intervals (setting_by program policy budget)
+    (story (setting_by program policy budget) h) p) (suc k) ≡ Some i
     → i.closed ≡ Some n
     → IsGonePast program (plan_of program policy) i.block i.values
-    (state_after program (plan_of program policy) budget (story program (plan_of program policy) budget h) p i.opened)
-    (state_after program (plan_of program policy) budget (story program (plan_of program policy) budget h) p (n + 1))
+    (state_after (setting_by program policy budget) (story (setting_by program policy budget) h) p i.opened)
+    (state_after (setting_by program policy budget) (story (setting_by program policy budget) h) p (n + 1))

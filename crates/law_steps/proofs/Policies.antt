@@ -18,7 +18,7 @@ use Rattle.ppd_blocks.proofs.Vocabulary.{params_of}
 use Rattle.ppd_blocks.proofs.Validity.{plan_valid}
 use Rattle.ppd_model.specs.Costs.{HasWholePrelogs, IsWholeBlock}
 use Rattle.ppd_model.proofs.Costs.{logs_paid, steps_cost}
-use Rattle.law_steps.specs.Policies.{PolicyLogsArePaid, PolicyStepsCostWhatTheyWrite}
+use Rattle.law_steps.specs.Policies.{PolicyLogsArePaid, PolicyStepsCostWhatTheyWrite, setting_by}
 
 params_whole : (o : Option Body) (x : Block) → IsSomeAnd o (λ b. IsFunctionBlock b x) → IsSomeAnd o (λ b. length (params_of o) ≡ b.params)
 params_whole None x h = absurd h
@@ -41,9 +41,9 @@ whole p policy v = all_whole p (blocks_by p.stmts policy p.bodies) v.blocks
 pub policy_steps : PolicyStepsCostWhatTheyWrite
 policy_steps program policy budget h p l v valid e =
     let plan : IsValidPlan program (plan_of program policy) = plan_valid program policy v valid in
-    steps_cost program (plan_of program policy) budget h p l v plan (whole program policy plan) e
+    steps_cost (setting_by program policy budget) h p l v plan (whole program policy plan) e
 
 pub policy_logs : PolicyLogsArePaid
 policy_logs program policy budget h p l v valid e =
     let plan : IsValidPlan program (plan_of program policy) = plan_valid program policy v valid in
-    logs_paid program (plan_of program policy) budget h p l v plan (whole program policy plan) e
+    logs_paid (setting_by program policy budget) h p l v plan (whole program policy plan) e

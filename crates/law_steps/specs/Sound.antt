@@ -1,9 +1,9 @@
 -- In every run, each value that is read and each control comes over a static edge.
+use Rattle.ppd_model.specs.Setting.{Setting}
 use Rattle.ppd_ast.specs.Cells.{holds}
 use Rattle.ppd_ast.specs.Lookups.{body_numbered, body_of, kind_of}
 use Rattle.ppd_ast.specs.Valid.{IsValid}
 use Rattle.ppd_ast.specs.declared.limits.TheConstants.{MOST_LOCAL_CELLS, MOST_SHARED_CELLS}
-use Rattle.ppd_ast.specs.declared.plan.Plan.{Plan}
 use Rattle.ppd_ast.specs.declared.program.Program.{Program}
 use Rattle.ppd_ast.specs.declared.program.Var.{Var}
 use Rattle.ppd_deps.specs.Edges.{edges_of}
@@ -55,9 +55,9 @@ ComesOverControl program trace (Some id) t = ControlsOverEdge program trace id t
 -- test lies over a `Control` edge from its statement, and every other one over `ControlEntry`
 abbrev pub ControlComesOverEdges : Type 0
 ControlComesOverEdges =
-    (program : Program) (plan : Plan) (budget : ℕ) (h : List ℕ) (p n : ℕ) (e : TracedEvent) → IsValid program
-    → event_at (full_trace program plan budget (story program plan budget h)) p n ≡ Some e
-    → ComesOverControl program (full_trace program plan budget (story program plan budget h)) e.parent e.event.stmt
+    (setting : Setting) (h : List ℕ) (p n : ℕ) (e : TracedEvent) → IsValid setting.program
+    → event_at (full_trace setting (story setting h)) p n ≡ Some e
+    → ComesOverControl setting.program (full_trace setting (story setting h)) e.parent e.event.stmt
 
 -- ---- data
 
@@ -93,32 +93,32 @@ pub record HasWriter (e : TracedEvent) (i : ℕ) (a : Access) (id : EventId) : T
 -- the call whose parameter it is, or from the `Return` whose value it received
 abbrev pub LocalReadsComeOverEdges : Type 0
 LocalReadsComeOverEdges =
-    (program : Program) (plan : Plan) (budget : ℕ) (h : List ℕ) (p n : ℕ) (e : TracedEvent)
+    (setting : Setting) (h : List ℕ) (p n : ℕ) (e : TracedEvent)
     (i : ℕ) (a : Access) (id : EventId) (frame c : ℕ)
-    → IsValid program → event_at (full_trace program plan budget (story program plan budget h)) p n ≡ Some e
+    → IsValid setting.program → event_at (full_trace setting (story setting h)) p n ≡ Some e
     → HasWriter e i a id
     → a.spot ≡ Local frame c
-    → ComesOverData program (full_trace program plan budget (story program plan budget h)) id e.event.stmt
+    → ComesOverData setting.program (full_trace setting (story setting h)) id e.event.stmt
     (Local frame c)
 
 -- so does the value of a shared cell
 abbrev pub SharedReadsComeOverEdges : Type 0
 SharedReadsComeOverEdges =
-    (program : Program) (plan : Plan) (budget : ℕ) (h : List ℕ) (p n : ℕ) (e : TracedEvent)
+    (setting : Setting) (h : List ℕ) (p n : ℕ) (e : TracedEvent)
     (i : ℕ) (a : Access) (id : EventId) (c : ℕ)
-    → IsValid program → event_at (full_trace program plan budget (story program plan budget h)) p n ≡ Some e
+    → IsValid setting.program → event_at (full_trace setting (story setting h)) p n ≡ Some e
     → HasWriter e i a id
     → a.spot ≡ Shared c
-    → ComesOverData program (full_trace program plan budget (story program plan budget h)) id e.event.stmt (Shared c)
+    → ComesOverData setting.program (full_trace setting (story setting h)) id e.event.stmt (Shared c)
 
 -- so does every value that is read
 abbrev pub ReadsComeOverEdges : Type 0
 ReadsComeOverEdges =
-    (program : Program) (plan : Plan) (budget : ℕ) (h : List ℕ) (p n : ℕ) (e : TracedEvent)
+    (setting : Setting) (h : List ℕ) (p n : ℕ) (e : TracedEvent)
     (i : ℕ) (a : Access) (id : EventId)
-    → IsValid program → event_at (full_trace program plan budget (story program plan budget h)) p n ≡ Some e
+    → IsValid setting.program → event_at (full_trace setting (story setting h)) p n ≡ Some e
     → HasWriter e i a id
-    → ComesOverData program (full_trace program plan budget (story program plan budget h)) id e.event.stmt a.spot
+    → ComesOverData setting.program (full_trace setting (story setting h)) id e.event.stmt a.spot
 
 -- ---- numbers of variables
 

@@ -1,4 +1,6 @@
 -- The unit in force, and that each shared read lies in its cells.
+use Rattle.law_steps.specs.Policies.{setting_by}
+use Rattle.ppd_model.specs.Setting.{Setting}
 use Rattle.std.specs.Prelude.{◌≡◌, ℕ, ◌+◌, IsTrue, List, ◌∷◌, ◌++◌, fold, Option, Some, None, unwrap_or, slice_get, get_or, []}
 use Rattle.ppd_ast.specs.declared.plan.Plan.{Plan}
 use Rattle.ppd_ast.specs.declared.plan.Policy.{Policy}
@@ -38,8 +40,8 @@ last_unit entries = fold unit_logged None entries
 -- the unit in force after the steps of a process is that of the last Unit entry of its log
 abbrev pub IsLastOfLog : Type 0
 IsLastOfLog =
-    (program : Program) (plan : Plan) (budget p : ℕ) (moments : List Moment)
-    → last_unit (log_of program plan budget p moments).entries ≡ Some (unit_in_force program plan p (steps_of moments))
+    (setting : Setting) (p : ℕ) (moments : List Moment)
+    → last_unit (log_of setting p moments).entries ≡ Some (unit_in_force setting.program setting.plan p (steps_of moments))
 
 -- ---- reads
 
@@ -54,6 +56,6 @@ abbrev pub ReadsLieInCells : Type 0
 ReadsLieInCells =
     (program : Program) (policy : Policy) (budget : ℕ) (h : List ℕ) (p : ℕ) (before : List Taken) (taken : Taken)
     (after : List Taken) (c : ℕ)
-    → IsValid program → get_or (story program (plan_of program policy) budget h).steps p [] ≡ before ++ taken ∷ after
+    → IsValid program → get_or (story (setting_by program policy budget) h).steps p [] ≡ before ++ taken ∷ after
     → taken.need ≡ Read c
     → IsCellOf (plan_of program policy) (unit_in_force program (plan_of program policy) p before) c

@@ -1,4 +1,5 @@
 -- The activations that follow from a process's events are those of its trace.
+use Rattle.ppd_model.specs.Setting.{Setting}
 use Rattle.std.proofs.Common.{◌≡◌, ℕ, zero, suc, ◌+◌, ◌-◌, ℤ, pos, Bool, true, false, List, [], ◌∷◌, ◌++◌, Option, Some, None, Ok, Err, refl, ap, ap₂, sym, subst, ◌∙◌, arith, cond, length, length-append, map, replicate, true≢false}
 use Rattle.std.specs.Prelude.{⊤, fold, is_some, slice_get, if◌then◌else◌, unwrap_or}
 use Rattle.std.proofs.lemmas.List.{append-nil, append_assoc}
@@ -332,8 +333,8 @@ begun_followed program plan p budget = record {
 }
 
 -- the events of a process's own steps
-pub events_followed : (program : Program) (plan : Plan) (budget : ℕ) (story' : Story) (p : ℕ) (steps : List Taken) → AreOwn program plan (started program plan p budget) steps
-    → AreFollowed program p (begun program p) (tracing_of program plan budget story' p steps).events
-events_followed program plan budget story' p steps own =
-    let r = follow_all program plan story' p (begun_tracing (started program plan p budget)) (begun program p) steps own (begun_followed program plan p budget) in
-    subst (λ es. AreFollowed program p (begun program p) es) (sym r.events) r.followed
+pub events_followed : (setting : Setting) (story' : Story) (p : ℕ) (steps : List Taken) → AreOwn setting.program setting.plan (started setting.program setting.plan p setting.budget) steps
+    → AreFollowed setting.program p (begun setting.program p) (tracing_of setting story' p steps).events
+events_followed setting story' p steps own =
+    let r = follow_all setting.program setting.plan story' p (begun_tracing (started setting.program setting.plan p setting.budget)) (begun setting.program p) steps own (begun_followed setting.program setting.plan p setting.budget) in
+    subst (λ es. AreFollowed setting.program p (begun setting.program p) es) (sym r.events) r.followed

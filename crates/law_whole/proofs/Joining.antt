@@ -106,8 +106,8 @@ module _ (x : Split) where
         (λ fuel enough. whole_made F fuel m t.first (length x.trace.events) t.span t.there enough t.parts (omega arith)) (length seen.items) (omega (arith, long))
 
 pub joined_events : JoinedAreEvents
-joined_events program plan budget h p x v e =
-    let f : Facts program plan budget h v p x = facts program plan budget h v p x e in
+joined_events setting h p x v e =
+    let f : Facts setting h v p x = facts setting h v p x e in
     let size : length (bare x.trace.events) ≡ length x.trace.events = length-map x.trace.events (λ (z : TracedEvent). z.event) in
     let none : drop (length x.trace.events) (bare x.trace.events) ≡ [] = drop_all (length x.trace.events) (bare x.trace.events) (omega (arith, size)) in
-    sym (whole x (get_or (closed_logs program plan budget h).lists p []) x.running f.told_by.tiled ∙ ap (λ l. events_in (seen_of x) ++ l) none ∙ append-nil (events_in (seen_of x)))
+    sym (whole x (get_or (closed_logs setting h).lists p []) x.running f.told_by.tiled ∙ ap (λ l. events_in (seen_of x) ++ l) none ∙ append-nil (events_in (seen_of x)))

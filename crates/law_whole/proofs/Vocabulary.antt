@@ -1,7 +1,6 @@
 -- What the proofs speak of: definitions that no contract cites.
+use Rattle.ppd_model.specs.Setting.{Setting}
 use Rattle.std.specs.Prelude.{ℕ, List, fold, map, ◌≡◌, slice_get, Some, [], take}
-use Rattle.ppd_ast.specs.declared.plan.Plan.{Plan}
-use Rattle.ppd_ast.specs.declared.program.Program.{Program}
 use Rattle.ppd_ast.specs.Valid.{IsValid}
 use Rattle.ppd_sem.specs.declared.event.Event.{Event}
 use Rattle.ppd_sem.specs.declared.event.Access.{Access}
@@ -24,8 +23,8 @@ abbrev pub edge_after : List Event → ℕ
 edge_after es = fold (λ i e. edge_past i e.number) 0 es
 
 -- the events of all processes of a schedule
-abbrev pub all_events : Program → Plan → ℕ → List ℕ → List (List Event)
-all_events program plan budget h = map (λ x. bare x.trace.events) (splits program plan budget (story program plan budget h))
+abbrev pub all_events : Setting → List ℕ → List (List Event)
+all_events setting h = map (λ x. bare x.trace.events) (splits setting (story setting h))
 
 -- event n of process p reads shared cell c as its read i, which is tagged so
 pub record IsSharedRead (x : Split) (n i c : ℕ) (tag : Tag) : Type 0 where
@@ -39,20 +38,20 @@ pub record IsSharedRead (x : Split) (n i c : ℕ) (tag : Tag) : Type 0 where
 -- in each run of a valid program without a race the tag of a shared read is found by edges
 abbrev pub SharedTagsAreLinked : Type 0
 SharedTagsAreLinked =
-    (program : Program) (plan : Plan) (budget : ℕ) (h : List ℕ) (w : World) → IsValid program
-    → run program plan budget h ≡ Some w → races program plan budget h ≡ []
-    → (p n i c : ℕ) (x : Split) (tag : Tag) → slice_get (splits program plan budget (story program plan budget h)) p ≡ Some x
+    (setting : Setting) (h : List ℕ) (w : World) → IsValid setting.program
+    → run setting h ≡ Some w → races setting h ≡ []
+    → (p n i c : ℕ) (x : Split) (tag : Tag) → slice_get (splits setting (story setting h)) p ≡ Some x
     → IsSharedRead x n i c tag
-    → shared_writer program (closed_logs program plan budget h) (all_events program plan budget h) p
+    → shared_writer setting.program (closed_logs setting h) (all_events setting h) p
     (edge_after (take n (bare x.trace.events))) c (marks_of c (take n (bare x.trace.events)))
     ≡ tag
 
 -- in each schedule of a valid program the pair of an event is found by the numbers of synchronizations
 abbrev pub PairsAreLinked : Type 0
 PairsAreLinked =
-    (program : Program) (plan : Plan) (budget : ℕ) (h : List ℕ) → IsValid program
-    → (p n : ℕ) (x : Split) (e : TracedEvent) → slice_get (splits program plan budget (story program plan budget h)) p ≡ Some x
+    (setting : Setting) (h : List ℕ) → IsValid setting.program
+    → (p n : ℕ) (x : Split) (e : TracedEvent) → slice_get (splits setting (story setting h)) p ≡ Some x
     → slice_get x.trace.events n ≡ Some e
-    → pair_of program (closed_logs program plan budget h) (all_events program plan budget h) p
+    → pair_of setting.program (closed_logs setting h) (all_events setting h) p
     (edge_after (take n (bare x.trace.events))) e.event.number
     ≡ e.paired

@@ -1,12 +1,11 @@
 -- The items of a run, joined and linked, are its full trace.
+use Rattle.ppd_model.specs.Setting.{Setting}
 use Rattle.std.proofs.Common.{◌≡◌, ℕ, zero, suc, ◌+◌, ◌<◌, ◌≤◌, List, [], ◌∷◌, ◌++◌, Option, Some, None, refl, ap, ap₂, sym, subst, ◌∙◌, arith, get_or, length, length-append, map, take}
 use Rattle.std.specs.Prelude.{fold, slice_get}
 use Rattle.std.proofs.lemmas.List.{append-nil, append_assoc, map-append}
 use Rattle.std.proofs.lemmas.List.Sums.{fold-append}
 use Rattle.std.proofs.lemmas.Option.{none-some}
 use Rattle.ppd_ast.specs.Valid.{IsValid}
-use Rattle.ppd_ast.specs.declared.plan.Plan.{Plan}
-use Rattle.ppd_ast.specs.declared.program.Program.{Program}
 use Rattle.ppd_entry.specs.declared.entry.Logs.{Logs}
 use Rattle.ppd_sem.specs.declared.event.Access.{Access}
 use Rattle.ppd_sem.specs.declared.event.Event.{Event}
@@ -80,21 +79,21 @@ writers_are locals shared writer own other answers (a ∷ as') h =
 
 -- ---- one process
 
-module _ (program : Program) (plan : Plan) (budget : ℕ) (h : List ℕ) (w : World) (v : IsValid program) (r : run program plan budget h ≡ Some w) (free : races program plan budget h ≡ []) where
+module _ (setting : Setting) (h : List ℕ) (w : World) (v : IsValid setting.program) (r : run setting h ≡ Some w) (free : races setting h ≡ []) where
   abbrev xs : List Split
-  xs = splits program plan budget (story program plan budget h)
+  xs = splits setting (story setting h)
 
   abbrev logs : Logs
-  logs = closed_logs program plan budget h
+  logs = closed_logs setting h
 
   abbrev evs : List (List Event)
-  evs = all_events program plan budget h
+  evs = all_events setting h
 
   module _ (p : ℕ) (x : Split) (there : slice_get xs p ≡ Some x) where
     abbrev es : List TracedEvent
     es = x.trace.events
 
-    module _ (past : List TracedEvent) (e : TracedEvent) (rest : List TracedEvent) (f : Followed) (are : x.trace.events ≡ past ++ e ∷ rest) (edge : f.edge ≡ edge_after (bare past)) (traced : IsTracedAt program f e) where
+    module _ (past : List TracedEvent) (e : TracedEvent) (rest : List TracedEvent) (f : Followed) (are : x.trace.events ≡ past ++ e ∷ rest) (edge : f.edge ≡ edge_after (bare past)) (traced : IsTracedAt setting.program f e) where
       at : slice_get x.trace.events (length past) ≡ Some e
       at = ap (λ l. slice_get l (length past)) are ∙ at_middle past e rest
 
@@ -109,46 +108,46 @@ module _ (program : Program) (plan : Plan) (budget : ℕ) (h : List ℕ) (w : Wo
       state = record { followed = f; past = bare past }
 
       abbrev shared : ℕ → Tag
-      shared c = shared_writer program logs evs p f.edge c (marks_of c (bare past))
+      shared c = shared_writer setting.program logs evs p f.edge c (marks_of c (bare past))
 
       shared_is : (i c : ℕ) (a : Access) (tag : Tag) → slice_get e.event.reads i ≡ Some a → a.spot ≡ Shared c → slice_get e.writers i ≡ Some tag → shared c ≡ tag
       shared_is i c a tag read spot tagged =
-          ap₂ (λ j l. shared_writer program logs evs p j c (marks_of c l)) (edge ∙ sym (ap edge_after front)) (sym front)
-          ∙ shared_tags program plan budget h w v r free p (length past) i c x tag there
+          ap₂ (λ j l. shared_writer setting.program logs evs p j c (marks_of c l)) (edge ∙ sym (ap edge_after front)) (sym front)
+          ∙ shared_tags setting h w v r free p (length past) i c x tag there
           (record { event = e; event_is = at; access = a; access_is = read; spot = spot; tagged = tagged })
 
-      reads_are : map (read_writer program logs evs p state) e.event.reads ≡ e.writers
+      reads_are : map (read_writer setting.program logs evs p state) e.event.reads ≡ e.writers
       reads_are =
-          writers_are (top_tags f.activations) shared (spot_writer program logs evs p state) (λ frame c. refl) (λ c. refl) traced.answers e.event.reads
+          writers_are (top_tags f.activations) shared (spot_writer setting.program logs evs p state) (λ frame c. refl) (λ c. refl) traced.answers e.event.reads
           (λ i c a tag read spot tagged. shared_is i c a tag read spot (ap (λ l. slice_get l i) traced.writers ∙ tagged))
           ∙ sym traced.writers
 
-      pair_is : (linked program logs evs p state e.event).paired ≡ e.paired
+      pair_is : (linked setting.program logs evs p state e.event).paired ≡ e.paired
       pair_is =
-          ap (λ j. pair_of program logs evs p j e.event.number) (edge ∙ sym (ap edge_after front))
-          ∙ pairs_linked program plan budget h v p (length past) x e there at
+          ap (λ j. pair_of setting.program logs evs p j e.event.number) (edge ∙ sym (ap edge_after front))
+          ∙ pairs_linked setting h v p (length past) x e there at
 
-      event_linked : linked program logs evs p state e.event ≡ e
+      event_linked : linked setting.program logs evs p state e.event ≡ e
       event_linked =
-          ap (λ ws. record { event = e.event; writers = ws; parent = (linked program logs evs p state e.event).parent; paired = (linked program logs evs p state e.event).paired }) reads_are
+          ap (λ ws. record { event = e.event; writers = ws; parent = (linked setting.program logs evs p state e.event).parent; paired = (linked setting.program logs evs p state e.event).paired }) reads_are
           ∙ ap₂ (λ a b. record { event = e.event; writers = e.writers; parent = a; paired = b }) (sym traced.parent) pair_is
 
-    rest_linked : (past rest : List TracedEvent) (f : Followed) → x.trace.events ≡ past ++ rest → f.edge ≡ edge_after (bare past) → AreFollowed program p f rest
-        → link_from program logs evs p (record { followed = f; past = bare past }) (bare rest) ≡ rest
+    rest_linked : (past rest : List TracedEvent) (f : Followed) → x.trace.events ≡ past ++ rest → f.edge ≡ edge_after (bare past) → AreFollowed setting.program p f rest
+        → link_from setting.program logs evs p (record { followed = f; past = bare past }) (bare rest) ≡ rest
     rest_linked past [] f are edge traced = refl
     rest_linked past (e ∷ rest) f are edge traced =
         let grown : bare past ++ e.event ∷ [] ≡ bare (past ++ e ∷ []) = sym (map-append (λ (z : TracedEvent). z.event) past (e ∷ [])) in
         ap₂ (λ y ys. y ∷ ys) (event_linked past e rest f are edge traced.0)
-        (ap (λ l. link_from program logs evs p (record { followed = follow program p f e.event; past = l }) (bare rest)) grown
-        ∙ rest_linked (past ++ e ∷ []) rest (follow program p f e.event) (are ∙ sym (append_assoc past (e ∷ []) rest))
+        (ap (λ l. link_from setting.program logs evs p (record { followed = follow setting.program p f e.event; past = l }) (bare rest)) grown
+        ∙ rest_linked (past ++ e ∷ []) rest (follow setting.program p f e.event) (are ∙ sym (append_assoc past (e ∷ []) rest))
         (ap (λ i. edge_past i e.event.number) edge ∙ sym (fold-append (λ i (y : Event). edge_past i y.number) 0 (bare past) (e.event ∷ [])) ∙ ap edge_after grown)
         traced.1)
 
-    process_linked : link_from program logs evs p (unlinked program p) (bare x.trace.events) ≡ x.trace.events
+    process_linked : link_from setting.program logs evs p (unlinked setting.program p) (bare x.trace.events) ≡ x.trace.events
     process_linked =
-        let f : Facts program plan budget h v p x = facts program plan budget h v p x there in
-        rest_linked [] x.trace.events (begun program p) refl refl
-        (subst (AreFollowed program p (begun program p)) (sym f.events_are) (events_followed program plan budget (story program plan budget h) p (did (told program plan budget h) p) f.steps_own))
+        let f : Facts setting h v p x = facts setting h v p x there in
+        rest_linked [] x.trace.events (begun setting.program p) refl refl
+        (subst (AreFollowed setting.program p (begun setting.program p)) (sym f.events_are) (events_followed setting (story setting h) p (did (told setting h) p) f.steps_own))
 
   -- ---- all processes
 
@@ -156,27 +155,27 @@ module _ (program : Program) (plan : Plan) (budget : ℕ) (h : List ℕ) (w : Wo
   row x = bare x.trace.events
 
   rows_linked : (k : ℕ) (steps : List (List Taken))
-      → ((i : ℕ) (x : Split) → slice_get (splits_from program plan budget (story program plan budget h) k steps) i ≡ Some x → slice_get xs (k + i) ≡ Some x)
-      → links_from program logs evs k (map row (splits_from program plan budget (story program plan budget h) k steps)) ≡ events_from program plan budget (story program plan budget h) k steps
+      → ((i : ℕ) (x : Split) → slice_get (splits_from setting (story setting h) k steps) i ≡ Some x → slice_get xs (k + i) ≡ Some x)
+      → links_from setting.program logs evs k (map row (splits_from setting (story setting h) k steps)) ≡ events_from setting (story setting h) k steps
   rows_linked k [] there = refl
   rows_linked k (s ∷ rest) there =
-      let x : Split = split_of program plan budget (story program plan budget h) k s in
+      let x : Split = split_of setting (story setting h) k s in
       let z : k + 0 ≡ k = omega arith in
       let here : slice_get xs k ≡ Some x = ap (slice_get xs) (sym z) ∙ there 0 x refl in
       ap₂ (λ y ys. y ∷ ys)
-      (process_linked k x here ∙ ap (λ (t : Tracing). t.events) ((states_follow program plan budget h).split (story program plan budget h) k s))
+      (process_linked k x here ∙ ap (λ (t : Tracing). t.events) ((states_follow setting h).split (story setting h) k s))
       (rows_linked (k + 1) rest (λ i y e. let a : k + 1 + i ≡ k + suc i = omega arith in ap (slice_get xs) a ∙ there (suc i) y e))
 
-  joined_are : map events_in (all_seen program plan budget h) ≡ evs
+  joined_are : map events_in (all_seen setting h) ≡ evs
   joined_are =
       map-map events_in (λ z. seen_of z) xs
-      ∙ map_same (λ z. events_in (seen_of z)) row xs (λ p x e. joined_events program plan budget h p x v e)
+      ∙ map_same (λ z. events_in (seen_of z)) row xs (λ p x e. joined_events setting h p x v e)
 
-  trace_linked : links_from program logs evs 0 evs ≡ events_from program plan budget (story program plan budget h) 0 (story program plan budget h).steps
+  trace_linked : links_from setting.program logs evs 0 evs ≡ events_from setting (story setting h) 0 (story setting h).steps
   trace_linked =
-      rows_linked 0 (story program plan budget h).steps (λ i x e. let a : i ≡ 0 + i = omega arith in ap (slice_get xs) (sym a) ∙ e)
+      rows_linked 0 (story setting h).steps (λ i x e. let a : i ≡ 0 + i = omega arith in ap (slice_get xs) (sym a) ∙ e)
 
 pub joined_trace_full : JoinedTraceIsFull
-joined_trace_full program plan budget h w v r free =
-    ap (λ l. linked_trace program (closed_logs program plan budget h) l) (joined_are program plan budget h w v r free)
-    ∙ ap (λ l. record { events = l }) (trace_linked program plan budget h w v r free)
+joined_trace_full setting h w v r free =
+    ap (λ l. linked_trace setting.program (closed_logs setting h) l) (joined_are setting h w v r free)
+    ∙ ap (λ l. record { events = l }) (trace_linked setting h w v r free)

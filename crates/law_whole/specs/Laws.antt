@@ -1,8 +1,7 @@
 -- That the items of a run, joined and linked, are its full trace.
+use Rattle.ppd_model.specs.Setting.{Setting}
 use Rattle.std.specs.Prelude.{◌≡◌, ℕ, List, [], map, slice_get, Some}
 use Rattle.ppd_ast.specs.Valid.{IsValid}
-use Rattle.ppd_ast.specs.declared.plan.Plan.{Plan}
-use Rattle.ppd_ast.specs.declared.program.Program.{Program}
 use Rattle.ppd_sem.specs.declared.event.Event.{Event}
 use Rattle.ppd_sem.specs.Process.{started}
 use Rattle.ppd_model.specs.declared.trace.TracedEvent.{TracedEvent}
@@ -31,23 +30,23 @@ bare es = map (λ e. e.event) es
 -- in every schedule of a valid program, whole or not, racy or not: the items of a process, joined, are its events
 abbrev pub JoinedAreEvents : Type 0
 JoinedAreEvents =
-    (program : Program) (plan : Plan) (budget : ℕ) (h : List ℕ) (p : ℕ) (x : Split) → IsValid program
-    → slice_get (splits program plan budget (story program plan budget h)) p ≡ Some x
+    (setting : Setting) (h : List ℕ) (p : ℕ) (x : Split) → IsValid setting.program
+    → slice_get (splits setting (story setting h)) p ≡ Some x
     → events_in (seen_of x) ≡ bare x.trace.events
 
 -- the control parents and the writers of local reads of a process's own steps follow from the events before them
 abbrev pub TracesAreFollowed : Type 0
 TracesAreFollowed =
-    (program : Program) (plan : Plan) (budget : ℕ) (story : Story) (p : ℕ) (steps : List Taken)
-    → AreOwn program plan (started program plan p budget) steps
-    → AreFollowed program p (begun program p) (tracing_of program plan budget story p steps).events
+    (setting : Setting) (story : Story) (p : ℕ) (steps : List Taken)
+    → AreOwn setting.program setting.plan (started setting.program setting.plan p setting.budget) steps
+    → AreFollowed setting.program p (begun setting.program p) (tracing_of setting story p steps).events
 
 -- ---- all processes
 
 -- in each run of a valid program without a race the items of all processes, joined and linked, are the full trace
 abbrev pub JoinedTraceIsFull : Type 0
 JoinedTraceIsFull =
-    (program : Program) (plan : Plan) (budget : ℕ) (h : List ℕ) (w : World) → IsValid program
-    → run program plan budget h ≡ Some w → races program plan budget h ≡ []
-    → joined_trace program (closed_logs program plan budget h) (all_seen program plan budget h)
-    ≡ full_trace program plan budget (story program plan budget h)
+    (setting : Setting) (h : List ℕ) (w : World) → IsValid setting.program
+    → run setting h ≡ Some w → races setting h ≡ []
+    → joined_trace setting.program (closed_logs setting h) (all_seen setting h)
+    ≡ full_trace setting (story setting h)

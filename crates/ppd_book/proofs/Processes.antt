@@ -1,8 +1,7 @@
 -- Who is stepped, and how long a schedule is.
+use Rattle.ppd_model.specs.Setting.{Setting}
 use Rattle.std.proofs.Common.{◌≡◌, ℕ, ◌+◌, ◌-◌, ◌*◌, ◌<◌, ◌≤◌, List, length, true, false, subst, arith, inl, inr}
 use Rattle.std.proofs.lemmas.Bool.{cases_lt}
-use Rattle.ppd_ast.specs.declared.program.Program.{Program}
-use Rattle.ppd_ast.specs.declared.plan.Plan.{Plan}
 use Rattle.ppd_model.specs.Bounds.{SchedulesAreBounded}
 use Rattle.ppd_model.specs.World.{can}
 use Rattle.ppd_world.specs.Running.{Running, IsHeld, IsReached, can_step}
@@ -10,24 +9,24 @@ use Rattle.ppd_world.proofs.Processes.{reached_count, past}
 use Rattle.ppd_book.specs.Turns.{KeepsBudget}
 
 -- who can take a step is a process of the program
-who_can : (r : Running) → IsReached r → (p : ℕ) → can_step r p ≡ true → p < length r.program.bodies - r.program.functions
+who_can : (r : Running) → IsReached r → (p : ℕ) → can_step r p ≡ true → p < length r.setting.program.bodies - r.setting.program.functions
 who_can r i p can = elim (cases_lt p (length r.world.procs)) [
   | inl lt ↦ omega (arith, lt, reached_count r i)
-  | inr le ↦ absurd (let none : can_step r p ≡ false = past r.program r.plan r.world r.world.procs p le in cc)
+  | inr le ↦ absurd (let none : can_step r p ≡ false = past r.setting.program r.setting.plan r.world r.world.procs p le in cc)
 ]
 
-pub of_process : (program : Program) (plan : Plan) (budget : ℕ) (r : Running) (h : List ℕ) → IsHeld program plan budget r h → (p : ℕ) → can_step r p ≡ true → p < length program.bodies - program.functions
-of_process program plan budget r h held p can =
-    subst (λ (x : Program). p < length x.bodies - x.functions) held.is_program (who_can r held.reached p can)
+pub of_process : (setting : Setting) (r : Running) (h : List ℕ) → IsHeld setting r h → (p : ℕ) → can_step r p ≡ true → p < length setting.program.bodies - setting.program.functions
+of_process setting r h held p can =
+    subst (λ (x : Setting). p < length x.program.bodies - x.program.functions) held.is_setting (who_can r held.reached p can)
 
 -- ---- how long a schedule is
 
 -- a schedule that is kept is as long as the budget lets it be
-pub keeps_budget : SchedulesAreBounded → (program : Program) (plan : Plan) (budget : ℕ) (r : Running) (h : List ℕ) → IsHeld program plan budget r h → KeepsBudget program budget h
-keeps_budget bounded program plan budget r h held =
-    let is = bounded r.program r.plan r.budget h r.world held.comes.runs in
-    let own : KeepsBudget r.program r.budget h = record {
+pub keeps_budget : SchedulesAreBounded → (setting : Setting) (r : Running) (h : List ℕ) → IsHeld setting r h → KeepsBudget setting.program setting.budget h
+keeps_budget bounded setting r h held =
+    let is = bounded r.setting h r.world held.comes.runs in
+    let own : KeepsBudget r.setting.program r.setting.budget h = record {
       each = is.each;
-      all = subst (λ (n : ℕ). length h ≤ n * (r.budget + 1)) (reached_count r held.reached) is.all;
+      all = subst (λ (n : ℕ). length h ≤ n * (r.setting.budget + 1)) (reached_count r held.reached) is.all;
     } in
-    subst (λ b. KeepsBudget program b h) held.is_budget (subst (λ (p : Program). KeepsBudget p r.budget h) held.is_program own)
+    subst (λ (x : Setting). KeepsBudget x.program x.budget h) held.is_setting own

@@ -26,7 +26,7 @@ one_taken first now next before after then p t l e f = record {
 }
 
 -- where nobody could take a step, none was taken
-pub none_left : (first now : Running) (before after : List ℕ) → HasTaken first before now after → IsOver first.program first.plan first.world → after ≡ before
+pub none_left : (first now : Running) (before after : List ℕ) → HasTaken first before now after → IsOver first.setting.program first.setting.plan first.world → after ≡ before
 none_left first now before after t over = nothing t.rest t.grew t.goes where
   nothing : (rest : List ℕ) → after ≡ before ++ rest → GoesLowest first rest now → after ≡ before
   nothing [] e g = e ∙ append-nil before
@@ -34,6 +34,6 @@ none_left first now before after t over = nothing t.rest t.grew t.goes where
 
 -- so the schedule that is handed out is the first one
 pub handed_out : {E : Type 0} (held last : Held) (rest : List ℕ) (r : Result Ran E) → last.schedule ≡ held.schedule ++ rest → GoesLowest held.world rest last.world → IfOk r (λ ran. ran.schedule ≡ last.schedule)
-    → IfOk r (λ ran. IsOver held.world.program held.world.plan held.world.world → ran.schedule ≡ held.schedule)
+    → IfOk r (λ ran. IsOver held.world.setting.program held.world.setting.plan held.world.world → ran.schedule ≡ held.schedule)
 handed_out held last rest (Ok ran) e g same = λ over. same ∙ none_left held.world last.world held.schedule last.schedule (record { rest = rest; grew = e; goes = g }) over
 handed_out held last rest (Err error) e g same = tt

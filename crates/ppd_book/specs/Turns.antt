@@ -1,6 +1,6 @@
 -- Turns of workers, and the turns that are left at the end.
+use Rattle.ppd_model.specs.Setting.{Setting}
 use Rattle.std.specs.Prelude.{◌≡◌, ◌<◌, ◌≤◌, ◌+◌, ◌-◌, ◌*◌, ℕ, nat_eq, true, List, [], ◌∷◌, ◌++◌, count_by, length, MatchBool, ⊤}
-use Rattle.ppd_ast.specs.declared.plan.Plan.{Plan}
 use Rattle.ppd_ast.specs.declared.program.Program.{Program}
 use Rattle.ppd_model.specs.Logs.{close}
 use Rattle.ppd_model.specs.Schedule.{IsOver, IsWhole}
@@ -21,7 +21,7 @@ IsPicked r worker p = MatchBool (can_step r worker) (p ≡ worker) (IsLowest r p
 abbrev pub IsTurn : Held → Held → ℕ → Turn → Type 0
 IsTurn old new worker (Stepped p) =
     IsPicked old.world worker p × (new.world ≡ stepped old.world p) × (new.schedule ≡ old.schedule ++ p ∷ [])
-IsTurn old new worker Over = IsOver old.world.program old.world.plan old.world.world × (new ≡ old)
+IsTurn old new worker Over = IsOver old.world.setting.program old.world.setting.plan old.world.world × (new ≡ old)
 
 -- some process can take a step
 abbrev pub CanGoOn : Running → Type 0
@@ -40,18 +40,18 @@ GoesLowest r [] last = r ≡ last
 GoesLowest r (p ∷ h) last = IsLowest r p × GoesLowest (stepped r p) h last
 
 -- a whole schedule of the program with its closed state
-pub record RanToEnd (program : Program) (plan : Plan) (budget : ℕ) (ran : Ran) : Type 0 where
-  pub whole : IsWhole program plan budget ran.schedule
-  pub closed : ran.closed ≡ close program plan budget ran.schedule
+pub record RanToEnd (setting : Setting) (ran : Ran) : Type 0 where
+  pub whole : IsWhole setting ran.schedule
+  pub closed : ran.closed ≡ close setting ran.schedule
 
 -- the schedule so far went on with the turns that were left, lowest process first, to a whole one
-pub record ClosesFrom (program : Program) (plan : Plan) (budget : ℕ) (held : Held) (ran : Ran) : Type 0 where
+pub record ClosesFrom (setting : Setting) (held : Held) (ran : Ran) : Type 0 where
   pub rest : List ℕ
   pub grew : ran.schedule ≡ held.schedule ++ rest
   pub last : Running
   pub goes : GoesLowest held.world rest last
-  pub over : IsOver last.program last.plan last.world
-  pub end : RanToEnd program plan budget ran
+  pub over : IsOver last.setting.program last.setting.plan last.world
+  pub end : RanToEnd setting ran
 
 -- ---- how long a schedule is
 

@@ -1,4 +1,5 @@
 -- A process on a copy, which goes on by Plain steps, and their commit.
+use Rattle.ppd_model.specs.Setting.{Setting}
 use Rattle.std.specs.Prelude.{◌≡◌, ◌≢◌, ℕ, ◌+◌, ◌-◌, ◌<◌, ◌≤◌, [], ◌++◌, length, replicate, Option, Some, None}
 use Rattle.ppd_ast.specs.declared.plan.Plan.{Plan}
 use Rattle.ppd_ast.specs.declared.program.Program.{Program}
@@ -29,16 +30,16 @@ pub record Seen : Type 0 where
 -- with these tables, which are the run's: the worker is a process of the program, with this budget, and it comes
 -- from the first state, which printed nothing, to the second by that many Plain steps, not more than a view goes on
 -- by; this is what it needs there
-pub record IsView (program : Program) (plan : Plan) (budget : ℕ) (p : Program) (q : Plan) (n : Need) (v : Seen) : Type 0 where
-  pub is_program : p ≡ program
-  pub is_plan : q ≡ plan
+pub record IsView (setting : Setting) (p : Program) (q : Plan) (n : Need) (v : Seen) : Type 0 where
+  pub is_program : p ≡ setting.program
+  pub is_plan : q ≡ setting.plan
   pub runnable : IsRunnable p
   pub numbered : IsNumbered q
-  pub worker : v.worker < length program.bodies - program.functions
+  pub worker : v.worker < length setting.program.bodies - setting.program.functions
   pub running : IsRunning p v.after
-  pub is_budget : v.before.budget ≡ budget
+  pub is_budget : v.before.budget ≡ setting.budget
   pub is_unprinted : v.before.prints ≡ []
-  pub goes : GoesPlainly program plan v.before v.count v.after
+  pub goes : GoesPlainly setting.program setting.plan v.before v.count v.after
   pub few : v.count ≤ MOST_VIEW_STEPS
   pub is_need : n ≡ need_of p q v.after
 
@@ -55,7 +56,7 @@ advanced program plan v = record v { after = act program plan v.after Go; count 
 
 -- what process p needs
 abbrev pub need_in : Held → ℕ → Need
-need_in held p = need held.world.program held.world.plan held.world.world p
+need_in held p = need held.world.setting.program held.world.setting.plan held.world.world p
 
 -- the state of process p, what it printed aside, if it is there
 abbrev pub state_in : Held → ℕ → Option Proc

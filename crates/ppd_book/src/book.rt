@@ -25,9 +25,7 @@ impl<'a, J: Job> Book<'a, J> {
     /// A world before its first step, under a lock that is free. Its program, plan and budget are those
     /// that `J` names.
     pub fn new(alloc: Global, world: World<'a>) -> Book<'a, J>
-        requires program { world.program ≡ J.program }
-        requires plan { world.plan ≡ J.plan }
-        requires budget { world.budget ≡ J.budget }
+        requires setting { world.setting ≡ J.setting }
         requires first { IsOf [] world }
         requires reached { IsReached world }
     {
@@ -38,7 +36,7 @@ impl<'a, J: Job> Book<'a, J> {
 
     /// One turn of this worker, under the lock: `Kept::turn`. `Memory` is want of memory.
     pub fn turn<R: Wait>(&self, rt: &R, worker: u8) -> Result<Turn, Memory>
-        ensures { IfOk result (IsOfProcess J.program) }
+        ensures { IfOk result (IsOfProcess J.setting.program) }
     {
         self.kept.lock(rt).turn(worker)
     }
@@ -54,7 +52,7 @@ impl<'a, J: Job> Book<'a, J> {
     /// A view of this worker's process where there is one, else its turn, under one hold of the lock: `Kept::go`.
     /// `Memory` is want of memory.
     pub fn go<R: Wait>(&self, rt: &R, worker: u8) -> Result<Going<'a, J>, Memory>
-        ensures { IfOk result (IsOfWorker J.program worker) }
+        ensures { IfOk result (IsOfWorker J.setting.program worker) }
     {
         self.kept.lock(rt).go(worker)
     }
@@ -68,8 +66,8 @@ impl<'a, J: Job> Book<'a, J> {
     /// Takes the turns that are left, lowest process first, and hands out the schedule with its closed
     /// state: `Kept::close`. `Memory` is want of memory: the book is gone.
     pub fn close(self) -> Result<Ran, Memory>
-        ensures end { IfOk result (RanToEnd J.program J.plan J.budget) }
-        ensures bounded { IfOk result (λ ran. KeepsBudget J.program J.budget ran.schedule) }
+        ensures end { IfOk result (RanToEnd J.setting) }
+        ensures bounded { IfOk result (λ ran. KeepsBudget J.setting.program J.setting.budget ran.schedule) }
     {
         let Book { kept } = self;
         kept.into_inner().close()

@@ -82,7 +82,7 @@ impl<'a, J: Job> Model for Kept<'a, J> {
 
     ghost view = { λ k. record { world = k.world; schedule = k.schedule } };
 
-    ghost invariant = { λ k. IsHeld J.program J.plan J.budget k.world k.schedule };
+    ghost invariant = { λ k. IsHeld J.setting k.world k.schedule };
 }
 
 impl<'a, J: Job> Kept<'a, J> {
@@ -94,9 +94,7 @@ impl<'a, J: Job> Kept<'a, J> {
     /// A world before its first step, with the empty schedule. Its program, plan and budget are those
     /// that `J` names.
     pub fn new(alloc: Global, world: World<'a>) -> Kept<'a, J>
-        requires program { world.program ≡ J.program }
-        requires plan { world.plan ≡ J.plan }
-        requires budget { world.budget ≡ J.budget }
+        requires setting { world.setting ≡ J.setting }
         requires first { IsOf [] world }
         requires reached { IsReached world }
         ensures schedule { result.schedule ≡ [] }
@@ -112,8 +110,8 @@ impl<'a, J: Job> Kept<'a, J> {
     /// The lowest process that can take a step.
     fn lowest(&self) -> Option<u8>
         ensures some { IfSome result (IsLowest self.now.world) }
-        ensures none { IfNone result (IsOver self.now.world.program self.now.world.plan self.now.world.world) }
-        ensures held { IsHeld J.program J.plan J.budget self.now.world self.now.schedule }
+        ensures none { IfNone result (IsOver self.now.world.setting.program self.now.world.setting.plan self.now.world.world) }
+        ensures held { IsHeld J.setting self.now.world self.now.schedule }
     {
         self.world.lowest()
     }
@@ -125,7 +123,7 @@ impl<'a, J: Job> Kept<'a, J> {
         ensures world { OnOk result (self.new.world ≡ stepped self.old.world p) }
         ensures schedule { OnOk result (self.new.schedule ≡ self.old.schedule ++ p ∷ []) }
         ensures same { OnErr result (self.new ≡ self.old) }
-        ensures held { IsHeld J.program J.plan J.budget self.new.world self.new.schedule }
+        ensures held { IsHeld J.setting self.new.world self.new.schedule }
     {
         step_down(&mut self.world, &mut self.schedule, p)
     }
@@ -134,7 +132,7 @@ impl<'a, J: Job> Kept<'a, J> {
     /// `Memory` is want of memory: nothing changes, and some process can take a step.
     pub fn turn(&mut self, worker: u8) -> Result<Turn, Memory>
         ensures turn { IfOk result (IsTurn self.old self.new worker) }
-        ensures process { IfOk result (IsOfProcess J.program) }
+        ensures process { IfOk result (IsOfProcess J.setting.program) }
         ensures same { OnErr result (self.new ≡ self.old) }
         ensures cause { OnErr result (CanGoOn self.old.world) }
     {
@@ -178,7 +176,7 @@ impl<'a, J: Job> Kept<'a, J> {
     /// `Kept::turn`. `Memory` is want of memory: nothing changes.
     pub fn go(&mut self, worker: u8) -> Result<Going<'a, J>, Memory>
         ensures going { IfOk result (HasGone self.old self.new worker) }
-        ensures worker { IfOk result (IsOfWorker J.program worker) }
+        ensures worker { IfOk result (IsOfWorker J.setting.program worker) }
         ensures same { OnErr result (self.new ≡ self.old) }
         ensures cause { OnErr result (WantsToGo self.old worker) }
     {
@@ -220,7 +218,7 @@ impl<'a, J: Job> Kept<'a, J> {
 
     /// Takes the turns that are left, lowest process first. `Memory` is want of memory: some were taken.
     fn take_rest(&mut self) -> Result<(), Memory>
-        ensures over { OnOk result (IsOver self.new.world.program self.new.world.plan self.new.world.world) }
+        ensures over { OnOk result (IsOver self.new.world.setting.program self.new.world.setting.plan self.new.world.world) }
         ensures taken { OnOk result ((rest : List ℕ) × (self.new.schedule ≡ self.old.schedule ++ rest)
             × GoesLowest self.old.world rest self.new.world) }
     {
@@ -233,10 +231,10 @@ impl<'a, J: Job> Kept<'a, J> {
     /// The schedule with its closed state, where nobody can take a step. `Memory` is want of memory: the value is
     /// gone.
     fn hand_out(self) -> Result<Ran, Memory>
-        requires { IsOver self.world.program self.world.plan self.world.world }
-        ensures end { IfOk result (RanToEnd J.program J.plan J.budget) }
+        requires { IsOver self.world.setting.program self.world.setting.plan self.world.world }
+        ensures end { IfOk result (RanToEnd J.setting) }
         ensures schedule { IfOk result (λ ran. ran.schedule ≡ self.entry.schedule) }
-        ensures bounded { IfOk result (λ ran. KeepsBudget J.program J.budget ran.schedule) }
+        ensures bounded { IfOk result (λ ran. KeepsBudget J.setting.program J.setting.budget ran.schedule) }
     {
         schedules_are_bounded();
         let Kept {
@@ -256,10 +254,10 @@ impl<'a, J: Job> Kept<'a, J> {
     /// Takes the turns that are left, lowest process first, and hands out the schedule with its closed
     /// state. Where nobody can take a step, none are left. `Memory` is want of memory: the value is gone.
     pub fn close(mut self) -> Result<Ran, Memory>
-        ensures closes { IfOk result (ClosesFrom J.program J.plan J.budget self.entry) }
-        ensures bounded { IfOk result (λ ran. KeepsBudget J.program J.budget ran.schedule) }
+        ensures closes { IfOk result (ClosesFrom J.setting self.entry) }
+        ensures bounded { IfOk result (λ ran. KeepsBudget J.setting.program J.setting.budget ran.schedule) }
         ensures none_left { IfOk result
-            (λ ran. IsOver self.entry.world.program self.entry.world.plan self.entry.world.world
+            (λ ran. IsOver self.entry.world.setting.program self.entry.world.setting.plan self.entry.world.world
             → ran.schedule ≡ self.entry.schedule) }
     {
         match self.take_rest() {

@@ -30,7 +30,7 @@ impl<'a, J: Job> Model for View<'a, J> {
 
     ghost view = { λ v. record { worker = v.worker; before = v.before; after = v.after; count = v.count } };
 
-    ghost invariant = { λ v. IsView J.program J.plan J.budget v.program.now v.plan.now v.need
+    ghost invariant = { λ v. IsView J.setting v.program.now v.plan.now v.need
         (record { worker = v.worker; before = v.before; after = v.after; count = v.count }) };
 }
 
@@ -40,15 +40,15 @@ impl<'a, J: Job> View<'a, J> {
     /// Whether the view can go on: its next step needs nothing but the process itself, and it took fewer
     /// than `MOST_VIEW_STEPS`.
     pub fn more(&self) -> bool
-        ensures { IsTrue result ↔ HasMore J.program J.plan self.now }
+        ensures { IsTrue result ↔ HasMore J.setting.program J.setting.plan self.now }
     {
         self.count < MOST_VIEW_STEPS && matches!(self.need, Need::Plain)
     }
 
     /// Takes one step on the copy. `Memory` is want of memory: the view is as before.
     pub fn advance(&mut self) -> Result<(), Memory>
-        requires { HasMore J.program J.plan self.old }
-        ensures ok { OnOk result (self.new ≡ advanced J.program J.plan self.old) }
+        requires { HasMore J.setting.program J.setting.plan self.old }
+        ensures ok { OnOk result (self.new ≡ advanced J.setting.program J.setting.plan self.old) }
         ensures err { OnErr result (self.new ≡ self.old) }
     {
         meet(

@@ -19,6 +19,7 @@ use Rattle.ppd_flow_model.specs.Found.{found_edges}
 use Rattle.ppd_flow_model.specs.Seen.{Seen}
 use Rattle.ppd_flow_model.specs.Shared.{Missing, seen_at}
 use Rattle.ppd_flow_past.specs.Pasts.{IsPast}
+use Rattle.ppd_flow_past.specs.PastSetting.{past_setting}
 use Rattle.ppd_flow_past.specs.declared.past.Past.{Past}
 use Rattle.ppd_model.specs.HappenedBefore.{edge}
 use Rattle.ppd_model.specs.RecordedSets.{record_in}
@@ -49,7 +50,7 @@ module _ (past : Past) (is : IsPast past) (races : List Race) (races_are : races
 
   module _ (z : Option ℕ) (xs : List Seen) where
     edge_is : (t : Item) → edge_of_item past a (seen_at xs a.process) t
-        ≡ sought.edge_of_item past.program.now past.plan.now past.budget past.logs.now (record_in past.logs.now) races a.process a.interval a.item xs t
+        ≡ sought.edge_of_item (past_setting past) past.logs.now (record_in past.logs.now) races a.process a.interval a.item xs t
     edge_is (item.Own e) = refl
     edge_is (item.Nested m b values closed) = refl
 
@@ -60,12 +61,12 @@ module _ (past : Past) (is : IsPast past) (races : List Race) (races_are : races
         ∙ ap (λ b. is_sync_item t && b) (leads_is past.program.now past.logs.now past.graph.now is.graph_is races races_are ordered a.process i)
 
     unclean_is : (w : Option ℕ) (t : Item) → is_unclean_at past a t (edge_of_item past a (seen_at xs a.process) t) w
-        ≡ sought.is_unclean past.program.now past.plan.now past.budget past.logs.now (record_in past.logs.now) races a.process a.interval a.item xs w t
+        ≡ sought.is_unclean (past_setting past) past.logs.now (record_in past.logs.now) races a.process a.interval a.item xs w t
     unclean_is None t = refl
     unclean_is (Some u) t =
         ap (λ i. nat_le u i || is_led_to past a t (edge a.process i)) (edge_is t)
-        ∙ ap (λ b. nat_le u (sought.edge_of_item past.program.now past.plan.now past.budget past.logs.now (record_in past.logs.now) races a.process a.interval a.item xs t) || b)
-        (led_is t (sought.edge_of_item past.program.now past.plan.now past.budget past.logs.now (record_in past.logs.now) races a.process a.interval a.item xs t))
+        ∙ ap (λ b. nat_le u (sought.edge_of_item (past_setting past) past.logs.now (record_in past.logs.now) races a.process a.interval a.item xs t) || b)
+        (led_is t (sought.edge_of_item (past_setting past) past.logs.now (record_in past.logs.now) races a.process a.interval a.item xs t))
 
     none_is : (w : Option ℕ) → unclean_or a.process w no_item
         ≡ unclean_or a.process w no_item
@@ -73,18 +74,18 @@ module _ (past : Past) (is : IsPast past) (races : List Race) (races_are : races
     none_is (Some u) = refl
 
     edges_are : (t : Item) (o : Option (Result (List FlowEdge) Missing)) → with_edges t o
-        ≡ sought.with_edges past.program.now past.plan.now past.budget past.logs.now (record_in past.logs.now) races a.process a.interval a.item t o
+        ≡ sought.with_edges (past_setting past) past.logs.now (record_in past.logs.now) races a.process a.interval a.item t o
     edges_are t None = refl
     edges_are t (Some (Ok es)) = refl
     edges_are t (Some (Err m)) = refl
 
     item_is : a.first ≡ z → (o : Option Item) → answer_at past a xs o
-        ≡ sought.by_item past.program.now past.plan.now past.budget past.logs.now (record_in past.logs.now) races a.process a.interval a.item z xs o
+        ≡ sought.by_item (past_setting past) past.logs.now (record_in past.logs.now) races a.process a.interval a.item z xs o
     item_is e None = ap (reached_from past a) e
     item_is e (Some t) =
         ap₂ (λ b (x : CleanOr). if b then x else with_edges t (found_edges past.program.now past.plan.now past.logs.now xs a.process a.interval a.item).found)
         (ap (is_unclean_at past a t (edge_of_item past a (seen_at xs a.process) t)) e ∙ unclean_is z t) (ap (λ w. unclean_or a.process w no_item) e ∙ none_is z)
-        ∙ ap (λ (x : CleanOr). if sought.is_unclean past.program.now past.plan.now past.budget past.logs.now (record_in past.logs.now) races a.process a.interval a.item xs z t
+        ∙ ap (λ (x : CleanOr). if sought.is_unclean (past_setting past) past.logs.now (record_in past.logs.now) races a.process a.interval a.item xs z t
         then unclean_or a.process z no_item else x)
         (edges_are t (found_edges past.program.now past.plan.now past.logs.now xs a.process a.interval a.item).found)
 
@@ -112,20 +113,20 @@ module _ (past : Past) (is : IsPast past) (races : List Race) (races_are : races
     cut_for_is = cut_so ∙ ap (λ o. cut_logs (sought.last_wanted past.program.now (record_in past.logs.now) races a.process o) past.logs.now) raced_is
 
     by_first_is : (z : Option ℕ) → a.first ≡ z → answer_by past a (cut_for past a)
-        ≡ sought.by_first past.program.now past.plan.now past.budget past.logs.now (record_in past.logs.now) races a.process a.interval a.item z
+        ≡ sought.by_first (past_setting past) past.logs.now (record_in past.logs.now) races a.process a.interval a.item z
     by_first_is z e =
         let cut : Logs = cut_logs (sought.last_wanted past.program.now (record_in past.logs.now) races a.process z) past.logs.now in
         ap (answer_by past a) (cut_so ∙ ap (λ o. cut_logs (sought.last_wanted past.program.now (record_in past.logs.now) races a.process o) past.logs.now) e)
         ∙ item_is z (seens_of past cut) e (item_at a (seens_of past cut))
 
     from_first_is : (z : Option ℕ) → a.first ≡ z → unless_begun begun a.process z (answer_by past a (cut_for past a))
-        ≡ sought.from_first past.program.now past.plan.now past.budget past.logs.now (record_in past.logs.now) races a.process a.interval a.item z
+        ≡ sought.from_first (past_setting past) past.logs.now (record_in past.logs.now) races a.process a.interval a.item z
     from_first_is None e = by_first_is None e
     from_first_is (Some u) e =
         ap₂ (λ n (x : CleanOr). if nat_le u n then unclean (edge a.process u) else x) begun_is (by_first_is (Some u) e)
 
     pub found_is : unless_begun begun a.process a.first (answer_by past a (cut_for past a))
-        ≡ sought.clean_by past.program.now past.plan.now past.budget past.logs.now races a.process a.interval a.item
+        ≡ sought.clean_by (past_setting past) past.logs.now races a.process a.interval a.item
     found_is =
         ap (λ z. unless_begun begun a.process z (answer_by past a (cut_for past a))) raced_is
         ∙ from_first_is (first_raced past.program.now (record_in past.logs.now) races (get_or past.logs.now.lists a.process []) a.process a.interval) raced_is
@@ -142,7 +143,7 @@ module _ (past : Past) (is : IsPast past) (races : List Race) (races_are : races
     answered_by r h = by r (subst (λ (x : CleanOr). IsFound (FailsFrom begun past a) x r) found_is h)
       where
         by : (r : Result Clean CleanError)
-            → IsFound (FailsFrom begun past a) (sought.clean_by past.program.now past.plan.now past.budget past.logs.now races a.process a.interval a.item) r → IsCleanBy past races a.process a.interval a.item r
+            → IsFound (FailsFrom begun past a) (sought.clean_by (past_setting past) past.logs.now races a.process a.interval a.item) r → IsCleanBy past races a.process a.interval a.item r
         by (Ok c) f = f
         by (Err (error.Unclean x)) f = f
         by (Err error.NoEvent) f = f

@@ -1,4 +1,5 @@
 -- The parts of a search by replays, put together.
+use Rattle.ppd_flow_past.specs.PastSetting.{past_setting}
 use Rattle.std.proofs.Common.{◌≡◌, ℕ, zero, suc, ◌<◌, ◌≤◌, true, false, List, [], ◌∷◌, Option, Some, None, Result, Ok, Err, refl, ap, sym, subst, ◌∙◌, get_or, length, map, true≢false, if◌then◌else◌}
 use Rattle.std.proofs.lemmas.Option.{get_or_from_slice_get, slice_get_past}
 use Rattle.std.specs.Prelude.{slice_get}
@@ -33,7 +34,7 @@ at_process f d (es ∷ lists) (suc p) e = at_process f d lists p e
 -- what is seen of one process among what is seen of all
 pub same_seen : (past : Past) (p : ℕ) → seen_at (seens_in past) p ≡ seen_in past p
 same_seen past p =
-    at_process (λ entries. seen_by past.program.now past.plan.now past.budget entries) (record { items = []; blocks = []; rounds = [] }) past.cut.now.lists p refl
+    at_process (λ entries. seen_by (past_setting past) entries) (record { items = []; blocks = []; rounds = [] }) past.cut.now.lists p refl
 
 module _ (past : Past) where
   -- where one of some replays fails, a replay fails

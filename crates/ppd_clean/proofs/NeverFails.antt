@@ -1,4 +1,6 @@
 -- No replay of a log of a whole run fails that is cut where no race was.
+use Rattle.law_steps.specs.Policies.{setting_by}
+use Rattle.ppd_model.specs.Setting.{Setting, setting_of}
 use Rattle.std.proofs.Common.{◌≡◌, ℕ, zero, suc, ◌+◌, ◌<◌, ◌≤◌, List, [], ◌∷◌, ◌++◌, length, map, Option, Some, None, refl, ap, sym, subst, ◌∙◌, arith, append-nil, get_or, length-append, inl, inr}
 use Rattle.std.proofs.lemmas.Bool.{cases_lt}
 use Rattle.std.proofs.lemmas.Option.{none-some, slice_get-map}
@@ -59,95 +61,95 @@ nothing (s ∷ ss) (suc q) = nothing ss q
 nothing_after : (m : List ℕ) (p : ℕ) (more : List ℕ) → [] ≡ m ++ p ∷ more → ⊥
 nothing_after m p more e = let z : 0 ≡ length m + suc (length more) = ap length e ∙ length-append m (p ∷ more) in omega (arith, z)
 
-module _ (program : Program) (policy : Policy) (budget : ℕ) (h : List ℕ) (v : IsValid program) (whole : IsWhole program (plan_of program policy) budget h) (q : ℕ) where
+module _ (program : Program) (policy : Policy) (budget : ℕ) (h : List ℕ) (v : IsValid program) (whole : IsWhole (setting_by program policy budget) h) (q : ℕ) where
   abbrev plan : Plan
   plan = plan_of program policy
 
   abbrev own_log : List Entry
-  own_log = closed_log (log_of program plan budget q (get_or (told program plan budget h).moments q []))
+  own_log = closed_log (log_of (setting_of program plan budget) q (get_or (told (setting_of program plan budget) h).moments q []))
 
   -- ---- where a synchronization ends the last edge
 
-  ended_never : (i : ℕ) → i < edge_in program plan budget h q → ((e : ℕ) → e ≤ i → IsUnracedIn program plan budget h q e) → (k : ℕ)
-      → failed_at program plan budget (cut (Some i) own_log) k ≡ None
+  ended_never : (i : ℕ) → i < edge_in (setting_of program plan budget) h q → ((e : ℕ) → e ≤ i → IsUnracedIn (setting_of program plan budget) h q e) → (k : ℕ)
+      → failed_at (setting_of program plan budget) (cut (Some i) own_log) k ≡ None
   ended_never i ended clear k =
-      let none : edge_in program plan budget [] q ≡ 0 = edge_is_count program plan budget [] q ∙ ap (λ ts. length (filter_map sync_of ts)) (none_did program plan budget q) in
-      let ends : EndsEdge program plan budget h q i = edge_ends program plan budget h q i ended none in
+      let none : edge_in (setting_of program plan budget) [] q ≡ 0 = edge_is_count (setting_of program plan budget) [] q ∙ ap (λ ts. length (filter_map sync_of ts)) (none_did program plan budget q) in
+      let ends : EndsEdge (setting_of program plan budget) h q i = edge_ends (setting_of program plan budget) h q i ended none in
       let g : List ℕ = ends.before ++ q ∷ [] in
-      let more : length (option_to_list (sync_of (moment_of program plan (told program plan budget ends.before) q).taken)) ≡ 1 = one_of (sync_of (moment_of program plan (told program plan budget ends.before) q).taken) ends.is_sync in
-      let grew : edge_in program plan budget g q ≡ edge_in program plan budget ends.before q + length (option_to_list (sync_of (moment_of program plan (told program plan budget ends.before) q).taken)) =
-      edge_own program plan budget ends.before q ends.there in
-      let is : edge_in program plan budget ends.before q ≡ i = ends.edge_is in
-      let x = has_split program plan budget g q i (omega (arith, grew, more, is)) in
-      ap (λ es. failed_at program plan budget es k) (cut_of_log program policy budget h q i v whole ends clear)
+      let more : length (option_to_list (sync_of (moment_of program plan (told (setting_of program plan budget) ends.before) q).taken)) ≡ 1 = one_of (sync_of (moment_of program plan (told (setting_of program plan budget) ends.before) q).taken) ends.is_sync in
+      let grew : edge_in (setting_of program plan budget) g q ≡ edge_in (setting_of program plan budget) ends.before q + length (option_to_list (sync_of (moment_of program plan (told (setting_of program plan budget) ends.before) q).taken)) =
+      edge_own (setting_of program plan budget) ends.before q ends.there in
+      let is : edge_in (setting_of program plan budget) ends.before q ≡ i = ends.edge_is in
+      let x = has_split (setting_of program plan budget) g q i (omega (arith, grew, more, is)) in
+      ap (λ es. failed_at (setting_of program plan budget) es k) (cut_of_log program policy budget h q i v whole ends clear)
       ∙ ap failure_of (replays_of_cut program policy budget h q i v whole ends clear x.0 x.1 k) ∙ no_failure x.0 (slice_get x.0.spans k)
 
   -- ---- where none does, and the log stays whole
 
-  module _ (y : Split) (at : slice_get (splits program (plan_of program policy) budget (story program (plan_of program policy) budget h)) q ≡ Some y) where
+  module _ (y : Split) (at : slice_get (splits (setting_by program policy budget) (story (setting_by program policy budget) h)) q ≡ Some y) where
     there : program.functions + q < length program.bodies
-    there = process_there program plan budget h q y at
+    there = process_there (setting_of program plan budget) h q y at
 
-    module _ (clear : (e : ℕ) → e ≤ edge_in program (plan_of program policy) budget h q → IsUnracedIn program (plan_of program policy) budget h q e) where
+    module _ (clear : (e : ℕ) → e ≤ edge_in (setting_by program policy budget) h q → IsUnracedIn (setting_by program policy budget) h q e) where
       h_is : h ++ [] ≡ h
       h_is = append-nil h
 
-      runs : run program plan budget (h ++ []) ≡ Some whole.last
-      runs = subst (λ l. run program plan budget l ≡ Some whole.last) (sym h_is) whole.runs
+      runs : run (setting_of program plan budget) (h ++ []) ≡ Some whole.last
+      runs = subst (λ l. run (setting_of program plan budget) l ≡ Some whole.last) (sym h_is) whole.runs
 
-      reads_clear : AreUnracedReads program plan budget h (h ++ []) q
+      reads_clear : AreUnracedReads (setting_of program plan budget) h (h ++ []) q
       reads_clear b more c is reads =
-          subst (λ l. IsUnracedIn program plan budget l q (edge_in program plan budget b q)) (sym h_is)
-          (clear (edge_in program plan budget b q)
-          (let up : edge_in program plan budget b q ≤ edge_in program plan budget (b ++ q ∷ more) q = fewer program plan budget b (q ∷ more) whole.last (subst (λ l. run program plan budget l ≡ Some whole.last) is whole.runs) q in
-          subst (λ l. edge_in program plan budget b q ≤ edge_in program plan budget l q) (sym is) up))
+          subst (λ l. IsUnracedIn (setting_of program plan budget) l q (edge_in (setting_of program plan budget) b q)) (sym h_is)
+          (clear (edge_in (setting_of program plan budget) b q)
+          (let up : edge_in (setting_of program plan budget) b q ≤ edge_in (setting_of program plan budget) (b ++ q ∷ more) q = fewer (setting_of program plan budget) b (q ∷ more) whole.last (subst (λ l. run (setting_of program plan budget) l ≡ Some whole.last) is whole.runs) q in
+          subst (λ l. edge_in (setting_of program plan budget) b q ≤ edge_in (setting_of program plan budget) l q) (sym is) up))
 
-      reads : AreRead plan (begun_in_force program plan q) (get_or (told program plan budget h).moments q [])
+      reads : AreRead plan (begun_in_force program plan q) (get_or (told (setting_of program plan budget) h).moments q [])
       reads = unraced_reads program policy budget h [] whole.last q v runs reads_clear
 
-      whole_never : (k : ℕ) → failed_at program plan budget own_log k ≡ None
+      whole_never : (k : ℕ) → failed_at (setting_of program plan budget) own_log k ≡ None
       whole_never k =
-          ap failure_of (replays_alike program policy v budget q 0 (omega arith) there (get_or (told program plan budget h).moments q []) (schedules_run program plan budget h q v whole there) (story program plan budget h) reads k
-          ∙ ap (λ (z : Split). modelled_of z (slice_get z.spans k)) (ap (split_of program plan budget (story program plan budget h) q) (sym (own_steps_are program plan budget h q)) ∙ split_is program plan budget h q y at))
+          ap failure_of (replays_alike program policy v budget q 0 (omega arith) there (get_or (told (setting_of program plan budget) h).moments q []) (schedules_run (setting_of program plan budget) h q v whole there) (story (setting_of program plan budget) h) reads k
+          ∙ ap (λ (z : Split). modelled_of z (slice_get z.spans k)) (ap (split_of (setting_of program plan budget) (story (setting_of program plan budget) h) q) (sym (own_steps_are (setting_of program plan budget) h q)) ∙ split_is (setting_of program plan budget) h q y at))
           ∙ no_failure y (slice_get y.spans k)
 
     -- ---- where no edge is wanted
 
-    none_yet : get_or (told program plan budget []).moments q [] ≡ []
-    none_yet = nothing (started_world program plan budget).procs q
+    none_yet : get_or (told (setting_of program plan budget) []).moments q [] ≡ []
+    none_yet = nothing (started_world (setting_of program plan budget)).procs q
 
     begun : Logging
-    begun = begun_log program plan budget q
+    begun = begun_log (setting_of program plan budget) q
 
-    start_is : cut None own_log ≡ (begun_log program plan budget q).entries ++ stop ∷ []
-    start_is = ap (λ es. cut None es) (log_tail program plan (get_or (told program plan budget h).moments q []) (begun_log program plan budget q))
+    start_is : cut None own_log ≡ (begun_log (setting_of program plan budget) q).entries ++ stop ∷ []
+    start_is = ap (λ es. cut None es) (log_tail program plan (get_or (told (setting_of program plan budget) h).moments q []) (begun_log (setting_of program plan budget) q))
 
-    begun_reads : AreUnracedReads program plan budget [] ([] ++ h) q
+    begun_reads : AreUnracedReads (setting_of program plan budget) [] ([] ++ h) q
     begun_reads b more c is read = absurd (nothing_after b q more is)
 
-    begun_never : (k : ℕ) → failed_at program plan budget (cut None own_log) k ≡ None
+    begun_never : (k : ℕ) → failed_at (setting_of program plan budget) (cut None own_log) k ≡ None
     begun_never k =
-        let l_is : log_of program plan budget q (get_or (told program plan budget []).moments q []) ≡ begun_log program plan budget q = ap (log_of program plan budget q) none_yet in
-        ap (λ es. failed_at program plan budget es k) (start_is ∙ ap (λ (l : Logging). l.entries ++ entry.End status.Budget l.rest l.reads l.writes ∷ []) (sym l_is))
-        ∙ ap failure_of (cut_replays program policy budget [] h q v whole there (ap (λ (l : Logging). l.proc.status) l_is) begun_reads (story program plan budget []) k)
-        ∙ no_failure (split_of program plan budget (story program plan budget []) q (steps_of (get_or (told program plan budget []).moments q [])))
-        (slice_get (split_of program plan budget (story program plan budget []) q (steps_of (get_or (told program plan budget []).moments q []))).spans k)
+        let l_is : log_of (setting_of program plan budget) q (get_or (told (setting_of program plan budget) []).moments q []) ≡ begun_log (setting_of program plan budget) q = ap (log_of (setting_of program plan budget) q) none_yet in
+        ap (λ es. failed_at (setting_of program plan budget) es k) (start_is ∙ ap (λ (l : Logging). l.entries ++ entry.End status.Budget l.rest l.reads l.writes ∷ []) (sym l_is))
+        ∙ ap failure_of (cut_replays program policy budget [] h q v whole there (ap (λ (l : Logging). l.proc.status) l_is) begun_reads (story (setting_of program plan budget) []) k)
+        ∙ no_failure (split_of (setting_of program plan budget) (story (setting_of program plan budget) []) q (steps_of (get_or (told (setting_of program plan budget) []).moments q [])))
+        (slice_get (split_of (setting_of program plan budget) (story (setting_of program plan budget) []) q (steps_of (get_or (told (setting_of program plan budget) []).moments q []))).spans k)
 
     -- ---- all of them
 
     -- no race has an edge of the process up to the last wanted one
     abbrev pub IsClear : Option ℕ → Type 0
     IsClear None = ⊤
-    IsClear (Some i) = (e : ℕ) → e ≤ i → e ≤ edge_in program (plan_of program policy) budget h q → IsUnracedIn program (plan_of program policy) budget h q e
+    IsClear (Some i) = (e : ℕ) → e ≤ i → e ≤ edge_in (setting_by program policy budget) h q → IsUnracedIn (setting_by program policy budget) h q e
 
-    cut_never : (o : Option ℕ) → IsClear o → (k : ℕ) → failed_at program plan budget (cut o own_log) k ≡ None
+    cut_never : (o : Option ℕ) → IsClear o → (k : ℕ) → failed_at (setting_of program plan budget) (cut o own_log) k ≡ None
     cut_never None clear k = begun_never k
-    cut_never (Some i) clear k = elim (cases_lt i (edge_in program plan budget h q)) [
+    cut_never (Some i) clear k = elim (cases_lt i (edge_in (setting_of program plan budget) h q)) [
       | inl lt ↦ ended_never i lt (λ e le. clear e le (omega (arith, le, lt))) k
       | inr ge ↦
-          let many = closed_syncs (log_of program plan budget q (get_or (told program plan budget h).moments q [])) in
-          let all = syncs_in_log program plan budget h q in
-          ap (λ es. failed_at program plan budget es k) (stays_whole i own_log (omega (arith, many, all, ge)))
+          let many = closed_syncs (log_of (setting_of program plan budget) q (get_or (told (setting_of program plan budget) h).moments q [])) in
+          let all = syncs_in_log (setting_of program plan budget) h q in
+          ap (λ es. failed_at (setting_of program plan budget) es k) (stays_whole i own_log (omega (arith, many, all, ge)))
           ∙ whole_never (λ e le. clear e (omega (arith, le, ge)) le) k
     ]
 
@@ -164,35 +166,35 @@ cut_at_process last p (es ∷ lists) (suc q) =
     let z : (p + 1) + q ≡ p + suc q = omega arith in
     cut_at_process last (p + 1) lists q ∙ ap (λ k. cut_if (last k) (slice_get lists q)) z
 
-there_below : (program : Program) (plan : Plan) (budget k : ℕ) (ms : List (List Moment)) (q : ℕ) (es : List Entry) → slice_get (map closed_log (logs_from program plan budget k ms)) q ≡ Some es → q < length ms
-there_below program plan budget k [] q es e = absurd (none-some es e)
-there_below program plan budget k (m ∷ ms) zero es e = omega arith
-there_below program plan budget k (m ∷ ms) (suc q) es e = let r : q < length ms = there_below program plan budget (k + 1) ms q es e in omega (arith, r)
+there_below : (setting : Setting) (k : ℕ) (ms : List (List Moment)) (q : ℕ) (es : List Entry) → slice_get (map closed_log (logs_from setting k ms)) q ≡ Some es → q < length ms
+there_below setting k [] q es e = absurd (none-some es e)
+there_below setting k (m ∷ ms) zero es e = omega arith
+there_below setting k (m ∷ ms) (suc q) es e = let r : q < length ms = there_below setting (k + 1) ms q es e in omega (arith, r)
 
-module _ (program : Program) (policy : Policy) (budget : ℕ) (h : List ℕ) (v : IsValid program) (whole : IsWhole program (plan_of program policy) budget h) (last : ℕ → Option ℕ) where
+module _ (program : Program) (policy : Policy) (budget : ℕ) (h : List ℕ) (v : IsValid program) (whole : IsWhole (setting_by program policy budget) h) (last : ℕ → Option ℕ) where
   abbrev all_plan : Plan
   all_plan = plan_of program policy
 
   abbrev lists : List (List Entry)
-  lists = (closed_logs program (plan_of program policy) budget h).lists
+  lists = (closed_logs (setting_by program policy budget) h).lists
 
   -- where no race has an edge up to the last wanted one
-  pub cuts_never : ((q : ℕ) (y : Split) (at : slice_get (splits program (plan_of program policy) budget (story program (plan_of program policy) budget h)) q ≡ Some y) → IsClear program policy budget h v whole q y at (last q))
-      → (q k : ℕ) → failed_at program (plan_of program policy) budget (get_or (cut_from last 0 (closed_logs program (plan_of program policy) budget h).lists) q []) k ≡ None
+  pub cuts_never : ((q : ℕ) (y : Split) (at : slice_get (splits (setting_by program policy budget) (story (setting_by program policy budget) h)) q ≡ Some y) → IsClear program policy budget h v whole q y at (last q))
+      → (q k : ℕ) → failed_at (setting_by program policy budget) (get_or (cut_from last 0 (closed_logs (setting_by program policy budget) h).lists) q []) k ≡ None
   cuts_never clear q k =
       let z : 0 + q ≡ q = omega arith in
-      ap (λ es. failed_at program all_plan budget es k) (cut_at_process last 0 lists q ∙ ap (λ n. cut_if (last n) (slice_get lists q)) z) ∙ by (slice_get lists q) refl
+      ap (λ es. failed_at (setting_of program all_plan budget) es k) (cut_at_process last 0 lists q ∙ ap (λ n. cut_if (last n) (slice_get lists q)) z) ∙ by (slice_get lists q) refl
     where
-      by : (o : Option (List Entry)) → slice_get lists q ≡ o → failed_at program all_plan budget (cut_if (last q) o) k ≡ None
+      by : (o : Option (List Entry)) → slice_get lists q ≡ o → failed_at (setting_of program all_plan budget) (cut_if (last q) o) k ≡ None
       by None e = refl
       by (Some es) e =
-          let lt : q < length (told program all_plan budget h).moments = there_below program all_plan budget 0 (told program all_plan budget h).moments q es e in
-          let y = split_there program all_plan budget (story program all_plan budget h) 0 (told program all_plan budget h).moments q lt in
+          let lt : q < length (told (setting_of program all_plan budget) h).moments = there_below (setting_of program all_plan budget) 0 (told (setting_of program all_plan budget) h).moments q es e in
+          let y = split_there (setting_of program all_plan budget) (story (setting_of program all_plan budget) h) 0 (told (setting_of program all_plan budget) h).moments q lt in
           let z : 0 + q ≡ q = omega arith in
-          let listed : slice_get lists q ≡ Some (closed_log (log_of program all_plan budget q (get_or (told program all_plan budget h).moments q []))) =
-          slice_get-map closed_log (logs_from program all_plan budget 0 (told program all_plan budget h).moments) q
-          ∙ ap (option_map closed_log) (logging_at program all_plan budget (story program all_plan budget h) 0 (told program all_plan budget h).moments q y.0 y.1
-          ∙ ap (λ n. Some (log_of program all_plan budget n (get_or (told program all_plan budget h).moments q []))) z) in
-          let is : es ≡ closed_log (log_of program all_plan budget q (get_or (told program all_plan budget h).moments q [])) = some (sym e ∙ listed) in
-          ap (λ xs. failed_at program all_plan budget (cut (last q) xs) k) is
+          let listed : slice_get lists q ≡ Some (closed_log (log_of (setting_of program all_plan budget) q (get_or (told (setting_of program all_plan budget) h).moments q []))) =
+          slice_get-map closed_log (logs_from (setting_of program all_plan budget) 0 (told (setting_of program all_plan budget) h).moments) q
+          ∙ ap (option_map closed_log) (logging_at (setting_of program all_plan budget) (story (setting_of program all_plan budget) h) 0 (told (setting_of program all_plan budget) h).moments q y.0 y.1
+          ∙ ap (λ n. Some (log_of (setting_of program all_plan budget) n (get_or (told (setting_of program all_plan budget) h).moments q []))) z) in
+          let is : es ≡ closed_log (log_of (setting_of program all_plan budget) q (get_or (told (setting_of program all_plan budget) h).moments q [])) = some (sym e ∙ listed) in
+          ap (λ xs. failed_at (setting_of program all_plan budget) (cut (last q) xs) k) is
           ∙ cut_never program policy budget h v whole q y.0 y.1 (last q) (clear q y.0 y.1) k

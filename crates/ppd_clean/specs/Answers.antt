@@ -1,4 +1,5 @@
 -- What is answered for an item of a run with races.
+use Rattle.ppd_flow_past.specs.PastSetting.{past_setting}
 use Rattle.law_clean.specs.Answers.{CleanOr, clean, is_reached, no_item, unclean, unclean_or, unwritten}
 use Rattle.law_clean.specs.Cuts.{cut_logs}
 use Rattle.law_clean.specs.Pasts.{first_raced, left_edge}
@@ -41,7 +42,7 @@ IsAnswer x (Err error.Memory) = ⊤
 -- the replay of some interval of process q, from these logs, fails at entry n
 abbrev pub Fails : Past → Logs → (q n : ℕ) → Type 0
 Fails past cut q n =
-    (m : ℕ) × (failed_at past.program.now past.plan.now past.budget (get_or cut.lists q []) m ≡ Some n)
+    (m : ℕ) × (failed_at (past_setting past) (get_or cut.lists q []) m ≡ Some n)
 
 -- this is answered, where a write may be missing, or a replay fails
 abbrev pub IsFound : (ℕ → ℕ → Type 0) → CleanOr → Result Clean CleanError → Type 0
@@ -76,7 +77,7 @@ Diverges past races p k j q n =
 abbrev pub IsCleanBy : Past → List Race → (p k j : ℕ) → Result Clean CleanError → Type 0
 IsCleanBy past races p k j result =
     IsFound (Diverges past races p k j)
-    (clean_by past.program.now past.plan.now past.budget past.logs.now races p k j) result
+    (clean_by (past_setting past) past.logs.now races p k j) result
 
 -- ---- as they are found
 
@@ -116,7 +117,7 @@ item_at a xs = slice_get (get_or (seen_at xs a.process).items a.interval []) a.i
 -- of cut logs
 abbrev pub seens_of : Past → Logs → List Seen
 seens_of past cut =
-    map (λ entries. seen_by past.program.now past.plan.now past.budget entries) cut.lists
+    map (λ entries. seen_by (past_setting past) entries) cut.lists
 
 abbrev pub answer_by : Past → Asked → Logs → CleanOr
 answer_by past a cut = answer_at past a (seens_of past cut) (item_at a (seens_of past cut))

@@ -1,4 +1,5 @@
 -- What the answers are of what is kept of a whole run, with races or without.
+use Rattle.ppd_flow_past.specs.PastSetting.{past_setting}
 use Rattle.ppd_race.specs.Races.{races_among, edges_of_logs}
 use Rattle.std.specs.Prelude.{◌≡◌, ℕ, List, slice_get, Some, Result}
 use Rattle.law_clean.specs.Answers.{answer_of}
@@ -18,15 +19,15 @@ use Rattle.ppd_model.specs.Schedule.{IsWhole}
 -- what is kept of a whole schedule, with races or without, under the plan of a policy
 pub record IsOfAnyRun (past : Past) (policy : Policy) (h : List ℕ) : Type 0 where
   pub plan_is : past.plan.now ≡ plan_of past.program.now policy
-  pub logs_are : past.logs.now ≡ closed_logs past.program.now past.plan.now past.budget h
-  pub whole : IsWhole past.program.now past.plan.now past.budget h
+  pub logs_are : past.logs.now ≡ closed_logs (past_setting past) h
+  pub whole : IsWhole (past_setting past) h
 
 -- of item j of an interval that is there: the item with its edges, where it is clean; else why not; or want of memory
 abbrev pub GivesClean : Past → (p k j : ℕ) → Result Clean CleanError → Type 0
 GivesClean past p k j result =
     (policy : Policy) (h : List ℕ) (x : Split) (i : Span) → IsOfAnyRun past policy h
     → slice_get (splits_in past h) p ≡ Some x → slice_get x.spans k ≡ Some i
-    → IsAnswer (answer_of past.program.now past.plan.now past.budget h p k j) result
+    → IsAnswer (answer_of (past_setting past) h p k j) result
 
 -- whatever is answered by cut logs is so answered of a run
 abbrev pub CleansAreOfRuns : Type 0

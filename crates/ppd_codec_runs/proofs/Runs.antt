@@ -1,4 +1,6 @@
 -- The recording of a whole run is accepted, and what is known of it is what is known of the run.
+use Rattle.law_steps.specs.Policies.{setting_by}
+use Rattle.ppd_model.specs.Setting.{setting_of}
 use Rattle.std.proofs.Common.{◌≡◌, ℕ, List, None, sym, subst, ◌∙◌, ap}
 use Rattle.law_agreement.proofs.Agreeing.{agreeing_stories}
 use Rattle.ppd_ast.specs.Valid.{IsValid}
@@ -33,20 +35,20 @@ module _ (source : List ℕ) (header : Header) (program : Program) (h bytes : Li
   plan : Plan
   plan = plan_of program header.policy
 
-  three : (r : Recording) → IsDecoded bytes r → IsOfThree source header program (closed_logs program (plan_of program header.policy) header.budget h) r
-  three r d = of_three source header program (closed_logs program (plan_of program header.policy) header.budget h) bytes r run.accepted run.is d
+  three : (r : Recording) → IsDecoded bytes r → IsOfThree source header program (closed_logs (setting_by program header.policy header.budget) h) r
+  three r d = of_three source header program (closed_logs (setting_by program header.policy header.budget) h) bytes r run.accepted run.is d
 
   valid : IsValid program
   valid = read_valid source program run.accepted
 
   -- what is known of it
-  recalled : (r : Recording) → IsDecoded bytes r → known_of r ≡ known_of_run program (plan_of program header.policy) header.budget h
+  recalled : (r : Recording) → IsDecoded bytes r → known_of r ≡ known_of_run (setting_by program header.policy header.budget) h
   recalled r d =
       let s = three r d in
-      ap (λ (p : Program). known_of_logs p r.plan r.header.budget r.logs) s.program_is
-      ∙ (ap (λ (q : Plan). known_of_logs program q r.header.budget r.logs) s.plan_is
-      ∙ (ap (λ (k : Header). known_of_logs program (plan_of program header.policy) k.budget r.logs) s.header_is
-      ∙ (ap (λ (l : Logs). known_of_logs program (plan_of program header.policy) header.budget l) s.logs_are
+      ap (λ (p : Program). known_of_logs (setting_of p r.plan r.header.budget) r.logs) s.program_is
+      ∙ (ap (λ (q : Plan). known_of_logs (setting_of program q r.header.budget) r.logs) s.plan_is
+      ∙ (ap (λ (k : Header). known_of_logs (setting_of program (plan_of program header.policy) k.budget) r.logs) s.header_is
+      ∙ (ap (λ (l : Logs). known_of_logs (setting_by program header.policy header.budget) l) s.logs_are
       ∙ known_as program header.policy header.budget h valid run.whole)))
 
   indexed : (r : Recording) → IsDecoded bytes r → first_in_lists r.program r.plan 0 r.logs.lists ≡ None
@@ -58,17 +60,17 @@ module _ (source : List ℕ) (header : Header) (program : Program) (h bytes : Li
       ∙ logs_indexed program header.policy header.budget h valid run.whole))
 
   accepted : (line : List ℕ) → IsRefusedBy bytes line → ⊥
-  accepted line (by_bytes e other bad) = no_recording_is_bad source header (closed_logs program (plan_of program header.policy) header.budget h) bytes e run.is bad
+  accepted line (by_bytes e other bad) = no_recording_is_bad source header (closed_logs (setting_by program header.policy header.budget) h) bytes e run.is bad
   accepted line (by_log r d e other bad) = indexed_not (first_in_lists r.program r.plan 0 r.logs.lists) e (indexed r d) other bad
   accepted line (by_sync r d none e other bad) =
       let s = three r d in
       let one : IsNoGraph program r.logs e = subst (λ (p : Program). IsNoGraph p r.logs e) s.program_is bad in
-      refused program (plan_of program header.policy) header.budget h run.whole.last run.whole.runs e other (subst (λ (l : Logs). IsNoGraph program l e) s.logs_are one)
+      refused (setting_by program header.policy header.budget) h run.whole.last run.whole.runs e other (subst (λ (l : Logs). IsNoGraph program l e) s.logs_are one)
 
 pub runs_are_recalled : RunsAreRecalled
 runs_are_recalled bytes r a = λ source header program h run.
     let known = recalled source header program h bytes run r a.decoded in
-    (known, λ none h' agree. known ∙ ap (known_of_story program (plan_of program header.policy) header.budget) (agreeing_stories program (plan_of program header.policy) header.budget h h' agree none))
+    (known, λ none h' agree. known ∙ ap (known_of_story (setting_by program header.policy header.budget)) (agreeing_stories (setting_by program header.policy header.budget) h h' agree none))
 
 pub no_run_is_refused : NoRunIsRefused
 no_run_is_refused source header program h bytes line run why = accepted source header program h bytes run line why

@@ -1,7 +1,7 @@
 -- Laws of recordings that are accepted or refused.
+use Rattle.law_steps.specs.Policies.{setting_by}
 use Rattle.std.specs.Prelude.{◌≡◌, ℕ, List, []}
 use Rattle.ppd_ast.specs.declared.program.Program.{Program}
-use Rattle.ppd_blocks.specs.Blocks.{plan_of}
 use Rattle.ppd_codec.specs.declared.recording.Header.{Header}
 use Rattle.ppd_codec.specs.declared.recording.Recording.{Recording}
 use Rattle.ppd_model.specs.Agreement.{Agree}
@@ -18,10 +18,10 @@ RefusedOrAccepted = (bytes line : List ℕ) (r : Recording) → IsAccepted bytes
 abbrev pub IsKnownOfRuns : List ℕ → Known → Type 0
 IsKnownOfRuns bytes x =
     (source : List ℕ) (header : Header) (program : Program) (h : List ℕ) → IsRunRecorded source header program h bytes
-    → (x ≡ known_of_run program (plan_of program header.policy) header.budget h)
-    × (races program (plan_of program header.policy) header.budget h ≡ [] → (h' : List ℕ)
-    → Agree program (plan_of program header.policy) header.budget h h'
-    → x ≡ known_of_run program (plan_of program header.policy) header.budget h')
+    → (x ≡ known_of_run (setting_by program header.policy header.budget) h)
+    × (races (setting_by program header.policy header.budget) h ≡ [] → (h' : List ℕ)
+    → Agree (setting_by program header.policy header.budget) h h'
+    → x ≡ known_of_run (setting_by program header.policy header.budget) h')
 
 -- what is known of an accepted recording of a run is what is known of the run
 abbrev pub RunsAreRecalled : Type 0

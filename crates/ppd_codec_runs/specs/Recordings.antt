@@ -1,7 +1,8 @@
 -- Recordings of whole runs, and which recordings are accepted or refused.
+use Rattle.law_steps.specs.Policies.{setting_by}
+use Rattle.ppd_model.specs.Setting.{Setting}
 use Rattle.std.specs.Prelude.{◌≡◌, ◌≢◌, ℕ, List, [], None, ⊤}
 use Rattle.ppd_ast.specs.declared.program.Program.{Program}
-use Rattle.ppd_blocks.specs.Blocks.{plan_of}
 use Rattle.ppd_check.specs.Read.{IsRead}
 use Rattle.ppd_codec.specs.Recordings.{IsBad, IsDecoded, IsRecordingOf}
 use Rattle.ppd_codec.specs.declared.bad.BadBytes.{BadBytes}
@@ -27,12 +28,16 @@ use Rattle.ppd_codec_runs.specs.declared.recalling.Recalled.{Recalled}
 
 -- ---- recordings of whole runs
 
+-- the setting that a recording keeps
+abbrev pub recorded_setting : Recording → Setting
+recorded_setting r = record { program = r.program; plan = r.plan; budget = r.header.budget }
+
 -- the logs are those of this whole schedule of the source's program, with the policy's plan and the budget
 pub record AreOfRun (source : List ℕ) (header : Header) (program : Program) (h : List ℕ) (logs : Logs) : Type 0 where
   pub accepted : IsRead source program
   pub range : IsWithinRange header
-  pub whole : IsWhole program (plan_of program header.policy) header.budget h
-  pub are : logs ≡ closed_logs program (plan_of program header.policy) header.budget h
+  pub whole : IsWhole (setting_by program header.policy header.budget) h
+  pub are : logs ≡ closed_logs (setting_by program header.policy header.budget) h
 
 -- of some whole schedule
 pub record AreOfSomeRun (source : List ℕ) (header : Header) (logs : Logs) : Type 0 where
@@ -44,8 +49,8 @@ pub record AreOfSomeRun (source : List ℕ) (header : Header) (logs : Logs) : Ty
 pub record IsRunRecorded (source : List ℕ) (header : Header) (program : Program) (h : List ℕ)
     (bytes : List ℕ) : Type 0 where
   pub accepted : IsRead source program
-  pub whole : IsWhole program (plan_of program header.policy) header.budget h
-  pub is : IsRecordingOf source header (closed_logs program (plan_of program header.policy) header.budget h) bytes
+  pub whole : IsWhole (setting_by program header.policy header.budget) h
+  pub is : IsRecordingOf source header (closed_logs (setting_by program header.policy header.budget) h) bytes
 
 -- ---- which bytes are accepted
 
@@ -57,7 +62,7 @@ pub record IsAccepted (bytes : List ℕ) (r : Recording) : Type 0 where
 
 -- what is known of a recording
 abbrev pub known_of : Recording → Known
-known_of r = known_of_logs r.program r.plan r.header.budget r.logs
+known_of r = known_of_logs (recorded_setting r) r.logs
 
 -- the bytes are refused with this line: they are no recording, else its logs have no index, else they have no graph
 pub data IsRefusedBy (bytes : List ℕ) : List ℕ → Type 0 where
@@ -75,5 +80,4 @@ IsNotRecalled bytes Memory = ⊤
 -- what is taken from accepted bytes belongs together
 abbrev pub IsRecalled : Recalled → Type 0
 IsRecalled r =
-    BelongTogether r.recording.program r.recording.plan r.recording.logs r.index r.graph r.recording.logs r.index
-    r.recording.header.budget []
+    BelongTogether (recorded_setting r.recording) r.recording.logs r.index r.graph r.recording.logs r.index []

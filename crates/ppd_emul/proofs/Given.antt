@@ -1,4 +1,5 @@
 -- The replay of an interval of a run without a race gives the interval.
+use Rattle.ppd_model.specs.Setting.{setting_of}
 use Rattle.std.proofs.Common.{◌≡◌, ℕ, ◌+◌, [], get_or, Result, Some, Ok, Err, sym, subst}
 use Rattle.ppd_ast.specs.Valid.{IsValid}
 use Rattle.ppd_ast.specs.declared.plan.Plan.{Plan}
@@ -25,14 +26,14 @@ pub gives_intervals : EmulationsGiveIntervals → (program : Program) (plan : Pl
     (before after : ℕ) (r : Result BlockTrace EmulError) → IsValid program
     → IfTold r (r ≡ (replay program plan log budget).answer)
     → IfTold r (after ≡ before + (replay program plan log budget).steps)
-    → GivesIntervals program plan budget log before after r
+    → GivesIntervals (setting_of program plan budget) log before after r
 gives_intervals law program plan budget log before after r valid told counted policy h p k is whole free found =
     subst Given (sym is)
     (λ answer w f l. law program policy budget h p k log before after r valid w f l answer)
     (answers (replay program plan log budget) before after r told counted) whole free found
   where
     Given : Plan → Type 0
-    Given q = IsAnswerOf (replay program q log budget) before after r → IsWhole program q budget h
-        → races program q budget h ≡ []
-        → interval_log q (get_or (closed_logs program q budget h).lists p []) k ≡ Some log
-        → GivesIntervalAt program q budget h p k before after r
+    Given q = IsAnswerOf (replay program q log budget) before after r → IsWhole (setting_of program q budget) h
+        → races (setting_of program q budget) h ≡ []
+        → interval_log q (get_or (closed_logs (setting_of program q budget) h).lists p []) k ≡ Some log
+        → GivesIntervalAt (setting_of program q budget) h p k before after r

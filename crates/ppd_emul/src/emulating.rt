@@ -1,3 +1,4 @@
+ghost use Rattle.ppd_model.specs.Setting.{setting_of};
 ghost use Rattle.std.specs.Prelude.{◌≡◌, ◌+◌, ◌<◌, ◌≤◌, Some};
 ghost use Rattle.law_replay.specs.Theorem.Laws.{GivesIntervals};
 ghost use Rattle.ppd_ast.specs.declared.limits.TheConstants.{MOST_CALLS};
@@ -149,7 +150,7 @@ pub fn emulate_in<L: Ledger, T: Ledger>(
     ensures turns { IfTold result
         (counters.new.turns + counters.old.own ≤ counters.old.turns + counters.new.own + 1) }
     ensures items { HasFewItems counters.old.own counters.new.own result }
-    ensures intervals { GivesIntervals program.now plan.now budget log.now
+    ensures intervals { GivesIntervals (setting_of program.now plan.now budget) log.now
         counters.old.own counters.new.own result }
 {
     emulations_give_intervals();
@@ -192,7 +193,7 @@ pub fn emulate<L: Ledger>(
     ensures answer { IfTold result (result ≡ (replay program.now plan.now log.now budget).answer) }
     ensures steps { IfTold result (steps.new ≡ steps.old + (replay program.now plan.now log.now budget).steps) }
     ensures items { HasFewItems steps.old steps.new result }
-    ensures intervals { GivesIntervals program.now plan.now budget log.now steps.old steps.new result }
+    ensures intervals { GivesIntervals (setting_of program.now plan.now budget) log.now steps.old steps.new result }
 {
     emulations_give_intervals();
     let code = Code {

@@ -1,4 +1,6 @@
 -- What is seen by replays of a whole run without a race is what its processes are in their intervals.
+use Rattle.ppd_flow_past.specs.PastSetting.{past_setting}
+use Rattle.ppd_model.specs.Setting.{Setting, setting_of}
 use Rattle.std.proofs.Common.{◌≡◌, ℕ, zero, suc, ◌+◌, List, [], ◌∷◌, Option, Some, None, Result, Ok, Err, refl, ap, sym, ◌∙◌, subst, get_or, map}
 use Rattle.std.specs.Prelude.{ℤ, option_map, slice_get, ok_or}
 use Rattle.ppd_ast.specs.Valid.{IsValid}
@@ -37,12 +39,12 @@ use Rattle.ppd_flow.specs.Runs.{AnswersAreOfRuns, GivesEdges, GivesLast, IsOfRun
 
 -- ---- processes one after another
 
-module _ (program : Program) (plan : Plan) (budget : ℕ) (s : Story) where
+module _ (setting : Setting) (s : Story) where
   abbrev pub rows : ℕ → List (List Moment) → List (List Entry)
-  rows k ms = map closed_log (logs_from program plan budget k ms)
+  rows k ms = map closed_log (logs_from setting k ms)
 
   abbrev pub parts : ℕ → List (List Moment) → List Split
-  parts k ms = splits_from program plan budget s k (map (λ m. steps_of m) ms)
+  parts k ms = splits_from setting s k (map (λ m. steps_of m) ms)
 
   all_from : (f : List Entry → Seen) (k : ℕ) (ms : List (List Moment))
       → ((p : ℕ) (x : Split) → slice_get (parts k ms) p ≡ Some x → f (get_or (rows k ms) p []) ≡ seen_of x)
@@ -50,15 +52,15 @@ module _ (program : Program) (plan : Plan) (budget : ℕ) (s : Story) where
   all_from f k [] h = refl
   all_from f k (m ∷ ms) h =
       let rest : map f (rows (k + 1) ms) ≡ map (λ x. seen_of x) (parts (k + 1) ms) = all_from f (k + 1) ms (λ p x e. h (suc p) x e) in
-      ap (λ (y : Seen). y ∷ map f (rows (k + 1) ms)) (h 0 (split_of program plan budget s k (steps_of m)) refl)
-      ∙ ap (λ (ys : List Seen). seen_of (split_of program plan budget s k (steps_of m)) ∷ ys) rest
+      ap (λ (y : Seen). y ∷ map f (rows (k + 1) ms)) (h 0 (split_of setting s k (steps_of m)) refl)
+      ∙ ap (λ (ys : List Seen). seen_of (split_of setting s k (steps_of m)) ∷ ys) rest
 
   -- what holds of no log and no process, and of the log of each process, holds of the log at each number
   pub at_each_log : (P : List Entry → Option Split → Type 0) → P [] None → (k : ℕ) (ms : List (List Moment))
       → ((p : ℕ) (x : Split) → slice_get (parts k ms) p ≡ Some x → P (get_or (rows k ms) p []) (Some x))
       → (p : ℕ) → P (get_or (rows k ms) p []) (slice_get (parts k ms) p)
   at_each_log P none k [] h p = none
-  at_each_log P none k (m ∷ ms) h zero = h 0 (split_of program plan budget s k (steps_of m)) refl
+  at_each_log P none k (m ∷ ms) h zero = h 0 (split_of setting s k (steps_of m)) refl
   at_each_log P none k (m ∷ ms) h (suc p) = at_each_log P none (k + 1) ms (λ q x e. h (suc q) x e) p
 
 -- ---- a past of a run
@@ -74,23 +76,23 @@ module _ (law : ReplaysAreSeen) (past : Past) (policy : Policy) (h : List ℕ) (
   budget = past.budget
 
   abbrev Gives : Plan → Type 0
-  Gives pl = IsWhole program pl budget h → races program pl budget h ≡ []
-      → (p : ℕ) (x : Split) → slice_get (splits program pl budget (story program pl budget h)) p ≡ Some x
-      → IsSeen program pl budget (get_or (closed_logs program pl budget h).lists p []) x
+  Gives pl = IsWhole (setting_of program pl budget) h → races (setting_of program pl budget) h ≡ []
+      → (p : ℕ) (x : Split) → slice_get (splits (setting_of program pl budget) (story (setting_of program pl budget) h)) p ≡ Some x
+      → IsSeen (setting_of program pl budget) (get_or (closed_logs (setting_of program pl budget) h).lists p []) x
 
-  pub is_seen : (p : ℕ) (x : Split) → slice_get (splits_in past h) p ≡ Some x → IsSeen program plan budget (get_or (closed_logs program plan budget h).lists p []) x
+  pub is_seen : (p : ℕ) (x : Split) → slice_get (splits_in past h) p ≡ Some x → IsSeen (setting_of program plan budget) (get_or (closed_logs (setting_of program plan budget) h).lists p []) x
   is_seen = subst (λ pl. Gives pl) (sym r.plan_is) (λ whole free p x e. law program policy budget h p x v whole free e) r.whole r.no_race
 
-  pub seens_are : seens_in past ≡ all_seen program plan budget h
+  pub seens_are : seens_in past ≡ all_seen (setting_of program plan budget) h
   seens_are =
-      ap (λ (logs : Logs). map (λ entries. seen_by program plan budget entries) logs.lists) r.cut_are
-      ∙ all_from program plan budget (story_in past h) (λ entries. seen_by program plan budget entries) 0 (told program plan budget h).moments (λ p x e. (is_seen p x e).seen)
+      ap (λ (logs : Logs). map (λ entries. seen_by (setting_of program plan budget) entries) logs.lists) r.cut_are
+      ∙ all_from (setting_of program plan budget) (story_in past h) (λ entries. seen_by (setting_of program plan budget) entries) 0 (told (setting_of program plan budget) h).moments (λ p x e. (is_seen p x e).seen)
 
   never : (p k : ℕ) → failed_in past p k ≡ None
   never p k =
-      ap (λ (logs : Logs). failed_at program plan budget (get_or logs.lists p []) k) r.cut_are
-      ∙ at_each_log program plan budget (story_in past h) (λ es x. failed_at program plan budget es k ≡ None) refl 0
-      (told program plan budget h).moments (λ q x e. (is_seen q x e).never_fails k) p
+      ap (λ (logs : Logs). failed_at (setting_of program plan budget) (get_or logs.lists p []) k) r.cut_are
+      ∙ at_each_log (setting_of program plan budget) (story_in past h) (λ es x. failed_at (setting_of program plan budget) es k ≡ None) refl 0
+      (told (setting_of program plan budget) h).moments (λ q x e. (is_seen q x e).never_fails k) p
 
   no_failure : (ms : List (ℕ × ℕ)) → first_failed_in past ms ≡ None
   no_failure [] = refl
@@ -115,29 +117,29 @@ if_there (Some es) = refl
 pub gives_last : ReplaysAreSeen → LastWritesAreFound → (past : Past) (c n m : ℕ) (ms : List (ℕ × ℕ)) (res : Result (ℤ × Origin) FlowError) → IsValid past.program.now
     → IsFoundBy past ms (answer_of (found_last past.program.now past.logs.now (seens_in past) c).found) n m res → GivesLast past c res
 gives_last law found past c n m ms res v f policy h r lt =
-    let logs : (found_last past.program.now past.logs.now (seens_in past) c).found ≡ (found_last past.program.now (closed_logs past.program.now past.plan.now past.budget h) (all_seen past.program.now past.plan.now past.budget h) c).found =
+    let logs : (found_last past.program.now past.logs.now (seens_in past) c).found ≡ (found_last past.program.now (closed_logs (past_setting past) h) (all_seen (past_setting past) h) c).found =
     ap (λ (l : Logs). (found_last past.program.now l (seens_in past) c).found) r.logs_are
-    ∙ ap (λ (xs : List Seen). (found_last past.program.now (closed_logs past.program.now past.plan.now past.budget h) xs c).found) (seens_are law past policy h v r) in
-    let is = found past.program.now past.plan.now past.budget h r.whole.last v r.whole.runs r.no_race c lt in
+    ∙ ap (λ (xs : List Seen). (found_last past.program.now (closed_logs (past_setting past) h) xs c).found) (seens_are law past policy h v r) in
+    let is = found (past_setting past) h r.whole.last v r.whole.runs r.no_race c lt in
     answered law past policy h v r ms (answer_of (found_last past.program.now past.logs.now (seens_in past) c).found)
-    (Ok (last past.program.now past.plan.now past.budget (story_in past h) c)) n m res
+    (Ok (last (past_setting past) (story_in past h) c)) n m res
     (ap (λ (z : Result (ℤ × Origin) Missing). answer_of z) (logs ∙ is)) f
 
 pub answers_of_runs : ReplaysAreSeen → EdgesAreFound → AnswersAreOfRuns
 answers_of_runs law found past policy h p k j before after x res v r f at own =
-    let logs : (found_edges past.program.now past.plan.now past.logs.now (seens_in past) p k j).found ≡ (found_edges past.program.now past.plan.now (closed_logs past.program.now past.plan.now past.budget h) (all_seen past.program.now past.plan.now past.budget h) p k j).found =
+    let logs : (found_edges past.program.now past.plan.now past.logs.now (seens_in past) p k j).found ≡ (found_edges past.program.now past.plan.now (closed_logs (past_setting past) h) (all_seen (past_setting past) h) p k j).found =
     ap (λ (l : Logs). (found_edges past.program.now past.plan.now l (seens_in past) p k j).found) r.logs_are
-    ∙ ap (λ (xs : List Seen). (found_edges past.program.now past.plan.now (closed_logs past.program.now past.plan.now past.budget h) xs p k j).found) (seens_are law past policy h v r) in
-    let is = found past.program.now past.plan.now past.budget h r.whole.last v r.whole.runs r.no_race p k j x at own in
+    ∙ ap (λ (xs : List Seen). (found_edges past.program.now past.plan.now (closed_logs (past_setting past) h) xs p k j).found) (seens_are law past policy h v r) in
+    let is = found (past_setting past) h r.whole.last v r.whole.runs r.no_race p k j x at own in
     answered law past policy h v r (found_edges past.program.now past.plan.now past.logs.now (seens_in past) p k j).replays (answer_if (found_edges past.program.now past.plan.now past.logs.now (seens_in past) p k j).found)
-    (ok_or (edges past.program.now past.plan.now past.budget (story_in past h) p k j) NoEvent) before after res
-    (ap (λ (z : Option (Result (List FlowEdge) Missing)). answer_if z) (logs ∙ is) ∙ if_there (edges past.program.now past.plan.now past.budget (story_in past h) p k j)) f
+    (ok_or (edges (past_setting past) (story_in past h) p k j) NoEvent) before after res
+    (ap (λ (z : Option (Result (List FlowEdge) Missing)). answer_if z) (logs ∙ is) ∙ if_there (edges (past_setting past) (story_in past h) p k j)) f
 
 -- under the plan of any policy
 pub gives_edges : ReplaysAreSeen → EdgesAreFound → AllOwnPartsAreFound → (past : Past) (p k j before after : ℕ)
     (res : Result (List FlowEdge) FlowError) → IsValid past.program.now → IsEdges past p k j before after res → GivesEdges past p k j res
 gives_edges law found own past p k j before after res v f policy h x r at =
     answers_of_runs law found past policy h p k j before after x res v r f at
-    (subst (λ (pl : Plan). slice_get (splits past.program.now pl past.budget (story past.program.now pl past.budget h)) p ≡ Some x
-    → HasOwnParts past.program.now pl (splits past.program.now pl past.budget (story past.program.now pl past.budget h)) x p k j)
+    (subst (λ (pl : Plan). slice_get (splits (setting_of past.program.now pl past.budget) (story (setting_of past.program.now pl past.budget) h)) p ≡ Some x
+    → HasOwnParts past.program.now pl (splits (setting_of past.program.now pl past.budget) (story (setting_of past.program.now pl past.budget) h)) x p k j)
     (sym r.plan_is) (λ there. own past.program.now policy past.budget h p k j x v there) at)

@@ -1,4 +1,5 @@
 -- What is seen of one process of a past among what is seen of all.
+use Rattle.ppd_flow_past.specs.PastSetting.{past_setting}
 use Rattle.std.proofs.Common.{◌≡◌, ℕ, zero, suc, List, [], ◌∷◌, refl, sym, get_or, map}
 use Rattle.ppd_entry.specs.declared.entry.Entry.{Entry}
 use Rattle.ppd_flow_model.specs.Seen.{Seen}
@@ -14,4 +15,4 @@ at_process f d (es ∷ lists) (suc p) e = at_process f d lists p e
 
 pub same_seen : (past : Past) (p : ℕ) → seen_in past p ≡ seen_at (seens_in past) p
 same_seen past p =
-    sym (at_process (λ entries. seen_by past.program.now past.plan.now past.budget entries) (record { items = []; blocks = []; rounds = [] }) past.cut.now.lists p refl)
+    sym (at_process (λ entries. seen_by (past_setting past) entries) (record { items = []; blocks = []; rounds = [] }) past.cut.now.lists p refl)

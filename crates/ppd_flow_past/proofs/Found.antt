@@ -7,6 +7,7 @@ use Rattle.ppd_flow_past.specs.declared.flow_error.FlowError.TheVariants.{Diverg
 use Rattle.ppd_flow_past.specs.declared.past.Past.{Past}
 use Rattle.ppd_flow_past.specs.ByReplays.{AreReplayed, IsFoundBy, IsReplayFailure, IsReplayed, cost, failure_or, first_failed_in, steps_to_replay, unless_kept}
 use Rattle.ppd_flow_past.specs.Pasts.{AreKept, items_kept}
+use Rattle.ppd_flow_past.specs.PastSetting.{past_setting}
 use Rattle.ppd_flow_past.specs.SeenBy.{failed_in, items_in, steps_in}
 use Rattle.ppd_model.specs.declared.flow.Item.{Item}
 
@@ -96,7 +97,7 @@ module _ (past : Past) where
   module _ (p k : ℕ) (n m : ℕ) where
     -- they are kept
     pub found_kept : (items : List Item) → items_kept past.kept.now p k ≡ Some items
-        → AreKept past.program.now past.plan.now past.budget past.cut.now past.kept.now → m ≡ n
+        → AreKept (past_setting past) past.cut.now past.kept.now → m ≡ n
         → IsFoundBy past ((p, k) ∷ []) (Ok (items_in past p k)) n m (Ok items)
     found_kept items is kept same =
         let free : steps_to_replay past p k ≡ 0 = ap (λ o. unless_kept o (steps_in past p k)) is in

@@ -1,4 +1,5 @@
 -- What the replay of one interval gives of a past.
+use Rattle.ppd_flow_past.specs.PastSetting.{past_setting}
 use Rattle.std.specs.Result.{result_err, result_unwrap_or}
 use Rattle.std.proofs.Common.{◌≡◌, ℕ, zero, suc, ◌≤◌, List, [], ◌∷◌, Option, Some, None, Ok, Err, refl, ap, sym, ◌∙◌, arith, length, map, get_or}
 use Rattle.std.specs.Prelude.{slice_get}
@@ -58,7 +59,7 @@ module _ (past : Past) (p k : ℕ) where
   replayed log = replay past.program.now past.plan.now log past.budget
 
   abbrev in_past : Option IntervalLog → Option Replayed
-  in_past o = replay_of past.program.now past.plan.now past.budget o
+  in_past o = replay_of (past_setting past) o
 
   -- an interval that is not there
   module _ (none : interval_log past.plan.now entries k ≡ None) where

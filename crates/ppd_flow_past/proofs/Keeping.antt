@@ -1,18 +1,18 @@
 -- Replays that are kept: what they are, and that nothing is replayed again.
+use Rattle.ppd_model.specs.Setting.{Setting}
 use Rattle.std.proofs.Common.{◌≡◌, ℕ, zero, suc, ◌+◌, ◌<◌, ◌≤◌, ◌⊎◌, inl, inr, Bool, true, false, List, [], ◌∷◌, ◌++◌, Option, Some, None, Result, Ok, Err, refl, ap, sym, ◌∙◌, subst, arith, length, get_or}
 use Rattle.std.specs.Prelude.{⊤, OnOk, slice_get, slice_set, nat_eq, if◌then◌else◌}
 use Rattle.std.proofs.lemmas.Bool.{cases_eq, eq-eqb, eqb-true}
 use Rattle.std.proofs.lemmas.List.{get_or_past}
 use Rattle.std.proofs.lemmas.List.Sums.{sum_by-cons}
 use Rattle.std.proofs.lemmas.Option.{none-some, same_Some}
-use Rattle.ppd_ast.specs.declared.plan.Plan.{Plan}
-use Rattle.ppd_ast.specs.declared.program.Program.{Program}
 use Rattle.ppd_entry.specs.declared.entry.Entry.{Entry}
 use Rattle.ppd_entry.specs.declared.entry.Logs.{Logs}
 use Rattle.ppd_flow_past.specs.declared.past.Past.{Past}
 use Rattle.ppd_flow_past.specs.ByReplays.{AreReplayed, cost, steps_to_replay, unless_kept}
 use Rattle.ppd_flow_past.specs.Keeping.{AreFirstItems, AreKeptOf, AreOthersKept, IsAllKept, IsNoneKept, RoseByKept, count_in, process_steps, steps_kept_of, sum_below}
 use Rattle.ppd_flow_past.specs.Pasts.{AreKept, items_kept}
+use Rattle.ppd_flow_past.specs.PastSetting.{past_setting}
 use Rattle.ppd_flow_past.specs.SeenBy.{seen_by, steps_in}
 use Rattle.ppd_model.specs.declared.flow.Item.{Item}
 use Rattle.ppd_flow_past.proofs.Given.{beyond, none_steps}
@@ -21,8 +21,8 @@ abbrev Kept : Type 0
 Kept = List (List (List Item))
 
 -- where nothing is kept
-pub nothing_kept : (program : Program) (plan : Plan) (budget : ℕ) (logs : Logs) → AreKept program plan budget logs []
-nothing_kept program plan budget logs p k items e = absurd (none-some items e)
+pub nothing_kept : (setting : Setting) (logs : Logs) → AreKept setting logs []
+nothing_kept setting logs p k items e = absurd (none-some items e)
 
 -- ---- what is kept is free
 
@@ -103,7 +103,7 @@ set_length (x ∷ xs) (suc i) y = ap suc (set_length xs i y)
 -- a process past those of the logs has no interval
 none_past : (past : Past) (p : ℕ) → length past.cut.now.lists ≤ p → count_in past p ≡ 0
 none_past past p le =
-    ap (λ (es : List Entry). length (seen_by past.program.now past.plan.now past.budget es).items)
+    ap (λ (es : List Entry). length (seen_by (past_setting past) es).items)
     (get_or_past past.cut.now.lists p [] le)
 
 module _ (past : Past) (p : ℕ) (old : Kept) (h : AreKeptOf past old) where

@@ -1,4 +1,5 @@
 -- The intervals round each interval of a process: the one directly round it, and those round that one.
+use Rattle.ppd_model.specs.Setting.{setting_of}
 use Rattle.std.proofs.Common.{◌≡◌, ℕ, zero, suc, ◌+◌, Bool, true, false, List, [], ◌∷◌, ◌++◌, Option, Some, None, refl, ap, sym, subst, ◌∙◌, length, map, if◌then◌else◌}
 use Rattle.std.specs.Prelude.{drop, fold, slice_get, ⊤}
 use Rattle.std.proofs.lemmas.List.{length-map, map-append}
@@ -144,10 +145,10 @@ module _ (program : Program) (plan : Plan) (s : Story) (p : ℕ) where
 
   -- after any steps of the process
   pub rounds_of_split : (budget : ℕ) (ts : List Taken)
-      → rounds_by (map (λ (i : Span). slice_get i.round 0) (split_of program plan budget s p ts).spans)
-      ≡ map (λ (i : Span). i.round) (split_of program plan budget s p ts).spans
+      → rounds_by (map (λ (i : Span). slice_get i.round 0) (split_of (setting_of program plan budget) s p ts).spans)
+      ≡ map (λ (i : Span). i.round) (split_of (setting_of program plan budget) s p ts).spans
   rounds_of_split budget ts =
-      let x : Split = split_of program plan budget s p ts in
+      let x : Split = split_of (setting_of program plan budget) s p ts in
       let all : IsNestedIn x = of_steps (begun_split program plan p (started program plan p budget)) ts begun in
       ap rounds_by (sym (twice x.spans)) ∙ all.rounds_are
     where

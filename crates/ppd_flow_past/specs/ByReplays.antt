@@ -1,7 +1,6 @@
 -- Answers that are found by replays of intervals: what they are, when they fail, and what they cost.
+use Rattle.ppd_model.specs.Setting.{Setting}
 use Rattle.std.specs.Prelude.{◌≡◌, ℕ, ◌+◌, List, [], ◌∷◌, sum_by, Option, Some, None, Result, Ok, Err, ⊤, get_or}
-use Rattle.ppd_ast.specs.declared.plan.Plan.{Plan}
-use Rattle.ppd_ast.specs.declared.program.Program.{Program}
 use Rattle.ppd_entry.specs.declared.entry.At.{At}
 use Rattle.ppd_entry.specs.declared.entry.Logs.{Logs}
 use Rattle.ppd_model.specs.declared.flow.Item.{Item}
@@ -9,6 +8,7 @@ use Rattle.ppd_flow_past.specs.declared.flow_error.FlowError.{FlowError}
 use Rattle.ppd_flow_past.specs.declared.flow_error.FlowError.TheVariants.{Diverged, NoEvent, Sets, Memory}
 use Rattle.ppd_flow_past.specs.declared.past.Past.{Past}
 use Rattle.ppd_flow_past.specs.Pasts.{items_kept}
+use Rattle.ppd_flow_past.specs.PastSetting.{past_setting}
 use Rattle.ppd_flow_past.specs.SeenBy.{failed_at, failed_in, items_in, steps_in}
 
 -- the failure of a replay of process p, if it fails, else this
@@ -17,15 +17,15 @@ failure_or p None rest = rest
 failure_or p (Some n) rest = Some (record { process = p; entry = n })
 
 -- the failure of the first that fails of the replays of these intervals, each by its process
-abbrev pub first_failed : Program → Plan → ℕ → Logs → List (ℕ × ℕ) → Option At
-first_failed program plan budget logs [] = None
-first_failed program plan budget logs (m ∷ ms) =
-    failure_or m.0 (failed_at program plan budget (get_or logs.lists m.0 []) m.1)
-    (first_failed program plan budget logs ms)
+abbrev pub first_failed : Setting → Logs → List (ℕ × ℕ) → Option At
+first_failed setting logs [] = None
+first_failed setting logs (m ∷ ms) =
+    failure_or m.0 (failed_at setting (get_or logs.lists m.0 []) m.1)
+    (first_failed setting logs ms)
 
 -- of a past
 abbrev pub first_failed_in : Past → List (ℕ × ℕ) → Option At
-first_failed_in past ms = first_failed past.program.now past.plan.now past.budget past.cut.now ms
+first_failed_in past ms = first_failed (past_setting past) past.cut.now ms
 
 -- these steps, where no items are kept
 abbrev pub unless_kept : Option (List Item) → ℕ → ℕ

@@ -4,6 +4,7 @@ use Rattle.ppd_model.specs.declared.flow.Item.{Item}
 use Rattle.ppd_flow_past.specs.declared.past.Past.{Past}
 use Rattle.ppd_flow_past.specs.ByReplays.{AreReplayed}
 use Rattle.ppd_flow_past.specs.Pasts.{AreKept}
+use Rattle.ppd_flow_past.specs.PastSetting.{past_setting}
 use Rattle.ppd_flow_past.specs.SeenBy.{seen_in, steps_in}
 
 -- ---- what is kept
@@ -15,7 +16,7 @@ AreFirstItems past p rows =
 
 -- for each process of a past the items of its first intervals
 pub record AreKeptOf (past : Past) (kept : List (List (List Item))) : Type 0 where
-  pub items : AreKept past.program.now past.plan.now past.budget past.cut.now kept
+  pub items : AreKept (past_setting past) past.cut.now kept
   pub count : length kept ≡ length past.cut.now.lists
 
 -- how many intervals process p has

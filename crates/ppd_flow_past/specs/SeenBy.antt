@@ -1,7 +1,7 @@
 -- What replays of a process's intervals give, of any logs.
+use Rattle.ppd_flow_past.specs.PastSetting.{past_setting}
+use Rattle.ppd_model.specs.Setting.{Setting}
 use Rattle.std.specs.Result.{result_err, result_unwrap_or}
-use Rattle.ppd_ast.specs.declared.plan.Plan.{Plan}
-use Rattle.ppd_ast.specs.declared.program.Program.{Program}
 use Rattle.ppd_emul.specs.BlockTrace.{BlockTrace}
 use Rattle.ppd_emul.specs.EmulError.{EmulError}
 use Rattle.ppd_emul.specs.EmulError.TheVariants.{Diverged, Memory}
@@ -29,13 +29,13 @@ steps_of None = 0
 steps_of (Some r) = r.steps
 
 -- the entry at which the replay of interval k of these entries fails, if it is there
-abbrev pub failed_at : Program → Plan → ℕ → List Entry → ℕ → Option ℕ
-failed_at program plan budget entries k =
-    option_and_then (λ r. result_err (told_by r.answer)) (replay_of program plan budget (interval_log plan entries k))
+abbrev pub failed_at : Setting → List Entry → ℕ → Option ℕ
+failed_at setting entries k =
+    option_and_then (λ r. result_err (told_by r.answer)) (replay_of setting (interval_log setting.plan entries k))
 
 -- the steps that the replay of interval k takes
-abbrev pub own_steps_of : Program → Plan → ℕ → List Entry → ℕ → ℕ
-own_steps_of program plan budget entries k = steps_of (replay_of program plan budget (interval_log plan entries k))
+abbrev pub own_steps_of : Setting → List Entry → ℕ → ℕ
+own_steps_of setting entries k = steps_of (replay_of setting (interval_log setting.plan entries k))
 
 -- ---- all of a process
 
@@ -45,9 +45,9 @@ rounds_by parents =
     fold (λ rounds parent. rounds ++ option_map_or (λ k. k ∷ get_or rounds k []) parent [] ∷ []) [] parents
 
 -- the items of each interval by its replay, its block, and the intervals round it
-abbrev pub seen_by : Program → Plan → ℕ → List Entry → Seen
-seen_by program plan budget entries = record {
-  items = map (λ i. result_unwrap_or (told_by (replay program plan (log_by plan i) budget).answer) []) (indexed entries);
+abbrev pub seen_by : Setting → List Entry → Seen
+seen_by setting entries = record {
+  items = map (λ i. result_unwrap_or (told_by (replay setting.program setting.plan (log_by setting.plan i) setting.budget).answer) []) (indexed entries);
   blocks = map (λ x. x.block) (extents entries);
   rounds = rounds_by (map (λ x. x.parent) (extents entries));
 }
@@ -55,13 +55,13 @@ seen_by program plan budget entries = record {
 -- ---- of a past
 
 abbrev pub seen_in : Past → ℕ → Seen
-seen_in past p = seen_by past.program.now past.plan.now past.budget (get_or past.cut.now.lists p [])
+seen_in past p = seen_by (past_setting past) (get_or past.cut.now.lists p [])
 
 abbrev pub items_in : Past → ℕ → ℕ → List Item
 items_in past p k = get_or (seen_in past p).items k []
 
 abbrev pub failed_in : Past → ℕ → ℕ → Option ℕ
-failed_in past p k = failed_at past.program.now past.plan.now past.budget (get_or past.cut.now.lists p []) k
+failed_in past p k = failed_at (past_setting past) (get_or past.cut.now.lists p []) k
 
 abbrev pub steps_in : Past → ℕ → ℕ → ℕ
-steps_in past p k = own_steps_of past.program.now past.plan.now past.budget (get_or past.cut.now.lists p []) k
+steps_in past p k = own_steps_of (past_setting past) (get_or past.cut.now.lists p []) k

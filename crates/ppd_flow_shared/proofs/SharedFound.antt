@@ -1,4 +1,5 @@
 -- Where a shared cell was written, by what the replays on the way answer.
+use Rattle.ppd_flow_past.specs.PastSetting.{past_setting}
 use Rattle.std.proofs.Common.{◌≡◌, ℕ, zero, suc, ◌+◌, ℤ, List, [], ◌∷◌, ◌++◌, Option, None, Result, Ok, Err, refl, ap, sym, ◌∙◌, subst, get_or, map}
 use Rattle.std.proofs.lemmas.List.{append-nil}
 use Rattle.ppd_entry.specs.declared.entry.Entry.{Entry}
@@ -37,7 +38,7 @@ module _ (past : Past) where
   xs = seens_in past
 
   abbrev seen : List Entry → Seen
-  seen entries = seen_by past.program.now past.plan.now past.budget entries
+  seen entries = seen_by (past_setting past) entries
 
   pub seen_there : (p : ℕ) → seen_at xs p ≡ seen_in past p
   seen_there p = by past.cut.now.lists p

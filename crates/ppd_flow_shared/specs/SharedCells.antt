@@ -1,4 +1,5 @@
 -- What the search for where a shared cell was written answers.
+use Rattle.ppd_flow_past.specs.PastSetting.{past_setting}
 use Rattle.std.specs.Prelude.{◌≡◌, ℕ, ℤ, List, [], ◌∷◌, map, Option, Some, None, option_map, Result, Ok, Err, ⊤, get_or}
 use Rattle.ppd_model.specs.declared.flow.Item.{Item}
 use Rattle.ppd_model.specs.declared.flow.Origin.{Origin}
@@ -24,7 +25,7 @@ use Rattle.ppd_flow_shared.specs.declared.last.LastEdge.{LastEdge}
 
 -- what the replays of each process of a past give
 abbrev pub seens_in : Past → List Seen
-seens_in past = map (λ entries. seen_by past.program.now past.plan.now past.budget entries) past.cut.now.lists
+seens_in past = map (λ entries. seen_by (past_setting past) entries) past.cut.now.lists
 
 -- a write that is missing is the error that names its entry
 abbrev pub answer_of : {A : Type 0} → Result A Missing → Result A FlowError

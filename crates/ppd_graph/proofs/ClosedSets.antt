@@ -1,10 +1,9 @@
 -- The sets of the edges of a process, as its closed log records them, are those of the run.
+use Rattle.ppd_model.specs.Setting.{Setting}
 use Rattle.std.proofs.Common.{◌≡◌, ℕ, ◌<◌, List, [], ◌∷◌, ◌++◌, None, true, false, refl, ap, ◌∙◌, length, map, get_or, filter_map, true≢false}
 use Rattle.std.specs.List.{list_any, range_with_len}
 use Rattle.std.proofs.lemmas.Option.{slice_get-get_or}
 use Rattle.ppd_ast.specs.Valid.{IsValid}
-use Rattle.ppd_ast.specs.declared.plan.Plan.{Plan}
-use Rattle.ppd_ast.specs.declared.program.Program.{Program}
 use Rattle.ppd_ast.specs.declared.status.Status.{Status}
 use Rattle.ppd_entry.specs.declared.entry.Entry.{Entry}
 use Rattle.ppd_entry.specs.declared.entry.Entry.TheVariants as entry
@@ -36,18 +35,18 @@ closed_sets (entry.End status' rest' reads writes ∷ es) status rest r w h = ab
 unfoldable pub run_sets : Story → ℕ → ℕ → EdgeSets
 run_sets s p i = edge_sets (set_in s p i false) (set_in s p i true)
 
-pub row_sets : (program : Program) (plan : Plan) (budget : ℕ) (h : List ℕ) → IsValid program → (p : ℕ)
-    → p < length (closed_logs program plan budget h).lists
-    → get_or (edge_sets_in (closed_logs program plan budget h)) p []
-    ≡ map (run_sets (story program plan budget h) p) (range_with_len 0 (last_edge (story program plan budget h) p))
-    ++ run_sets (story program plan budget h) p (last_edge (story program plan budget h) p) ∷ []
+pub row_sets : (setting : Setting) (h : List ℕ) → IsValid setting.program → (p : ℕ)
+    → p < length (closed_logs setting h).lists
+    → get_or (edge_sets_in (closed_logs setting h)) p []
+    ≡ map (run_sets (story setting h) p) (range_with_len 0 (last_edge (story setting h) p))
+    ++ run_sets (story setting h) p (last_edge (story setting h) p) ∷ []
 unfolding run_sets ended
-row_sets program plan budget h valid p lt =
-    let s = story program plan budget h in
-    let entries = get_or (closed_logs program plan budget h).lists p [] in
+row_sets setting h valid p lt =
+    let s = story setting h in
+    let entries = get_or (closed_logs setting h).lists p [] in
     let r : RecordsAccesses s p entries =
-    record_sets program plan budget h p entries valid (slice_get-get_or (closed_logs program plan budget h).lists p [] lt) in
-    at_there (sets_from None) (closed_logs program plan budget h).lists p lt
+    record_sets setting h p entries valid (slice_get-get_or (closed_logs setting h).lists p [] lt) in
+    at_there (sets_from None) (closed_logs setting h).lists p lt
     ∙ ap (sets_from None) r.entries_are
     ∙ closed_sets r.before r.status r.rest (set_in s p (last_edge s p) false) (set_in s p (last_edge s p) true) r.no_end
     ∙ ap (λ x. map ended x ++ edge_sets (set_in s p (last_edge s p) false) (set_in s p (last_edge s p) true) ∷ []) r.syncs_are

@@ -173,5 +173,5 @@ in_cells program plan v e s (x ∷ xs) m a own is =
     by need there m at rest = rest m at
 
 pub accesses_there : AccessesAreOfCells
-accesses_there program plan budget h p m a v is =
-    in_cells program plan v 0 (started program plan p budget) (get_or (story program plan budget h).steps p []) m a (own_steps_told program plan budget h p) is
+accesses_there setting h p m a v is =
+    in_cells setting.program setting.plan v 0 (started setting.program setting.plan p setting.budget) (get_or (story setting h).steps p []) m a (own_steps_told setting h p) is

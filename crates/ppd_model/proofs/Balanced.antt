@@ -1,4 +1,5 @@
 -- After each schedule the counts of semaphores and channels are balanced.
+use Rattle.ppd_model.specs.Setting.{Setting}
 use Rattle.std.proofs.Common.{◌≡◌, ℕ, zero, suc, ◌+◌, ◌<◌, ◌≤◌, ℤ, true, List, [], ◌∷◌, ◌++◌, length, map, Some, refl, ap, sym, subst, ◌∙◌, arith, length-append}
 use Rattle.std.specs.Prelude.{slice_get}
 use Rattle.std.proofs.lemmas.Bool.Decides.{nat_tests}
@@ -113,8 +114,8 @@ started_chans (c ∷ cs) = (record { capacity = refl; completed = omega arith; r
     empty zero = omega arith
     empty (suc n) = omega arith
 
-pub started_balanced : (program : Program) (plan : Plan) (budget : ℕ) → IsBalanced program (started_world program plan budget)
-started_balanced program plan budget = record { sems = started_sems program.sems; chans = started_chans program.chans }
+pub started_balanced : (setting : Setting) → IsBalanced setting.program (started_world setting)
+started_balanced setting = record { sems = started_sems setting.program.sems; chans = started_chans setting.program.chans }
 
 run_balanced : (program : Program) (plan : Plan) (w last : World) (h : List ℕ) → IsBalanced program w → run_from program plan w h ≡ Some last → IsBalanced program last
 run_balanced program plan w last [] b e = subst (λ (x : World). IsBalanced program x) (some e) b
@@ -123,4 +124,4 @@ run_balanced program plan w last (p ∷ h) b e =
     run_balanced program plan (step program plan w p) last h (step_balanced program plan w p g.enables b) g.rest
 
 pub balanced : CountsAreBalanced
-balanced program plan budget h w e = run_balanced program plan (started_world program plan budget) w h (started_balanced program plan budget) e
+balanced setting h w e = run_balanced setting.program setting.plan (started_world setting) w h (started_balanced setting) e

@@ -1,4 +1,5 @@
 -- A schedule that can be taken has at most budget + 1 numbers of each process.
+use Rattle.ppd_model.specs.Setting.{Setting}
 use Rattle.std.proofs.Common.{◌≡◌, ◌≢◌, ℕ, zero, suc, ◌+◌, ◌-◌, ◌*◌, ◌<◌, ◌≤◌, Bool, true, false, nat_eq, cond, List, [], ◌∷◌, length, map, Option, Some, None, refl, ap, sym, subst, ◌∙◌, arith, inl, inr}
 use Rattle.std.specs.Prelude.{count_by, slice_get, ⊤}
 use Rattle.std.specs.List.{range_with_len}
@@ -125,40 +126,40 @@ module _ (program : Program) (plan : Plan) where
 
 -- ---- the start
 
-pub started_left : (program : Program) (plan : Plan) (budget p : ℕ) → measure (started program plan p budget) ≡ budget + 1
-started_left program plan budget p = omega arith
+pub started_left : (setting : Setting) (p : ℕ) → measure (started setting.program setting.plan p setting.budget) ≡ setting.budget + 1
+started_left setting p = omega arith
 
-pub started_paid : (program : Program) (plan : Plan) (budget p n : ℕ) → ArePaid (map (λ q. started program plan q budget) (range_with_len p n))
-started_paid program plan budget p zero = tt
-started_paid program plan budget p (suc n) = (omega arith, started_paid program plan budget (p + 1) n)
+pub started_paid : (setting : Setting) (p n : ℕ) → ArePaid (map (λ q. started setting.program setting.plan q setting.budget) (range_with_len p n))
+started_paid setting p zero = tt
+started_paid setting p (suc n) = (omega arith, started_paid setting (p + 1) n)
 
-started_each : (program : Program) (plan : Plan) (budget p n i : ℕ) → left_at (slice_get (map (λ q. started program plan q budget) (range_with_len p n)) i) ≤ budget + 1
-started_each program plan budget p zero i = omega arith
-started_each program plan budget p (suc n) zero = omega (arith, started_left program plan budget p)
-started_each program plan budget p (suc n) (suc i) = started_each program plan budget (p + 1) n i
+started_each : (setting : Setting) (p n i : ℕ) → left_at (slice_get (map (λ q. started setting.program setting.plan q setting.budget) (range_with_len p n)) i) ≤ setting.budget + 1
+started_each setting p zero i = omega arith
+started_each setting p (suc n) zero = omega (arith, started_left setting p)
+started_each setting p (suc n) (suc i) = started_each setting (p + 1) n i
 
-pub started_all : (program : Program) (plan : Plan) (budget p n : ℕ) → steps_left (map (λ q. started program plan q budget) (range_with_len p n)) ≡ n * (budget + 1)
-started_all program plan budget p zero = omega arith
-started_all program plan budget p (suc n) =
-    let rest : steps_left (map (λ q. started program plan q budget) (range_with_len (p + 1) n)) ≡ n * (budget + 1) = started_all program plan budget (p + 1) n in
-    let first : measure (started program plan p budget) ≡ budget + 1 = started_left program plan budget p in
+pub started_all : (setting : Setting) (p n : ℕ) → steps_left (map (λ q. started setting.program setting.plan q setting.budget) (range_with_len p n)) ≡ n * (setting.budget + 1)
+started_all setting p zero = omega arith
+started_all setting p (suc n) =
+    let rest : steps_left (map (λ q. started setting.program setting.plan q setting.budget) (range_with_len (p + 1) n)) ≡ n * (setting.budget + 1) = started_all setting (p + 1) n in
+    let first : measure (started setting.program setting.plan p setting.budget) ≡ setting.budget + 1 = started_left setting p in
     omega arith
 
-pub started_count : (program : Program) (plan : Plan) (budget p n : ℕ) → length (map (λ q. started program plan q budget) (range_with_len p n)) ≡ n
-started_count program plan budget p zero = refl
-started_count program plan budget p (suc n) = ap suc (started_count program plan budget (p + 1) n)
+pub started_count : (setting : Setting) (p n : ℕ) → length (map (λ q. started setting.program setting.plan q setting.budget) (range_with_len p n)) ≡ n
+started_count setting p zero = refl
+started_count setting p (suc n) = ap suc (started_count setting (p + 1) n)
 
 pub bounded : SchedulesAreBounded
-bounded program plan budget h w e =
-    let n : ℕ = length program.bodies - program.functions in
-    let paid : ArePaid (started_procs program plan budget n) = started_paid program plan budget 0 n in
-    let few : length h + steps_left w.procs ≤ steps_left (started_procs program plan budget n) = in_all program plan (started_world program plan budget) w h paid e in
-    let all : steps_left (started_procs program plan budget n) ≡ n * (budget + 1) = started_all program plan budget 0 n in
-    let count : length w.procs ≡ n = same_count program plan (started_world program plan budget) w h e ∙ started_count program plan budget 0 n in
+bounded setting h w e =
+    let n : ℕ = length setting.program.bodies - setting.program.functions in
+    let paid : ArePaid (started_procs setting n) = started_paid setting 0 n in
+    let few : length h + steps_left w.procs ≤ steps_left (started_procs setting n) = in_all setting.program setting.plan (started_world setting) w h paid e in
+    let all : steps_left (started_procs setting n) ≡ n * (setting.budget + 1) = started_all setting 0 n in
+    let count : length w.procs ≡ n = same_count setting.program setting.plan (started_world setting) w h e ∙ started_count setting 0 n in
     record {
       each = λ p.
-          let at : count_by (nat_eq p) h + left_at (slice_get w.procs p) ≤ left_at (slice_get (started_procs program plan budget n) p) = each program plan (started_world program plan budget) w h p paid e in
-          let most : left_at (slice_get (started_procs program plan budget n) p) ≤ budget + 1 = started_each program plan budget 0 n p in
+          let at : count_by (nat_eq p) h + left_at (slice_get w.procs p) ≤ left_at (slice_get (started_procs setting n) p) = each setting.program setting.plan (started_world setting) w h p paid e in
+          let most : left_at (slice_get (started_procs setting n) p) ≤ setting.budget + 1 = started_each setting 0 n p in
           omega arith;
-      all = let within : length h ≤ n * (budget + 1) = omega arith in subst (λ (m : ℕ). length h ≤ m * (budget + 1)) (sym count) within;
+      all = let within : length h ≤ n * (setting.budget + 1) = omega arith in subst (λ (m : ℕ). length h ≤ m * (setting.budget + 1)) (sym count) within;
     }

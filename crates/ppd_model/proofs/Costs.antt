@@ -1,4 +1,5 @@
 -- A step costs 1 and the values that it writes.
+use Rattle.ppd_model.specs.Setting.{Setting}
 use Rattle.ppd_ast.proofs.Vocabulary.{gives as gives_value, params_of_body}
 use Rattle.ppd_ast.specs.Lookups.{body_of, kind_of}
 use Rattle.ppd_ast.specs.Valid.{IsValid}
@@ -346,48 +347,48 @@ record IsNext (program : Program) (plan : Plan) (shared : List ℤ) (l : Logging
   need : m.taken.need ≡ need_of program plan l.proc
   values : m.unit_values ≡ values_at_start plan shared (unit_started m.taken.need)
 
-module _ (program : Program) (plan : Plan) (budget : ℕ) (v : IsValid program) (valid : IsValidPlan program plan) (whole : HasWholePrelogs program plan) where
-  sound_act : (s : Proc) (a : Answer) → IsSound program budget s → IsSound program budget (act program plan s a)
+module _ (setting : Setting) (v : IsValid setting.program) (valid : IsValidPlan setting.program setting.plan) (whole : HasWholePrelogs setting.program setting.plan) where
+  sound_act : (s : Proc) (a : Answer) → IsSound setting.program setting.budget s → IsSound setting.program setting.budget (act setting.program setting.plan s a)
   sound_act s a h =
-      let within : IsWithinBudget s (act program plan s a) = act-within program plan s a h.spent in
-      record { home = act-home program plan s a v h.home; limit = within.budget ∙ h.limit; spent = within.spent }
+      let within : IsWithinBudget s (act setting.program setting.plan s a) = act-within setting.program setting.plan s a h.spent in
+      record { home = act-home setting.program setting.plan s a v h.home; limit = within.budget ∙ h.limit; spent = within.spent }
 
   -- the values that the entries have are those that the cost counts
-  same_values : (shared : List ℤ) (l : Logging) (m : Moment) → IsHome program l.proc → IsNext program plan shared l m → values_of plan (need_of program plan l.proc) ≡ values_in (entries_of program plan l m)
+  same_values : (shared : List ℤ) (l : Logging) (m : Moment) → IsHome setting.program l.proc → IsNext setting.program setting.plan shared l m → values_of setting.plan (need_of setting.program setting.plan l.proc) ≡ values_in (entries_of setting.program setting.plan l m)
   same_values shared l m home next =
-      counted program plan shared l.proc (need_of program plan l.proc) (tells program plan valid whole l.proc home v)
-      ∙ ap (λ n. written program plan shared l.proc n) (sym next.need) ∙ sym (of_entries program plan shared l m next.values)
+      counted setting.program setting.plan shared l.proc (need_of setting.program setting.plan l.proc) (tells setting.program setting.plan valid whole l.proc home v)
+      ∙ ap (λ n. written setting.program setting.plan shared l.proc n) (sym next.need) ∙ sym (of_entries setting.program setting.plan shared l m next.values)
 
-  costs : (shared : List ℤ) (l : Logging) (m : Moment) → IsSound program budget l.proc → IsNext program plan shared l m → CostsWhatItWrites program plan budget l m
+  costs : (shared : List ℤ) (l : Logging) (m : Moment) → IsSound setting.program setting.budget l.proc → IsNext setting.program setting.plan shared l m → CostsWhatItWrites setting l m
   costs shared l m sound next =
-      let values : values_of plan (need_of program plan l.proc) ≡ values_in (entries_of program plan l m) = same_values shared l m sound.home next in
-      let most : l.proc.budget ≡ budget = sound.limit in
+      let values : values_of setting.plan (need_of setting.program setting.plan l.proc) ≡ values_in (entries_of setting.program setting.plan l m) = same_values shared l m sound.home next in
+      let most : l.proc.budget ≡ setting.budget = sound.limit in
       record {
         paid = λ r d.
-            let go : need_of program plan l.proc ≢ Stopped = λ e. r (next.need ∙ e) in
-            let can : need_of program plan l.proc ≢ Budget = λ e. d (next.need ∙ e) in
-            let by : Spends plan (need_of program plan l.proc) l.proc (act program plan l.proc m.taken.answer) = spends program plan l.proc m.taken.answer go can in
-            let spent : (act program plan l.proc m.taken.answer).spent ≡ l.proc.spent + cost plan (need_of program plan l.proc) = by.spent in
-            let within : l.proc.spent + cost plan (need_of program plan l.proc) ≤ l.proc.budget = need-paid program plan l.proc (need_of program plan l.proc) refl go can in
+            let go : need_of setting.program setting.plan l.proc ≢ Stopped = λ e. r (next.need ∙ e) in
+            let can : need_of setting.program setting.plan l.proc ≢ Budget = λ e. d (next.need ∙ e) in
+            let by : Spends setting.plan (need_of setting.program setting.plan l.proc) l.proc (act setting.program setting.plan l.proc m.taken.answer) = spends setting.program setting.plan l.proc m.taken.answer go can in
+            let spent : (act setting.program setting.plan l.proc m.taken.answer).spent ≡ l.proc.spent + cost setting.plan (need_of setting.program setting.plan l.proc) = by.spent in
+            let within : l.proc.spent + cost setting.plan (need_of setting.program setting.plan l.proc) ≤ l.proc.budget = need-paid setting.program setting.plan l.proc (need_of setting.program setting.plan l.proc) refl go can in
             record { cost = omega arith; within = omega arith; counted = by.steps };
         free = λ e.
-            let stop : need_of program plan l.proc ≡ Budget = sym next.need ∙ e in
-            let same : Keeps l.proc (act program plan l.proc m.taken.answer) = keeps program plan l.proc m.taken.answer stop in
-            record { cost = same.spent; values = sym values ∙ ap (λ n. values_of plan n) stop; counted = same.steps };
+            let stop : need_of setting.program setting.plan l.proc ≡ Budget = sym next.need ∙ e in
+            let same : Keeps l.proc (act setting.program setting.plan l.proc m.taken.answer) = keeps setting.program setting.plan l.proc m.taken.answer stop in
+            record { cost = same.spent; values = sym values ∙ ap (λ n. values_of setting.plan n) stop; counted = same.steps };
       }
 
   -- ---- the logs of a schedule
 
-  sound_fold : (l : Logging) (ms : List Moment) → IsSound program budget l.proc → IsSound program budget (fold (log_step program plan) l ms).proc
+  sound_fold : (l : Logging) (ms : List Moment) → IsSound setting.program setting.budget l.proc → IsSound setting.program setting.budget (fold (log_step setting.program setting.plan) l ms).proc
   sound_fold l [] h = h
-  sound_fold l (m ∷ ms) h = sound_fold (log_step program plan l m) ms (sound_act l.proc m.taken.answer h)
+  sound_fold l (m ∷ ms) h = sound_fold (log_step setting.program setting.plan l m) ms (sound_act l.proc m.taken.answer h)
 
-  sound_begun : (p : ℕ) → IsSound program budget (begun_log program plan budget p).proc
-  sound_begun p = record { home = started-home program plan p budget v; limit = refl; spent = omega arith }
+  sound_begun : (p : ℕ) → IsSound setting.program setting.budget (begun_log setting p).proc
+  sound_begun p = record { home = started-home setting.program setting.plan p setting.budget v; limit = refl; spent = omega arith }
 
-  sound_logs : (p : ℕ) (moments : List (List Moment)) (i : ℕ) (l : Logging) → slice_get (logs_from program plan budget p moments) i ≡ Some l → IsSound program budget l.proc
+  sound_logs : (p : ℕ) (moments : List (List Moment)) (i : ℕ) (l : Logging) → slice_get (logs_from setting p moments) i ≡ Some l → IsSound setting.program setting.budget l.proc
   sound_logs p [] i l e = absurd (none-some l e)
-  sound_logs p (ms ∷ rest) zero l e = subst (λ (x : Logging). IsSound program budget x.proc) (some e) (sound_fold (begun_log program plan budget p) ms (sound_begun p))
+  sound_logs p (ms ∷ rest) zero l e = subst (λ (x : Logging). IsSound setting.program setting.budget x.proc) (some e) (sound_fold (begun_log setting p) ms (sound_begun p))
   sound_logs p (ms ∷ rest) (suc i) l e = sound_logs (p + 1) rest i l e
 
   -- what was spent so far, and that the entries written at the start are there
@@ -400,33 +401,33 @@ module _ (program : Program) (plan : Plan) (budget : ℕ) (v : IsValid program) 
   stops Budget = inr (inl refl)
   stops _ = inr (inr (λ e. cc, λ e. cc))
 
-  grown_step : (shared : List ℤ) (l : Logging) (m : Moment) → IsSound program budget l.proc → IsNext program plan shared l m → HasGrown l → HasGrown (log_step program plan l m)
+  grown_step : (shared : List ℤ) (l : Logging) (m : Moment) → IsSound setting.program setting.budget l.proc → IsNext setting.program setting.plan shared l m → HasGrown l → HasGrown (log_step setting.program setting.plan l m)
   grown_step shared l m sound next h =
-      let new : List Entry = entries_of program plan l m in
+      let new : List Entry = entries_of setting.program setting.plan l m in
       let s : Proc = l.proc in
-      let t : Proc = act program plan s m.taken.answer in
+      let t : Proc = act setting.program setting.plan s m.taken.answer in
       let begins : 2 ≤ length l.entries = h.begins in
       let longer : length (l.entries ++ new) ≡ length l.entries + length new = length-append l.entries new in
       let dropped : values_in (drop 2 (l.entries ++ new)) ≡ values_in (drop 2 l.entries ++ new) = ap values_in (drop-append-le 2 l.entries new begins) in
       let values : values_in (drop 2 l.entries ++ new) ≡ values_in (drop 2 l.entries) + values_in new = values_append (drop 2 l.entries) new in
       let before : s.spent ≡ s.steps + values_in (drop 2 l.entries) = h.spent in
-      let counts : values_of plan (need_of program plan s) ≡ values_in new = same_values shared l m sound.home next in
+      let counts : values_of setting.plan (need_of setting.program setting.plan s) ≡ values_in new = same_values shared l m sound.home next in
       let spent : t.spent ≡ t.steps + values_in (drop 2 (l.entries ++ new)) =
-      elim (stops (need_of program plan s)) [
+      elim (stops (need_of setting.program setting.plan s)) [
         | inl e ↦
-            let none : values_in new ≡ 0 = sym counts ∙ ap (λ n. values_of plan n) e in
-            let same : t.spent ≡ s.spent = ap (λ (x : Proc). x.spent) (act-stopped program plan s m.taken.answer e) in
-            let steps : t.steps ≡ s.steps = ap (λ (x : Proc). x.steps) (act-stopped program plan s m.taken.answer e) in
+            let none : values_in new ≡ 0 = sym counts ∙ ap (λ n. values_of setting.plan n) e in
+            let same : t.spent ≡ s.spent = ap (λ (x : Proc). x.spent) (act-stopped setting.program setting.plan s m.taken.answer e) in
+            let steps : t.steps ≡ s.steps = ap (λ (x : Proc). x.steps) (act-stopped setting.program setting.plan s m.taken.answer e) in
             omega arith
         | inr (inl e) ↦
-            let none : values_in new ≡ 0 = sym counts ∙ ap (λ n. values_of plan n) e in
-            let kept : Keeps s t = keeps program plan s m.taken.answer e in
+            let none : values_in new ≡ 0 = sym counts ∙ ap (λ n. values_of setting.plan n) e in
+            let kept : Keeps s t = keeps setting.program setting.plan s m.taken.answer e in
             let same : t.spent ≡ s.spent = kept.spent in
             let steps : t.steps ≡ s.steps = kept.steps in
             omega arith
         | inr (inr d) ↦
-            let by : Spends plan (need_of program plan s) s t = spends program plan s m.taken.answer d.0 d.1 in
-            let more : t.spent ≡ s.spent + cost plan (need_of program plan s) = by.spent in
+            let by : Spends setting.plan (need_of setting.program setting.plan s) s t = spends setting.program setting.plan s m.taken.answer d.0 d.1 in
+            let more : t.spent ≡ s.spent + cost setting.plan (need_of setting.program setting.plan s) = by.spent in
             let steps : t.steps ≡ s.steps + 1 = by.steps in
             omega arith
       ] in
@@ -439,69 +440,69 @@ at_need program plan w ls p l procs e =
 -- ---- the laws
 
 pub steps_cost : StepsCostWhatTheyWrite
-steps_cost program plan budget h p l v valid whole e =
-    let t : Telling = told program plan budget h in
-    let m : Moment = logged_moment program plan t.world p in
-    let procs : map (λ l. l.proc) (loggings program plan budget h) ≡ t.world.procs = (one_state program plan budget h).logged ∙ sym (one_state program plan budget h).worlds in
-    let next : IsNext program plan (step program plan t.world p).shared l m = record { need = at_need program plan t.world (loggings program plan budget h) p l procs e; values = refl } in
-    costs program plan budget v valid whole (step program plan t.world p).shared l m (sound_logs program plan budget v valid whole 0 t.moments p l e) next
+steps_cost setting h p l v valid whole e =
+    let t : Telling = told setting h in
+    let m : Moment = logged_moment setting.program setting.plan t.world p in
+    let procs : map (λ l. l.proc) (loggings setting h) ≡ t.world.procs = (one_state setting h).logged ∙ sym (one_state setting h).worlds in
+    let next : IsNext setting.program setting.plan (step setting.program setting.plan t.world p).shared l m = record { need = at_need setting.program setting.plan t.world (loggings setting h) p l procs e; values = refl } in
+    costs setting v valid whole (step setting.program setting.plan t.world p).shared l m (sound_logs setting v valid whole 0 t.moments p l e) next
 
 -- a log before the first step
-begun_is : (program : Program) (plan : Plan) (budget p : ℕ) (procs : List Proc) (i : ℕ) (l : Logging) → slice_get (logs_from program plan budget p (map (λ _. []) procs)) i ≡ Some l → (q : ℕ) × (begun_log program plan budget q ≡ l)
-begun_is program plan budget p [] i l e = absurd (none-some l e)
-begun_is program plan budget p (s ∷ ss) zero l e = (p, some e)
-begun_is program plan budget p (s ∷ ss) (suc i) l e = begun_is program plan budget (p + 1) ss i l e
+begun_is : (setting : Setting) (p : ℕ) (procs : List Proc) (i : ℕ) (l : Logging) → slice_get (logs_from setting p (map (λ _. []) procs)) i ≡ Some l → (q : ℕ) × (begun_log setting q ≡ l)
+begun_is setting p [] i l e = absurd (none-some l e)
+begun_is setting p (s ∷ ss) zero l e = (p, some e)
+begun_is setting p (s ∷ ss) (suc i) l e = begun_is setting (p + 1) ss i l e
 
 pub starts_free : StartsAreFree
-starts_free program plan budget p l e =
-    let is = begun_is program plan budget 0 (started_world program plan budget).procs p l e in
+starts_free setting p l e =
+    let is = begun_is setting 0 (started_world setting).procs p l e in
     subst (λ (x : Logging). HasSpentNothing x) is.1 record { spent = refl; steps = refl }
 
 option_map_is : (f : Logging → Logging) (o : Option Logging) (l : Logging) → option_map f o ≡ Some l → (x : Logging) × (o ≡ Some x) × (f x ≡ l)
 option_map_is f None l e = absurd (none-some l e)
 option_map_is f (Some x) l e = (x, refl, some e)
 
-module _ (program : Program) (plan : Plan) (budget : ℕ) (v : IsValid program) (valid : IsValidPlan program plan) (whole : HasWholePrelogs program plan) where
+module _ (setting : Setting) (v : IsValid setting.program) (valid : IsValidPlan setting.program setting.plan) (whole : HasWholePrelogs setting.program setting.plan) where
   -- what is told, where each process has spent what it did and wrote
   record IsPaidTelling (t : Telling) : Type 0 where
-    procs : t.world.procs ≡ states_from program plan budget 0 (map steps_of t.moments)
-    grown : (p : ℕ) (l : Logging) → slice_get (logs_from program plan budget 0 t.moments) p ≡ Some l → HasGrown program plan budget v valid whole l
+    procs : t.world.procs ≡ states_from setting 0 (map steps_of t.moments)
+    grown : (p : ℕ) (l : Logging) → slice_get (logs_from setting 0 t.moments) p ≡ Some l → HasGrown setting v valid whole l
 
-  own_grown : (t : Telling) (p : ℕ) (l : Logging) → IsPaidTelling t → slice_get (change (λ l. log_step program plan l (moment_of program plan t p)) p (logs_from program plan budget 0 t.moments)) p ≡ Some l → HasGrown program plan budget v valid whole l
+  own_grown : (t : Telling) (p : ℕ) (l : Logging) → IsPaidTelling t → slice_get (change (λ l. log_step setting.program setting.plan l (moment_of setting.program setting.plan t p)) p (logs_from setting 0 t.moments)) p ≡ Some l → HasGrown setting v valid whole l
   own_grown t p l h e =
-      let m : Moment = moment_of program plan t p in
-      let logs : List Logging = logs_from program plan budget 0 t.moments in
-      let at = option_map_is (λ l. log_step program plan l m) (slice_get logs p) l (sym (change-at (λ l. log_step program plan l m) p logs) ∙ e) in
-      let procs : map (λ l. l.proc) logs ≡ t.world.procs = logged program plan budget 0 t.moments ∙ sym h.procs in
-      let next : IsNext program plan (step program plan t.world p).shared at.0 m = record { need = at_need program plan t.world logs p at.0 procs at.1; values = refl } in
-      subst (λ (x : Logging). HasGrown program plan budget v valid whole x) at.2
-      (grown_step program plan budget v valid whole (step program plan t.world p).shared at.0 m (sound_logs program plan budget v valid whole 0 t.moments p at.0 at.1) next (h.grown p at.0 at.1))
+      let m : Moment = moment_of setting.program setting.plan t p in
+      let logs : List Logging = logs_from setting 0 t.moments in
+      let at = option_map_is (λ l. log_step setting.program setting.plan l m) (slice_get logs p) l (sym (change-at (λ l. log_step setting.program setting.plan l m) p logs) ∙ e) in
+      let procs : map (λ l. l.proc) logs ≡ t.world.procs = logged setting 0 t.moments ∙ sym h.procs in
+      let next : IsNext setting.program setting.plan (step setting.program setting.plan t.world p).shared at.0 m = record { need = at_need setting.program setting.plan t.world logs p at.0 procs at.1; values = refl } in
+      subst (λ (x : Logging). HasGrown setting v valid whole x) at.2
+      (grown_step setting v valid whole (step setting.program setting.plan t.world p).shared at.0 m (sound_logs setting v valid whole 0 t.moments p at.0 at.1) next (h.grown p at.0 at.1))
 
-  paid_tell : (t : Telling) (p : ℕ) → IsPaidTelling t → IsPaidTelling (tell program plan t p)
+  paid_tell : (t : Telling) (p : ℕ) → IsPaidTelling t → IsPaidTelling (tell setting.program setting.plan t p)
   paid_tell t p h = record {
-    procs = states-tell program plan budget t p h.procs;
+    procs = states-tell setting t p h.procs;
     grown = λ q l e.
-        let m : Moment = moment_of program plan t p in
-        let logs : List Logging = logs_from program plan budget 0 t.moments in
-        let there : slice_get (change (λ l. log_step program plan l m) p logs) q ≡ Some l = ap (λ ls. slice_get ls q) (sym (logs-change program plan budget m p 0 t.moments)) ∙ e in
+        let m : Moment = moment_of setting.program setting.plan t p in
+        let logs : List Logging = logs_from setting 0 t.moments in
+        let there : slice_get (change (λ l. log_step setting.program setting.plan l m) p logs) q ≡ Some l = ap (λ ls. slice_get ls q) (sym (logs-change setting m p 0 t.moments)) ∙ e in
         elim (cases_eq q p) [
-          | inl is ↦ own_grown t p l h (subst (λ (i : ℕ). slice_get (change (λ l. log_step program plan l m) p logs) i ≡ Some l) is there)
-          | inr d ↦ h.grown q l (sym (change-else (λ l. log_step program plan l m) p q logs d) ∙ there)
+          | inl is ↦ own_grown t p l h (subst (λ (i : ℕ). slice_get (change (λ l. log_step setting.program setting.plan l m) p logs) i ≡ Some l) is there)
+          | inr d ↦ h.grown q l (sym (change-else (λ l. log_step setting.program setting.plan l m) p q logs d) ∙ there)
         ];
   }
 
-  paid_fold : (t : Telling) (h : List ℕ) → IsPaidTelling t → IsPaidTelling (fold (tell program plan) t h)
+  paid_fold : (t : Telling) (h : List ℕ) → IsPaidTelling t → IsPaidTelling (fold (tell setting.program setting.plan) t h)
   paid_fold t [] paid = paid
-  paid_fold t (p ∷ h) paid = paid_fold (tell program plan t p) h (paid_tell t p paid)
+  paid_fold t (p ∷ h) paid = paid_fold (tell setting.program setting.plan t p) h (paid_tell t p paid)
 
-  paid_begun : IsPaidTelling (begun (started_world program plan budget))
+  paid_begun : IsPaidTelling (begun (started_world setting))
   paid_begun = record {
-    procs = sym (states-begun program plan budget 0 (length program.bodies - program.functions));
+    procs = sym (states-begun setting 0 (length setting.program.bodies - setting.program.functions));
     grown = λ p l e.
-        let is = begun_is program plan budget 0 (started_world program plan budget).procs p l e in
-        subst (λ (x : Logging). HasGrown program plan budget v valid whole x) is.1 record { spent = refl; begins = omega arith };
+        let is = begun_is setting 0 (started_world setting).procs p l e in
+        subst (λ (x : Logging). HasGrown setting v valid whole x) is.1 record { spent = refl; begins = omega arith };
   }
 
 pub logs_paid : LogsArePaid
-logs_paid program plan budget h p l v valid whole e =
-    record { spent = ((paid_fold program plan budget v valid whole (begun (started_world program plan budget)) h (paid_begun program plan budget v valid whole)).grown p l e).spent }
+logs_paid setting h p l v valid whole e =
+    record { spent = ((paid_fold setting v valid whole (begun (started_world setting)) h (paid_begun setting v valid whole)).grown p l e).spent }

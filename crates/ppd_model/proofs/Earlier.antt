@@ -65,7 +65,7 @@ module _ (program : Program) (plan : Plan) (story : Story) (p : ℕ) where
   told_run budget steps = bare_fold (begun_tracing (started program plan p budget)) steps
 
 pub tell_runs : TracesTellRuns
-tell_runs program plan budget story p steps = told_run program plan story p budget steps
+tell_runs setting story p steps = told_run setting.program setting.plan story p setting.budget steps
 
 -- ---- each
 
@@ -286,6 +286,6 @@ module _ (p : ℕ) where
   begun_past k (f ∷ fs) = (record { call = tt; tags = none_past k f.cells; tests = tt }, begun_past k fs)
 
 pub name_earlier : TracesNameEarlierEvents
-name_earlier program plan budget story p steps =
-    (fold_good p program plan story (begun_tracing (started program plan p budget)) steps
-    (record { past = begun_past p 0 (started program plan p budget).frames; events = tt })).events
+name_earlier setting story p steps =
+    (fold_good p setting.program setting.plan story (begun_tracing (started setting.program setting.plan p setting.budget)) steps
+    (record { past = begun_past p 0 (started setting.program setting.plan p setting.budget).frames; events = tt })).events

@@ -13,5 +13,5 @@ by_procs program b [] = refl
 by_procs program b (l ∷ ls) = ap (λ (es : List ProcEnd). end_of (slice_get program.bodies b) l.proc ∷ es) (by_procs program (b + 1) ls)
 
 pub ends_told : StoriesTellEnds
-ends_told program plan budget h =
-    by_procs program program.functions (loggings program plan budget h) ∙ ap (ends_by program program.functions) (follow program plan budget h).logged
+ends_told setting h =
+    by_procs setting.program setting.program.functions (loggings setting h) ∙ ap (ends_by setting.program setting.program.functions) (follow setting h).logged

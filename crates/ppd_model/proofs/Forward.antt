@@ -1,4 +1,5 @@
 -- The record of a beginning of a schedule is closed downward under happened before.
+use Rattle.ppd_model.specs.Setting.{Setting}
 use Rattle.std.proofs.Common.{◌≡◌, ℕ, zero, suc, ◌+◌, ◌<◌, ◌≤◌, Bool, true, false, cond, List, [], ◌∷◌, ◌++◌, length, map, get_or, Option, Some, None, refl, ap, sym, ◌∙◌, subst, arith, inl, inr, true≢false, eqb-true, ◌&&◌}
 use Rattle.std.proofs.lemmas.Bool.{and_parts, or_cases}
 use Rattle.std.proofs.lemmas.List.Sums.{fold-append}
@@ -143,38 +144,38 @@ both_lead program (Some a) (Some b) h = (a, b, refl, refl, h)
 
 -- ---- closed downward
 
-module _ (program : Program) (plan : Plan) (budget : ℕ) (g rest : List ℕ) (w : World) (runs : run program plan budget (g ++ rest) ≡ Some w) where
+module _ (setting : Setting) (g rest : List ℕ) (w : World) (runs : run setting (g ++ rest) ≡ Some w) where
   abbrev early : List (List Sync)
-  early = sync_record program plan budget g
+  early = sync_record setting g
 
   abbrev late : List (List Sync)
-  late = sync_record program plan budget (g ++ rest)
+  late = sync_record setting (g ++ rest)
 
   grows : (a : NodeId) (s : Sync) → sync_at early a ≡ Some s → sync_at late a ≡ Some s
   grows a s e =
-      subst (λ (t : Telling). sync_at (map (filter_map sync_of) (map steps_of t.moments)) a ≡ Some s) (sym (fold-append (tell program plan) (begun (started_world program plan budget)) g rest))
-      (fold_grows program plan (told program plan budget g) rest a s e)
+      subst (λ (t : Telling). sync_at (map (filter_map sync_of) (map steps_of t.moments)) a ≡ Some s) (sym (fold-append (tell setting.program setting.plan) (begun (started_world setting)) g rest))
+      (fold_grows setting.program setting.plan (told setting g) rest a s e)
 
-  middle : (v : World) × (run program plan budget g ≡ Some v)
-  middle = run_begins program plan (started_world program plan budget) g rest w runs
+  middle : (v : World) × (run setting g ≡ Some v)
+  middle = run_begins setting.program setting.plan (started_world setting) g rest w runs
 
-  even : IsBalanced program (told program plan budget g).world
-  even = subst (λ v. IsBalanced program v) (sym (stories_are_of_runs program plan budget g middle.0 middle.1)) (balanced program plan budget g middle.0 middle.1)
+  even : IsBalanced setting.program (told setting g).world
+  even = subst (λ v. IsBalanced setting.program v) (sym (stories_are_of_runs setting g middle.0 middle.1)) (balanced setting g middle.0 middle.1)
 
-  leads_below : (a b : NodeId) → IsTrue (leads_at program (sync_at late a) (sync_at late b)) → b.sync < length (get_or early b.process []) → a.sync < length (get_or early a.process [])
+  leads_below : (a b : NodeId) → IsTrue (leads_at setting.program (sync_at late a) (sync_at late b)) → b.sync < length (get_or early b.process []) → a.sync < length (get_or early a.process [])
   leads_below a b h lt =
       let there = slice_get_there (get_or early b.process []) b.sync lt in
-      let l = both_lead program (sync_at late a) (sync_at late b) h in
+      let l = both_lead setting.program (sync_at late a) (sync_at late b) h in
       let x : Sync = l.0 in
       let y : Sync = l.1 in
       let same : there.0 ≡ y = some (sym (grows b there.0 there.1) ∙ l.3) in
       let at_b : sync_at early b ≡ Some y = there.1 ∙ ap (λ (s : Sync). Some s) same in
-      let parts = and_parts (nat_eq x.object y.object) (is_number (led_to (capacity_of program x.object) x.kind y.kind x.number) y.number) l.4 in
+      let parts = and_parts (nat_eq x.object y.object) (is_number (led_to (capacity_of setting.program x.object) x.kind y.kind x.number) y.number) l.4 in
       let object : x.object ≡ y.object = eqb-true x.object y.object parts.0 in
-      let counts = are_counted program plan budget g in
-      let all = are_counted program plan budget (g ++ rest) in
-      let top : y.number ≤ count_of (told program plan budget g).world y.kind x.object = subst (λ o. y.number ≤ count_of (told program plan budget g).world y.kind o) (sym object) (counts.numbers b y at_b).1 in
-      let le : x.number ≤ count_of (told program plan budget g).world x.kind x.object = counted_too program (told program plan budget g).world even x.kind y.kind x.object x.number y.number parts.1 top in
+      let counts = are_counted setting g in
+      let all = are_counted setting (g ++ rest) in
+      let top : y.number ≤ count_of (told setting g).world y.kind x.object = subst (λ o. y.number ≤ count_of (told setting g).world y.kind o) (sym object) (counts.numbers b y at_b).1 in
+      let le : x.number ≤ count_of (told setting g).world x.kind x.object = counted_too setting.program (told setting g).world even x.kind y.kind x.object x.number y.number parts.1 top in
       let found = counts.found x.kind x.object x.number (all.numbers a x l.2).0 le in
       let one : a ≡ found.0 = all.once a found.0 x l.2 (grows found.0 x found.1) in
       subst (λ (c : NodeId). c.sync < length (get_or early c.process [])) (sym one) (slice_get_below (get_or early found.0.process []) found.0.sync x found.1)
@@ -187,8 +188,8 @@ module _ (program : Program) (plan : Plan) (budget : ℕ) (g rest : List ℕ) (w
       let next : a.sync + 1 ≡ b.sync = eqb-true (a.sync + 1) b.sync parts.1 in
       subst (λ p. a.sync < length (get_or early p [])) (sym same) (omega (arith, next, lt))
 
-  closed_below : (a b : NodeId) → Before program late a b → b.sync < length (get_or early b.process []) → a.sync < length (get_or early a.process [])
-  closed_below a b (direct d) lt = elim (or_cases (is_next late a b) (leads_at program (sync_at late a) (sync_at late b)) d) [
+  closed_below : (a b : NodeId) → Before setting.program late a b → b.sync < length (get_or early b.process []) → a.sync < length (get_or early a.process [])
+  closed_below a b (direct d) lt = elim (or_cases (is_next late a b) (leads_at setting.program (sync_at late a) (sync_at late b)) d) [
     | inl next ↦ next_below a b next lt
     | inr lead ↦ leads_below a b lead lt
   ]
@@ -199,17 +200,17 @@ module _ (program : Program) (plan : Plan) (budget : ℕ) (g rest : List ℕ) (w
   fewer p = no_longer (get_or early p []) (get_or late p []) (λ i s e. grows (node p i) s e)
 
 pub records_closed : RecordsAreClosed
-records_closed program plan budget g rest w runs a b before lt = closed_below program plan budget g rest w runs a b before lt
+records_closed setting g rest w runs a b before lt = closed_below setting g rest w runs a b before lt
 
 pub edges_forward : EdgesGoForward
-edges_forward program plan budget g more rest w runs p q (earlier same lt) =
-    let first = run_begins program plan (started_world program plan budget) (g ++ more) rest w runs in
-    let le : length (get_or (sync_record program plan budget g) q []) ≤ length (get_or (sync_record program plan budget (g ++ more)) q []) = fewer program plan budget g more first.0 first.1 q in
-    let e : length (get_or (sync_record program plan budget g) q []) ≡ length (get_or (sync_record program plan budget g) p []) = ap (λ k. length (get_or (sync_record program plan budget g) k [])) same in
+edges_forward setting g more rest w runs p q (earlier same lt) =
+    let first = run_begins setting.program setting.plan (started_world setting) (g ++ more) rest w runs in
+    let le : length (get_or (sync_record setting g) q []) ≤ length (get_or (sync_record setting (g ++ more)) q []) = fewer setting g more first.0 first.1 q in
+    let e : length (get_or (sync_record setting g) q []) ≡ length (get_or (sync_record setting g) p []) = ap (λ k. length (get_or (sync_record setting g) k [])) same in
     omega (arith, lt, le, e)
-edges_forward program plan budget g more rest w runs p q (across d j e before) =
-    let first = run_begins program plan (started_world program plan budget) (g ++ more) rest w runs in
-    let le : edge_in program plan budget g p ≤ edge_in program plan budget (g ++ more) p = fewer program plan budget g more first.0 first.1 p in
-    let lt : edge_in program plan budget (g ++ more) q < edge_in program plan budget (g ++ more) q = records_closed program plan budget (g ++ more) rest w runs
-    (node q (edge_in program plan budget (g ++ more) q)) (node p j) before (omega (arith, e, le)) in
+edges_forward setting g more rest w runs p q (across d j e before) =
+    let first = run_begins setting.program setting.plan (started_world setting) (g ++ more) rest w runs in
+    let le : edge_in setting g p ≤ edge_in setting (g ++ more) p = fewer setting g more first.0 first.1 p in
+    let lt : edge_in setting (g ++ more) q < edge_in setting (g ++ more) q = records_closed setting (g ++ more) rest w runs
+    (node q (edge_in setting (g ++ more) q)) (node p j) before (omega (arith, e, le)) in
     omega (arith, lt)

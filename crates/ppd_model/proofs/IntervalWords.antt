@@ -1,10 +1,9 @@
 -- Words of the proofs for intervals and their items.
+use Rattle.ppd_model.specs.Setting.{Setting}
 use Rattle.std.specs.Option.{option_map_or}
 use Rattle.std.specs.List.{enumerate_from}
 use Rattle.std.specs.Prelude.{[], ◌∷◌, ℕ, List, Option, Some, map, slice_get, option_map, option_and_then, is_some}
 use Rattle.ppd_model.specs.Intervals.{begin_span, end_span, split_of, items_of, place_in, Span, Split}
-use Rattle.ppd_ast.specs.declared.plan.Plan.{Plan}
-use Rattle.ppd_ast.specs.declared.program.Program.{Program}
 use Rattle.ppd_model.specs.declared.flow.Item.{Item}
 use Rattle.ppd_model.specs.declared.flow.Origin.{Origin}
 use Rattle.ppd_model.specs.declared.trace.EventId.{EventId}
@@ -52,6 +51,6 @@ abbrev pub ref_in : EventId → Option Split → Origin
 ref_in e o = option_map_or (λ (x : Split). item_at e.process (place_in e.number 0 x.spans)) o origin.Entry
 
 -- the processes from number p on
-abbrev pub splits_from : Program → Plan → ℕ → Story → ℕ → List (List Taken) → List Split
-splits_from program plan budget story p all =
-    map (λ e. split_of program plan budget story e.0 e.1) (enumerate_from p all)
+abbrev pub splits_from : Setting → Story → ℕ → List (List Taken) → List Split
+splits_from setting story p all =
+    map (λ e. split_of setting story e.0 e.1) (enumerate_from p all)

@@ -1,4 +1,5 @@
 -- Items are whole.
+use Rattle.ppd_model.specs.Setting.{Setting, setting_of}
 use Rattle.std.proofs.Common.{◌≡◌, ℕ, zero, suc, ◌+◌, ◌<◌, ◌≤◌, Bool, true, false, cond, List, [], ◌∷◌, ◌++◌, Option, Some, None, refl, ap, ap₂, sym, subst, ◌∙◌, arith, length, map, get_or, length-append, true≢false, eq-eqb, eqb-true, if◌then◌else◌}
 use Rattle.std.specs.Prelude.{◌-◌, drop, fold, position, slice_get, ⊤}
 use Rattle.std.specs.List.{flat_map, position_from}
@@ -268,7 +269,7 @@ module _ (program : Program) (plan : Plan) (v : IsValid program) (story' : Story
     inside = inside_begun program plan p budget v;
   }
 
-  kept : (budget : ℕ) (steps : List Taken) → AreOwn program plan (started program plan p budget) steps → IsKept (split_of program plan budget story' p steps)
+  kept : (budget : ℕ) (steps : List Taken) → AreOwn program plan (started program plan p budget) steps → IsKept (split_of (setting_of program plan budget) story' p steps)
   kept budget steps mine = kept_fold (begun_split program plan p (started program plan p budget)) steps mine (kept_begun budget)
 
 -- ---- places
@@ -336,20 +337,20 @@ parts_at [] k i e = absurd (none-some i e)
 parts_at (x ∷ xs) zero i e = ap (λ (s : Span). s.parts) (some e)
 parts_at (x ∷ xs) (suc k) i e = parts_at xs k i e
 
-module _ (program : Program) (plan : Plan) (budget : ℕ) where
-  pub split_found : (story' : Story) (q : ℕ) (steps : List (List Taken)) (p : ℕ) (x : Split) → slice_get (splits_from program plan budget story' q steps) p ≡ Some x
-      → split_of program plan budget story' (q + p) (get_or steps p []) ≡ x
+module _ (setting : Setting) where
+  pub split_found : (story' : Story) (q : ℕ) (steps : List (List Taken)) (p : ℕ) (x : Split) → slice_get (splits_from setting story' q steps) p ≡ Some x
+      → split_of setting story' (q + p) (get_or steps p []) ≡ x
   split_found story' q [] p x e = absurd (none-some x e)
-  split_found story' q (xs ∷ rest) zero x e = (let z : q + 0 ≡ q = omega arith in ap (λ k. split_of program plan budget story' k xs) z) ∙ some e
+  split_found story' q (xs ∷ rest) zero x e = (let z : q + 0 ≡ q = omega arith in ap (λ k. split_of setting story' k xs) z) ∙ some e
   split_found story' q (xs ∷ rest) (suc p) x e =
-      (let z : q + suc p ≡ (q + 1) + p = omega arith in ap (λ k. split_of program plan budget story' k (get_or rest p [])) z) ∙ split_found story' (q + 1) rest p x e
+      (let z : q + suc p ≡ (q + 1) + p = omega arith in ap (λ k. split_of setting story' k (get_or rest p [])) z) ∙ split_found story' (q + 1) rest p x e
 
 pub items_whole : ItemsAreWhole
-items_whole program plan budget h p x v e =
-    let s : Story = story program plan budget h in
+items_whole setting h p x v e =
+    let s : Story = story setting h in
     let z : 0 + p ≡ p = omega arith in
-    let is : split_of program plan budget s p (get_or s.steps p []) ≡ x = ap (λ k. split_of program plan budget s k (get_or s.steps p [])) (sym z) ∙ split_found program plan budget s 0 s.steps p x e in
-    let now : IsKept program plan v s p x = subst (λ (y : Split). IsKept program plan v s p y) is (kept program plan v s p budget (get_or s.steps p []) (own_steps_told program plan budget h p)) in
+    let is : split_of setting s p (get_or s.steps p []) ≡ x = ap (λ k. split_of setting s k (get_or s.steps p [])) (sym z) ∙ split_found setting s 0 s.steps p x e in
+    let now : IsKept setting.program setting.plan v s p x = subst (λ (y : Split). IsKept setting.program setting.plan v s p y) is (kept setting.program setting.plan v s p setting.budget (get_or s.steps p []) (own_steps_told setting h p)) in
     record {
       whole = λ k i at_k.
           all_items x i.parts
@@ -366,7 +367,7 @@ items_whole program plan budget h p x v e =
     }
 
 -- as many processes as lists of steps
-pub splits_length : (program : Program) (plan : Plan) (budget : ℕ) (s : Story) (q : ℕ) (steps : List (List Taken))
-    → length (splits_from program plan budget s q steps) ≡ length steps
-splits_length program plan budget s q [] = refl
-splits_length program plan budget s q (xs ∷ rest) = ap suc (splits_length program plan budget s (q + 1) rest)
+pub splits_length : (setting : Setting) (s : Story) (q : ℕ) (steps : List (List Taken))
+    → length (splits_from setting s q steps) ≡ length steps
+splits_length setting s q [] = refl
+splits_length setting s q (xs ∷ rest) = ap suc (splits_length setting s (q + 1) rest)

@@ -1,4 +1,5 @@
 -- The tag of a local cell is the event that last wrote it in the cell's activation.
+use Rattle.ppd_model.specs.Setting.{Setting}
 use Rattle.std.proofs.Common.{◌≡◌, ℕ, zero, suc, ◌+◌, ◌<◌, ◌≤◌, ℤ, List, [], ◌∷◌, ◌++◌, None, refl, ap, sym, subst, ◌∙◌, length, map, get_or, inl, inr, ◌⊎◌, arith}
 use Rattle.std.specs.Prelude.{⊤, ◌-◌, fold, slice_get}
 use Rattle.std.proofs.lemmas.Bool.{cases_Bool, cases_eq, cases_lt}
@@ -122,30 +123,30 @@ none_begun (f ∷ fs) k c = elim (cases_eq k (length (locals (begun_at fs)))) [
 ]
 
 pub local_tags : LocalTagsAreLastWrites
-local_tags program plan budget story p steps own =
-    let t : Tracing = begun_tracing (started program plan p budget) in
+local_tags setting story p steps own =
+    let t : Tracing = begun_tracing (started setting.program setting.plan p setting.budget) in
     record {
-      has_tags = has_all program plan story p t steps (has_begun t.proc.frames) own;
-      tags_are = λ k c lt. from_start program plan story p k c t steps (none_begun t.proc.frames k c) (has_begun t.proc.frames) own lt;
+      has_tags = has_all setting.program setting.plan story p t steps (has_begun t.proc.frames) own;
+      tags_are = λ k c lt. from_start setting.program setting.plan story p k c t steps (none_begun t.proc.frames k c) (has_begun t.proc.frames) own lt;
     }
 
 -- ---- the steps of a story
 
-module _ (program : Program) (plan : Plan) (budget : ℕ) where
-  own-append : (s : Proc) (xs : List Taken) (x : Taken) → AreOwn program plan s xs → x.need ≡ need_of program plan (fold (act_on program plan) s xs) → AreOwn program plan s (xs ++ x ∷ [])
+module _ (setting : Setting) where
+  own-append : (s : Proc) (xs : List Taken) (x : Taken) → AreOwn setting.program setting.plan s xs → x.need ≡ need_of setting.program setting.plan (fold (act_on setting.program setting.plan) s xs) → AreOwn setting.program setting.plan s (xs ++ x ∷ [])
   own-append s [] x own e = (e, tt)
-  own-append s (y ∷ ys) x own e = (own.0, own-append (act program plan s y.answer) ys x own.1 e)
+  own-append s (y ∷ ys) x own e = (own.0, own-append (act setting.program setting.plan s y.answer) ys x own.1 e)
 
   -- the steps of the processes from number p on are their own
   AllOwn : ℕ → List (List Taken) → Type 0
   AllOwn p [] = ⊤
-  AllOwn p (xs ∷ rest) = AreOwn program plan (started program plan p budget) xs × AllOwn (p + 1) rest
+  AllOwn p (xs ∷ rest) = AreOwn setting.program setting.plan (started setting.program setting.plan p setting.budget) xs × AllOwn (p + 1) rest
 
-  own-change : (x : Taken) (q p : ℕ) (steps : List (List Taken)) → AllOwn p steps → x.need ≡ need_at program plan (slice_get (states_from program plan budget p steps) q)
+  own-change : (x : Taken) (q p : ℕ) (steps : List (List Taken)) → AllOwn p steps → x.need ≡ need_at setting.program setting.plan (slice_get (states_from setting p steps) q)
       → AllOwn p (change (λ xs. xs ++ x ∷ []) q steps)
   unfolding AllOwn
   own-change x q p [] own e = tt
-  own-change x zero p (xs ∷ rest) own e = (own-append (started program plan p budget) xs x own.0 e, own.1)
+  own-change x zero p (xs ∷ rest) own e = (own-append (started setting.program setting.plan p setting.budget) xs x own.0 e, own.1)
   own-change x (suc q) p (xs ∷ rest) own e = (own.0, own-change x q (p + 1) rest own.1 e)
 
   own_begun : (p : ℕ) (procs : List Proc) → AllOwn p (map steps_of (map (λ _. []) procs))
@@ -153,40 +154,40 @@ module _ (program : Program) (plan : Plan) (budget : ℕ) where
   own_begun p [] = tt
   own_begun p (s ∷ ss) = (tt, own_begun (p + 1) ss)
 
-  own_fold : (t : Telling) (h : List ℕ) → t.world.procs ≡ states_from program plan budget 0 (map steps_of t.moments) → AllOwn 0 (map steps_of t.moments)
-      → AllOwn 0 (map steps_of (fold (tell program plan) t h).moments)
+  own_fold : (t : Telling) (h : List ℕ) → t.world.procs ≡ states_from setting 0 (map steps_of t.moments) → AllOwn 0 (map steps_of t.moments)
+      → AllOwn 0 (map steps_of (fold (tell setting.program setting.plan) t h).moments)
   own_fold t [] e own = own
   own_fold t (p ∷ h) e own =
-      own_fold (tell program plan t p) h (states-tell program plan budget t p e)
-      (subst (λ xs. AllOwn 0 xs) (sym (steps-change (moment_of program plan t p) p t.moments))
-      (own-change (moment_of program plan t p).taken p 0 (map steps_of t.moments) own (ap (λ ss. need_at program plan (slice_get ss p)) e)))
+      own_fold (tell setting.program setting.plan t p) h (states-tell setting t p e)
+      (subst (λ xs. AllOwn 0 xs) (sym (steps-change (moment_of setting.program setting.plan t p) p t.moments))
+      (own-change (moment_of setting.program setting.plan t p).taken p 0 (map steps_of t.moments) own (ap (λ ss. need_at setting.program setting.plan (slice_get ss p)) e)))
 
-  own_at : (p i : ℕ) (steps : List (List Taken)) → AllOwn p steps → AreOwn program plan (started program plan (p + i) budget) (get_or steps i [])
+  own_at : (p i : ℕ) (steps : List (List Taken)) → AllOwn p steps → AreOwn setting.program setting.plan (started setting.program setting.plan (p + i) setting.budget) (get_or steps i [])
   unfolding AllOwn
   own_at p i [] own = tt
-  own_at p zero (xs ∷ rest) own = subst (λ n. AreOwn program plan (started program plan n budget) xs) (let e : p ≡ p + 0 = omega arith in e) own.0
+  own_at p zero (xs ∷ rest) own = subst (λ n. AreOwn setting.program setting.plan (started setting.program setting.plan n setting.budget) xs) (let e : p ≡ p + 0 = omega arith in e) own.0
   own_at p (suc i) (xs ∷ rest) own =
-      subst (λ n. AreOwn program plan (started program plan n budget) (get_or rest i [])) (let e : p + 1 + i ≡ p + suc i = omega arith in e) (own_at (p + 1) i rest own.1)
+      subst (λ n. AreOwn setting.program setting.plan (started setting.program setting.plan n setting.budget) (get_or rest i [])) (let e : p + 1 + i ≡ p + suc i = omega arith in e) (own_at (p + 1) i rest own.1)
 
-  all_own : (h : List ℕ) → AllOwn 0 (map steps_of (told program plan budget h).moments)
+  all_own : (h : List ℕ) → AllOwn 0 (map steps_of (told setting h).moments)
   all_own h =
-      own_fold (begun (started_world program plan budget)) h (sym (states-begun program plan budget 0 (length program.bodies - program.functions)))
-      (own_begun 0 (started_world program plan budget).procs)
+      own_fold (begun (started_world setting)) h (sym (states-begun setting 0 (length setting.program.bodies - setting.program.functions)))
+      (own_begun 0 (started_world setting).procs)
 
 pub own_steps_told : StoriesTellOwnSteps
-own_steps_told program plan budget h p =
-    subst (λ n. AreOwn program plan (started program plan n budget) (get_or (story program plan budget h).steps p [])) (let e : 0 + p ≡ p = omega arith in e)
-    (own_at program plan budget 0 p (map steps_of (told program plan budget h).moments) (all_own program plan budget h))
+own_steps_told setting h p =
+    subst (λ n. AreOwn setting.program setting.plan (started setting.program setting.plan n setting.budget) (get_or (story setting h).steps p [])) (let e : 0 + p ≡ p = omega arith in e)
+    (own_at setting 0 p (map steps_of (told setting h).moments) (all_own setting h))
 
 pub own-before : (program : Program) (plan : Plan) (s : Proc) (before after : List Taken) → AreOwn program plan s (before ++ after) → AreOwn program plan s before
 own-before program plan s [] after own = tt
 own-before program plan s (x ∷ xs) after own = (own.0, own-before program plan (act program plan s x.answer) xs after own.1)
 
 pub schedules_tag : SchedulesTagLastWrites
-schedules_tag program plan budget h p before after e =
-    local_tags program plan budget (story program plan budget h) p before
-    (own-before program plan (started program plan p budget) before after
-    (subst (λ xs. AreOwn program plan (started program plan p budget) xs) e (own_steps_told program plan budget h p)))
+schedules_tag setting h p before after e =
+    local_tags setting (story setting h) p before
+    (own-before setting.program setting.plan (started setting.program setting.plan p setting.budget) before after
+    (subst (λ xs. AreOwn setting.program setting.plan (started setting.program setting.plan p setting.budget) xs) e (own_steps_told setting h p)))
 
 pub top_reads : ReadsAreOfTheTop
 top_reads [] answers frame c = refl

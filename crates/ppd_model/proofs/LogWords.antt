@@ -1,12 +1,11 @@
 -- Words of the proofs for the logs of processes.
+use Rattle.ppd_model.specs.Setting.{Setting}
 use Rattle.std.specs.List.{enumerate_from}
 use Rattle.std.specs.Prelude.{ℕ, List, map}
 use Rattle.ppd_model.specs.Logs.{log_of}
-use Rattle.ppd_ast.specs.declared.plan.Plan.{Plan}
-use Rattle.ppd_ast.specs.declared.program.Program.{Program}
 use Rattle.ppd_model.specs.Story.{Moment}
 use Rattle.ppd_model.specs.declared.state.Logging.{Logging}
 
 -- the processes from number p on, with their logs
-abbrev pub logs_from : Program → Plan → ℕ → ℕ → List (List Moment) → List Logging
-logs_from program plan budget p all = map (λ e. log_of program plan budget e.0 e.1) (enumerate_from p all)
+abbrev pub logs_from : Setting → ℕ → List (List Moment) → List Logging
+logs_from setting p all = map (λ e. log_of setting e.0 e.1) (enumerate_from p all)

@@ -1,4 +1,5 @@
 -- The intervals of a process's own steps are those of its log.
+use Rattle.ppd_model.specs.Setting.{Setting, setting_of}
 use Rattle.ppd_ast.specs.declared.plan.Plan.{Plan}
 use Rattle.ppd_ast.specs.declared.program.Program.{Program}
 use Rattle.ppd_ast.specs.declared.status.Status.{Status}
@@ -185,8 +186,8 @@ module _ (program : Program) (plan : Plan) (story' : Story) (p : ℕ) where
       (subst (λ z. AreSame (split_step program plan story' p x m.taken) z) (sym (fold-append extend begun_extents l.entries (entries_of program plan l m)))
       (same_step x (fold extend begun_extents l.entries) l m proc h))
 
-  same_all : (budget : ℕ) (ms : List Moment) → AreSame (split_of program plan budget story' p (steps_of ms)) (fold extend begun_extents (log_of program plan budget p ms).entries)
-  same_all budget ms = same_fold (begun_split program plan p (started program plan p budget)) (begun_log program plan budget p) ms refl (record { running = refl; shapes = refl })
+  same_all : (budget : ℕ) (ms : List Moment) → AreSame (split_of (setting_of program plan budget) story' p (steps_of ms)) (fold extend begun_extents (log_of (setting_of program plan budget) p ms).entries)
+  same_all budget ms = same_fold (begun_split program plan p (started program plan p budget)) (begun_log (setting_of program plan budget) p) ms refl (record { running = refl; shapes = refl })
 
 -- ---- each interval
 
@@ -200,13 +201,13 @@ each_same (i ∷ is) (x ∷ xs) e =
       each_same is xs (ap (λ (l : List Shape). elim l [ [] ↦ spans_of is | s ∷ ss ↦ ss ]) e),
     )
 
-module _ (program : Program) (plan : Plan) (budget : ℕ) where
-  logging_found : (q : ℕ) (moments : List (List Moment)) (p : ℕ) (l : Logging) → slice_get (logs_from program plan budget q moments) p ≡ Some l → (ms : List Moment) × (slice_get moments p ≡ Some ms) × (log_of program plan budget (q + p) ms ≡ l)
+module _ (setting : Setting) where
+  logging_found : (q : ℕ) (moments : List (List Moment)) (p : ℕ) (l : Logging) → slice_get (logs_from setting q moments) p ≡ Some l → (ms : List Moment) × (slice_get moments p ≡ Some ms) × (log_of setting (q + p) ms ≡ l)
   logging_found q [] p l e = absurd (none-some l e)
-  logging_found q (ms ∷ rest) zero l e = (ms, refl, (let z : q + 0 ≡ q = omega arith in ap (λ k. log_of program plan budget k ms) z) ∙ some e)
+  logging_found q (ms ∷ rest) zero l e = (ms, refl, (let z : q + 0 ≡ q = omega arith in ap (λ k. log_of setting k ms) z) ∙ some e)
   logging_found q (ms ∷ rest) (suc p) l e =
       let r = logging_found (q + 1) rest p l e in
-      (r.0, r.1, (let z : q + suc p ≡ (q + 1) + p = omega arith in ap (λ k. log_of program plan budget k r.0) z) ∙ r.2)
+      (r.0, r.1, (let z : q + suc p ≡ (q + 1) + p = omega arith in ap (λ k. log_of setting k r.0) z) ∙ r.2)
 
 closing : (x : Split) (l : Logging) → AreSame x (fold extend begun_extents l.entries) → AreSame x (fold extend begun_extents (closed_log l))
 closing x l h = by (is_none l.proc.status)
@@ -218,19 +219,19 @@ closing x l h = by (is_none l.proc.status)
     by false = subst (λ es. AreSame x (fold extend begun_extents es)) (sym (append-nil l.entries)) h
 
 pub intervals_of_logs : IntervalsAreOfLogs
-intervals_of_logs program plan budget h p x l e f =
-    let s : Story = story program plan budget h in
-    let moments : List (List Moment) = (told program plan budget h).moments in
-    let found = logging_found program plan budget 0 moments p l f in
+intervals_of_logs setting h p x l e f =
+    let s : Story = story setting h in
+    let moments : List (List Moment) = (told setting h).moments in
+    let found = logging_found setting 0 moments p l f in
     let ms : List Moment = found.0 in
     let z : 0 + p ≡ p = omega arith in
-    let steps : get_or s.steps p [] ≡ steps_of ms = steps_found program plan budget moments p ms found.1 in
-    let split_is : split_of program plan budget s p (steps_of ms) ≡ x =
-    ap₂ (λ k xs. split_of program plan budget s k xs) (sym z) (sym steps) ∙ split_found program plan budget s 0 s.steps p x e in
-    let log_is : log_of program plan budget p ms ≡ l = ap (λ k. log_of program plan budget k ms) (sym z) ∙ found.2 in
+    let steps : get_or s.steps p [] ≡ steps_of ms = steps_found setting moments p ms found.1 in
+    let split_is : split_of setting s p (steps_of ms) ≡ x =
+    ap₂ (λ k xs. split_of setting s k xs) (sym z) (sym steps) ∙ split_found setting s 0 s.steps p x e in
+    let log_is : log_of setting p ms ≡ l = ap (λ k. log_of setting k ms) (sym z) ∙ found.2 in
     let same : AreSame x (fold extend begun_extents l.entries) =
     subst (λ (y : Split). AreSame y (fold extend begun_extents l.entries)) split_is
-    (subst (λ (k : Logging). AreSame (split_of program plan budget s p (steps_of ms)) (fold extend begun_extents k.entries)) log_is (same_all program plan s p budget ms)) in
+    (subst (λ (k : Logging). AreSame (split_of setting s p (steps_of ms)) (fold extend begun_extents k.entries)) log_is (same_all setting.program setting.plan s p setting.budget ms)) in
     record {
       kept_are = each_same x.spans (extents l.entries) (same.shapes ∙ ap shapes_of (sym (extents_are l.entries)));
       closed_are = each_same x.spans (extents (closed_log l)) ((closing x l same).shapes ∙ ap shapes_of (sym (extents_are (closed_log l))));

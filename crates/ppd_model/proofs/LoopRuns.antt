@@ -294,11 +294,11 @@ module _ (program : Program) (plan : Plan) (story : Story) (p k s : ℕ) (valid 
       stays_inside program plan story p k s valid loops (u_next u x) xs (tags_its_writes program plan story p u x has own.0).has_tags own.1 steady runs
 
 pub runs_inside : LoopRunsStayInside
-runs_inside program plan budget h p before after k s event valid steps loops l =
-    let st : Story = story program plan budget h in
-    let t : Tracing = begun_tracing (started program plan p budget) in
-    let u : Tracing = fold (trace_step program plan st p) t l.before in
-    let mine : AreOwn program plan t.proc (before ++ after) = subst (λ xs. AreOwn program plan t.proc xs) steps (own_steps_told program plan budget h p) in
-    let split : AreOwn program plan t.proc (l.before ++ l.taken ∷ l.after) = subst (λ xs. AreOwn program plan t.proc xs) l.steps_are (own_to program plan st p t.proc before after mine) in
-    let has : HasTags u = has_all program plan st p t l.before (has_begun (started program plan p budget).frames) (own_to program plan st p t.proc l.before (l.taken ∷ l.after) split) in
-    by_test program plan st p k s valid loops u l.taken l.after has (own_from program plan st p t l.before (l.taken ∷ l.after) split) l.tests (sym l.passed_is) l.steady
+runs_inside setting h p before after k s event valid steps loops l =
+    let st : Story = story setting h in
+    let t : Tracing = begun_tracing (started setting.program setting.plan p setting.budget) in
+    let u : Tracing = fold (trace_step setting.program setting.plan st p) t l.before in
+    let mine : AreOwn setting.program setting.plan t.proc (before ++ after) = subst (λ xs. AreOwn setting.program setting.plan t.proc xs) steps (own_steps_told setting h p) in
+    let split : AreOwn setting.program setting.plan t.proc (l.before ++ l.taken ∷ l.after) = subst (λ xs. AreOwn setting.program setting.plan t.proc xs) l.steps_are (own_to setting.program setting.plan st p t.proc before after mine) in
+    let has : HasTags u = has_all setting.program setting.plan st p t l.before (has_begun (started setting.program setting.plan p setting.budget).frames) (own_to setting.program setting.plan st p t.proc l.before (l.taken ∷ l.after) split) in
+    by_test setting.program setting.plan st p k s valid loops u l.taken l.after has (own_from setting.program setting.plan st p t l.before (l.taken ∷ l.after) split) l.tests (sym l.passed_is) l.steady

@@ -1,4 +1,5 @@
 -- In a schedule of a valid program each synchronization has a number.
+use Rattle.ppd_model.specs.Setting.{setting_of}
 use Rattle.std.proofs.Common.{◌≡◌, ℕ, zero, suc, ◌+◌, ◌<◌, List, [], ◌∷◌, ◌++◌, Option, Some, None, refl, sym, subst, arith, length, map, get_or}
 use Rattle.std.specs.Prelude.{fold, slice_get, ⊤}
 use Rattle.std.proofs.lemmas.Option.{none-some}
@@ -78,10 +79,10 @@ module _ (program : Program) (plan : Plan) (v : IsValid program) where
   all_begun [] = tt
   all_begun (s ∷ ss) = (tt, all_begun ss)
 
-  all_fold : (budget : ℕ) (t : Telling) (h : List ℕ) → Good program plan budget t → AllNumbered (map steps_of t.moments) → AllNumbered (map steps_of (fold (tell program plan) t h).moments)
+  all_fold : (budget : ℕ) (t : Telling) (h : List ℕ) → Good (setting_of program plan budget) t → AllNumbered (map steps_of t.moments) → AllNumbered (map steps_of (fold (tell program plan) t h).moments)
   all_fold budget t [] good all = all
   all_fold budget t (p ∷ h) good all =
-      all_fold budget (tell program plan t p) h (good_next program plan budget t p good)
+      all_fold budget (tell program plan t p) h (good_next (setting_of program plan budget) t p good)
       (subst (λ xs. AllNumbered xs) (sym (steps-change (moment_of program plan t p) p t.moments))
       (all-change (moment_of program plan t p).taken p (map steps_of t.moments) all (next_numbered t p good.sizes)))
 
@@ -91,7 +92,7 @@ module _ (program : Program) (plan : Plan) (v : IsValid program) where
   at zero (xs ∷ rest) all = all.0
   at (suc p) (xs ∷ rest) all = at p rest all.1
 
-  pub steps_numbered : (budget : ℕ) (h : List ℕ) (p : ℕ) → AreNumbered (get_or (story program plan budget h).steps p [])
+  pub steps_numbered : (budget : ℕ) (h : List ℕ) (p : ℕ) → AreNumbered (get_or (story (setting_of program plan budget) h).steps p [])
   steps_numbered budget h p =
-      at p (story program plan budget h).steps
-      (all_fold budget (begins program plan budget) h (good_start program plan budget) (all_begun (started_world program plan budget).procs))
+      at p (story (setting_of program plan budget) h).steps
+      (all_fold budget (begins (setting_of program plan budget)) h (good_start (setting_of program plan budget)) (all_begun (started_world (setting_of program plan budget)).procs))

@@ -190,7 +190,7 @@ begun_counted w = record {
 
 pub are_counted : SynchronizationsAreCounted
 unfolding record_of_told
-are_counted program plan budget h =
-    let w : World = started_world program plan budget in
-    let i = fold_keeps program plan (count_of w) (begun w) h (record { counted = begun_counted w; lengths = length-map w.procs (λ _. []) }) in
+are_counted setting h =
+    let w : World = started_world setting in
+    let i = fold_keeps setting.program setting.plan (count_of w) (begun w) h (record { counted = begun_counted w; lengths = length-map w.procs (λ _. []) }) in
     i.counted

@@ -1,4 +1,5 @@
 -- Two schedules with one story have one history, of the logs but for the values of units.
+use Rattle.ppd_model.specs.Setting.{setting_of}
 use Rattle.ppd_ast.specs.declared.plan.Plan.{Plan}
 use Rattle.ppd_ast.specs.declared.program.Program.{Program}
 use Rattle.ppd_ast.specs.declared.status.Status.{Status}
@@ -114,20 +115,20 @@ module _ (program : Program) (plan : Plan) where
   -- the logs that the steps alone give
   from_steps : ℕ → ℕ → List (List Taken) → List Logging
   from_steps budget p [] = []
-  from_steps budget p (xs ∷ rest) = fold (log_step program plan) (bare (begun_log program plan budget p)) (map bare_moment xs) ∷ from_steps budget (p + 1) rest
+  from_steps budget p (xs ∷ rest) = fold (log_step program plan) (bare (begun_log (setting_of program plan budget) p)) (map bare_moment xs) ∷ from_steps budget (p + 1) rest
 
-  steps_bare : (budget p : ℕ) (moments : List (List Moment)) → map bare (logs_from program plan budget p moments) ≡ from_steps budget p (map steps_of moments)
+  steps_bare : (budget p : ℕ) (moments : List (List Moment)) → map bare (logs_from (setting_of program plan budget) p moments) ≡ from_steps budget p (map steps_of moments)
   unfolding from_steps
   steps_bare budget p [] = refl
   steps_bare budget p (ms ∷ rest) =
-      ap (λ l. l ∷ map bare (logs_from program plan budget (p + 1) rest))
-      (fold_bare (begun_log program plan budget p) ms ∙ ap (λ xs. fold (log_step program plan) (bare (begun_log program plan budget p)) xs) (sym (map-map bare_moment (λ m. m.taken) ms)))
-      ∙ ap (λ ls. fold (log_step program plan) (bare (begun_log program plan budget p)) (map bare_moment (steps_of ms)) ∷ ls) (steps_bare budget (p + 1) rest)
+      ap (λ l. l ∷ map bare (logs_from (setting_of program plan budget) (p + 1) rest))
+      (fold_bare (begun_log (setting_of program plan budget) p) ms ∙ ap (λ xs. fold (log_step program plan) (bare (begun_log (setting_of program plan budget) p)) xs) (sym (map-map bare_moment (λ m. m.taken) ms)))
+      ∙ ap (λ ls. fold (log_step program plan) (bare (begun_log (setting_of program plan budget) p)) (map bare_moment (steps_of ms)) ∷ ls) (steps_bare budget (p + 1) rest)
 
-  pub same_bare : (budget : ℕ) (h h' : List ℕ) → story program plan budget h ≡ story program plan budget h' → map bare (loggings program plan budget h) ≡ map bare (loggings program plan budget h')
+  pub same_bare : (budget : ℕ) (h h' : List ℕ) → story (setting_of program plan budget) h ≡ story (setting_of program plan budget) h' → map bare (loggings (setting_of program plan budget) h) ≡ map bare (loggings (setting_of program plan budget) h')
   same_bare budget h h' e =
-      steps_bare budget 0 (told program plan budget h).moments ∙ ap (λ s. from_steps budget 0 s.steps) e
-      ∙ sym (steps_bare budget 0 (told program plan budget h').moments)
+      steps_bare budget 0 (told (setting_of program plan budget) h).moments ∙ ap (λ s. from_steps budget 0 s.steps) e
+      ∙ sym (steps_bare budget 0 (told (setting_of program plan budget) h').moments)
 
 -- ---- closed
 
@@ -147,19 +148,19 @@ ends_same program b [] = refl
 ends_same program b (l ∷ ls) = ap (λ rest. end_of (slice_get program.bodies b) l.proc ∷ rest) (ends_same program (b + 1) ls)
 
 pub one_history : StoriesTellAll
-one_history program plan budget h h' e =
-    let same : map bare (loggings program plan budget h) ≡ map bare (loggings program plan budget h') = same_bare program plan budget h h' e in
+one_history setting h h' e =
+    let same : map bare (loggings setting h) ≡ map bare (loggings setting h') = same_bare setting.program setting.plan setting.budget h h' e in
     record {
-      traces = ap (λ s. full_trace program plan budget s) e;
+      traces = ap (λ s. full_trace setting s) e;
       records = ap (λ s. record_of s) e;
       all_accesses = λ p. ap (λ s. accesses s p) e;
-      all_races = ap (λ s. races_among (edges_of_story program s)) e;
-      all_intervals = λ p. ap (λ s. intervals program plan budget s p) e;
-      all_items = λ p k. ap (λ s. items program plan budget s p k) e;
-      all_edges = λ p k j. ap (λ s. edges program plan budget s p k j) e;
-      last_values = λ c. ap (λ s. last program plan budget s c) e;
-      near = λ p k j. ap (λ s. near_intervals program plan budget s p k j) e;
-      all_logs = lists_bare (loggings program plan budget h) ∙ ap (λ ls. map closed_log ls) same ∙ sym (lists_bare (loggings program plan budget h'));
-      all_ends = ends_same program program.functions (loggings program plan budget h) ∙ ap (λ ls. ends_from program program.functions ls) same
-          ∙ sym (ends_same program program.functions (loggings program plan budget h'));
+      all_races = ap (λ s. races_among (edges_of_story setting.program s)) e;
+      all_intervals = λ p. ap (λ s. intervals setting s p) e;
+      all_items = λ p k. ap (λ s. items setting s p k) e;
+      all_edges = λ p k j. ap (λ s. edges setting s p k j) e;
+      last_values = λ c. ap (λ s. last setting s c) e;
+      near = λ p k j. ap (λ s. near_intervals setting s p k j) e;
+      all_logs = lists_bare (loggings setting h) ∙ ap (λ ls. map closed_log ls) same ∙ sym (lists_bare (loggings setting h'));
+      all_ends = ends_same setting.program setting.program.functions (loggings setting h) ∙ ap (λ ls. ends_from setting.program setting.program.functions ls) same
+          ∙ sym (ends_same setting.program setting.program.functions (loggings setting h'));
     }

@@ -199,17 +199,17 @@ by_status program plan proc x acts None e h = by_head program plan proc x acts p
 by_status program plan proc x acts (Some st) e h = absurd (cc)
 
 pub outers_tested : OutersAreTested
-outers_tested program plan budget h p before taken after valid steps finishes =
-    let s : Story = story program plan budget h in
-    let t : Tracing = begun_tracing (started program plan p budget) in
-    let u : Tracing = fold (trace_step program plan s p) t before in
-    let mine : AreOwn program plan t.proc (before ++ taken ∷ after) = subst (λ xs. AreOwn program plan t.proc xs) steps (own_steps_told program plan budget h p) in
-    let own : AreOwn program plan t.proc before = own_to program plan s p t.proc before (taken ∷ after) mine in
-    let need : taken.need ≡ need_of program plan u.proc = (own_from program plan s p t before (taken ∷ after) mine).0 in
-    let has : HasTags t = has_begun (started program plan p budget).frames in
-    let n : length u.activations ≡ length u.proc.frames = acts_length u (has_all program plan s p t before has own) in
-    let all : AllStand program (views u.activations) u.proc.todo = stand_all program plan s p valid t before own (stand_start program plan p budget valid) in
-    let head : Headed program u.activations (event_of program plan u.proc taken u.proc.todo).stmt = by_status program plan u.proc taken u.activations u.proc.status (ap is_event (sym need) ∙ finishes) all in
+outers_tested setting h p before taken after valid steps finishes =
+    let s : Story = story setting h in
+    let t : Tracing = begun_tracing (started setting.program setting.plan p setting.budget) in
+    let u : Tracing = fold (trace_step setting.program setting.plan s p) t before in
+    let mine : AreOwn setting.program setting.plan t.proc (before ++ taken ∷ after) = subst (λ xs. AreOwn setting.program setting.plan t.proc xs) steps (own_steps_told setting h p) in
+    let own : AreOwn setting.program setting.plan t.proc before = own_to setting.program setting.plan s p t.proc before (taken ∷ after) mine in
+    let need : taken.need ≡ need_of setting.program setting.plan u.proc = (own_from setting.program setting.plan s p t before (taken ∷ after) mine).0 in
+    let has : HasTags t = has_begun (started setting.program setting.plan p setting.budget).frames in
+    let n : length u.activations ≡ length u.proc.frames = acts_length u (has_all setting.program setting.plan s p t before has own) in
+    let all : AllStand setting.program (views u.activations) u.proc.todo = stand_all setting.program setting.plan s p valid t before own (stand_start setting.program setting.plan p setting.budget valid) in
+    let head : Headed setting.program u.activations (event_of setting.program setting.plan u.proc taken u.proc.todo).stmt = by_status setting.program setting.plan u.proc taken u.activations u.proc.status (ap is_event (sym need) ∙ finishes) all in
     record {
       activation = subst (λ m. 0 < m) n head.there;
       tested = λ k outer top is.
@@ -217,6 +217,6 @@ outers_tested program plan budget h p before taken after valid steps finishes =
           record {
             event = y.0.event;
             passed = y.0.passed;
-            latest = to_latest program plan s p (started program plan p budget).frames t before k refl has own (omega arith) outer y.0 y.1;
+            latest = to_latest setting.program setting.plan s p (started setting.program setting.plan p setting.budget).frames t before k refl has own (omega arith) outer y.0 y.1;
           };
     }

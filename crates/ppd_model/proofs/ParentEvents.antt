@@ -1,4 +1,5 @@
 -- Each event of a trace is that of a step of its process, and has its parent from the steps before.
+use Rattle.ppd_model.specs.Setting.{Setting}
 use Rattle.ppd_ast.specs.declared.plan.Plan.{Plan}
 use Rattle.ppd_ast.specs.declared.program.Program.{Program}
 use Rattle.ppd_model.proofs.Changes.{some}
@@ -123,15 +124,15 @@ module _ (program : Program) (plan : Plan) (story : Story) (p : ℕ) where
     ]
 
 -- the events of a process are those of its own steps
-pub events_at : (program : Program) (plan : Plan) (budget : ℕ) (s : Story) (p i : ℕ) (steps : List (List Taken)) → get_or (events_from program plan budget s p steps) i [] ≡ (tracing_of program plan budget s (p + i) (get_or steps i [])).events
-events_at program plan budget s p i [] = refl
-events_at program plan budget s p zero (xs ∷ rest) = ap (λ n. (tracing_of program plan budget s n xs).events) (let e : p ≡ p + 0 = omega arith in e)
-events_at program plan budget s p (suc i) (xs ∷ rest) =
-    events_at program plan budget s (p + 1) i rest ∙ ap (λ n. (tracing_of program plan budget s n (get_or rest i [])).events) (let e : p + 1 + i ≡ p + suc i = omega arith in e)
+pub events_at : (setting : Setting) (s : Story) (p i : ℕ) (steps : List (List Taken)) → get_or (events_from setting s p steps) i [] ≡ (tracing_of setting s (p + i) (get_or steps i [])).events
+events_at setting s p i [] = refl
+events_at setting s p zero (xs ∷ rest) = ap (λ n. (tracing_of setting s n xs).events) (let e : p ≡ p + 0 = omega arith in e)
+events_at setting s p (suc i) (xs ∷ rest) =
+    events_at setting s (p + 1) i rest ∙ ap (λ n. (tracing_of setting s n (get_or rest i [])).events) (let e : p + 1 + i ≡ p + suc i = omega arith in e)
 
 pub parents_found : ParentsAreLatestTests
-parents_found program plan budget h p n e is =
-    let s : Story = story program plan budget h in
-    let events : get_or (full_trace program plan budget (story program plan budget h)).events p [] ≡ (tracing_of program plan budget s p (get_or s.steps p [])).events =
-    events_at program plan budget s 0 p s.steps ∙ ap (λ m. (tracing_of program plan budget s m (get_or s.steps p [])).events) (let z : 0 + p ≡ p = omega arith in z) in
-    has_parent program plan s p budget (get_or s.steps p []) (own_steps_told program plan budget h p) n e (sym (ap (λ es. slice_get es n) events) ∙ is)
+parents_found setting h p n e is =
+    let s : Story = story setting h in
+    let events : get_or (full_trace setting (story setting h)).events p [] ≡ (tracing_of setting s p (get_or s.steps p [])).events =
+    events_at setting s 0 p s.steps ∙ ap (λ m. (tracing_of setting s m (get_or s.steps p [])).events) (let z : 0 + p ≡ p = omega arith in z) in
+    has_parent setting.program setting.plan s p setting.budget (get_or s.steps p []) (own_steps_told setting h p) n e (sym (ap (λ es. slice_get es n) events) ∙ is)

@@ -1,10 +1,9 @@
 -- What is told of the first steps of a schedule, and what holds after each of them.
+use Rattle.ppd_model.specs.Setting.{Setting}
 use Rattle.std.proofs.Common.{◌≡◌, ℕ, zero, suc, ◌+◌, ◌<◌, List, [], ◌∷◌, ◌++◌, Some, None, true, refl, sym, ◌∙◌, arith, length, map, get_or, take, length-set}
 use Rattle.std.specs.Prelude.{◌-◌, fold, slice_get}
 use Rattle.std.proofs.lemmas.List.{length-map}
-use Rattle.ppd_ast.specs.declared.plan.Plan.{Plan}
 use Rattle.ppd_ast.specs.declared.program.Chan.{Chan}
-use Rattle.ppd_ast.specs.declared.program.Program.{Program}
 use Rattle.ppd_sem.specs.declared.proc.Need.{Need}
 use Rattle.ppd_sem.specs.declared.proc.Need.TheVariants as n
 use Rattle.ppd_sem.specs.Process.{act}
@@ -57,14 +56,14 @@ capacities_stay w need c = refl
 
 -- ---- the start
 
-starts_sizes : (program : Program) (plan : Plan) (budget : ℕ) → Sizes program (begins program plan budget)
-starts_sizes program plan budget = record {
+starts_sizes : (setting : Setting) → Sizes setting.program (begins setting)
+starts_sizes setting = record {
   cells = refl;
-  writers = length-map program.starts (λ _. None);
-  sems = length-map program.sems _;
-  chans = length-map program.chans _;
-  capacities = from_start program.chans;
-  processes = started_count program plan budget 0 (length program.bodies - program.functions);
+  writers = length-map setting.program.starts (λ _. None);
+  sems = length-map setting.program.sems _;
+  chans = length-map setting.program.chans _;
+  capacities = from_start setting.program.chans;
+  processes = started_count setting 0 (length setting.program.bodies - setting.program.functions);
 }
   where
     from_start : (cs : List Chan) (c : ℕ) → channel_capacity (slice_get (map (λ (x : Chan). record { capacity = x.capacity; sent = []; received = 0; completed = 0 }) cs) c) ≡ capacity_in (slice_get cs c)
@@ -72,16 +71,16 @@ starts_sizes program plan budget = record {
     from_start (x ∷ xs) zero = refl
     from_start (x ∷ xs) (suc c) = from_start xs c
 
-module _ (program : Program) (plan : Plan) (budget : ℕ) where
-  pub good_start : Good program plan budget (begins program plan budget)
+module _ (setting : Setting) where
+  pub good_start : Good setting (begins setting)
   good_start = record {
-    sizes = starts_sizes program plan budget;
-    procs = sym (states-begun program plan budget 0 (length program.bodies - program.functions));
+    sizes = starts_sizes setting;
+    procs = sym (states-begun setting 0 (length setting.program.bodies - setting.program.functions));
   }
 
-  pub good_next : (t : Telling) (p : ℕ) → Good program plan budget t → Good program plan budget (tell program plan t p)
+  pub good_next : (t : Telling) (p : ℕ) → Good setting t → Good setting (tell setting.program setting.plan t p)
   good_next t p g =
-      let need' : Need = need program plan t.world p in
+      let need' : Need = need setting.program setting.plan t.world p in
       record {
         sizes = record {
           cells = cells_length t.world need' ∙ g.sizes.cells;
@@ -89,41 +88,41 @@ module _ (program : Program) (plan : Plan) (budget : ℕ) where
           sems = sems_length t.world need' ∙ g.sizes.sems;
           chans = chans_length t.world need' ∙ g.sizes.chans;
           capacities = λ c. capacities_stay t.world need' c ∙ g.sizes.capacities c;
-          processes = length-change (λ s. act program plan s (answer t.world need')) p t.world.procs ∙ g.sizes.processes;
+          processes = length-change (λ s. act setting.program setting.plan s (answer t.world need')) p t.world.procs ∙ g.sizes.processes;
         };
-        procs = states-tell program plan budget t p g.procs;
+        procs = states-tell setting t p g.procs;
       }
 
-  good_all : (t : Telling) (h : List ℕ) → Good program plan budget t → Good program plan budget (fold (tell program plan) t h)
+  good_all : (t : Telling) (h : List ℕ) → Good setting t → Good setting (fold (tell setting.program setting.plan) t h)
   good_all t [] g = g
-  good_all t (p ∷ h) g = good_all (tell program plan t p) h (good_next t p g)
+  good_all t (p ∷ h) g = good_all (tell setting.program setting.plan t p) h (good_next t p g)
 
-  pub good_after : (t : Telling) (h : List ℕ) (i : ℕ) → Good program plan budget t → Good program plan budget (fold (tell program plan) t (take i h))
+  pub good_after : (t : Telling) (h : List ℕ) (i : ℕ) → Good setting t → Good setting (fold (tell setting.program setting.plan) t (take i h))
   good_after t h i g = good_all t (take i h) g
 
-  pub good_to : (h : List ℕ) (i : ℕ) → Good program plan budget (told_to program plan budget h i)
-  good_to h i = good_after (begins program plan budget) h i good_start
+  pub good_to : (h : List ℕ) (i : ℕ) → Good setting (told_to setting h i)
+  good_to h i = good_after (begins setting) h i good_start
 
-  pub good_told : (h : List ℕ) → Good program plan budget (fold (tell program plan) (begins program plan budget) h)
-  good_told h = good_all (begins program plan budget) h good_start
+  pub good_told : (h : List ℕ) → Good setting (fold (tell setting.program setting.plan) (begins setting) h)
+  good_told h = good_all (begins setting) h good_start
 
   -- ---- a schedule
 
-  pub goes_at : (t : Telling) (h : List ℕ) (i : ℕ) → i < length h → fold (tell program plan) t (take (suc i) h) ≡ tell program plan (fold (tell program plan) t (take i h)) (get_or h i 0)
+  pub goes_at : (t : Telling) (h : List ℕ) (i : ℕ) → i < length h → fold (tell setting.program setting.plan) t (take (suc i) h) ≡ tell setting.program setting.plan (fold (tell setting.program setting.plan) t (take i h)) (get_or h i 0)
   goes_at t [] i lt = absurd (omega (arith, lt))
   goes_at t (p ∷ h) zero lt = refl
-  goes_at t (p ∷ h) (suc i) lt = goes_at (tell program plan t p) h i (omega (arith, lt))
+  goes_at t (p ∷ h) (suc i) lt = goes_at (tell setting.program setting.plan t p) h i (omega (arith, lt))
 
-  pub enabled_at : (t : Telling) (h : List ℕ) (i : ℕ) (last : World) → run_from program plan t.world h ≡ Some last → i < length h → enabled program plan (fold (tell program plan) t (take i h)).world (get_or h i 0) ≡ true
+  pub enabled_at : (t : Telling) (h : List ℕ) (i : ℕ) (last : World) → run_from setting.program setting.plan t.world h ≡ Some last → i < length h → enabled setting.program setting.plan (fold (tell setting.program setting.plan) t (take i h)).world (get_or h i 0) ≡ true
   enabled_at t [] i last e lt = absurd (omega (arith, lt))
-  enabled_at t (p ∷ h) zero last e lt = (goes program plan t.world last p h e).enables
-  enabled_at t (p ∷ h) (suc i) last e lt = enabled_at (tell program plan t p) h i last (goes program plan t.world last p h e).rest (omega (arith, lt))
+  enabled_at t (p ∷ h) zero last e lt = (goes setting.program setting.plan t.world last p h e).enables
+  enabled_at t (p ∷ h) (suc i) last e lt = enabled_at (tell setting.program setting.plan t p) h i last (goes setting.program setting.plan t.world last p h e).rest (omega (arith, lt))
 
 pub objects_stay : ObjectsStay
-objects_stay program plan budget h = (good_told program plan budget h).sizes
+objects_stay setting h = (good_told setting h).sizes
 
 pub go_by_prefixes : SchedulesGoByPrefixes
-go_by_prefixes program plan budget h w runs i lt = record {
-  enables = enabled_at program plan budget (begins program plan budget) h i w runs lt;
-  tells = goes_at program plan budget (begins program plan budget) h i lt;
+go_by_prefixes setting h w runs i lt = record {
+  enables = enabled_at setting (begins setting) h i w runs lt;
+  tells = goes_at setting (begins setting) h i lt;
 }

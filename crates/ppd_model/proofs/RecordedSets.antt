@@ -1,4 +1,5 @@
 -- The sets that logs record are the cells of the accesses.
+use Rattle.ppd_model.specs.Setting.{Setting}
 use Rattle.std.specs.Bool.{beq}
 use Rattle.std.proofs.Common.{◌≡◌, ℕ, zero, suc, ◌+◌, ◌<◌, ◌≤◌, Bool, true, false, cond, ◌&&◌, ◌||◌, List, [], ◌∷◌, ◌++◌, Option, Some, None, refl, ap, ap₂, sym, subst, ◌∙◌, arith, length, length-append, map, get_or, inl, inr, ◌⊎◌, eq-eqb, if◌then◌else◌}
 use Rattle.std.specs.Prelude.{filter_map, fold, is_none, option_to_list, slice_get}
@@ -357,39 +358,39 @@ closing xs l (inr r) =
     (sym (ap (λ o. l.entries ++ (if is_none o then entry.End status.Blocked l.rest l.reads l.writes ∷ [] else [])) r.ended ∙ append-nil l.entries))
     r.sets
 
-module _ (program : Program) (plan : Plan) (budget : ℕ) where
+module _ (setting : Setting) where
   -- the log of process p, by its own moments
-  log_found : (q : ℕ) (moments : List (List Moment)) (p : ℕ) (entries : List Entry) → slice_get (map closed_log (logs_from program plan budget q moments)) p ≡ Some entries
-      → (ms : List Moment) × (slice_get moments p ≡ Some ms) × (closed_log (log_of program plan budget (q + p) ms) ≡ entries)
+  log_found : (q : ℕ) (moments : List (List Moment)) (p : ℕ) (entries : List Entry) → slice_get (map closed_log (logs_from setting q moments)) p ≡ Some entries
+      → (ms : List Moment) × (slice_get moments p ≡ Some ms) × (closed_log (log_of setting (q + p) ms) ≡ entries)
   log_found q [] p entries e = absurd (none-some entries e)
-  log_found q (ms ∷ rest) zero entries e = (ms, refl, (let z : q + 0 ≡ q = omega arith in ap (λ k. closed_log (log_of program plan budget k ms)) z) ∙ some e)
+  log_found q (ms ∷ rest) zero entries e = (ms, refl, (let z : q + 0 ≡ q = omega arith in ap (λ k. closed_log (log_of setting k ms)) z) ∙ some e)
   log_found q (ms ∷ rest) (suc p) entries e =
       let r = log_found (q + 1) rest p entries e in
-      (r.0, r.1, (let z : q + suc p ≡ (q + 1) + p = omega arith in ap (λ k. closed_log (log_of program plan budget k r.0)) z) ∙ r.2)
+      (r.0, r.1, (let z : q + suc p ≡ (q + 1) + p = omega arith in ap (λ k. closed_log (log_of setting k r.0)) z) ∙ r.2)
 
   pub steps_found : (moments : List (List Moment)) (p : ℕ) (ms : List Moment) → slice_get moments p ≡ Some ms → get_or (map steps_of moments) p [] ≡ steps_of ms
   steps_found [] p ms e = absurd (none-some ms e)
   steps_found (xs ∷ rest) zero ms e = ap steps_of (some e)
   steps_found (xs ∷ rest) (suc p) ms e = steps_found rest p ms e
 
-  begun_recording : (p : ℕ) → IsRecording [] (begun_log program plan budget p)
+  begun_recording : (p : ℕ) → IsRecording [] (begun_log setting p)
   begun_recording p = inl (record { runs = refl; syncs_are = refl; no_end = refl; reads = refl; writes = refl })
 
-  pub sets_recorded : (h : List ℕ) (p : ℕ) (entries : List Entry) → IsValid program → slice_get (map closed_log (loggings program plan budget h)) p ≡ Some entries → RecordsAccesses (story program plan budget h) p entries
+  pub sets_recorded : (h : List ℕ) (p : ℕ) (entries : List Entry) → IsValid setting.program → slice_get (map closed_log (loggings setting h)) p ≡ Some entries → RecordsAccesses (story setting h) p entries
   sets_recorded h p entries v e =
-      let found = log_found 0 (told program plan budget h).moments p entries e in
+      let found = log_found 0 (told setting h).moments p entries e in
       let ms : List Moment = found.0 in
-      let same : get_or (story program plan budget h).steps p [] ≡ steps_of ms = steps_found (told program plan budget h).moments p ms found.1 in
-      let own : AreOwn program plan (started program plan p budget) (steps_of ms) = subst (λ xs. AreOwn program plan (started program plan p budget) xs) same (own_steps_told program plan budget h p) in
-      let numbered' : AreNumbered (steps_of ms) = subst AreNumbered same (steps_numbered program plan v budget h p) in
-      let r : IsRecording (steps_of ms) (log_of program plan budget p ms) = recording_fold program plan [] (begun_log program plan budget p) ms (begun_recording p) own numbered' in
-      let sets : HasSets (accesses_from 0 (steps_of ms)) (length (filter_map sync_of (steps_of ms))) (closed_log (log_of program plan budget p ms)) = closing (steps_of ms) (log_of program plan budget p ms) r in
+      let same : get_or (story setting h).steps p [] ≡ steps_of ms = steps_found (told setting h).moments p ms found.1 in
+      let own : AreOwn setting.program setting.plan (started setting.program setting.plan p setting.budget) (steps_of ms) = subst (λ xs. AreOwn setting.program setting.plan (started setting.program setting.plan p setting.budget) xs) same (own_steps_told setting h p) in
+      let numbered' : AreNumbered (steps_of ms) = subst AreNumbered same (steps_numbered setting.program setting.plan v setting.budget h p) in
+      let r : IsRecording (steps_of ms) (log_of setting p ms) = recording_fold setting.program setting.plan [] (begun_log setting p) ms (begun_recording p) own numbered' in
+      let sets : HasSets (accesses_from 0 (steps_of ms)) (length (filter_map sync_of (steps_of ms))) (closed_log (log_of setting p ms)) = closing (steps_of ms) (log_of setting p ms) r in
       let z : 0 + p ≡ p = omega arith in
-      let are : closed_log (log_of program plan budget p ms) ≡ entries = ap (λ k. closed_log (log_of program plan budget k ms)) (sym z) ∙ found.2 in
-      let all : HasSets (accesses_from 0 (get_or (story program plan budget h).steps p [])) (length (filter_map sync_of (get_or (story program plan budget h).steps p []))) entries =
-      subst (λ es. HasSets (accesses_from 0 (get_or (story program plan budget h).steps p [])) (length (filter_map sync_of (get_or (story program plan budget h).steps p []))) es) are
-      (subst (λ xs. HasSets (accesses_from 0 xs) (length (filter_map sync_of xs)) (closed_log (log_of program plan budget p ms))) (sym same) sets) in
+      let are : closed_log (log_of setting p ms) ≡ entries = ap (λ k. closed_log (log_of setting k ms)) (sym z) ∙ found.2 in
+      let all : HasSets (accesses_from 0 (get_or (story setting h).steps p [])) (length (filter_map sync_of (get_or (story setting h).steps p []))) entries =
+      subst (λ es. HasSets (accesses_from 0 (get_or (story setting h).steps p [])) (length (filter_map sync_of (get_or (story setting h).steps p []))) es) are
+      (subst (λ xs. HasSets (accesses_from 0 xs) (length (filter_map sync_of xs)) (closed_log (log_of setting p ms))) (sym same) sets) in
       record { before = all.before; status = all.status; rest = all.rest; entries_are = all.entries_are; syncs_are = all.syncs_are; no_end = all.no_end }
 
 pub record_sets : LogsRecordAccesses
-record_sets program plan budget h p entries v e = sets_recorded program plan budget h p entries v e
+record_sets setting h p entries v e = sets_recorded setting h p entries v e

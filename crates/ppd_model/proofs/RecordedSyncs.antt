@@ -1,4 +1,5 @@
 -- The synchronizations that logs tell are the record.
+use Rattle.ppd_model.specs.Setting.{Setting}
 use Rattle.std.proofs.Common.{◌≡◌, ℕ, ◌+◌, ℤ, List, [], ◌∷◌, ◌++◌, Option, Some, None, Bool, true, false, refl, ap, ap₂, sym, ◌∙◌, map, if◌then◌else◌}
 use Rattle.std.specs.Prelude.{filter_map, fold, is_none, option_to_list}
 use Rattle.std.specs.List.{cons_option}
@@ -73,7 +74,7 @@ syncs_only = record {
   end = λ s rest reads writes. refl;
 }
 
-module _ (program : Program) (plan : Plan) (budget : ℕ) where
+module _ (setting : Setting) where
   one : (l : Logging) (x : Taken) (o : Option Sync) → filter_map sync_in (syncs l x o) ≡ option_to_list o
   one l x None = refl
   one l x (Some s) = refl
@@ -82,13 +83,13 @@ module _ (program : Program) (plan : Plan) (budget : ℕ) where
   joined ss None ts = ap (λ xs. xs ++ ts) (append-nil ss)
   joined ss (Some s) ts = append_assoc ss (s ∷ []) ts
 
-  told_by : (l : Logging) (ms : List Moment) → filter_map sync_in (fold (log_step program plan) l ms).entries ≡ filter_map sync_in l.entries ++ filter_map sync_of (steps_of ms)
+  told_by : (l : Logging) (ms : List Moment) → filter_map sync_in (fold (log_step setting.program setting.plan) l ms).entries ≡ filter_map sync_in l.entries ++ filter_map sync_of (steps_of ms)
   told_by l [] = sym (append-nil (filter_map sync_in l.entries))
   told_by l (m ∷ ms) =
-      told_by (log_step program plan l m) ms
+      told_by (log_step setting.program setting.plan l m) ms
       ∙ ap (λ ss. ss ++ filter_map sync_of (steps_of ms))
-      (filter_map-append sync_in l.entries (entries_of program plan l m)
-      ∙ ap (λ ss. filter_map sync_in l.entries ++ ss) (of_step sync_in syncs_only program plan l m ∙ one l m.taken (sync_of m.taken)))
+      (filter_map-append sync_in l.entries (entries_of setting.program setting.plan l m)
+      ∙ ap (λ ss. filter_map sync_in l.entries ++ ss) (of_step sync_in syncs_only setting.program setting.plan l m ∙ one l m.taken (sync_of m.taken)))
       ∙ joined (filter_map sync_in l.entries) (sync_of m.taken) (filter_map sync_of (steps_of ms))
 
   closing : (l : Logging) → filter_map sync_in (closed_log l) ≡ filter_map sync_in l.entries
@@ -100,16 +101,16 @@ module _ (program : Program) (plan : Plan) (budget : ℕ) where
       by true = refl
       by false = refl
 
-  kept_all : (p : ℕ) (moments : List (List Moment)) → map (filter_map sync_in) (map (λ l. l.entries) (logs_from program plan budget p moments)) ≡ map (filter_map sync_of) (map steps_of moments)
+  kept_all : (p : ℕ) (moments : List (List Moment)) → map (filter_map sync_in) (map (λ l. l.entries) (logs_from setting p moments)) ≡ map (filter_map sync_of) (map steps_of moments)
   kept_all p [] = refl
-  kept_all p (ms ∷ rest) = ap₂ (λ s ss. s ∷ ss) (told_by (begun_log program plan budget p) ms) (kept_all (p + 1) rest)
+  kept_all p (ms ∷ rest) = ap₂ (λ s ss. s ∷ ss) (told_by (begun_log setting p) ms) (kept_all (p + 1) rest)
 
-  closed_all : (p : ℕ) (moments : List (List Moment)) → map (filter_map sync_in) (map closed_log (logs_from program plan budget p moments)) ≡ map (filter_map sync_of) (map steps_of moments)
+  closed_all : (p : ℕ) (moments : List (List Moment)) → map (filter_map sync_in) (map closed_log (logs_from setting p moments)) ≡ map (filter_map sync_of) (map steps_of moments)
   closed_all p [] = refl
-  closed_all p (ms ∷ rest) = ap₂ (λ s ss. s ∷ ss) (closing (log_of program plan budget p ms) ∙ told_by (begun_log program plan budget p) ms) (closed_all (p + 1) rest)
+  closed_all p (ms ∷ rest) = ap₂ (λ s ss. s ∷ ss) (closing (log_of setting p ms) ∙ told_by (begun_log setting p) ms) (closed_all (p + 1) rest)
 
 pub record_syncs : LogsRecordSynchronizations
-record_syncs program plan budget h = record {
-  closed = closed_all program plan budget 0 (told program plan budget h).moments;
-  kept = kept_all program plan budget 0 (told program plan budget h).moments;
+record_syncs setting h = record {
+  closed = closed_all setting 0 (told setting h).moments;
+  kept = kept_all setting 0 (told setting h).moments;
 }

@@ -1,4 +1,5 @@
 -- Where no race is listed, a shared read is answered by the greatest write before it.
+use Rattle.ppd_model.specs.Setting.{Setting}
 use Rattle.std.proofs.Common.{◌≡◌, ℕ, zero, suc, ◌+◌, ◌<◌, ◌≤◌, ℤ, pos, Bool, true, false, List, [], ◌∷◌, ◌++◌, length, map, get_or, Option, Some, None, refl, ap, sym, ◌∙◌, subst, arith, inl, inr, ◌⊎◌, true≢false, eq-eqb}
 use Rattle.std.proofs.lemmas.Bool.{cases_eq, cases_lt}
 use Rattle.std.proofs.lemmas.List.{append-nil, append_assoc}
@@ -75,44 +76,44 @@ access_is : (c e : ℕ) (writes : Bool) (n : Need) → IsAccess c writes n → a
 access_is c e false n h = ap (λ m. access_at e m) h
 access_is c e true n h = ap (λ m. access_at e m) h.1
 
-module _ (program : Program) (plan : Plan) (budget : ℕ) where
-  same_count : (n : ℕ) (steps : List (List Taken)) → length (states_from program plan budget n steps) ≡ length steps
+module _ (setting : Setting) where
+  same_count : (n : ℕ) (steps : List (List Taken)) → length (states_from setting n steps) ≡ length steps
   same_count n [] = refl
   same_count n (xs ∷ rest) = ap (λ k. suc k) (same_count (n + 1) rest)
 
-  edge_own : (g : List ℕ) (p : ℕ) → edge_in program plan budget g p ≡ length (filter_map sync_of (get_or (story program plan budget g).steps p []))
-  edge_own g p = ap (λ (ss : List Sync). length ss) (record_at (story program plan budget g).steps p)
+  edge_own : (g : List ℕ) (p : ℕ) → edge_in setting g p ≡ length (filter_map sync_of (get_or (story setting g).steps p []))
+  edge_own g p = ap (λ (ss : List Sync). length ss) (record_at (story setting g).steps p)
 
   taken_at : List ℕ → ℕ → Taken
-  taken_at g p = (moment_of program plan (told program plan budget g) p).taken
+  taken_at g p = (moment_of setting.program setting.plan (told setting g) p).taken
 
-  steps_grow : (g : List ℕ) (p : ℕ) → (story program plan budget (g ++ p ∷ [])).steps ≡ change (λ xs. xs ++ taken_at g p ∷ []) p (story program plan budget g).steps
+  steps_grow : (g : List ℕ) (p : ℕ) → (story setting (g ++ p ∷ [])).steps ≡ change (λ xs. xs ++ taken_at g p ∷ []) p (story setting g).steps
   unfolding taken_at
-  steps_grow g p = (stories_grow program plan budget g p).steps_are
+  steps_grow g p = (stories_grow setting g p).steps_are
 
-  there : (g : List ℕ) (p c : ℕ) (writes : Bool) → IsAccess c writes (need_after program plan budget g p) → p < length (story program plan budget g).steps
+  there : (g : List ℕ) (p c : ℕ) (writes : Bool) → IsAccess c writes (need_after setting g p) → p < length (story setting g).steps
   there g p c writes h =
-      let lt : p < length (told program plan budget g).world.procs = in_range program plan (told program plan budget g).world.procs p c writes h in
-      let e : length (told program plan budget g).world.procs ≡ length (story program plan budget g).steps =
-      ap (λ (l : List Proc). length l) (states_told program plan budget g) ∙ same_count 0 (story program plan budget g).steps in
+      let lt : p < length (told setting g).world.procs = in_range setting.program setting.plan (told setting g).world.procs p c writes h in
+      let e : length (told setting g).world.procs ≡ length (story setting g).steps =
+      ap (λ (l : List Proc). length l) (states_told setting g) ∙ same_count 0 (story setting g).steps in
       omega (arith, lt, e)
 
   -- the access of one step
-  new_access : (g : List ℕ) (p c : ℕ) (writes : Bool) → IsAccess c writes (need_after program plan budget g p)
-      → accesses (story program plan budget (g ++ p ∷ [])) p ≡ accesses (story program plan budget g) p ++ record { edge = edge_in program plan budget g p; cell = c; writes = writes } ∷ []
+  new_access : (g : List ℕ) (p c : ℕ) (writes : Bool) → IsAccess c writes (need_after setting g p)
+      → accesses (story setting (g ++ p ∷ [])) p ≡ accesses (story setting g) p ++ record { edge = edge_in setting g p; cell = c; writes = writes } ∷ []
   unfolding taken_at
   new_access g p c writes h =
-      let steps = (story program plan budget g).steps in
+      let steps = (story setting g).steps in
       ap (λ (l : List (List Taken)). accesses_from 0 (get_or l p [])) (steps_grow g p)
       ∙ ap (λ (l : List Taken). accesses_from 0 l) (by_change (taken_at g p) p steps (there g p c writes h))
       ∙ from_zero (get_or steps p []) (taken_at g p)
       ∙ ap (λ (l : List SharedAccess). accesses_from 0 (get_or steps p []) ++ l)
-      (ap (λ k. access_at k (need_after program plan budget g p)) (sym (edge_own g p)) ∙ access_is c (edge_in program plan budget g p) writes (need_after program plan budget g p) h)
+      (ap (λ k. access_at k (need_after setting g p)) (sym (edge_own g p)) ∙ access_is c (edge_in setting g p) writes (need_after setting g p) h)
 
   -- accesses stay
-  accesses_grow : (g : List ℕ) (p q m : ℕ) (a : SharedAccess) → slice_get (accesses (story program plan budget g) q) m ≡ Some a → slice_get (accesses (story program plan budget (g ++ p ∷ [])) q) m ≡ Some a
+  accesses_grow : (g : List ℕ) (p q m : ℕ) (a : SharedAccess) → slice_get (accesses (story setting g) q) m ≡ Some a → slice_get (accesses (story setting (g ++ p ∷ [])) q) m ≡ Some a
   accesses_grow g p q m a e =
-      let steps = (story program plan budget g).steps in
+      let steps = (story setting g).steps in
       ap (λ (l : List (List Taken)). slice_get (accesses_from 0 (get_or l q [])) m) (steps_grow g p)
       ∙ elim (grown_by (taken_at g p) p q steps) [
         | inl s ↦ ap (λ (l : List Taken). slice_get (accesses_from 0 l) m) s ∙ e
@@ -121,27 +122,27 @@ module _ (program : Program) (plan : Plan) (budget : ℕ) where
             ∙ kept_at (accesses_from 0 (get_or steps q [])) (access_at (length (filter_map sync_of (get_or steps q []))) (taken_at g p).need) m a e
       ]
 
-  grow_all : (g rest : List ℕ) (q m : ℕ) (a : SharedAccess) → slice_get (accesses (story program plan budget g) q) m ≡ Some a → slice_get (accesses (story program plan budget (g ++ rest)) q) m ≡ Some a
-  grow_all g [] q m a e = subst (λ (l : List ℕ). slice_get (accesses (story program plan budget l) q) m ≡ Some a) (sym (append-nil g)) e
+  grow_all : (g rest : List ℕ) (q m : ℕ) (a : SharedAccess) → slice_get (accesses (story setting g) q) m ≡ Some a → slice_get (accesses (story setting (g ++ rest)) q) m ≡ Some a
+  grow_all g [] q m a e = subst (λ (l : List ℕ). slice_get (accesses (story setting l) q) m ≡ Some a) (sym (append-nil g)) e
   grow_all g (p ∷ rest) q m a e =
-      subst (λ (l : List ℕ). slice_get (accesses (story program plan budget l) q) m ≡ Some a) (append_assoc g (p ∷ []) rest) (grow_all (g ++ p ∷ []) rest q m a (accesses_grow g p q m a e))
+      subst (λ (l : List ℕ). slice_get (accesses (story setting l) q) m ≡ Some a) (append_assoc g (p ∷ []) rest) (grow_all (g ++ p ∷ []) rest q m a (accesses_grow g p q m a e))
 
-  step_access : (g : List ℕ) (p : ℕ) (rest : List ℕ) (c : ℕ) (writes : Bool) → IsAccess c writes (need_after program plan budget g p)
-      → (m : ℕ) × (slice_get (accesses (story program plan budget (g ++ p ∷ rest)) p) m ≡ Some (record { edge = edge_in program plan budget g p; cell = c; writes = writes }))
+  step_access : (g : List ℕ) (p : ℕ) (rest : List ℕ) (c : ℕ) (writes : Bool) → IsAccess c writes (need_after setting g p)
+      → (m : ℕ) × (slice_get (accesses (story setting (g ++ p ∷ rest)) p) m ≡ Some (record { edge = edge_in setting g p; cell = c; writes = writes }))
   step_access g p rest c writes h =
-      let a : SharedAccess = record { edge = edge_in program plan budget g p; cell = c; writes = writes } in
-      let m : ℕ = length (accesses (story program plan budget g) p) in (
+      let a : SharedAccess = record { edge = edge_in setting g p; cell = c; writes = writes } in
+      let m : ℕ = length (accesses (story setting g) p) in (
         m,
-        subst (λ (l : List ℕ). slice_get (accesses (story program plan budget l) p) m ≡ Some a) (append_assoc g (p ∷ []) rest)
-            (grow_all (g ++ p ∷ []) rest p m a (ap (λ (l : List SharedAccess). slice_get l m) (new_access g p c writes h) ∙ last_at (accesses (story program plan budget g) p) a)),
+        subst (λ (l : List ℕ). slice_get (accesses (story setting l) p) m ≡ Some a) (append_assoc g (p ∷ []) rest)
+            (grow_all (g ++ p ∷ []) rest p m a (ap (λ (l : List SharedAccess). slice_get l m) (new_access g p c writes h) ∙ last_at (accesses (story setting g) p) a)),
       )
 
   -- ---- each write is a step
 
   AllSteps : List ℕ → Type 0
-  AllSteps g = (q m : ℕ) (a : SharedAccess) → slice_get (accesses (story program plan budget g) q) m ≡ Some a → IsTrue a.writes → IsWriteStep program plan budget g q a
+  AllSteps g = (q m : ℕ) (a : SharedAccess) → slice_get (accesses (story setting g) q) m ≡ Some a → IsTrue a.writes → IsWriteStep setting g q a
 
-  lasting : (g : List ℕ) (p q : ℕ) (a : SharedAccess) → IsWriteStep program plan budget g q a → IsWriteStep program plan budget (g ++ p ∷ []) q a
+  lasting : (g : List ℕ) (p q : ℕ) (a : SharedAccess) → IsWriteStep setting g q a → IsWriteStep setting (g ++ p ∷ []) q a
   lasting g p q a s = record {
     before = s.before;
     after = s.after ++ p ∷ [];
@@ -160,7 +161,7 @@ module _ (program : Program) (plan : Plan) (budget : ℕ) where
   one_step_more : (g : List ℕ) (p : ℕ) → AllSteps g → AllSteps (g ++ p ∷ [])
   unfolding AllSteps taken_at
   one_step_more g p all q m a e w =
-      let steps = (story program plan budget g).steps in
+      let steps = (story setting g).steps in
       let now : slice_get (accesses_from 0 (get_or (change (λ xs. xs ++ taken_at g p ∷ []) p steps) q [])) m ≡ Some a =
       ap (λ (l : List (List Taken)). slice_get (accesses_from 0 (get_or l q [])) m) (sym (steps_grow g p)) ∙ e in
       elim (grown_by (taken_at g p) p q steps) [
@@ -172,7 +173,7 @@ module _ (program : Program) (plan : Plan) (budget : ℕ) where
                 before = g;
                 after = [];
                 schedule_is = ap (λ k. g ++ k ∷ []) (sym s.0);
-                writes = subst (λ k. IsAccess a.cell true (need_after program plan budget g k)) (sym s.0) x.0;
+                writes = subst (λ k. IsAccess a.cell true (need_after setting g k)) (sym s.0) x.0;
                 edge_is = x.1 ∙ sym (edge_own g q);
               }
             ]
@@ -183,12 +184,12 @@ module _ (program : Program) (plan : Plan) (budget : ℕ) where
   all_steps g (p ∷ rest) all = subst AllSteps (append_assoc g (p ∷ []) rest) (all_steps (g ++ p ∷ []) rest (one_step_more g p all))
 
 pub steps_access : StepsAreAccesses
-steps_access program plan budget g p rest c writes h = step_access program plan budget g p rest c writes h
+steps_access setting g p rest c writes h = step_access setting g p rest c writes h
 
 pub writes_step : WritesAreSteps
 unfolding AllSteps
-writes_step program plan budget h q m a e w =
-    all_steps program plan budget [] h (λ q' m' a' e' w'. absurd (nothing_at (started_world program plan budget).procs q' m' a' e')) q m a e w
+writes_step setting h q m a e w =
+    all_steps setting [] h (λ q' m' a' e' w'. absurd (nothing_at (started_world setting).procs q' m' a' e')) q m a e w
   where
     nothing_at : (xs : List Proc) (q m : ℕ) (a : SharedAccess) → slice_get (accesses_from 0 (get_or (map steps_of (map (λ _. []) xs)) q [])) m ≡ Some a → ⊥
     nothing_at [] q m a e = none-some a e
@@ -196,24 +197,24 @@ writes_step program plan budget h q m a e w =
     nothing_at (x ∷ xs) (suc q) m a e = nothing_at xs q m a e
 
 pub conflicts_forward : ConflictsGoForward
-conflicts_forward program plan budget g q more p rest w runs free apart c lt first second some h k =
+conflicts_forward setting g q more p rest w runs free apart c lt first second some h k =
     let all : List ℕ = (g ++ q ∷ more) ++ p ∷ rest in
-    let a : SharedAccess = record { edge = edge_in program plan budget g q; cell = c; writes = first } in
-    let b : SharedAccess = record { edge = edge_in program plan budget (g ++ q ∷ more) p; cell = c; writes = second } in
-    let x = step_access program plan budget g q (more ++ p ∷ rest) c first h in
-    let y = step_access program plan budget (g ++ q ∷ more) p rest c second k in
-    let size : length (story program plan budget all).cells ≡ length program.starts = (objects_stay program plan budget all).cells in
-    let d : DoConflict (story program plan budget all) q p a b = record {
+    let a : SharedAccess = record { edge = edge_in setting g q; cell = c; writes = first } in
+    let b : SharedAccess = record { edge = edge_in setting (g ++ q ∷ more) p; cell = c; writes = second } in
+    let x = step_access setting g q (more ++ p ∷ rest) c first h in
+    let y = step_access setting (g ++ q ∷ more) p rest c second k in
+    let size : length (story setting all).cells ≡ length setting.program.starts = (objects_stay setting all).cells in
+    let d : DoConflict (story setting all) q p a b = record {
       apart = apart;
-      first = (x.0, ap (λ (l : List ℕ). slice_get (accesses (story program plan budget l) q) x.0) (append_assoc g (q ∷ more) (p ∷ rest)) ∙ x.1);
+      first = (x.0, ap (λ (l : List ℕ). slice_get (accesses (story setting l) q) x.0) (append_assoc g (q ∷ more) (p ∷ rest)) ∙ x.1);
       second = y;
       cell = refl;
       there = omega (arith, size, lt);
       writes = some;
     } in
-    elim (no_race program (story program plan budget all) free q p a b d) [
+    elim (no_race setting.program (story setting all) free q p a b d) [
       | inl e ↦ e
-      | inr e ↦ absurd (edges_forward program plan budget g (q ∷ more) (p ∷ rest) w runs q p e)
+      | inr e ↦ absurd (edges_forward setting g (q ∷ more) (p ∷ rest) w runs q p e)
     ]
 
 -- ---- two places of one schedule
@@ -256,28 +257,28 @@ no_tags [] c = refl
 no_tags (x ∷ xs) zero = refl
 no_tags (x ∷ xs) (suc c) = no_tags xs c
 
-module _ (program : Program) (plan : Plan) (budget c : ℕ) where
-  not_written : (t : Telling) (m : List ℕ) (q : ℕ) (r : List ℕ) (v : ℤ) → IsUnwritten program plan c t (m ++ q ∷ r) → need program plan (fold (tell program plan) t m).world q ≡ Write c v → ⊥
-  not_written t [] q r v u e = true≢false (sym (writes_it c (need program plan t.world q) v e) ∙ u.0)
-  not_written t (x ∷ m) q r v u e = not_written (tell program plan t x) m q r v u.1 e
+module _ (setting : Setting) (c : ℕ) where
+  not_written : (t : Telling) (m : List ℕ) (q : ℕ) (r : List ℕ) (v : ℤ) → IsUnwritten setting.program setting.plan c t (m ++ q ∷ r) → need setting.program setting.plan (fold (tell setting.program setting.plan) t m).world q ≡ Write c v → ⊥
+  not_written t [] q r v u e = true≢false (sym (writes_it c (need setting.program setting.plan t.world q) v e) ∙ u.0)
+  not_written t (x ∷ m) q r v u e = not_written (tell setting.program setting.plan t x) m q r v u.1 e
 
-  told_past : (b : List ℕ) (q : ℕ) (m : List ℕ) → told program plan budget (b ++ q ∷ m) ≡ fold (tell program plan) (tell program plan (told program plan budget b) q) m
-  told_past b q m = fold-append (tell program plan) (begun (started_world program plan budget)) b (q ∷ m)
+  told_past : (b : List ℕ) (q : ℕ) (m : List ℕ) → told setting (b ++ q ∷ m) ≡ fold (tell setting.program setting.plan) (tell setting.program setting.plan (told setting b) q) m
+  told_past b q m = fold-append (tell setting.program setting.plan) (begun (started_world setting)) b (q ∷ m)
 
   -- no write after the last one
-  after_last : (b : List ℕ) (q : ℕ) (after : List ℕ) → IsUnwritten program plan c (tell program plan (told program plan budget b) q) after
-      → (m : List ℕ) (q' : ℕ) (r : List ℕ) → after ≡ m ++ q' ∷ r → IsAccess c true (need_after program plan budget (b ++ q ∷ m) q') → ⊥
+  after_last : (b : List ℕ) (q : ℕ) (after : List ℕ) → IsUnwritten setting.program setting.plan c (tell setting.program setting.plan (told setting b) q) after
+      → (m : List ℕ) (q' : ℕ) (r : List ℕ) → after ≡ m ++ q' ∷ r → IsAccess c true (need_after setting (b ++ q ∷ m) q') → ⊥
   after_last b q after u m q' r e w =
-      not_written (tell program plan (told program plan budget b) q) m q' r w.0
-      (subst (λ (l : List ℕ). IsUnwritten program plan c (tell program plan (told program plan budget b) q) l) e u)
-      (ap (λ (t : Telling). need program plan t.world q') (sym (told_past b q m)) ∙ w.1)
+      not_written (tell setting.program setting.plan (told setting b) q) m q' r w.0
+      (subst (λ (l : List ℕ). IsUnwritten setting.program setting.plan c (tell setting.program setting.plan (told setting b) q) l) e u)
+      (ap (λ (t : Telling). need setting.program setting.plan t.world q') (sym (told_past b q m)) ∙ w.1)
 
-module _ (program : Program) (plan : Plan) (budget c : ℕ) (small : c < length program.starts) where
+module _ (setting : Setting) (c : ℕ) (small : c < length setting.program.starts) where
   -- a write after `before`, the steps after it, and a read after them
   module _ (before : List ℕ) (q : ℕ) (after : List ℕ) (p : ℕ) (rest : List ℕ) (w : World)
-      (runs : run program plan budget ((before ++ q ∷ after) ++ p ∷ rest) ≡ Some w) (free : races program plan budget ((before ++ q ∷ after) ++ p ∷ rest) ≡ [])
-      (write : IsAccess c true (need_after program plan budget before q)) (unwritten : IsUnwritten program plan c (tell program plan (told program plan budget before) q) after)
-      (read : need_after program plan budget (before ++ q ∷ after) p ≡ Read c) where
+      (runs : run setting ((before ++ q ∷ after) ++ p ∷ rest) ≡ Some w) (free : races setting ((before ++ q ∷ after) ++ p ∷ rest) ≡ [])
+      (write : IsAccess c true (need_after setting before q)) (unwritten : IsUnwritten setting.program setting.plan c (tell setting.program setting.plan (told setting before) q) after)
+      (read : need_after setting (before ++ q ∷ after) p ≡ Read c) where
     abbrev g : List ℕ
     g = before ++ q ∷ after
 
@@ -285,50 +286,50 @@ module _ (program : Program) (plan : Plan) (budget c : ℕ) (small : c < length 
     h = g ++ p ∷ rest
 
     abbrev rec : List (List Sync)
-    rec = sync_record program plan budget h
+    rec = sync_record setting h
 
     abbrev e : ℕ
-    e = edge_in program plan budget g p
+    e = edge_in setting g p
 
     abbrev i : ℕ
-    i = edge_in program plan budget before q
+    i = edge_in setting before q
 
-    begun_g : (v : World) × (run program plan budget g ≡ Some v)
-    begun_g = run_begins program plan (started_world program plan budget) g (p ∷ rest) w runs
+    begun_g : (v : World) × (run setting g ≡ Some v)
+    begun_g = run_begins setting.program setting.plan (started_world setting) g (p ∷ rest) w runs
 
     -- the edge of the same process is no later
     same_process : q ≡ p → i ≤ e
     same_process same =
-        let le : edge_in program plan budget before q ≤ edge_in program plan budget g q = fewer program plan budget before (q ∷ after) begun_g.0 begun_g.1 q in
-        let s : edge_in program plan budget g q ≡ e = ap (λ k. edge_in program plan budget g k) same in
+        let le : edge_in setting before q ≤ edge_in setting g q = fewer setting before (q ∷ after) begun_g.0 begun_g.1 q in
+        let s : edge_in setting g q ≡ e = ap (λ k. edge_in setting g k) same in
         omega (arith, le, s)
 
-    write_before : (q ≡ p → i ≡ e → ⊥) → EdgeBefore program rec (edge q i) (edge p e)
+    write_before : (q ≡ p → i ≡ e → ⊥) → EdgeBefore setting.program rec (edge q i) (edge p e)
     write_before not_own = elim (cases_eq q p) [
       | inl same ↦ elim (cases_lt i e) [
         | inl lt ↦ earlier same lt
         | inr ge ↦ absurd (not_own same (let le = same_process same in omega (arith, le, ge)))
       ]
-      | inr other ↦ conflicts_forward program plan budget before q after p rest w runs free other c small true false refl write read
+      | inr other ↦ conflicts_forward setting before q after p rest w runs free other c small true false refl write read
     ]
 
     -- a write of the cell that is earlier than the last one
-    earlier_write : (b : List ℕ) (q' : ℕ) (m : List ℕ) → before ≡ b ++ q' ∷ m → IsAccess c true (need_after program plan budget b q')
-        → ((q' ≡ q) × (edge_in program plan budget b q' ≡ i)) ⊎ EdgeBefore program rec (edge q' (edge_in program plan budget b q')) (edge q i)
+    earlier_write : (b : List ℕ) (q' : ℕ) (m : List ℕ) → before ≡ b ++ q' ∷ m → IsAccess c true (need_after setting b q')
+        → ((q' ≡ q) × (edge_in setting b q' ≡ i)) ⊎ EdgeBefore setting.program rec (edge q' (edge_in setting b q')) (edge q i)
     earlier_write b q' m same w' = elim (cases_eq q' q) [
-      | inl s ↦ elim (cases_lt (edge_in program plan budget b q') i) [
+      | inl s ↦ elim (cases_lt (edge_in setting b q') i) [
         | inl lt ↦ inr (earlier s lt)
         | inr ge ↦ inl (s, let le = no_later s in omega (arith, le, ge))
       ]
-      | inr other ↦ inr (subst (λ (l : List ℕ). EdgeBefore program (sync_record program plan budget (l ++ p ∷ rest)) (edge q' (edge_in program plan budget b q')) (edge q i)) (ap (λ (l : List ℕ). l ++ q ∷ after) (sym same)) (forward other))
+      | inr other ↦ inr (subst (λ (l : List ℕ). EdgeBefore setting.program (sync_record setting (l ++ p ∷ rest)) (edge q' (edge_in setting b q')) (edge q i)) (ap (λ (l : List ℕ). l ++ q ∷ after) (sym same)) (forward other))
     ]
       where
-        no_later : q' ≡ q → edge_in program plan budget b q' ≤ i
+        no_later : q' ≡ q → edge_in setting b q' ≤ i
         no_later s =
-            let first = run_begins program plan (started_world program plan budget) before (q ∷ after) begun_g.0 begun_g.1 in
-            let le : edge_in program plan budget b q' ≤ edge_in program plan budget (b ++ q' ∷ m) q' =
-            fewer program plan budget b (q' ∷ m) first.0 (subst (λ (l : List ℕ). run program plan budget l ≡ Some first.0) same first.1) q' in
-            let t : edge_in program plan budget (b ++ q' ∷ m) q' ≡ i = ap (λ (l : List ℕ). edge_in program plan budget l q') (sym same) ∙ ap (λ k. edge_in program plan budget before k) s in
+            let first = run_begins setting.program setting.plan (started_world setting) before (q ∷ after) begun_g.0 begun_g.1 in
+            let le : edge_in setting b q' ≤ edge_in setting (b ++ q' ∷ m) q' =
+            fewer setting b (q' ∷ m) first.0 (subst (λ (l : List ℕ). run setting l ≡ Some first.0) same first.1) q' in
+            let t : edge_in setting (b ++ q' ∷ m) q' ≡ i = ap (λ (l : List ℕ). edge_in setting l q') (sym same) ∙ ap (λ k. edge_in setting before k) s in
             omega (arith, le, t)
 
         whole : (((b ++ q' ∷ m) ++ q ∷ after) ++ p ∷ rest) ≡ ((b ++ q' ∷ m) ++ q ∷ (after ++ p ∷ rest))
@@ -337,50 +338,50 @@ module _ (program : Program) (plan : Plan) (budget c : ℕ) (small : c < length 
         here : h ≡ (((b ++ q' ∷ m) ++ q ∷ after) ++ p ∷ rest)
         here = ap (λ (l : List ℕ). (l ++ q ∷ after) ++ p ∷ rest) same
 
-        forward : (q' ≡ q → ⊥) → EdgeBefore program (sync_record program plan budget (((b ++ q' ∷ m) ++ q ∷ after) ++ p ∷ rest)) (edge q' (edge_in program plan budget b q')) (edge q i)
+        forward : (q' ≡ q → ⊥) → EdgeBefore setting.program (sync_record setting (((b ++ q' ∷ m) ++ q ∷ after) ++ p ∷ rest)) (edge q' (edge_in setting b q')) (edge q i)
         forward other =
-            subst (λ (l : List ℕ). EdgeBefore program (sync_record program plan budget l) (edge q' (edge_in program plan budget b q')) (edge q i)) (sym whole)
-            (subst (λ (l : List ℕ). EdgeBefore program (sync_record program plan budget ((b ++ q' ∷ m) ++ q ∷ (after ++ p ∷ rest))) (edge q' (edge_in program plan budget b q')) (edge q (edge_in program plan budget l q))) (sym same)
-            (conflicts_forward program plan budget b q' m q (after ++ p ∷ rest) w
-            (subst (λ (l : List ℕ). run program plan budget l ≡ Some w) (here ∙ whole) runs) (subst (λ (l : List ℕ). races program plan budget l ≡ []) (here ∙ whole) free)
-            other c small true true refl w' (subst (λ (l : List ℕ). IsAccess c true (need_after program plan budget l q)) same write)))
+            subst (λ (l : List ℕ). EdgeBefore setting.program (sync_record setting l) (edge q' (edge_in setting b q')) (edge q i)) (sym whole)
+            (subst (λ (l : List ℕ). EdgeBefore setting.program (sync_record setting ((b ++ q' ∷ m) ++ q ∷ (after ++ p ∷ rest))) (edge q' (edge_in setting b q')) (edge q (edge_in setting l q))) (sym same)
+            (conflicts_forward setting b q' m q (after ++ p ∷ rest) w
+            (subst (λ (l : List ℕ). run setting l ≡ Some w) (here ∙ whole) runs) (subst (λ (l : List ℕ). races setting l ≡ []) (here ∙ whole) free)
+            other c small true true refl w' (subst (λ (l : List ℕ). IsAccess c true (need_after setting l q)) same write)))
 
     -- a write in an edge before the read's is no later than the last write
-    greatest : (q' i' : ℕ) → WritesIn program plan budget h c q' i' → EdgeBefore program rec (edge q' i') (edge p e) → ((q' ≡ q) × (i' ≡ i)) ⊎ EdgeBefore program rec (edge q' i') (edge q i)
+    greatest : (q' i' : ℕ) → WritesIn setting h c q' i' → EdgeBefore setting.program rec (edge q' i') (edge p e) → ((q' ≡ q) × (i' ≡ i)) ⊎ EdgeBefore setting.program rec (edge q' i') (edge q i)
     unfolding Compared
     greatest q' i' x bf =
-        let s = writes_step program plan budget h q' x.number x.access x.there x.writes in
+        let s = writes_step setting h q' x.number x.access x.there x.writes in
         let b : List ℕ = s.before in
-        let w' : IsAccess c true (need_after program plan budget b q') = subst (λ d. IsAccess d true (need_after program plan budget b q')) x.cell s.writes in
-        let edge_is : edge_in program plan budget b q' ≡ i' = sym s.edge_is ∙ x.edge_is in
+        let w' : IsAccess c true (need_after setting b q') = subst (λ d. IsAccess d true (need_after setting b q')) x.cell s.writes in
+        let edge_is : edge_in setting b q' ≡ i' = sym s.edge_is ∙ x.edge_is in
         elim (compare g p rest b q' s.after s.schedule_is) [
-          | inl t ↦ absurd (read_or_write c (need_after program plan budget g p) w'.0 read (ap (λ (l : List ℕ). need_after program plan budget l p) (sym t.0) ∙ ap (λ k. need_after program plan budget b k) (sym t.1) ∙ w'.1))
+          | inl t ↦ absurd (read_or_write c (need_after setting g p) w'.0 read (ap (λ (l : List ℕ). need_after setting l p) (sym t.0) ∙ ap (λ k. need_after setting b k) (sym t.1) ∙ w'.1))
           | inr (inl t) ↦ absurd (late b q' i' edge_is t.0 t.1 s.after s.schedule_is bf)
           | inr (inr t) ↦ elim (compare before q after b q' t.0 t.1) [
-            | inl u ↦ inl (u.1, sym edge_is ∙ ap (λ (l : List ℕ). edge_in program plan budget l q') u.0 ∙ ap (λ k. edge_in program plan budget before k) u.1)
-            | inr (inl u) ↦ absurd (after_last program plan budget c before q after unwritten u.0 q' t.0 u.2 (subst (λ (l : List ℕ). IsAccess c true (need_after program plan budget l q')) u.1 w'))
-            | inr (inr u) ↦ subst (λ k. ((q' ≡ q) × (k ≡ i)) ⊎ EdgeBefore program rec (edge q' k) (edge q i)) edge_is (earlier_write b q' u.0 u.1 w')
+            | inl u ↦ inl (u.1, sym edge_is ∙ ap (λ (l : List ℕ). edge_in setting l q') u.0 ∙ ap (λ k. edge_in setting before k) u.1)
+            | inr (inl u) ↦ absurd (after_last setting c before q after unwritten u.0 q' t.0 u.2 (subst (λ (l : List ℕ). IsAccess c true (need_after setting l q')) u.1 w'))
+            | inr (inr u) ↦ subst (λ k. ((q' ≡ q) × (k ≡ i)) ⊎ EdgeBefore setting.program rec (edge q' k) (edge q i)) edge_is (earlier_write b q' u.0 u.1 w')
           ]
         ]
       where
-        late : (b : List ℕ) (q' i' : ℕ) → edge_in program plan budget b q' ≡ i' → (more : List ℕ) → b ≡ g ++ p ∷ more → (r : List ℕ) → h ≡ b ++ q' ∷ r → EdgeBefore program rec (edge q' i') (edge p e) → ⊥
+        late : (b : List ℕ) (q' i' : ℕ) → edge_in setting b q' ≡ i' → (more : List ℕ) → b ≡ g ++ p ∷ more → (r : List ℕ) → h ≡ b ++ q' ∷ r → EdgeBefore setting.program rec (edge q' i') (edge p e) → ⊥
         late b q' i' edge_is more at r all bf =
             let all' : h ≡ (g ++ p ∷ more) ++ q' ∷ r = all ∙ ap (λ (l : List ℕ). l ++ q' ∷ r) at in
-            edges_forward program plan budget g (p ∷ more) (q' ∷ r) w (subst (λ (l : List ℕ). run program plan budget l ≡ Some w) all' runs) p q'
-            (subst (λ (l : List ℕ). EdgeBefore program (sync_record program plan budget l) (edge q' (edge_in program plan budget (g ++ p ∷ more) q')) (edge p e)) all'
-            (subst (λ k. EdgeBefore program rec (edge q' k) (edge p e)) (sym edge_is ∙ ap (λ (l : List ℕ). edge_in program plan budget l q') at) bf))
+            edges_forward setting g (p ∷ more) (q' ∷ r) w (subst (λ (l : List ℕ). run setting l ≡ Some w) all' runs) p q'
+            (subst (λ (l : List ℕ). EdgeBefore setting.program (sync_record setting l) (edge q' (edge_in setting (g ++ p ∷ more) q')) (edge p e)) all'
+            (subst (λ k. EdgeBefore setting.program rec (edge q' k) (edge p e)) (sym edge_is ∙ ap (λ (l : List ℕ). edge_in setting l q') at) bf))
 
     -- the read's own edge has no earlier write of its process
-    none_own : (q ≡ p → i ≡ e → ⊥) → (b more : List ℕ) → g ≡ b ++ p ∷ more → IsAccess c true (need_after program plan budget b p) → edge_in program plan budget b p ≡ e → ⊥
+    none_own : (q ≡ p → i ≡ e → ⊥) → (b more : List ℕ) → g ≡ b ++ p ∷ more → IsAccess c true (need_after setting b p) → edge_in setting b p ≡ e → ⊥
     unfolding Compared
     none_own not_own b more at w' same_edge = elim (compare before q after b p more at) [
-      | inl s ↦ not_own (sym s.1) (ap (λ (l : List ℕ). edge_in program plan budget l q) (sym s.0) ∙ ap (λ k. edge_in program plan budget b k) (sym s.1) ∙ same_edge)
-      | inr (inl s) ↦ after_last program plan budget c before q after unwritten s.0 p more s.2 (subst (λ (l : List ℕ). IsAccess c true (need_after program plan budget l p)) s.1 w')
-      | inr (inr s) ↦ edges_forward program plan budget b (p ∷ s.0) (q ∷ (after ++ p ∷ rest)) w
-          (subst (λ (l : List ℕ). run program plan budget l ≡ Some w) (whole s.0 s.1) runs) p q
-          (subst (λ (l : List ℕ). EdgeBefore program (sync_record program plan budget l) (edge q (edge_in program plan budget (b ++ p ∷ s.0) q)) (edge p (edge_in program plan budget b p))) (whole s.0 s.1)
-          (subst (λ (l : List ℕ). EdgeBefore program rec (edge q (edge_in program plan budget l q)) (edge p (edge_in program plan budget b p))) s.1
-          (subst (λ k. EdgeBefore program rec (edge q i) (edge p k)) (sym same_edge) (write_before not_own))))
+      | inl s ↦ not_own (sym s.1) (ap (λ (l : List ℕ). edge_in setting l q) (sym s.0) ∙ ap (λ k. edge_in setting b k) (sym s.1) ∙ same_edge)
+      | inr (inl s) ↦ after_last setting c before q after unwritten s.0 p more s.2 (subst (λ (l : List ℕ). IsAccess c true (need_after setting l p)) s.1 w')
+      | inr (inr s) ↦ edges_forward setting b (p ∷ s.0) (q ∷ (after ++ p ∷ rest)) w
+          (subst (λ (l : List ℕ). run setting l ≡ Some w) (whole s.0 s.1) runs) p q
+          (subst (λ (l : List ℕ). EdgeBefore setting.program (sync_record setting l) (edge q (edge_in setting (b ++ p ∷ s.0) q)) (edge p (edge_in setting b p))) (whole s.0 s.1)
+          (subst (λ (l : List ℕ). EdgeBefore setting.program rec (edge q (edge_in setting l q)) (edge p (edge_in setting b p))) s.1
+          (subst (λ k. EdgeBefore setting.program rec (edge q i) (edge p k)) (sym same_edge) (write_before not_own))))
     ]
       where
         whole : (m : List ℕ) → before ≡ b ++ p ∷ m → h ≡ (b ++ p ∷ m) ++ q ∷ (after ++ p ∷ rest)
@@ -394,29 +395,29 @@ module _ (program : Program) (plan : Plan) (budget c : ℕ) (small : c < length 
   ]
 
   -- the last write, by the law of tags
-  written : (g : List ℕ) (x : IsTagged program plan c (begins program plan budget) (told program plan budget g) g) → IsWrittenBy program plan budget g c
+  written : (g : List ℕ) (x : IsTagged setting.program setting.plan c (begins setting) (told setting g) g) → IsWrittenBy setting g c
   written g x = record {
     before = x.last.before;
     process = x.last.process;
     after = x.last.after;
     schedule_is = x.last.schedule_is;
-    writes = (get_or (told program plan budget g).world.shared c (pos 0), x.last.writes);
+    writes = (get_or (told setting g).world.shared c (pos 0), x.last.writes);
     tag_is = x.tag_is ∙ ap (λ (k : EventId). Some k) x.last.event_is;
-    unwritten = subst (λ (t : Telling). IsUnwritten program plan c t x.last.after) (sym (told-append program plan budget x.last.before x.last.process)) x.last.unwritten;
+    unwritten = subst (λ (t : Telling). IsUnwritten setting.program setting.plan c t x.last.after) (sym (told-append setting x.last.before x.last.process)) x.last.unwritten;
   }
 
   module _ (p : ℕ) (rest : List ℕ) (w : World) where
     abbrev Answer : List ℕ → Type 0
-    Answer g = IsFound program plan budget g (g ++ p ∷ rest) p c
+    Answer g = IsFound setting g (g ++ p ∷ rest) p c
 
-    found_written : (g : List ℕ) → run program plan budget (g ++ p ∷ rest) ≡ Some w → races program plan budget (g ++ p ∷ rest) ≡ [] → need_after program plan budget g p ≡ Read c
-        → (x : IsWrittenBy program plan budget g c) → Answer g
+    found_written : (g : List ℕ) → run setting (g ++ p ∷ rest) ≡ Some w → races setting (g ++ p ∷ rest) ≡ [] → need_after setting g p ≡ Read c
+        → (x : IsWrittenBy setting g c) → Answer g
     found_written g runs free read x =
-        elim (own_or_not x.process p (edge_in program plan budget x.before x.process) (edge_in program plan budget g p)) [
+        elim (own_or_not x.process p (edge_in setting x.before x.process) (edge_in setting g p)) [
           | inl own ↦ inr (x, inl own)
           | inr not_own ↦ inr (
             x,
-            inr (subst (λ (l : List ℕ). IsAcross program plan budget l (l ++ p ∷ rest) p c x.process (edge_in program plan budget x.before x.process)) (sym x.schedule_is) (record {
+            inr (subst (λ (l : List ℕ). IsAcross setting l (l ++ p ∷ rest) p c x.process (edge_in setting x.before x.process)) (sym x.schedule_is) (record {
               before = write_before x.before x.process x.after p rest w (runs_at runs) (free_at free) x.writes last (read_at read) (apart_at not_own);
               greatest = greatest x.before x.process x.after p rest w (runs_at runs) (free_at free) x.writes last (read_at read);
               none_own = none_own x.before x.process x.after p rest w (runs_at runs) (free_at free) x.writes last (read_at read) (apart_at not_own);
@@ -424,63 +425,63 @@ module _ (program : Program) (plan : Plan) (budget c : ℕ) (small : c < length 
           )
         ]
       where
-        runs_at : run program plan budget (g ++ p ∷ rest) ≡ Some w → run program plan budget ((x.before ++ x.process ∷ x.after) ++ p ∷ rest) ≡ Some w
-        runs_at r = subst (λ (l : List ℕ). run program plan budget (l ++ p ∷ rest) ≡ Some w) x.schedule_is r
+        runs_at : run setting (g ++ p ∷ rest) ≡ Some w → run setting ((x.before ++ x.process ∷ x.after) ++ p ∷ rest) ≡ Some w
+        runs_at r = subst (λ (l : List ℕ). run setting (l ++ p ∷ rest) ≡ Some w) x.schedule_is r
 
-        free_at : races program plan budget (g ++ p ∷ rest) ≡ [] → races program plan budget ((x.before ++ x.process ∷ x.after) ++ p ∷ rest) ≡ []
-        free_at r = subst (λ (l : List ℕ). races program plan budget (l ++ p ∷ rest) ≡ []) x.schedule_is r
+        free_at : races setting (g ++ p ∷ rest) ≡ [] → races setting ((x.before ++ x.process ∷ x.after) ++ p ∷ rest) ≡ []
+        free_at r = subst (λ (l : List ℕ). races setting (l ++ p ∷ rest) ≡ []) x.schedule_is r
 
-        read_at : need_after program plan budget g p ≡ Read c → need_after program plan budget (x.before ++ x.process ∷ x.after) p ≡ Read c
-        read_at r = subst (λ (l : List ℕ). need_after program plan budget l p ≡ Read c) x.schedule_is r
+        read_at : need_after setting g p ≡ Read c → need_after setting (x.before ++ x.process ∷ x.after) p ≡ Read c
+        read_at r = subst (λ (l : List ℕ). need_after setting l p ≡ Read c) x.schedule_is r
 
-        apart_at : (x.process ≡ p → edge_in program plan budget x.before x.process ≡ edge_in program plan budget g p → ⊥) → x.process ≡ p → edge_in program plan budget x.before x.process ≡ edge_in program plan budget (x.before ++ x.process ∷ x.after) p → ⊥
-        apart_at d = subst (λ (l : List ℕ). x.process ≡ p → edge_in program plan budget x.before x.process ≡ edge_in program plan budget l p → ⊥) x.schedule_is d
+        apart_at : (x.process ≡ p → edge_in setting x.before x.process ≡ edge_in setting g p → ⊥) → x.process ≡ p → edge_in setting x.before x.process ≡ edge_in setting (x.before ++ x.process ∷ x.after) p → ⊥
+        apart_at d = subst (λ (l : List ℕ). x.process ≡ p → edge_in setting x.before x.process ≡ edge_in setting l p → ⊥) x.schedule_is d
 
-        last : IsUnwritten program plan c (tell program plan (told program plan budget x.before) x.process) x.after
-        last = subst (λ (t : Telling). IsUnwritten program plan c t x.after) (told-append program plan budget x.before x.process) x.unwritten
+        last : IsUnwritten setting.program setting.plan c (tell setting.program setting.plan (told setting x.before) x.process) x.after
+        last = subst (λ (t : Telling). IsUnwritten setting.program setting.plan c t x.after) (told-append setting x.before x.process) x.unwritten
 
-    from_start : (g : List ℕ) → run program plan budget (g ++ p ∷ rest) ≡ Some w → need_after program plan budget g p ≡ Read c
-        → IsAtStart program plan c (begins program plan budget) (told program plan budget g) g → IsFromStart program plan budget g (g ++ p ∷ rest) p c
+    from_start : (g : List ℕ) → run setting (g ++ p ∷ rest) ≡ Some w → need_after setting g p ≡ Read c
+        → IsAtStart setting.program setting.plan c (begins setting) (told setting g) g → IsFromStart setting g (g ++ p ∷ rest) p c
     unfolding Compared
     from_start g runs read s = record {
-      tag_is = s.tag_is ∙ no_tags (started_world program plan budget).shared c;
+      tag_is = s.tag_is ∙ no_tags (started_world setting).shared c;
       unwritten = s.unwritten;
       none = none;
     }
       where
-        none : (q i : ℕ) → WritesIn program plan budget (g ++ p ∷ rest) c q i → EdgeBefore program (sync_record program plan budget (g ++ p ∷ rest)) (edge q i) (edge p (edge_in program plan budget g p)) → ⊥
+        none : (q i : ℕ) → WritesIn setting (g ++ p ∷ rest) c q i → EdgeBefore setting.program (sync_record setting (g ++ p ∷ rest)) (edge q i) (edge p (edge_in setting g p)) → ⊥
         none q i x bf =
-            let t = writes_step program plan budget (g ++ p ∷ rest) q x.number x.access x.there x.writes in
-            let w' : IsAccess c true (need_after program plan budget t.before q) = subst (λ d. IsAccess d true (need_after program plan budget t.before q)) x.cell t.writes in
-            let edge_is : edge_in program plan budget t.before q ≡ i = sym t.edge_is ∙ x.edge_is in
+            let t = writes_step setting (g ++ p ∷ rest) q x.number x.access x.there x.writes in
+            let w' : IsAccess c true (need_after setting t.before q) = subst (λ d. IsAccess d true (need_after setting t.before q)) x.cell t.writes in
+            let edge_is : edge_in setting t.before q ≡ i = sym t.edge_is ∙ x.edge_is in
             elim (compare g p rest t.before q t.after t.schedule_is) [
-              | inl u ↦ read_or_write c (need_after program plan budget g p) w'.0 read (ap (λ (l : List ℕ). need_after program plan budget l p) (sym u.0) ∙ ap (λ k. need_after program plan budget t.before k) (sym u.1) ∙ w'.1)
+              | inl u ↦ read_or_write c (need_after setting g p) w'.0 read (ap (λ (l : List ℕ). need_after setting l p) (sym u.0) ∙ ap (λ k. need_after setting t.before k) (sym u.1) ∙ w'.1)
               | inr (inl u) ↦
                   let all : g ++ p ∷ rest ≡ (g ++ p ∷ u.0) ++ q ∷ t.after = t.schedule_is ∙ ap (λ (l : List ℕ). l ++ q ∷ t.after) u.1 in
-                  edges_forward program plan budget g (p ∷ u.0) (q ∷ t.after) w (subst (λ (l : List ℕ). run program plan budget l ≡ Some w) all runs) p q
-                  (subst (λ (l : List ℕ). EdgeBefore program (sync_record program plan budget l) (edge q (edge_in program plan budget (g ++ p ∷ u.0) q)) (edge p (edge_in program plan budget g p))) all
-                  (subst (λ k. EdgeBefore program (sync_record program plan budget (g ++ p ∷ rest)) (edge q k) (edge p (edge_in program plan budget g p))) (sym edge_is ∙ ap (λ (l : List ℕ). edge_in program plan budget l q) u.1) bf))
-              | inr (inr u) ↦ not_written program plan budget c (begins program plan budget) t.before q u.0 w'.0
-                  (subst (λ (l : List ℕ). IsUnwritten program plan c (begins program plan budget) l) u.1 s.unwritten) w'.1
+                  edges_forward setting g (p ∷ u.0) (q ∷ t.after) w (subst (λ (l : List ℕ). run setting l ≡ Some w) all runs) p q
+                  (subst (λ (l : List ℕ). EdgeBefore setting.program (sync_record setting l) (edge q (edge_in setting (g ++ p ∷ u.0) q)) (edge p (edge_in setting g p))) all
+                  (subst (λ k. EdgeBefore setting.program (sync_record setting (g ++ p ∷ rest)) (edge q k) (edge p (edge_in setting g p))) (sym edge_is ∙ ap (λ (l : List ℕ). edge_in setting l q) u.1) bf))
+              | inr (inr u) ↦ not_written setting c (begins setting) t.before q u.0 w'.0
+                  (subst (λ (l : List ℕ). IsUnwritten setting.program setting.plan c (begins setting) l) u.1 s.unwritten) w'.1
             ]
 
 pub shared_found : SharedReadsAreFound
-shared_found program plan budget g p rest w runs free c small read = elim (tags program plan budget g c small) [
-  | inl s ↦ inl (from_start program plan budget c small p rest w g runs read s)
-  | inr x ↦ found_written program plan budget c small p rest w g runs free read (written program plan budget c small g x)
+shared_found setting g p rest w runs free c small read = elim (tags setting g c small) [
+  | inl s ↦ inl (from_start setting c small p rest w g runs read s)
+  | inr x ↦ found_written setting c small p rest w g runs free read (written setting c small g x)
 ]
 
 -- ---- the last write of all
 
-module _ (program : Program) (plan : Plan) (budget : ℕ) (h : List ℕ) (w : World) (runs : run program plan budget h ≡ Some w) (free : races program plan budget h ≡ [])
-    (c : ℕ) (small : c < length program.starts) (x : IsWrittenBy program plan budget h c) where
+module _ (setting : Setting) (h : List ℕ) (w : World) (runs : run setting h ≡ Some w) (free : races setting h ≡ [])
+    (c : ℕ) (small : c < length setting.program.starts) (x : IsWrittenBy setting h c) where
   abbrev top : ℕ
-  top = edge_in program plan budget x.before x.process
+  top = edge_in setting x.before x.process
 
-  earlier_one : (b : List ℕ) (q' : ℕ) (m : List ℕ) → x.before ≡ b ++ q' ∷ m → IsAccess c true (need_after program plan budget b q')
-      → ((q' ≡ x.process) × (edge_in program plan budget b q' ≡ top)) ⊎ EdgeBefore program (sync_record program plan budget h) (edge q' (edge_in program plan budget b q')) (edge x.process top)
+  earlier_one : (b : List ℕ) (q' : ℕ) (m : List ℕ) → x.before ≡ b ++ q' ∷ m → IsAccess c true (need_after setting b q')
+      → ((q' ≡ x.process) × (edge_in setting b q' ≡ top)) ⊎ EdgeBefore setting.program (sync_record setting h) (edge q' (edge_in setting b q')) (edge x.process top)
   earlier_one b q' m same w' = elim (cases_eq q' x.process) [
-    | inl s ↦ elim (cases_lt (edge_in program plan budget b q') top) [
+    | inl s ↦ elim (cases_lt (edge_in setting b q') top) [
       | inl lt ↦ inr (earlier s lt)
       | inr ge ↦ inl (s, let le = no_later s in omega (arith, le, ge))
     ]
@@ -490,35 +491,35 @@ module _ (program : Program) (plan : Plan) (budget : ℕ) (h : List ℕ) (w : Wo
       whole : h ≡ (b ++ q' ∷ m) ++ x.process ∷ x.after
       whole = x.schedule_is ∙ ap (λ (l : List ℕ). l ++ x.process ∷ x.after) same
 
-      no_later : q' ≡ x.process → edge_in program plan budget b q' ≤ top
+      no_later : q' ≡ x.process → edge_in setting b q' ≤ top
       no_later s =
-          let first = run_begins program plan (started_world program plan budget) (b ++ q' ∷ m) (x.process ∷ x.after) w (subst (λ (l : List ℕ). run program plan budget l ≡ Some w) whole runs) in
-          let le : edge_in program plan budget b q' ≤ edge_in program plan budget (b ++ q' ∷ m) q' = fewer program plan budget b (q' ∷ m) first.0 first.1 q' in
-          let t : edge_in program plan budget (b ++ q' ∷ m) q' ≡ top = ap (λ (l : List ℕ). edge_in program plan budget l q') (sym same) ∙ ap (λ k. edge_in program plan budget x.before k) s in
+          let first = run_begins setting.program setting.plan (started_world setting) (b ++ q' ∷ m) (x.process ∷ x.after) w (subst (λ (l : List ℕ). run setting l ≡ Some w) whole runs) in
+          let le : edge_in setting b q' ≤ edge_in setting (b ++ q' ∷ m) q' = fewer setting b (q' ∷ m) first.0 first.1 q' in
+          let t : edge_in setting (b ++ q' ∷ m) q' ≡ top = ap (λ (l : List ℕ). edge_in setting l q') (sym same) ∙ ap (λ k. edge_in setting x.before k) s in
           omega (arith, le, t)
 
-      forward : (q' ≡ x.process → ⊥) → EdgeBefore program (sync_record program plan budget h) (edge q' (edge_in program plan budget b q')) (edge x.process top)
+      forward : (q' ≡ x.process → ⊥) → EdgeBefore setting.program (sync_record setting h) (edge q' (edge_in setting b q')) (edge x.process top)
       forward other =
-          subst (λ (l : List ℕ). EdgeBefore program (sync_record program plan budget l) (edge q' (edge_in program plan budget b q')) (edge x.process top)) (sym whole)
-          (subst (λ (l : List ℕ). EdgeBefore program (sync_record program plan budget ((b ++ q' ∷ m) ++ x.process ∷ x.after)) (edge q' (edge_in program plan budget b q')) (edge x.process (edge_in program plan budget l x.process))) (sym same)
-          (conflicts_forward program plan budget b q' m x.process x.after w
-          (subst (λ (l : List ℕ). run program plan budget l ≡ Some w) whole runs) (subst (λ (l : List ℕ). races program plan budget l ≡ []) whole free)
-          other c small true true refl w' (subst (λ (l : List ℕ). IsAccess c true (need_after program plan budget l x.process)) same x.writes)))
+          subst (λ (l : List ℕ). EdgeBefore setting.program (sync_record setting l) (edge q' (edge_in setting b q')) (edge x.process top)) (sym whole)
+          (subst (λ (l : List ℕ). EdgeBefore setting.program (sync_record setting ((b ++ q' ∷ m) ++ x.process ∷ x.after)) (edge q' (edge_in setting b q')) (edge x.process (edge_in setting l x.process))) (sym same)
+          (conflicts_forward setting b q' m x.process x.after w
+          (subst (λ (l : List ℕ). run setting l ≡ Some w) whole runs) (subst (λ (l : List ℕ). races setting l ≡ []) whole free)
+          other c small true true refl w' (subst (λ (l : List ℕ). IsAccess c true (need_after setting l x.process)) same x.writes)))
 
-  greatest_of_all : (q' i' : ℕ) → WritesIn program plan budget h c q' i' → ((q' ≡ x.process) × (i' ≡ top)) ⊎ EdgeBefore program (sync_record program plan budget h) (edge q' i') (edge x.process top)
+  greatest_of_all : (q' i' : ℕ) → WritesIn setting h c q' i' → ((q' ≡ x.process) × (i' ≡ top)) ⊎ EdgeBefore setting.program (sync_record setting h) (edge q' i') (edge x.process top)
   unfolding Compared
   greatest_of_all q' i' y =
-      let s = writes_step program plan budget h q' y.number y.access y.there y.writes in
+      let s = writes_step setting h q' y.number y.access y.there y.writes in
       let b : List ℕ = s.before in
-      let w' : IsAccess c true (need_after program plan budget b q') = subst (λ d. IsAccess d true (need_after program plan budget b q')) y.cell s.writes in
-      let edge_is : edge_in program plan budget b q' ≡ i' = sym s.edge_is ∙ y.edge_is in
+      let w' : IsAccess c true (need_after setting b q') = subst (λ d. IsAccess d true (need_after setting b q')) y.cell s.writes in
+      let edge_is : edge_in setting b q' ≡ i' = sym s.edge_is ∙ y.edge_is in
       elim (compare x.before x.process x.after b q' s.after (sym x.schedule_is ∙ s.schedule_is)) [
-        | inl u ↦ inl (u.1, sym edge_is ∙ ap (λ (l : List ℕ). edge_in program plan budget l q') u.0 ∙ ap (λ k. edge_in program plan budget x.before k) u.1)
-        | inr (inl u) ↦ absurd (after_last program plan budget c x.before x.process x.after
-            (subst (λ (t : Telling). IsUnwritten program plan c t x.after) (told-append program plan budget x.before x.process) x.unwritten)
-            u.0 q' s.after u.2 (subst (λ (l : List ℕ). IsAccess c true (need_after program plan budget l q')) u.1 w'))
-        | inr (inr u) ↦ subst (λ k. ((q' ≡ x.process) × (k ≡ top)) ⊎ EdgeBefore program (sync_record program plan budget h) (edge q' k) (edge x.process top)) edge_is (earlier_one b q' u.0 u.1 w')
+        | inl u ↦ inl (u.1, sym edge_is ∙ ap (λ (l : List ℕ). edge_in setting l q') u.0 ∙ ap (λ k. edge_in setting x.before k) u.1)
+        | inr (inl u) ↦ absurd (after_last setting c x.before x.process x.after
+            (subst (λ (t : Telling). IsUnwritten setting.program setting.plan c t x.after) (told-append setting x.before x.process) x.unwritten)
+            u.0 q' s.after u.2 (subst (λ (l : List ℕ). IsAccess c true (need_after setting l q')) u.1 w'))
+        | inr (inr u) ↦ subst (λ k. ((q' ≡ x.process) × (k ≡ top)) ⊎ EdgeBefore setting.program (sync_record setting h) (edge q' k) (edge x.process top)) edge_is (earlier_one b q' u.0 u.1 w')
       ]
 
 pub last_greatest : LastWritesAreGreatest
-last_greatest program plan budget h w runs free c small x = record { greatest = greatest_of_all program plan budget h w runs free c small x }
+last_greatest setting h w runs free c small x = record { greatest = greatest_of_all setting h w runs free c small x }

@@ -1,4 +1,5 @@
 -- The tag of a shared cell is the event that last wrote it.
+use Rattle.ppd_model.specs.Setting.{Setting}
 use Rattle.std.proofs.Common.{◌≡◌, ℕ, ◌<◌, ℤ, pos, List, [], ◌∷◌, Some, None, false, refl, ap, sym, subst, ◌∙◌, length, set, get_or, inl, inr, ◌⊎◌}
 use Rattle.std.proofs.lemmas.Bool.{cases_eq, ne_eqb}
 use Rattle.std.proofs.lemmas.List.{get_or-set_other, get_or-set_same, length-map, length-set}
@@ -92,8 +93,8 @@ module _ (program : Program) (plan : Plan) (c : ℕ) where
     ]
   ]
 
-starts_there : (program : Program) (plan : Plan) (budget c : ℕ) → c < length program.starts → IsThere c (begins program plan budget)
-starts_there program plan budget c lt = record { tag = subst (λ k. c < k) (sym (length-map program.starts (λ _. None))) lt; value = lt }
+starts_there : (setting : Setting) (c : ℕ) → c < length setting.program.starts → IsThere c (begins setting)
+starts_there setting c lt = record { tag = subst (λ k. c < k) (sym (length-map setting.program.starts (λ _. None))) lt; value = lt }
 
 pub tags : TagsAreLastWrites
-tags program plan budget h c lt = tagged program plan c (begins program plan budget) h (starts_there program plan budget c lt)
+tags setting h c lt = tagged setting.program setting.plan c (begins setting) h (starts_there setting c lt)

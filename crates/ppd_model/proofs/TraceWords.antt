@@ -1,10 +1,10 @@
 -- Words of the proofs for traces.
+use Rattle.ppd_model.specs.Setting.{Setting}
 use Rattle.std.specs.Option.{option_map_or}
 use Rattle.std.specs.List.{enumerate_from}
 use Rattle.std.specs.Prelude.{ℕ, List, Option, map, slice_get, option_map, option_and_then}
 use Rattle.ppd_model.specs.FullTrace.{Tag, tagged_by, latest, tracing_of}
 use Rattle.ppd_ast.specs.declared.program.Program.{Program}
-use Rattle.ppd_ast.specs.declared.plan.Plan.{Plan}
 use Rattle.ppd_sem.specs.declared.proc.Proc.{Proc}
 use Rattle.ppd_sem.specs.declared.proc.Todo.{Todo}
 use Rattle.ppd_sem.specs.Process.{head_deed}
@@ -24,6 +24,6 @@ abbrev pub of_outer : Option ℕ → List Test → Option EventId
 of_outer o tests = option_and_then (λ s. option_map (λ x. x.event) (latest s tests)) o
 
 -- the events of the processes from number p on
-abbrev pub events_from : Program → Plan → ℕ → Story → ℕ → List (List Taken) → List (List TracedEvent)
-events_from program plan budget story p all =
-    map (λ e. (tracing_of program plan budget story e.0 e.1).events) (enumerate_from p all)
+abbrev pub events_from : Setting → Story → ℕ → List (List Taken) → List (List TracedEvent)
+events_from setting story p all =
+    map (λ e. (tracing_of setting story e.0 e.1).events) (enumerate_from p all)

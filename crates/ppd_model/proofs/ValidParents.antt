@@ -30,12 +30,12 @@ module _ (program : Program) (plan : Plan) (story : Story) (p k s : ℕ) (t : Tr
   ]
 
 pub valid_parents : ValidParents
-valid_parents program plan budget h p n e valid is =
-    let st : Story = story program plan budget h in
-    let t : Tracing = begun_tracing (started program plan p budget) in
-    let w : HasParent program plan st p t (get_or st.steps p []) n e = parents_found program plan budget h p n e is in
-    let u : Tracing = fold (trace_step program plan st p) t w.before in
-    let o : HasTestedOuter program plan st p t w.before w.taken = outers_tested program plan budget h p w.before w.taken w.after valid w.steps_are w.finishes in
+valid_parents setting h p n e valid is =
+    let st : Story = story setting h in
+    let t : Tracing = begun_tracing (started setting.program setting.plan p setting.budget) in
+    let w : HasParent setting.program setting.plan st p t (get_or st.steps p []) n e = parents_found setting h p n e is in
+    let u : Tracing = fold (trace_step setting.program setting.plan st p) t w.before in
+    let o : HasTestedOuter setting.program setting.plan st p t w.before w.taken = outers_tested setting h p w.before w.taken w.after valid w.steps_are w.finishes in
     let there : 0 < length u.proc.frames = o.activation in
     let k : ℕ = length u.proc.frames - 1 in
     let top : length u.proc.frames - 1 + 1 ≡ length u.proc.frames = omega arith in
@@ -43,6 +43,6 @@ valid_parents program plan budget h p n e valid is =
       event = w;
       activation = k;
       is_top = top;
-      parent = by_case program plan st p k e.event.stmt t w.before e.parent
-          (λ outer parent. o.tested k outer top (sym (ap (λ x. option_and_then (λ x. x.parent) (slice_get program.stmts x.stmt)) w.event_is) ∙ parent)) (w.parent k top);
+      parent = by_case setting.program setting.plan st p k e.event.stmt t w.before e.parent
+          (λ outer parent. o.tested k outer top (sym (ap (λ x. option_and_then (λ x. x.parent) (slice_get setting.program.stmts x.stmt)) w.event_is) ∙ parent)) (w.parent k top);
     }

@@ -1,4 +1,5 @@
 -- Words of the proofs for a world, its steps and what is told of them.
+use Rattle.ppd_model.specs.Setting.{Setting}
 use Rattle.std.specs.Option.{option_map_or}
 use Rattle.std.specs.List.{range_with_len}
 use Rattle.std.specs.Prelude.{◌+◌, [], ℕ, ℤ, List, Option, Bool, false, map, length, get_or, option_map, nat_lt, pos, count_by}
@@ -46,8 +47,8 @@ step_by program plan w p n =
     record after { procs = change (λ s. act program plan s (answer w n)) p w.procs }
 
 -- the first n processes before their first steps
-abbrev pub started_procs : Program → Plan → ℕ → ℕ → List Proc
-started_procs program plan budget n = map (λ p. started program plan p budget) (range_with_len 0 n)
+abbrev pub started_procs : Setting → ℕ → List Proc
+started_procs setting n = map (λ p. started setting.program setting.plan p setting.budget) (range_with_len 0 n)
 
 -- one more than the count of an object that is there
 abbrev pub number_after : {A : Type 0} → (A → ℕ) → Option A → Option ℕ

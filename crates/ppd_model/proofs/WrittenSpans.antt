@@ -1,4 +1,5 @@
 -- The entries of a process's intervals are of the steps that opened and left them.
+use Rattle.ppd_model.specs.Setting.{Setting}
 use Rattle.ppd_ast.specs.declared.plan.Plan.{Plan}
 use Rattle.ppd_ast.specs.declared.program.Program.{Program}
 use Rattle.ppd_ast.specs.declared.status.Status.{Status}
@@ -217,34 +218,34 @@ end_there xs es more e is = subst (λ l. slice_get ((xs ++ l) ++ more) (length x
 
 -- ---- all steps of a process
 
-module _ (program : Program) (plan : Plan) (budget p : ℕ) (story' : Story) (all : List Moment) where
+module _ (setting : Setting) (p : ℕ) (story' : Story) (all : List Moment) where
   abbrev entries : List Entry
-  entries = (log_of program plan budget p all).entries
+  entries = (log_of setting p all).entries
 
   abbrev IsOf : ℕ → ℕ → Type 0
-  IsOf now j = WroteEntry program plan budget p all now j
+  IsOf now j = WroteEntry setting p all now j
 
   abbrev IsKeptEnd : ℕ → Type 0
   IsKeptEnd j = IsEndAt entries j × ((now : ℕ) × IsOf now j)
 
-  log_grows : (l : Logging) (ms : List Moment) → (more : List Entry) × ((fold (log_step program plan) l ms).entries ≡ l.entries ++ more)
+  log_grows : (l : Logging) (ms : List Moment) → (more : List Entry) × ((fold (log_step setting.program setting.plan) l ms).entries ≡ l.entries ++ more)
   log_grows l [] = ([], sym (append-nil l.entries))
   log_grows l (m ∷ ms) =
-      let r = log_grows (log_step program plan l m) ms in
-      (entries_of program plan l m ++ r.0, r.1 ∙ append_assoc l.entries (entries_of program plan l m) r.0)
+      let r = log_grows (log_step setting.program setting.plan l m) ms in
+      (entries_of setting.program setting.plan l m ++ r.0, r.1 ∙ append_assoc l.entries (entries_of setting.program setting.plan l m) r.0)
 
-  log_next : (done : List Moment) (m : Moment) → log_of program plan budget p (done ++ m ∷ []) ≡ log_step program plan (log_of program plan budget p done) m
-  log_next done m = fold-append (log_step program plan) (begun_log program plan budget p) done (m ∷ [])
+  log_next : (done : List Moment) (m : Moment) → log_of setting p (done ++ m ∷ []) ≡ log_step setting.program setting.plan (log_of setting p done) m
+  log_next done m = fold-append (log_step setting.program setting.plan) (begun_log setting p) done (m ∷ [])
 
   log_through : (done rest : List Moment) (m : Moment) → all ≡ done ++ m ∷ rest
-      → (more : List Entry) × (entries ≡ ((log_of program plan budget p done).entries ++ entries_of program plan (log_of program plan budget p done) m) ++ more)
+      → (more : List Entry) × (entries ≡ ((log_of setting p done).entries ++ entries_of setting.program setting.plan (log_of setting p done) m) ++ more)
   log_through done rest m e =
-      let r = log_grows (log_step program plan (log_of program plan budget p done) m) rest in
-      (r.0, ap (λ ms. (log_of program plan budget p ms).entries) e ∙ ap (λ (l : Logging). l.entries) (fold-append (log_step program plan) (begun_log program plan budget p) done (m ∷ rest)) ∙ r.1)
+      let r = log_grows (log_step setting.program setting.plan (log_of setting p done) m) rest in
+      (r.0, ap (λ ms. (log_of setting p ms).entries) e ∙ ap (λ (l : Logging). l.entries) (fold-append (log_step setting.program setting.plan) (begun_log setting p) done (m ∷ rest)) ∙ r.1)
 
   -- an entry that a step adds is of that step
-  inside : (done rest : List Moment) (m : Moment) → all ≡ done ++ m ∷ rest → (j : ℕ) → length (log_of program plan budget p done).entries ≤ j
-      → j < length ((log_of program plan budget p done).entries ++ entries_of program plan (log_of program plan budget p done) m) → IsOf (length done) j
+  inside : (done rest : List Moment) (m : Moment) → all ≡ done ++ m ∷ rest → (j : ℕ) → length (log_of setting p done).entries ≤ j
+      → j < length ((log_of setting p done).entries ++ entries_of setting.program setting.plan (log_of setting p done) m) → IsOf (length done) j
   inside done rest m e j lo hi = record {
     before = done;
     moment = m;
@@ -255,20 +256,20 @@ module _ (program : Program) (plan : Plan) (budget p : ℕ) (story' : Story) (al
     there = subst (λ (l : Logging). j < length l.entries) (sym (log_next done m)) hi;
   }
 
-  one_step : (done rest : List Moment) (m : Moment) (x : Split) → all ≡ done ++ m ∷ rest → x.trace.proc ≡ (log_of program plan budget p done).proc
-      → AreTied IsOf IsKeptEnd (length done) x (at IsOf IsKeptEnd (log_of program plan budget p done).entries)
-      → AreTied IsOf IsKeptEnd (length (done ++ m ∷ [])) (split_step program plan story' p x m.taken) (at IsOf IsKeptEnd (log_of program plan budget p (done ++ m ∷ [])).entries)
+  one_step : (done rest : List Moment) (m : Moment) (x : Split) → all ≡ done ++ m ∷ rest → x.trace.proc ≡ (log_of setting p done).proc
+      → AreTied IsOf IsKeptEnd (length done) x (at IsOf IsKeptEnd (log_of setting p done).entries)
+      → AreTied IsOf IsKeptEnd (length (done ++ m ∷ [])) (split_step setting.program setting.plan story' p x m.taken) (at IsOf IsKeptEnd (log_of setting p (done ++ m ∷ [])).entries)
   one_step done rest m x e proc h =
-      let l : Logging = log_of program plan budget p done in
+      let l : Logging = log_of setting p done in
       let need : Need = m.taken.need in
       let es : List Entry = l.entries in
-      let a : List Entry = block_entries entry.Prelog (opened program plan l.proc need) in
+      let a : List Entry = block_entries entry.Prelog (opened setting.program setting.plan l.proc need) in
       let b : List Entry = syncs l m.taken (sync_of m.taken) in
-      let c : List Entry = block_entries entry.Postlog (closed program plan l.proc need) in
+      let c : List Entry = block_entries entry.Postlog (closed setting.program setting.plan l.proc need) in
       let d : List Entry = units (unit_started need) m.unit_values in
       let ending : List Entry = ends l (status_of need) in
-      let whole : es ++ entries_of program plan l m ≡ ((((es ++ a) ++ b) ++ c) ++ d) ++ ending = in_order es a b c d ending in
-      let total : length (es ++ entries_of program plan l m) ≡ length ((((es ++ a) ++ b) ++ c) ++ d) + length ending = ap length whole ∙ length-append ((((es ++ a) ++ b) ++ c) ++ d) ending in
+      let whole : es ++ entries_of setting.program setting.plan l m ≡ ((((es ++ a) ++ b) ++ c) ++ d) ++ ending = in_order es a b c d ending in
+      let total : length (es ++ entries_of setting.program setting.plan l m) ≡ length ((((es ++ a) ++ b) ++ c) ++ d) + length ending = ap length whole ∙ length-append ((((es ++ a) ++ b) ++ c) ++ d) ending in
       let to_d : length ((((es ++ a) ++ b) ++ c) ++ d) ≡ length (((es ++ a) ++ b) ++ c) + length d = length-append (((es ++ a) ++ b) ++ c) d in
       let to_c : length (((es ++ a) ++ b) ++ c) ≡ length ((es ++ a) ++ b) + length c = length-append ((es ++ a) ++ b) c in
       let to_b : length ((es ++ a) ++ b) ≡ length (es ++ a) + length b = length-append (es ++ a) b in
@@ -278,17 +279,17 @@ module _ (program : Program) (plan : Plan) (budget p : ℕ) (story' : Story) (al
       let proc_is : x1.trace.proc ≡ l.proc = ap (λ t. t.proc) trace_is ∙ proc in
       let quiet : AreTied IsOf IsKeptEnd (length done) x1 (at IsOf IsKeptEnd es) =
       own_tied IsOf IsKeptEnd (length done) need (with_step need x) (at IsOf IsKeptEnd es) (step_tied IsOf IsKeptEnd (length done) need x (at IsOf IsKeptEnd es) h) in
-      let frame : ℕ = frame_of program plan x1.trace.proc in
-      let control : Option EventId = control_by program p x1.trace need in
-      let tags : List Tag = left_by plan (me_in p x1.trace) (top_tags x1.trace.activations) need in
-      let by_marks : AreTied IsOf IsKeptEnd (length done) (begin_if (opened program plan l.proc need) frame control (end_if (closed program plan l.proc need) tags x1)) (at IsOf IsKeptEnd (((es ++ a) ++ b) ++ c)) =
-      two_marks IsOf IsKeptEnd (length done) es l m.taken (opened program plan l.proc need) (closed program plan l.proc need) frame control tags x1 (one_mark program plan l.proc need)
-      (λ k f. let one : length a ≡ 1 = one_prelog (opened program plan l.proc need) k f in inside done rest m e (length es) (omega arith) (omega (arith, one, total, to_d, to_c, to_b, to_a)))
-      (λ k f. let one : length c ≡ 1 = one_at_least (closed program plan l.proc need) k f in inside done rest m e (length ((es ++ a) ++ b)) (omega (arith, to_b, to_a)) (omega (arith, one, total, to_d, to_c)))
+      let frame : ℕ = frame_of setting.program setting.plan x1.trace.proc in
+      let control : Option EventId = control_by setting.program p x1.trace need in
+      let tags : List Tag = left_by setting.plan (me_in p x1.trace) (top_tags x1.trace.activations) need in
+      let by_marks : AreTied IsOf IsKeptEnd (length done) (begin_if (opened setting.program setting.plan l.proc need) frame control (end_if (closed setting.program setting.plan l.proc need) tags x1)) (at IsOf IsKeptEnd (((es ++ a) ++ b) ++ c)) =
+      two_marks IsOf IsKeptEnd (length done) es l m.taken (opened setting.program setting.plan l.proc need) (closed setting.program setting.plan l.proc need) frame control tags x1 (one_mark setting.program setting.plan l.proc need)
+      (λ k f. let one : length a ≡ 1 = one_prelog (opened setting.program setting.plan l.proc need) k f in inside done rest m e (length es) (omega arith) (omega (arith, one, total, to_d, to_c, to_b, to_a)))
+      (λ k f. let one : length c ≡ 1 = one_at_least (closed setting.program setting.plan l.proc need) k f in inside done rest m e (length ((es ++ a) ++ b)) (omega (arith, to_b, to_a)) (omega (arith, one, total, to_d, to_c)))
       quiet in
-      let x2 : Split = with_marks program plan p need x1 in
+      let x2 : Split = with_marks setting.program setting.plan p need x1 in
       let here : AreTied IsOf IsKeptEnd (length done) x2 (at IsOf IsKeptEnd (((es ++ a) ++ b) ++ c)) =
-      subst (λ s. AreTied IsOf IsKeptEnd (length done) (begin_if (opened program plan s need) frame control (end_if (closed program plan s need) tags x1)) (at IsOf IsKeptEnd (((es ++ a) ++ b) ++ c))) (sym proc_is) by_marks in
+      subst (λ s. AreTied IsOf IsKeptEnd (length done) (begin_if (opened setting.program setting.plan s need) frame control (end_if (closed setting.program setting.plan s need) tags x1)) (at IsOf IsKeptEnd (((es ++ a) ++ b) ++ c))) (sym proc_is) by_marks in
       let there : AreTied IsOf IsKeptEnd (length done) x2 (at IsOf IsKeptEnd ((((es ++ a) ++ b) ++ c) ++ d)) =
       onto IsOf IsKeptEnd (length done) x2 (((es ++ a) ++ b) ++ c) d (unit_tied IsOf IsKeptEnd (length done) (unit_started need) m.unit_values x2 (at IsOf IsKeptEnd (((es ++ a) ++ b) ++ c)) here) in
       let before : List Entry = (((es ++ a) ++ b) ++ c) ++ d in
@@ -303,7 +304,7 @@ module _ (program : Program) (plan : Plan) (budget p : ℕ) (story' : Story) (al
       let ended : AreTied IsOf IsKeptEnd (length done) x2 (at IsOf IsKeptEnd (before ++ ending)) =
       onto IsOf IsKeptEnd (length done) x2 before ending
       (stop_tied IsOf IsKeptEnd (length done) l (status_of need) x2 (at IsOf IsKeptEnd before) (running_going before) stops there) in
-      let last : AreTied IsOf IsKeptEnd (length done) x2 (at IsOf IsKeptEnd (log_of program plan budget p (done ++ m ∷ [])).entries) =
+      let last : AreTied IsOf IsKeptEnd (length done) x2 (at IsOf IsKeptEnd (log_of setting p (done ++ m ∷ [])).entries) =
       subst (λ es'. AreTied IsOf IsKeptEnd (length done) x2 (at IsOf IsKeptEnd es')) (sym (ap (λ (k : Logging). k.entries) (log_next done m) ∙ whole)) ended in
       record {
         running = last.running;
@@ -311,17 +312,17 @@ module _ (program : Program) (plan : Plan) (budget p : ℕ) (story' : Story) (al
         each = last.each;
       }
 
-  all_steps : (done rest : List Moment) (x : Split) → all ≡ done ++ rest → x.trace.proc ≡ (log_of program plan budget p done).proc
-      → AreTied IsOf IsKeptEnd (length done) x (at IsOf IsKeptEnd (log_of program plan budget p done).entries)
-      → AreTied IsOf IsKeptEnd (length all) (fold (split_step program plan story' p) x (steps_of rest)) (at IsOf IsKeptEnd entries)
-  all_steps done [] x e proc h = subst (λ ms. AreTied IsOf IsKeptEnd (length ms) x (at IsOf IsKeptEnd (log_of program plan budget p ms).entries)) (sym (e ∙ append-nil done)) h
+  all_steps : (done rest : List Moment) (x : Split) → all ≡ done ++ rest → x.trace.proc ≡ (log_of setting p done).proc
+      → AreTied IsOf IsKeptEnd (length done) x (at IsOf IsKeptEnd (log_of setting p done).entries)
+      → AreTied IsOf IsKeptEnd (length all) (fold (split_step setting.program setting.plan story' p) x (steps_of rest)) (at IsOf IsKeptEnd entries)
+  all_steps done [] x e proc h = subst (λ ms. AreTied IsOf IsKeptEnd (length ms) x (at IsOf IsKeptEnd (log_of setting p ms).entries)) (sym (e ∙ append-nil done)) h
   all_steps done (m ∷ rest) x e proc h =
-      all_steps (done ++ m ∷ []) rest (split_step program plan story' p x m.taken) (e ∙ sym (append_assoc done (m ∷ []) rest))
-      (ap (λ s. act program plan s m.taken.answer) proc ∙ sym (ap (λ (l : Logging). l.proc) (log_next done m)))
+      all_steps (done ++ m ∷ []) rest (split_step setting.program setting.plan story' p x m.taken) (e ∙ sym (append_assoc done (m ∷ []) rest))
+      (ap (λ s. act setting.program setting.plan s m.taken.answer) proc ∙ sym (ap (λ (l : Logging). l.proc) (log_next done m)))
       (one_step done rest m x e proc h)
 
-  all_tied : AreTied IsOf IsKeptEnd (length all) (split_of program plan budget story' p (steps_of all)) (at IsOf IsKeptEnd entries)
-  all_tied = all_steps [] all (begun_split program plan p (started program plan p budget)) refl refl (record {
+  all_tied : AreTied IsOf IsKeptEnd (length all) (split_of setting story' p (steps_of all)) (at IsOf IsKeptEnd entries)
+  all_tied = all_steps [] all (begun_split setting.program setting.plan p (started setting.program setting.plan p setting.budget)) refl refl (record {
     running = refl;
     edges = refl;
     each = ((refl, record { opened = inl (refl, refl); closed = λ k e. absurd (none-some k e); going = λ e j f. absurd (none-some j f) }), tt);
@@ -330,7 +331,7 @@ module _ (program : Program) (plan : Plan) (budget p : ℕ) (story' : Story) (al
   -- ---- the closed log
 
   abbrev log : Logging
-  log = log_of program plan budget p all
+  log = log_of setting p all
 
   abbrev IsAnyEnd : ℕ → Type 0
   IsAnyEnd j = IsEndAt (closed_log log) j × ((j ≡ length log.entries) ⊎ ((now : ℕ) × IsOf now j))
@@ -384,15 +385,15 @@ module _ (program : Program) (plan : Plan) (budget p : ℕ) (story' : Story) (al
           (each_more (IsBoth IsOf IsKeptEnd) (IsBoth IsOf IsAnyEnd) (wider [] is) spans (extents_by log.entries) h)
 
 pub intervals_of_steps : IntervalsAreOfSteps
-intervals_of_steps program plan budget h p x ms e f =
-    let s : Story = story program plan budget h in
-    let steps : get_or s.steps p [] ≡ steps_of ms = steps_found program plan budget (told program plan budget h).moments p ms f in
+intervals_of_steps setting h p x ms e f =
+    let s : Story = story setting h in
+    let steps : get_or s.steps p [] ≡ steps_of ms = steps_found setting (told setting h).moments p ms f in
     let z : 0 + p ≡ p = omega arith in
-    let split_is : split_of program plan budget s p (steps_of ms) ≡ x =
-    ap₂ (λ k xs. split_of program plan budget s k xs) (sym z) (sym steps) ∙ split_found program plan budget s 0 s.steps p x e in
-    let tied : AreEach (IsBoth (IsOf program plan budget p s ms) (IsKeptEnd program plan budget p s ms)) x.spans (extents_by (log_of program plan budget p ms).entries) =
-    subst (λ (y : Split). AreEach (IsBoth (IsOf program plan budget p s ms) (IsKeptEnd program plan budget p s ms)) y.spans (extents_by (log_of program plan budget p ms).entries)) split_is (all_tied program plan budget p s ms).each in
+    let split_is : split_of setting s p (steps_of ms) ≡ x =
+    ap₂ (λ k xs. split_of setting s k xs) (sym z) (sym steps) ∙ split_found setting s 0 s.steps p x e in
+    let tied : AreEach (IsBoth (IsOf setting p s ms) (IsKeptEnd setting p s ms)) x.spans (extents_by (log_of setting p ms).entries) =
+    subst (λ (y : Split). AreEach (IsBoth (IsOf setting p s ms) (IsKeptEnd setting p s ms)) y.spans (extents_by (log_of setting p ms).entries)) split_is (all_tied setting p s ms).each in
     record {
-      kept_are = each_more (IsBoth (IsOf program plan budget p s ms) (IsKeptEnd program plan budget p s ms)) (IsOfSteps (IsOf program plan budget p s ms) (IsKeptEnd program plan budget p s ms)) (λ i z r. r.1) x.spans (extents (log_of program plan budget p ms).entries) (subst (λ xs. AreEach (IsBoth (IsOf program plan budget p s ms) (IsKeptEnd program plan budget p s ms)) x.spans xs) (sym (extents_are (log_of program plan budget p ms).entries)) tied);
-      closed_are = each_more (IsBoth (IsOf program plan budget p s ms) (IsAnyEnd program plan budget p s ms)) (IsOfSteps (IsOf program plan budget p s ms) (IsAnyEnd program plan budget p s ms)) (λ i z r. r.1) x.spans (extents (closed_log (log_of program plan budget p ms))) (subst (λ xs. AreEach (IsBoth (IsOf program plan budget p s ms) (IsAnyEnd program plan budget p s ms)) x.spans xs) (sym (extents_are (closed_log (log_of program plan budget p ms)))) (of_closed program plan budget p s ms x.spans tied));
+      kept_are = each_more (IsBoth (IsOf setting p s ms) (IsKeptEnd setting p s ms)) (IsOfSteps (IsOf setting p s ms) (IsKeptEnd setting p s ms)) (λ i z r. r.1) x.spans (extents (log_of setting p ms).entries) (subst (λ xs. AreEach (IsBoth (IsOf setting p s ms) (IsKeptEnd setting p s ms)) x.spans xs) (sym (extents_are (log_of setting p ms).entries)) tied);
+      closed_are = each_more (IsBoth (IsOf setting p s ms) (IsAnyEnd setting p s ms)) (IsOfSteps (IsOf setting p s ms) (IsAnyEnd setting p s ms)) (λ i z r. r.1) x.spans (extents (closed_log (log_of setting p ms))) (subst (λ xs. AreEach (IsBoth (IsOf setting p s ms) (IsAnyEnd setting p s ms)) x.spans xs) (sym (extents_are (closed_log (log_of setting p ms)))) (of_closed setting p s ms x.spans tied));
     }

@@ -1,4 +1,5 @@
 -- What a step changes, how many steps are left, and how the counts of a world stand to one another.
+use Rattle.ppd_model.specs.Setting.{Setting}
 use Rattle.std.specs.Prelude.{◌≡◌, ℕ, ◌+◌, ◌*◌, ◌≤◌, nat_eq, Bool, false, List, [], ◌∷◌, count_by, length, slice_get, Some, ⊤}
 use Rattle.ppd_ast.specs.declared.plan.Plan.{Plan}
 use Rattle.ppd_ast.specs.declared.program.Chan.{Chan}
@@ -56,8 +57,8 @@ pub record IsBounded (budget : ℕ) (w : World) (h : List ℕ) : Type 0 where
 -- so it is with each schedule
 abbrev pub SchedulesAreBounded : Type 0
 SchedulesAreBounded =
-    (program : Program) (plan : Plan) (budget : ℕ) (h : List ℕ) (w : World) → run program plan budget h ≡ Some w
-    → IsBounded budget w h
+    (setting : Setting) (h : List ℕ) (w : World) → run setting h ≡ Some w
+    → IsBounded setting.budget w h
 
 -- ---- counts
 
@@ -89,5 +90,5 @@ pub record IsBalanced (program : Program) (w : World) : Type 0 where
 -- so it is after each schedule
 abbrev pub CountsAreBalanced : Type 0
 CountsAreBalanced =
-    (program : Program) (plan : Plan) (budget : ℕ) (h : List ℕ) (w : World) → run program plan budget h ≡ Some w
-    → IsBalanced program w
+    (setting : Setting) (h : List ℕ) (w : World) → run setting h ≡ Some w
+    → IsBalanced setting.program w

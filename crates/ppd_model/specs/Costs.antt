@@ -1,4 +1,5 @@
 -- What the steps of a process cost: 1 each, and 1 for each value in the entries that they write.
+use Rattle.ppd_model.specs.Setting.{Setting}
 use Rattle.std.specs.Prelude.{◌≡◌, ◌≢◌, ℕ, ◌+◌, ◌≤◌, List, [], ◌∷◌, drop, length, slice_get, IsSomeAnd, Some, ⊤}
 use Rattle.std.specs.List.{All}
 use Rattle.ppd_ast.specs.Valid.{IsValid}
@@ -43,10 +44,10 @@ HasWholePrelogs program plan = All (λ x. IsWholeBlock program x x.kind) plan.bl
 -- ---- one step
 
 -- the step costs 1 and the values that it writes, which the budget allows, and is counted
-pub record IsPaid (program : Program) (plan : Plan) (budget : ℕ) (l : Logging) (m : Moment) : Type 0 where
-  pub cost : (log_step program plan l m).proc.spent ≡ l.proc.spent + (1 + values_in (entries_of program plan l m))
-  pub within : l.proc.spent + (1 + values_in (entries_of program plan l m)) ≤ budget
-  pub counted : (log_step program plan l m).proc.steps ≡ l.proc.steps + 1
+pub record IsPaid (setting : Setting) (l : Logging) (m : Moment) : Type 0 where
+  pub cost : (log_step setting.program setting.plan l m).proc.spent ≡ l.proc.spent + (1 + values_in (entries_of setting.program setting.plan l m))
+  pub within : l.proc.spent + (1 + values_in (entries_of setting.program setting.plan l m)) ≤ setting.budget
+  pub counted : (log_step setting.program setting.plan l m).proc.steps ≡ l.proc.steps + 1
 
 -- the step costs nothing, writes none of these values, and is not counted
 pub record IsFree (program : Program) (plan : Plan) (l : Logging) (m : Moment) : Type 0 where
@@ -55,17 +56,17 @@ pub record IsFree (program : Program) (plan : Plan) (l : Logging) (m : Moment) :
   pub counted : (log_step program plan l m).proc.steps ≡ l.proc.steps
 
 -- a step is paid for, but for the stop for the budget, which is free
-pub record CostsWhatItWrites (program : Program) (plan : Plan) (budget : ℕ) (l : Logging) (m : Moment) : Type 0 where
-  pub paid : m.taken.need ≢ Stopped → m.taken.need ≢ Budget → IsPaid program plan budget l m
-  pub free : m.taken.need ≡ Budget → IsFree program plan l m
+pub record CostsWhatItWrites (setting : Setting) (l : Logging) (m : Moment) : Type 0 where
+  pub paid : m.taken.need ≢ Stopped → m.taken.need ≢ Budget → IsPaid setting l m
+  pub free : m.taken.need ≡ Budget → IsFree setting.program setting.plan l m
 
 -- so it is with the next step of each process after each schedule
 abbrev pub StepsCostWhatTheyWrite : Type 0
 StepsCostWhatTheyWrite =
-    (program : Program) (plan : Plan) (budget : ℕ) (h : List ℕ) (p : ℕ) (l : Logging) → IsValid program
-    → IsValidPlan program plan → HasWholePrelogs program plan
-    → slice_get (loggings program plan budget h) p ≡ Some l
-    → CostsWhatItWrites program plan budget l (logged_moment program plan (told program plan budget h).world p)
+    (setting : Setting) (h : List ℕ) (p : ℕ) (l : Logging) → IsValid setting.program
+    → IsValidPlan setting.program setting.plan → HasWholePrelogs setting.program setting.plan
+    → slice_get (loggings setting h) p ≡ Some l
+    → CostsWhatItWrites setting l (logged_moment setting.program setting.plan (told setting h).world p)
 
 -- ---- a whole log
 
@@ -81,12 +82,12 @@ pub record HasSpentNothing (l : Logging) : Type 0 where
 -- whatever the entries written at the start hold, they cost nothing
 abbrev pub StartsAreFree : Type 0
 StartsAreFree =
-    (program : Program) (plan : Plan) (budget p : ℕ) (l : Logging)
-    → slice_get (loggings program plan budget []) p ≡ Some l → HasSpentNothing l
+    (setting : Setting) (p : ℕ) (l : Logging)
+    → slice_get (loggings setting []) p ≡ Some l → HasSpentNothing l
 
 -- so it is with each process after each schedule
 abbrev pub LogsArePaid : Type 0
 LogsArePaid =
-    (program : Program) (plan : Plan) (budget : ℕ) (h : List ℕ) (p : ℕ) (l : Logging) → IsValid program
-    → IsValidPlan program plan → HasWholePrelogs program plan
-    → slice_get (loggings program plan budget h) p ≡ Some l → HasSpent l
+    (setting : Setting) (h : List ℕ) (p : ℕ) (l : Logging) → IsValid setting.program
+    → IsValidPlan setting.program setting.plan → HasWholePrelogs setting.program setting.plan
+    → slice_get (loggings setting h) p ≡ Some l → HasSpent l

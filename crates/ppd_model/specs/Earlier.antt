@@ -1,4 +1,5 @@
 -- The events of a trace as those of the run, and what their writers and parents name.
+use Rattle.ppd_model.specs.Setting.{Setting}
 use Rattle.std.specs.Prelude.{◌≡◌, ℕ, ◌+◌, ◌<◌, List, [], ◌∷◌, map, Some, None, ⊤, if◌then◌else◌}
 use Rattle.ppd_ast.specs.declared.plan.Plan.{Plan}
 use Rattle.ppd_ast.specs.declared.program.Program.{Program}
@@ -25,9 +26,9 @@ own_events program plan s (x ∷ xs) =
 -- without writers, parents and pairs, a trace is what the process did
 abbrev pub TracesTellRuns : Type 0
 TracesTellRuns =
-    (program : Program) (plan : Plan) (budget : ℕ) (story : Story) (p : ℕ) (steps : List Taken)
-    → map (λ e. e.event) (tracing_of program plan budget story p steps).events
-    ≡ own_events program plan (started program plan p budget) steps
+    (setting : Setting) (story : Story) (p : ℕ) (steps : List Taken)
+    → map (λ e. e.event) (tracing_of setting story p steps).events
+    ≡ own_events setting.program setting.plan (started setting.program setting.plan p setting.budget) steps
 
 -- ---- earlier events
 
@@ -61,5 +62,5 @@ EachNamesEarlier p k (e ∷ es) = NamesEarlier p k e × EachNamesEarlier p (k + 
 -- so it is with each event of a trace
 abbrev pub TracesNameEarlierEvents : Type 0
 TracesNameEarlierEvents =
-    (program : Program) (plan : Plan) (budget : ℕ) (story : Story) (p : ℕ) (steps : List Taken)
-    → EachNamesEarlier p 0 (tracing_of program plan budget story p steps).events
+    (setting : Setting) (story : Story) (p : ℕ) (steps : List Taken)
+    → EachNamesEarlier p 0 (tracing_of setting story p steps).events

@@ -1,6 +1,6 @@
 -- How each process of a story ended.
+use Rattle.ppd_model.specs.Setting.{Setting}
 use Rattle.std.specs.Prelude.{◌≡◌, ℕ, ◌+◌, List, [], ◌∷◌, slice_get}
-use Rattle.ppd_ast.specs.declared.plan.Plan.{Plan}
 use Rattle.ppd_ast.specs.declared.program.Program.{Program}
 use Rattle.ppd_sem.specs.declared.proc.Proc.{Proc}
 use Rattle.ppd_model.specs.declared.closed.ProcEnd.{ProcEnd}
@@ -14,11 +14,11 @@ ends_by program b [] = []
 ends_by program b (s ∷ ss) = end_of (slice_get program.bodies b) s ∷ ends_by program (b + 1) ss
 
 -- how the processes of a story ended
-abbrev pub ends_of : Program → Plan → ℕ → Story → List ProcEnd
-ends_of program plan budget s = ends_by program program.functions (states program plan budget s)
+abbrev pub ends_of : Setting → Story → List ProcEnd
+ends_of setting s = ends_by setting.program setting.program.functions (states setting s)
 
 -- a closed run has the ends of its story
 abbrev pub StoriesTellEnds : Type 0
 StoriesTellEnds =
-    (program : Program) (plan : Plan) (budget : ℕ) (h : List ℕ)
-    → (close program plan budget h).ends ≡ ends_of program plan budget (story program plan budget h)
+    (setting : Setting) (h : List ℕ)
+    → (close setting h).ends ≡ ends_of setting (story setting h)

@@ -1,6 +1,5 @@
 -- Where the intervals of a process stand in its log: a prelog and its postlog, properly nested.
-use Rattle.ppd_ast.specs.declared.plan.Plan.{Plan}
-use Rattle.ppd_ast.specs.declared.program.Program.{Program}
+use Rattle.ppd_model.specs.Setting.{Setting}
 pub use Rattle.ppd_entry.specs.IntervalLogs.{Extent, functions_in}
 use Rattle.ppd_entry.specs.IntervalLogs.{indexed}
 use Rattle.ppd_entry.specs.declared.entry.Entry.{Entry}
@@ -88,6 +87,6 @@ pub record AreOfLog (x : Split) (kept closed : List Entry) : Type 0 where
 -- so it is after each schedule
 abbrev pub IntervalsAreOfLogs : Type 0
 IntervalsAreOfLogs =
-    (program : Program) (plan : Plan) (budget : ℕ) (h : List ℕ) (p : ℕ) (x : Split) (l : Logging)
-    → slice_get (splits program plan budget (story program plan budget h)) p ≡ Some x
-    → slice_get (loggings program plan budget h) p ≡ Some l → AreOfLog x l.entries (closed_log l)
+    (setting : Setting) (h : List ℕ) (p : ℕ) (x : Split) (l : Logging)
+    → slice_get (splits setting (story setting h)) p ≡ Some x
+    → slice_get (loggings setting h) p ≡ Some l → AreOfLog x l.entries (closed_log l)

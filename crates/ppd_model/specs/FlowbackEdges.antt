@@ -1,4 +1,5 @@
 -- The flowback edges of an item: where what it read, was left, was given and was let run by came from.
+use Rattle.ppd_model.specs.Setting.{Setting}
 use Rattle.std.specs.Prelude.{ℕ, ℤ, pos, List, [], ◌∷◌, ◌++◌, map, zip, get_or, slice_get, Option, Some, None, option_map, option_and_then}
 use Rattle.ppd_sem.specs.declared.event.Spot.{Spot}
 use Rattle.std.specs.Option.{option_map_or}
@@ -79,13 +80,13 @@ abbrev pub part_at : Split → ℕ → ℕ → Option Part
 part_at x k j = option_and_then (λ i. slice_get i.parts j) (slice_get x.spans k)
 
 -- the edges of item j of interval k of process p, in order, and None where there is no such item
-abbrev pub edges : Program → Plan → ℕ → Story → ℕ → ℕ → ℕ → Option (List FlowEdge)
-edges program plan budget story p k j =
-    let xs = splits program plan budget story in
-    option_and_then (λ x. option_and_then (edges_of_part program plan xs x) (part_at x k j)) (slice_get xs p)
+abbrev pub edges : Setting → Story → ℕ → ℕ → ℕ → Option (List FlowEdge)
+edges setting story p k j =
+    let xs = splits setting story in
+    option_and_then (λ x. option_and_then (edges_of_part setting.program setting.plan xs x) (part_at x k j)) (slice_get xs p)
 
 -- the last value of a shared cell, and where it was written
-abbrev pub last : Program → Plan → ℕ → Story → ℕ → ℤ × Origin
-last program plan budget story c =
-    let xs = splits program plan budget story in
+abbrev pub last : Setting → Story → ℕ → ℤ × Origin
+last setting story c =
+    let xs = splits setting story in
     (get_or story.cells c (pos 0), option_map_or (ref xs) (get_or story.writers c None) origin.Initial)

@@ -1,4 +1,5 @@
 -- The events of a schedule: each with the writers of what it read, its control parent and its pair.
+use Rattle.ppd_model.specs.Setting.{Setting}
 use Rattle.ppd_ast.specs.Lookups.{body_numbered, kind_of}
 use Rattle.ppd_ast.specs.declared.plan.Plan.{Plan}
 use Rattle.ppd_ast.specs.declared.program.Kind.{Kind}
@@ -191,11 +192,11 @@ begun_tracing s = record {
 }
 
 -- process p, traced by its own steps
-abbrev pub tracing_of : Program → Plan → ℕ → Story → ℕ → List Taken → Tracing
-tracing_of program plan budget story p steps =
-    fold (trace_step program plan story p) (begun_tracing (started program plan p budget)) steps
+abbrev pub tracing_of : Setting → Story → ℕ → List Taken → Tracing
+tracing_of setting story p steps =
+    fold (trace_step setting.program setting.plan story p) (begun_tracing (started setting.program setting.plan p setting.budget)) steps
 
 -- the full trace of a story: the events of each process
-abbrev pub full_trace : Program → Plan → ℕ → Story → Trace
-full_trace program plan budget story =
-    record { events = map (λ e. (tracing_of program plan budget story e.0 e.1).events) (enumerate_from 0 story.steps) }
+abbrev pub full_trace : Setting → Story → Trace
+full_trace setting story =
+    record { events = map (λ e. (tracing_of setting story e.0 e.1).events) (enumerate_from 0 story.steps) }

@@ -1,4 +1,5 @@
 -- The log intervals of a process and their items, from the process's own steps.
+use Rattle.ppd_model.specs.Setting.{Setting}
 use Rattle.std.specs.Prelude.{ℕ, ◌+◌, nat_eq, ℤ, Bool, false, List, [], ◌∷◌, ◌++◌, map, fold, drop, length, get_or, slice_get, position, Option, Some, None, is_some, if◌then◌else◌, unwrap_or, option_map, option_and_then}
 use Rattle.std.specs.List.{enumerate_from, flat_map}
 use Rattle.std.specs.Option.{option_map_or}
@@ -148,14 +149,14 @@ begun_split program plan p s =
     })
 
 -- process p in its intervals, by its own steps
-abbrev pub split_of : Program → Plan → ℕ → Story → ℕ → List Taken → Split
-split_of program plan budget story p steps =
-    fold (split_step program plan story p) (begun_split program plan p (started program plan p budget)) steps
+abbrev pub split_of : Setting → Story → ℕ → List Taken → Split
+split_of setting story p steps =
+    fold (split_step setting.program setting.plan story p) (begun_split setting.program setting.plan p (started setting.program setting.plan p setting.budget)) steps
 
 -- the processes of a story in their intervals
-abbrev pub splits : Program → Plan → ℕ → Story → List Split
-splits program plan budget story =
-    map (λ e. split_of program plan budget story e.0 e.1) (enumerate_from 0 story.steps)
+abbrev pub splits : Setting → Story → List Split
+splits setting story =
+    map (λ e. split_of setting story e.0 e.1) (enumerate_from 0 story.steps)
 
 -- ---- intervals
 
@@ -165,8 +166,8 @@ spans_in None = []
 spans_in (Some x) = x.spans
 
 -- the intervals of process p
-abbrev pub intervals : Program → Plan → ℕ → Story → ℕ → List Span
-intervals program plan budget story p = spans_in (slice_get (splits program plan budget story) p)
+abbrev pub intervals : Setting → Story → ℕ → List Span
+intervals setting story p = spans_in (slice_get (splits setting story) p)
 
 -- ---- items
 
@@ -181,10 +182,10 @@ abbrev pub items_of : Split → Span → List Item
 items_of x i = flat_map (item_of x) i.parts
 
 -- the items of interval k of process p, and None where there is no such interval
-abbrev pub items : Program → Plan → ℕ → Story → ℕ → ℕ → Option (List Item)
-items program plan budget story p k =
+abbrev pub items : Setting → Story → ℕ → ℕ → Option (List Item)
+items setting story p k =
     option_and_then (λ x. option_map (items_of x) (slice_get x.spans k))
-    (slice_get (splits program plan budget story) p)
+    (slice_get (splits setting story) p)
 
 -- ---- where an event is an item
 

@@ -1,8 +1,7 @@
 -- Items are whole: no part of an interval is dropped, and each event is an item of one interval.
+use Rattle.ppd_model.specs.Setting.{Setting}
 use Rattle.std.specs.Prelude.{◌≡◌, ℕ, ◌<◌, List, length, slice_get, Some}
 use Rattle.ppd_ast.specs.Valid.{IsValid}
-use Rattle.ppd_ast.specs.declared.plan.Plan.{Plan}
-use Rattle.ppd_ast.specs.declared.program.Program.{Program}
 use Rattle.ppd_model.specs.declared.flow.Origin.TheVariants as origin
 use Rattle.ppd_model.specs.Story.{story}
 use Rattle.ppd_model.specs.Intervals.{own, Span, Split, items_of, ref, splits}
@@ -32,6 +31,6 @@ pub record HasWholeItems (xs : List Split) (x : Split) (p : ℕ) : Type 0 where
 -- so it is with each process after each schedule of a valid program
 abbrev pub ItemsAreWhole : Type 0
 ItemsAreWhole =
-    (program : Program) (plan : Plan) (budget : ℕ) (h : List ℕ) (p : ℕ) (x : Split) → IsValid program
-    → slice_get (splits program plan budget (story program plan budget h)) p ≡ Some x
-    → HasWholeItems (splits program plan budget (story program plan budget h)) x p
+    (setting : Setting) (h : List ℕ) (p : ℕ) (x : Split) → IsValid setting.program
+    → slice_get (splits setting (story setting h)) p ≡ Some x
+    → HasWholeItems (splits setting (story setting h)) x p

@@ -1,4 +1,5 @@
 -- Laws of the definitions, which hold of every program, plan, budget and schedule.
+use Rattle.ppd_model.specs.Setting.{Setting}
 use Rattle.ppd_ast.specs.declared.plan.Plan.{Plan}
 use Rattle.ppd_ast.specs.declared.program.Program.{Program}
 use Rattle.ppd_entry.specs.declared.entry.Entry.{Entry}
@@ -27,43 +28,43 @@ use Rattle.std.specs.Prelude.{IsTrue, List, None, Some, [], false, fold, get_or,
 -- ---- one more step
 
 -- the story of the schedule with a step of p after it
-pub record HasOneMoreStep (program : Program) (plan : Plan) (budget : ℕ) (h : List ℕ) (p : ℕ) : Type 0 where
-  pub told_is : told program plan budget (h ++ p ∷ []) ≡ tell program plan (told program plan budget h) p
-  pub steps_are : (story program plan budget (h ++ p ∷ [])).steps
-      ≡ change (λ xs. xs ++ (moment_of program plan (told program plan budget h) p).taken ∷ []) p
-      (story program plan budget h).steps
-  pub cells_are : (story program plan budget (h ++ p ∷ [])).cells
-      ≡ (step program plan (told program plan budget h).world p).shared
-  pub writers_are : (story program plan budget (h ++ p ∷ [])).writers
-      ≡ writers_after (told program plan budget h) p (need program plan (told program plan budget h).world p)
+pub record HasOneMoreStep (setting : Setting) (h : List ℕ) (p : ℕ) : Type 0 where
+  pub told_is : told setting (h ++ p ∷ []) ≡ tell setting.program setting.plan (told setting h) p
+  pub steps_are : (story setting (h ++ p ∷ [])).steps
+      ≡ change (λ xs. xs ++ (moment_of setting.program setting.plan (told setting h) p).taken ∷ []) p
+      (story setting h).steps
+  pub cells_are : (story setting (h ++ p ∷ [])).cells
+      ≡ (step setting.program setting.plan (told setting h).world p).shared
+  pub writers_are : (story setting (h ++ p ∷ [])).writers
+      ≡ writers_after (told setting h) p (need setting.program setting.plan (told setting h).world p)
 
 -- each story grows by what the step is
 abbrev pub StoriesGrow : Type 0
 StoriesGrow =
-    (program : Program) (plan : Plan) (budget : ℕ) (h : List ℕ) (p : ℕ) → HasOneMoreStep program plan budget h p
+    (setting : Setting) (h : List ℕ) (p : ℕ) → HasOneMoreStep setting h p
 
 -- the world of which a story is told is the one that the schedule comes to
 abbrev pub StoriesAreOfRuns : Type 0
 StoriesAreOfRuns =
-    (program : Program) (plan : Plan) (budget : ℕ) (h : List ℕ) (w : World) → run program plan budget h ≡ Some w
-    → (told program plan budget h).world ≡ w
+    (setting : Setting) (h : List ℕ) (w : World) → run setting h ≡ Some w
+    → (told setting h).world ≡ w
 
 -- ---- a process by its own steps
 
 -- the states of the processes, as the world, the traces, the intervals and the logs of a story have them
-pub record HasOneState (program : Program) (plan : Plan) (budget : ℕ) (h : List ℕ) : Type 0 where
-  pub worlds : (told program plan budget h).world.procs ≡ states program plan budget (story program plan budget h)
-  pub logged : map (λ l. l.proc) (loggings program plan budget h)
-      ≡ states program plan budget (story program plan budget h)
+pub record HasOneState (setting : Setting) (h : List ℕ) : Type 0 where
+  pub worlds : (told setting h).world.procs ≡ states setting (story setting h)
+  pub logged : map (λ l. l.proc) (loggings setting h)
+      ≡ states setting (story setting h)
   pub traced : (s : Story) (p : ℕ) (steps : List Taken)
-      → (tracing_of program plan budget s p steps).proc ≡ state_of program plan budget p steps
+      → (tracing_of setting s p steps).proc ≡ state_of setting p steps
   pub split : (s : Story) (p : ℕ) (steps : List Taken)
-      → (split_of program plan budget s p steps).trace ≡ tracing_of program plan budget s p steps
+      → (split_of setting s p steps).trace ≡ tracing_of setting s p steps
 
 -- each process comes to what its own steps lead to
 abbrev pub ProcessesFollowTheirSteps : Type 0
 ProcessesFollowTheirSteps =
-    (program : Program) (plan : Plan) (budget : ℕ) (h : List ℕ) → HasOneState program plan budget h
+    (setting : Setting) (h : List ℕ) → HasOneState setting h
 
 -- ---- logs
 
@@ -79,10 +80,10 @@ logged_moment program plan w p =
 -- a step adds its entries to the log of its process
 abbrev pub LogsGrow : Type 0
 LogsGrow =
-    (program : Program) (plan : Plan) (budget : ℕ) (h : List ℕ) (p : ℕ)
-    → loggings program plan budget (h ++ p ∷ [])
-    ≡ change (λ l. log_step program plan l (logged_moment program plan (told program plan budget h).world p)) p
-    (loggings program plan budget h)
+    (setting : Setting) (h : List ℕ) (p : ℕ)
+    → loggings setting (h ++ p ∷ [])
+    ≡ change (λ l. log_step setting.program setting.plan l (logged_moment setting.program setting.plan (told setting h).world p)) p
+    (loggings setting h)
 
 -- ---- equal stories
 
@@ -92,36 +93,36 @@ without_values (entry.Unit u values) = entry.Unit u []
 without_values e = e
 
 -- all that is found in two schedules is the same, of the logs but for the values of units
-pub record HasOneHistory (program : Program) (plan : Plan) (budget : ℕ) (h h' : List ℕ) : Type 0 where
-  pub traces : full_trace program plan budget (story program plan budget h)
-      ≡ full_trace program plan budget (story program plan budget h')
-  pub records : sync_record program plan budget h ≡ sync_record program plan budget h'
-  pub all_accesses : (p : ℕ) → accesses (story program plan budget h) p ≡ accesses (story program plan budget h') p
-  pub all_races : races program plan budget h ≡ races program plan budget h'
+pub record HasOneHistory (setting : Setting) (h h' : List ℕ) : Type 0 where
+  pub traces : full_trace setting (story setting h)
+      ≡ full_trace setting (story setting h')
+  pub records : sync_record setting h ≡ sync_record setting h'
+  pub all_accesses : (p : ℕ) → accesses (story setting h) p ≡ accesses (story setting h') p
+  pub all_races : races setting h ≡ races setting h'
   pub all_intervals : (p : ℕ)
-      → intervals program plan budget (story program plan budget h) p
-      ≡ intervals program plan budget (story program plan budget h') p
+      → intervals setting (story setting h) p
+      ≡ intervals setting (story setting h') p
   pub all_items : (p k : ℕ)
-      → items program plan budget (story program plan budget h) p k
-      ≡ items program plan budget (story program plan budget h') p k
+      → items setting (story setting h) p k
+      ≡ items setting (story setting h') p k
   pub all_edges : (p k j : ℕ)
-      → edges program plan budget (story program plan budget h) p k j
-      ≡ edges program plan budget (story program plan budget h') p k j
+      → edges setting (story setting h) p k j
+      ≡ edges setting (story setting h') p k j
   pub last_values : (c : ℕ)
-      → last program plan budget (story program plan budget h) c
-      ≡ last program plan budget (story program plan budget h') c
+      → last setting (story setting h) c
+      ≡ last setting (story setting h') c
   pub near : (p k j : ℕ)
-      → near_intervals program plan budget (story program plan budget h) p k j
-      ≡ near_intervals program plan budget (story program plan budget h') p k j
-  pub all_logs : map (map without_values) (closed_logs program plan budget h).lists
-      ≡ map (map without_values) (closed_logs program plan budget h').lists
-  pub all_ends : (close program plan budget h).ends ≡ (close program plan budget h').ends
+      → near_intervals setting (story setting h) p k j
+      ≡ near_intervals setting (story setting h') p k j
+  pub all_logs : map (map without_values) (closed_logs setting h).lists
+      ≡ map (map without_values) (closed_logs setting h').lists
+  pub all_ends : (close setting h).ends ≡ (close setting h').ends
 
 -- two schedules with one story have one history
 abbrev pub StoriesTellAll : Type 0
 StoriesTellAll =
-    (program : Program) (plan : Plan) (budget : ℕ) (h h' : List ℕ)
-    → story program plan budget h ≡ story program plan budget h' → HasOneHistory program plan budget h h'
+    (setting : Setting) (h h' : List ℕ)
+    → story setting h ≡ story setting h' → HasOneHistory setting h h'
 
 -- ---- happened before
 
@@ -152,9 +153,9 @@ LastEdgesAreOpen = (program : Program) (syncs : List (List Sync)) (p : ℕ) → 
 -- the synchronizations of one kind and object have the numbers after its first count through its last, each once
 abbrev pub SynchronizationsAreCounted : Type 0
 SynchronizationsAreCounted =
-    (program : Program) (plan : Plan) (budget : ℕ) (h : List ℕ)
-    → IsCounted (count_of (started_world program plan budget)) (count_of (told program plan budget h).world)
-    (sync_record program plan budget h)
+    (setting : Setting) (h : List ℕ)
+    → IsCounted (count_of (started_world setting)) (count_of (told setting h).world)
+    (sync_record setting h)
 
 -- ---- races
 
@@ -211,12 +212,12 @@ pub record IsTagged (program : Program) (plan : Plan) (c : ℕ) (t now : Telling
   pub last : IsLastWrite program plan c t h (get_or now.world.shared c (pos 0)) event
 
 -- what is told before the first step
-abbrev pub begins : Program → Plan → ℕ → Telling
-begins program plan budget = begun (started_world program plan budget)
+abbrev pub begins : Setting → Telling
+begins setting = begun (started_world setting)
 
 -- the tag of a shared cell is the event that last wrote it, with its value, and none where nothing did
 abbrev pub TagsAreLastWrites : Type 0
 TagsAreLastWrites =
-    (program : Program) (plan : Plan) (budget : ℕ) (h : List ℕ) (c : ℕ) → c < length program.starts
-    → IsAtStart program plan c (begins program plan budget) (told program plan budget h) h
-    ⊎ IsTagged program plan c (begins program plan budget) (told program plan budget h) h
+    (setting : Setting) (h : List ℕ) (c : ℕ) → c < length setting.program.starts
+    → IsAtStart setting.program setting.plan c (begins setting) (told setting h) h
+    ⊎ IsTagged setting.program setting.plan c (begins setting) (told setting h) h

@@ -5,6 +5,7 @@ pub use Rattle.ppd_entry.specs.Entries
 pub use Rattle.ppd_sem.specs.Tables
 pub use Rattle.ppd_ast.specs.declared.status.SyncKind
 pub use Rattle.ppd_entry.specs.declared.entry.Entry
+pub mod Setting
 pub mod World
 pub mod Schedule
 pub mod Story

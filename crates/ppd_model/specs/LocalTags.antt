@@ -1,4 +1,5 @@
 -- The events that write the local cells of a process, and the tags that the cells then have.
+use Rattle.ppd_model.specs.Setting.{Setting}
 use Rattle.ppd_ast.specs.declared.plan.Plan.{Plan}
 use Rattle.ppd_ast.specs.declared.program.Program.{Program}
 use Rattle.ppd_model.specs.FullTrace.{Activation, Tag, Tracing, begun_tracing, event_of, me_in, tag_past, top_tags, trace_step, tracing_of}
@@ -106,8 +107,8 @@ AreOwn program plan s (x ∷ xs) =
 -- the steps that a story tells of a process are its own
 abbrev pub StoriesTellOwnSteps : Type 0
 StoriesTellOwnSteps =
-    (program : Program) (plan : Plan) (budget : ℕ) (h : List ℕ) (p : ℕ)
-    → AreOwn program plan (started program plan p budget) (get_or (story program plan budget h).steps p [])
+    (setting : Setting) (h : List ℕ) (p : ℕ)
+    → AreOwn setting.program setting.plan (started setting.program setting.plan p setting.budget) (get_or (story setting h).steps p [])
 
 -- through these steps the activation goes on, and none writes the cell
 abbrev pub IsSteady : Program → Plan → ℕ → ℕ → Proc → List Taken → Type 0
@@ -166,18 +167,18 @@ pub record HasLocalTags (program : Program) (plan : Plan) (story : Story) (p : �
 -- so it is after all steps of the process's own, from its start
 abbrev pub LocalTagsAreLastWrites : Type 0
 LocalTagsAreLastWrites =
-    (program : Program) (plan : Plan) (budget : ℕ) (story : Story) (p : ℕ) (steps : List Taken)
-    → AreOwn program plan (started program plan p budget) steps
-    → HasLocalTags program plan story p (begun_tracing (started program plan p budget))
-    (tracing_of program plan budget story p steps) steps
+    (setting : Setting) (story : Story) (p : ℕ) (steps : List Taken)
+    → AreOwn setting.program setting.plan (started setting.program setting.plan p setting.budget) steps
+    → HasLocalTags setting.program setting.plan story p (begun_tracing (started setting.program setting.plan p setting.budget))
+    (tracing_of setting story p steps) steps
 
 -- so it is at each time of a schedule, after the steps that the process took before it
 abbrev pub SchedulesTagLastWrites : Type 0
 SchedulesTagLastWrites =
-    (program : Program) (plan : Plan) (budget : ℕ) (h : List ℕ) (p : ℕ) (before after : List Taken)
-    → get_or (story program plan budget h).steps p [] ≡ before ++ after
-    → HasLocalTags program plan (story program plan budget h) p (begun_tracing (started program plan p budget))
-    (tracing_of program plan budget (story program plan budget h) p before) before
+    (setting : Setting) (h : List ℕ) (p : ℕ) (before after : List Taken)
+    → get_or (story setting h).steps p [] ≡ before ++ after
+    → HasLocalTags setting.program setting.plan (story setting h) p (begun_tracing (started setting.program setting.plan p setting.budget))
+    (tracing_of setting (story setting h) p before) before
 
 -- a local cell that an event reads is one of the top activation, and its tag is that cell's
 abbrev pub ReadsAreOfTheTop : Type 0

@@ -1,4 +1,5 @@
 -- The log of each process: the entries that its steps write.
+use Rattle.ppd_model.specs.Setting.{Setting}
 use Rattle.std.specs.Prelude.{ℕ, ◌+◌, ◌-◌, ℤ, pos, List, [], ◌∷◌, ◌++◌, map, fold, Option, Some, None, is_none, slice_get, unwrap_or, if◌then◌else◌}
 use Rattle.std.specs.List.{enumerate_from}
 use Rattle.std.specs.Option.{option_map_or}
@@ -103,31 +104,31 @@ log_step program plan l m =
 -- ---- a process, and all of them
 
 -- before the first step the process's own block is entered and the unit of its entry starts
-abbrev pub begun_log : Program → Plan → ℕ → ℕ → Logging
-begun_log program plan budget p =
-    let body = program.functions + p in
-    let u = unit_of plan (start.Entry body) in
+abbrev pub begun_log : Setting → ℕ → Logging
+begun_log setting p =
+    let body = setting.program.functions + p in
+    let u = unit_of setting.plan (start.Entry body) in
     record {
-      proc = started program plan p budget;
+      proc = started setting.program setting.plan p setting.budget;
       reads = [];
       writes = [];
       rest = 0;
-      entries = entry.Prelog (unwrap_or (block_of plan (block.Process body)) 0) []
-          ∷ entry.Unit u (values_of_unit plan program.starts u) ∷ [];
+      entries = entry.Prelog (unwrap_or (block_of setting.plan (block.Process body)) 0) []
+          ∷ entry.Unit u (values_of_unit setting.plan setting.program.starts u) ∷ [];
     }
 
 -- process p with its log, by its own steps and the values of their units
-abbrev pub log_of : Program → Plan → ℕ → ℕ → List Moment → Logging
-log_of program plan budget p moments = fold (log_step program plan) (begun_log program plan budget p) moments
+abbrev pub log_of : Setting → ℕ → List Moment → Logging
+log_of setting p moments = fold (log_step setting.program setting.plan) (begun_log setting p) moments
 
 -- each process with its log
-abbrev pub loggings : Program → Plan → ℕ → List ℕ → List Logging
-loggings program plan budget h =
-    map (λ e. log_of program plan budget e.0 e.1) (enumerate_from 0 (told program plan budget h).moments)
+abbrev pub loggings : Setting → List ℕ → List Logging
+loggings setting h =
+    map (λ e. log_of setting e.0 e.1) (enumerate_from 0 (told setting h).moments)
 
 -- the logs that the steps of a schedule wrote, which need not be whole
-abbrev pub kept_logs : Program → Plan → ℕ → List ℕ → Logs
-kept_logs program plan budget h = record { lists = map (λ l. l.entries) (loggings program plan budget h) }
+abbrev pub kept_logs : Setting → List ℕ → Logs
+kept_logs setting h = record { lists = map (λ l. l.entries) (loggings setting h) }
 
 -- ---- whole schedules
 
@@ -137,8 +138,8 @@ closed_log l =
     l.entries ++ (if is_none l.proc.status then entry.End status.Blocked l.rest l.reads l.writes ∷ [] else [])
 
 -- the logs of a whole schedule
-abbrev pub closed_logs : Program → Plan → ℕ → List ℕ → Logs
-closed_logs program plan budget h = record { lists = map closed_log (loggings program plan budget h) }
+abbrev pub closed_logs : Setting → List ℕ → Logs
+closed_logs setting h = record { lists = map closed_log (loggings setting h) }
 
 -- how a process ended, with the statement that would come next or else the last one of the body: one that is still
 -- running is blocked
@@ -156,8 +157,8 @@ abbrev pub ends_from : Program → ℕ → List Logging → List ProcEnd
 ends_from program b ls = map (λ e. end_of (slice_get program.bodies e.0) e.1.proc) (enumerate_from b ls)
 
 -- the logs of a whole schedule with how each process ended
-abbrev pub close : Program → Plan → ℕ → List ℕ → Closed
-close program plan budget h = record {
-  logs = closed_logs program plan budget h;
-  ends = ends_from program program.functions (loggings program plan budget h);
+abbrev pub close : Setting → List ℕ → Closed
+close setting h = record {
+  logs = closed_logs setting h;
+  ends = ends_from setting.program setting.program.functions (loggings setting h);
 }

@@ -1,11 +1,11 @@
 -- The intervals near to an item: those of its own surroundings and of the origins of its edges.
+use Rattle.ppd_model.specs.Setting.{Setting}
 use Rattle.std.specs.Prelude.{ℕ, ◌+◌, nat_eq, Bool, true, false, ◌&&◌, ◌||◌, List, [], ◌∷◌, ◌++◌, drop, take, slice_get, count_by, sum_by, Option, Some, None, is_some, if◌then◌else◌}
 use Rattle.std.specs.List.{list_any}
 use Rattle.ppd_sem.specs.Blocks.{block_kind}
 use Rattle.ppd_ast.specs.declared.plan.BlockKind.{BlockKind}
 use Rattle.ppd_ast.specs.declared.plan.BlockKind.TheVariants as block
 use Rattle.ppd_ast.specs.declared.plan.Plan.{Plan}
-use Rattle.ppd_ast.specs.declared.program.Program.{Program}
 use Rattle.ppd_model.specs.declared.flow.FlowEdge.{FlowEdge}
 use Rattle.ppd_model.specs.declared.flow.Origin.{Origin}
 use Rattle.ppd_model.specs.declared.flow.Origin.TheVariants as origin
@@ -77,10 +77,10 @@ edges_or_none None = []
 edges_or_none (Some es) = es
 
 -- interval m of process q, for item j of interval k of process p
-abbrev pub is_near : Program → Plan → ℕ → Story → ℕ → ℕ → ℕ → ℕ → Split → ℕ → Span → Bool
-is_near program plan budget story p k j q x m i =
-    (nat_eq p q && (is_round plan (surroundings x k) m i || is_open_at x (part_at x k j) i))
-    || list_any (λ e. is_near_origin q x m i e.from) (edges_or_none (edges program plan budget story p k j))
+abbrev pub is_near : Setting → Story → ℕ → ℕ → ℕ → ℕ → Split → ℕ → Span → Bool
+is_near setting story p k j q x m i =
+    (nat_eq p q && (is_round setting.plan (surroundings x k) m i || is_open_at x (part_at x k j) i))
+    || list_any (λ e. is_near_origin q x m i e.from) (edges_or_none (edges setting story p k j))
 
 -- the intervals of one process that pass, from number m on
 abbrev pub passing : (ℕ → Span → Bool) → ℕ → List Span → List Span
@@ -93,13 +93,13 @@ near_from near q [] = []
 near_from near q (x ∷ xs) = passing (near q x) 0 x.spans ++ near_from near (q + 1) xs
 
 -- the intervals near to item j of interval k of process p
-abbrev pub near_intervals : Program → Plan → ℕ → Story → ℕ → ℕ → ℕ → List Span
-near_intervals program plan budget story p k j =
-    near_from (is_near program plan budget story p k j) 0 (splits program plan budget story)
+abbrev pub near_intervals : Setting → Story → ℕ → ℕ → ℕ → List Span
+near_intervals setting story p k j =
+    near_from (is_near setting story p k j) 0 (splits setting story)
 
 -- the own steps of all of them
-abbrev pub near_steps : Program → Plan → ℕ → Story → ℕ → ℕ → ℕ → ℕ
-near_steps program plan budget story p k j = sum_by (λ i. i.steps) (near_intervals program plan budget story p k j)
+abbrev pub near_steps : Setting → Story → ℕ → ℕ → ℕ → ℕ
+near_steps setting story p k j = sum_by (λ i. i.steps) (near_intervals setting story p k j)
 
 -- ---- the last value of a cell
 
@@ -115,10 +115,10 @@ open_at_origin xs origin.Entry = []
 open_at_origin xs (origin.Item p k j) = open_beside (slice_get xs p) k j
 
 -- the intervals that are open where the last value of shared cell c was written
-abbrev pub last_intervals : Program → Plan → ℕ → Story → ℕ → List Span
-last_intervals program plan budget story c =
-    open_at_origin (splits program plan budget story) (last program plan budget story c).1
+abbrev pub last_intervals : Setting → Story → ℕ → List Span
+last_intervals setting story c =
+    open_at_origin (splits setting story) (last setting story c).1
 
 -- the own steps of all of them
-abbrev pub last_steps : Program → Plan → ℕ → Story → ℕ → ℕ
-last_steps program plan budget story c = sum_by (λ i. i.steps) (last_intervals program plan budget story c)
+abbrev pub last_steps : Setting → Story → ℕ → ℕ
+last_steps setting story c = sum_by (λ i. i.steps) (last_intervals setting story c)

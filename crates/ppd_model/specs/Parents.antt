@@ -1,4 +1,5 @@
 -- The control parent of an event, told by the events that were before it in its activation.
+use Rattle.ppd_model.specs.Setting.{Setting}
 use Rattle.ppd_ast.specs.Lookups.{kind_of}
 use Rattle.ppd_ast.specs.Numbered.{is_call, is_while}
 use Rattle.ppd_ast.specs.Valid.{IsValid}
@@ -150,10 +151,10 @@ pub record HasParent (program : Program) (plan : Plan) (story : Story) (p : ℕ)
 -- so it is of each event of the trace of a schedule
 abbrev pub ParentsAreLatestTests : Type 0
 ParentsAreLatestTests =
-    (program : Program) (plan : Plan) (budget : ℕ) (h : List ℕ) (p n : ℕ) (e : TracedEvent)
-    → slice_get (get_or (full_trace program plan budget (story program plan budget h)).events p []) n ≡ Some e
-    → HasParent program plan (story program plan budget h) p (begun_tracing (started program plan p budget))
-    (get_or (story program plan budget h).steps p []) n e
+    (setting : Setting) (h : List ℕ) (p n : ℕ) (e : TracedEvent)
+    → slice_get (get_or (full_trace setting (story setting h)).events p []) n ≡ Some e
+    → HasParent setting.program setting.plan (story setting h) p (begun_tracing (started setting.program setting.plan p setting.budget))
+    (get_or (story setting h).steps p []) n e
 
 -- ---- valid programs
 
@@ -191,27 +192,27 @@ pub record HasTestedOuter (program : Program) (plan : Plan) (story : Story) (p :
 -- so it is of each event of a schedule of a valid program
 abbrev pub OutersAreTested : Type 0
 OutersAreTested =
-    (program : Program) (plan : Plan) (budget : ℕ) (h : List ℕ) (p : ℕ) (before : List Taken) (taken : Taken)
+    (setting : Setting) (h : List ℕ) (p : ℕ) (before : List Taken) (taken : Taken)
     (after : List Taken)
-    → IsValid program → get_or (story program plan budget h).steps p [] ≡ before ++ taken ∷ after
+    → IsValid setting.program → get_or (story setting h).steps p [] ≡ before ++ taken ∷ after
     → is_event taken.need ≡ true
-    → HasTestedOuter program plan (story program plan budget h) p
-    (begun_tracing (started program plan p budget)) before taken
+    → HasTestedOuter setting.program setting.plan (story setting h) p
+    (begun_tracing (started setting.program setting.plan p setting.budget)) before taken
 
 -- since a true test of a `While` that is the latest one, the events in its activation are all of
 -- statements inside the loop: the run of the loop goes on
 abbrev pub LoopRunsStayInside : Type 0
 LoopRunsStayInside =
-    (program : Program) (plan : Plan) (budget : ℕ) (h : List ℕ) (p : ℕ) (before after : List Taken) (k s : ℕ)
+    (setting : Setting) (h : List ℕ) (p : ℕ) (before after : List Taken) (k s : ℕ)
     (event : EventId)
-    → IsValid program → get_or (story program plan budget h).steps p [] ≡ before ++ after
-    → is_while (kind_of program s) ≡ true
-    → (l : IsLatestTest program plan (story program plan budget h) p k s
-    (begun_tracing (started program plan p budget)) before event true)
-    → StaysInside program plan k s
-    (act program plan
-    (traced_to program plan (story program plan budget h) p
-    (begun_tracing (started program plan p budget)) l.before).proc l.taken.answer) l.after
+    → IsValid setting.program → get_or (story setting h).steps p [] ≡ before ++ after
+    → is_while (kind_of setting.program s) ≡ true
+    → (l : IsLatestTest setting.program setting.plan (story setting h) p k s
+    (begun_tracing (started setting.program setting.plan p setting.budget)) before event true)
+    → StaysInside setting.program setting.plan k s
+    (act setting.program setting.plan
+    (traced_to setting.program setting.plan (story setting h) p
+    (begun_tracing (started setting.program setting.plan p setting.budget)) l.before).proc l.taken.answer) l.after
 
 -- the statement is of a top list, and the parent is the call, and none in a process
 pub record IsOfTopList (program : Program) (plan : Plan) (story : Story) (p k s : ℕ) (t : Tracing)
@@ -234,7 +235,7 @@ pub record HasValidParent (program : Program) (plan : Plan) (story : Story) (p :
 -- so it is of each event of the trace of a schedule of a valid program
 abbrev pub ValidParents : Type 0
 ValidParents =
-    (program : Program) (plan : Plan) (budget : ℕ) (h : List ℕ) (p n : ℕ) (e : TracedEvent) → IsValid program
-    → slice_get (get_or (full_trace program plan budget (story program plan budget h)).events p []) n ≡ Some e
-    → HasValidParent program plan (story program plan budget h) p (begun_tracing (started program plan p budget))
-    (get_or (story program plan budget h).steps p []) n e
+    (setting : Setting) (h : List ℕ) (p n : ℕ) (e : TracedEvent) → IsValid setting.program
+    → slice_get (get_or (full_trace setting (story setting h)).events p []) n ≡ Some e
+    → HasValidParent setting.program setting.plan (story setting h) p (begun_tracing (started setting.program setting.plan p setting.budget))
+    (get_or (story setting h).steps p []) n e

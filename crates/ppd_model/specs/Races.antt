@@ -1,11 +1,11 @@
 -- The races among edges, all and only, in order: of two processes, neither before the other, over a cell that one of
 -- them writes. Those of a story, and of a schedule, are the races among its edges.
+use Rattle.ppd_model.specs.Setting.{Setting}
 use Rattle.ppd_model.specs.Synchronizations.{sync_of}
 use Rattle.std.specs.Bool.{beq}
 use Rattle.std.specs.Prelude.{ℕ, ◌+◌, ◌-◌, nat_eq, Bool, true, false, ◌&&◌, ◌||◌, not, List, [], ◌∷◌, map, filter, length, get_or, filter_map}
 use Rattle.std.specs.List.{list_any, flat_map, range_with_len}
 use Rattle.ppd_ast.specs.declared.program.Program.{Program}
-use Rattle.ppd_ast.specs.declared.plan.Plan.{Plan}
 use Rattle.ppd_model.specs.declared.graph.EdgeId.{EdgeId}
 use Rattle.ppd_model.specs.declared.graph.Race.{Race}
 use Rattle.ppd_model.specs.declared.graph.RaceKind.{RaceKind}
@@ -87,5 +87,5 @@ edges_of_story program s = record {
 }
 
 -- the races of a schedule
-abbrev pub races : Program → Plan → ℕ → List ℕ → List Race
-races program plan budget h = races_among (edges_of_story program (story program plan budget h))
+abbrev pub races : Setting → List ℕ → List Race
+races setting h = races_among (edges_of_story setting.program (story setting h))

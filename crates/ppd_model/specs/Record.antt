@@ -1,7 +1,6 @@
 -- The record of a schedule, its synchronizations by process, and the accesses to shared cells between them.
+use Rattle.ppd_model.specs.Setting.{Setting}
 use Rattle.std.specs.Prelude.{ℕ, ◌+◌, Bool, true, false, List, [], ◌∷◌, ◌++◌, map, is_some, if◌then◌else◌, get_or, filter_map}
-use Rattle.ppd_ast.specs.declared.program.Program.{Program}
-use Rattle.ppd_ast.specs.declared.plan.Plan.{Plan}
 use Rattle.ppd_sem.specs.declared.proc.Need.{Need}
 use Rattle.ppd_sem.specs.declared.proc.Need.TheVariants.{Read, Write}
 use Rattle.ppd_model.specs.Story.{Taken, Story, story}
@@ -12,8 +11,8 @@ abbrev pub record_of : Story → List (List Sync)
 record_of s = map (filter_map sync_of) s.steps
 
 -- the record of a schedule
-abbrev pub sync_record : Program → Plan → ℕ → List ℕ → List (List Sync)
-sync_record program plan budget h = record_of (story program plan budget h)
+abbrev pub sync_record : Setting → List ℕ → List (List Sync)
+sync_record setting h = record_of (story setting h)
 
 -- ---- accesses
 

@@ -1,11 +1,10 @@
 -- What logs record of a run: its synchronizations, and the shared cells that each internal edge accesses.
+use Rattle.ppd_model.specs.Setting.{Setting}
 use Rattle.std.specs.Bool.{beq}
 use Rattle.std.specs.Prelude.{◌≡◌, ℕ, ◌<◌, nat_eq, Bool, true, false, ◌&&◌, List, [], ◌∷◌, ◌++◌, map, filter, filter_map, fold, length, slice_get, Option, Some, None, get_or}
 use Rattle.std.specs.List.{list_any, range_with_len}
 use Rattle.std.specs.List.Sorted.{IsStrictlyIncreasing}
 use Rattle.ppd_ast.specs.Valid.{IsValid}
-use Rattle.ppd_ast.specs.declared.plan.Plan.{Plan}
-use Rattle.ppd_ast.specs.declared.program.Program.{Program}
 use Rattle.ppd_ast.specs.declared.status.Status.{Status}
 use Rattle.ppd_ast.specs.Members.{with_cell}
 use Rattle.ppd_entry.specs.declared.entry.Entry.{Entry}
@@ -31,14 +30,14 @@ abbrev pub record_in : Logs → List (List Sync)
 record_in logs = map (filter_map sync_in) logs.lists
 
 -- the synchronizations that the logs of a schedule tell, closed or not, are its record
-pub record RecordsSynchronizations (program : Program) (plan : Plan) (budget : ℕ) (h : List ℕ) : Type 0 where
-  pub closed : record_in (closed_logs program plan budget h) ≡ sync_record program plan budget h
-  pub kept : record_in (kept_logs program plan budget h) ≡ sync_record program plan budget h
+pub record RecordsSynchronizations (setting : Setting) (h : List ℕ) : Type 0 where
+  pub closed : record_in (closed_logs setting h) ≡ sync_record setting h
+  pub kept : record_in (kept_logs setting h) ≡ sync_record setting h
 
 -- so it is with each schedule
 abbrev pub LogsRecordSynchronizations : Type 0
 LogsRecordSynchronizations =
-    (program : Program) (plan : Plan) (budget : ℕ) (h : List ℕ) → RecordsSynchronizations program plan budget h
+    (setting : Setting) (h : List ℕ) → RecordsSynchronizations setting h
 
 -- ---- the cells of an internal edge
 
@@ -70,8 +69,8 @@ CellsAreOfAccesses = (s : Story) (p i : ℕ) (writes : Bool) → AreCellsOf s p 
 -- in a valid program each of them is one of its shared cells
 abbrev pub AccessesAreOfCells : Type 0
 AccessesAreOfCells =
-    (program : Program) (plan : Plan) (budget : ℕ) (h : List ℕ) (p m : ℕ) (a : SharedAccess) → IsValid program
-    → slice_get (accesses (story program plan budget h) p) m ≡ Some a → a.cell < length program.starts
+    (setting : Setting) (h : List ℕ) (p m : ℕ) (a : SharedAccess) → IsValid setting.program
+    → slice_get (accesses (story setting h) p) m ≡ Some a → a.cell < length setting.program.starts
 
 -- ---- recorded sets
 
@@ -98,6 +97,6 @@ pub record RecordsAccesses (s : Story) (p : ℕ) (entries : List Entry) : Type 0
 -- so it is with each log of a schedule of a valid program
 abbrev pub LogsRecordAccesses : Type 0
 LogsRecordAccesses =
-    (program : Program) (plan : Plan) (budget : ℕ) (h : List ℕ) (p : ℕ) (entries : List Entry) → IsValid program
-    → slice_get (closed_logs program plan budget h).lists p ≡ Some entries
-    → RecordsAccesses (story program plan budget h) p entries
+    (setting : Setting) (h : List ℕ) (p : ℕ) (entries : List Entry) → IsValid setting.program
+    → slice_get (closed_logs setting h).lists p ≡ Some entries
+    → RecordsAccesses (story setting h) p entries

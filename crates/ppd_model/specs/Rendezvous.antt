@@ -1,7 +1,7 @@
 -- Channels of capacity 0: the counts of a channel, what a completion leads to and comes from, and that
 -- an offer and its completion are the steps of one statement, one straight after the other.
+use Rattle.ppd_model.specs.Setting.{Setting}
 use Rattle.std.specs.Prelude.{◌≡◌, ℕ, ◌+◌, ◌≤◌, ℤ, ◌⊎◌, ◌↔◌, IsTrue, List, [], ◌∷◌, ◌++◌, length, slice_get, Option, Some, get_or}
-use Rattle.ppd_ast.specs.declared.plan.Plan.{Plan}
 use Rattle.ppd_ast.specs.declared.program.Program.{Program}
 use Rattle.ppd_ast.specs.declared.status.SyncKind.TheVariants.{Send, Recv, Done}
 use Rattle.ppd_sem.specs.declared.proc.Need.TheVariants as need
@@ -29,8 +29,8 @@ pub record IsInTurn (x : Channel) : Type 0 where
 -- so it is with each channel after each schedule
 abbrev pub ChannelsAreInTurn : Type 0
 ChannelsAreInTurn =
-    (program : Program) (plan : Plan) (budget : ℕ) (h : List ℕ) (w : World) (c : ℕ) (x : Channel)
-    → run program plan budget h ≡ Some w → slice_get w.chans c ≡ Some x → IsInTurn x
+    (setting : Setting) (h : List ℕ) (w : World) (c : ℕ) (x : Channel)
+    → run setting h ≡ Some w → slice_get w.chans c ≡ Some x → IsInTurn x
 
 -- ---- pairs
 
@@ -50,41 +50,41 @@ CompletionsAreLedTo =
 -- in a schedule each completion has its receive
 abbrev pub CompletionsAreReceived : Type 0
 CompletionsAreReceived =
-    (program : Program) (plan : Plan) (budget : ℕ) (h : List ℕ) (w : World) (k o : ℕ) (b : NodeId)
-    → run program plan budget h ≡ Some w
-    → sync_at (sync_record program plan budget h) b ≡ Some (sync Done o k)
-    → (a : NodeId) × (sync_at (sync_record program plan budget h) a ≡ Some (sync Recv o k))
+    (setting : Setting) (h : List ℕ) (w : World) (k o : ℕ) (b : NodeId)
+    → run setting h ≡ Some w
+    → sync_at (sync_record setting h) b ≡ Some (sync Done o k)
+    → (a : NodeId) × (sync_at (sync_record setting h) a ≡ Some (sync Recv o k))
 
 -- ---- one statement, two steps
 
 -- the statement that process p is at after these steps
-abbrev pub statement_after : Program → Plan → ℕ → ℕ → List Taken → Option ℕ
-statement_after program plan budget p steps = next_stmt_of (state_of program plan budget p steps).todo
+abbrev pub statement_after : Setting → ℕ → List Taken → Option ℕ
+statement_after setting p steps = next_stmt_of (state_of setting p steps).todo
 
 -- step y is the completion of the offer that step x took just before it, and both are of one statement
-pub record Completes (program : Program) (plan : Plan) (budget p : ℕ) (before : List Taken) (x y : Taken)
+pub record Completes (setting : Setting) (p : ℕ) (before : List Taken) (x y : Taken)
     (c : ℕ) : Type 0 where
   pub value : ℤ
   pub unit : ℕ
   pub stmt : ℕ
   pub offer : x.need ≡ need.Offer c value
   pub done : y.need ≡ need.Done c unit
-  pub offered_at : statement_after program plan budget p before ≡ Some stmt
-  pub completed_at : statement_after program plan budget p (before ++ x ∷ []) ≡ Some stmt
+  pub offered_at : statement_after setting p before ≡ Some stmt
+  pub completed_at : statement_after setting p (before ++ x ∷ []) ≡ Some stmt
 
 -- after an offer the process completes it, or stops for its budget
 abbrev pub OffersAreCompleted : Type 0
 OffersAreCompleted =
-    (program : Program) (plan : Plan) (budget : ℕ) (h : List ℕ) (p : ℕ) (before : List Taken) (x y : Taken)
+    (setting : Setting) (h : List ℕ) (p : ℕ) (before : List Taken) (x y : Taken)
     (after : List Taken) (c : ℕ) (v : ℤ)
-    → get_or (story program plan budget h).steps p [] ≡ before ++ x ∷ y ∷ after → x.need ≡ need.Offer c v
-    → Completes program plan budget p before x y c ⊎ (y.need ≡ need.Budget)
+    → get_or (story setting h).steps p [] ≡ before ++ x ∷ y ∷ after → x.need ≡ need.Offer c v
+    → Completes setting p before x y c ⊎ (y.need ≡ need.Budget)
 
 -- before a completion the process took its offer
 abbrev pub CompletionsWereOffered : Type 0
 CompletionsWereOffered =
-    (program : Program) (plan : Plan) (budget : ℕ) (h : List ℕ) (p : ℕ) (before : List Taken) (y : Taken)
+    (setting : Setting) (h : List ℕ) (p : ℕ) (before : List Taken) (y : Taken)
     (after : List Taken) (c u : ℕ)
-    → get_or (story program plan budget h).steps p [] ≡ before ++ y ∷ after → y.need ≡ need.Done c u
+    → get_or (story setting h).steps p [] ≡ before ++ y ∷ after → y.need ≡ need.Done c u
     → (earlier : List Taken) × (x : Taken) × (before ≡ earlier ++ x ∷ [])
-    × Completes program plan budget p earlier x y c
+    × Completes setting p earlier x y c

@@ -1,4 +1,5 @@
 -- Schedules: who steps one after the other, the world that this comes to, and when it is whole.
+use Rattle.ppd_model.specs.Setting.{Setting}
 use Rattle.std.specs.Prelude.{◌≡◌, ℕ, ◌-◌, false, List, [], ◌∷◌, map, length, Option, Some, None, if◌then◌else◌}
 use Rattle.std.specs.List.{range_with_len}
 use Rattle.ppd_ast.specs.declared.program.Program.{Program}
@@ -13,24 +14,24 @@ run_from program plan w (p ∷ h) =
     if enabled program plan w p then run_from program plan (step program plan w p) h else None
 
 -- the world before the first step: the processes are the bodies after the functions
-abbrev pub started_world : Program → Plan → ℕ → World
-started_world program plan budget = record {
-  shared = program.starts;
-  sems = map (λ s. record { given = s.start; taken = 0 }) program.sems;
-  chans = map (λ c. record { capacity = c.capacity; sent = []; received = 0; completed = 0 }) program.chans;
-  procs = map (λ p. started program plan p budget) (range_with_len 0 (length program.bodies - program.functions));
+abbrev pub started_world : Setting → World
+started_world setting = record {
+  shared = setting.program.starts;
+  sems = map (λ s. record { given = s.start; taken = 0 }) setting.program.sems;
+  chans = map (λ c. record { capacity = c.capacity; sent = []; received = 0; completed = 0 }) setting.program.chans;
+  procs = map (λ p. started setting.program setting.plan p setting.budget) (range_with_len 0 (length setting.program.bodies - setting.program.functions));
 }
 
 -- the world after the steps of the schedule from the start
-abbrev pub run : Program → Plan → ℕ → List ℕ → Option World
-run program plan budget h = run_from program plan (started_world program plan budget) h
+abbrev pub run : Setting → List ℕ → Option World
+run setting h = run_from setting.program setting.plan (started_world setting) h
 
 -- nobody is enabled
 pub record IsOver (program : Program) (plan : Plan) (w : World) : Type 0 where
   pub nobody : (p : ℕ) → enabled program plan w p ≡ false
 
 -- the schedule can be taken, and nobody is enabled after it
-pub record IsWhole (program : Program) (plan : Plan) (budget : ℕ) (h : List ℕ) : Type 0 where
+pub record IsWhole (setting : Setting) (h : List ℕ) : Type 0 where
   pub last : World
-  pub runs : run program plan budget h ≡ Some last
-  pub over : IsOver program plan last
+  pub runs : run setting h ≡ Some last
+  pub over : IsOver setting.program setting.plan last

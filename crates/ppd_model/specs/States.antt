@@ -1,4 +1,5 @@
 -- The state of each process after its own steps.
+use Rattle.ppd_model.specs.Setting.{Setting}
 use Rattle.std.specs.Prelude.{ℕ, ◌+◌, List, [], ◌∷◌, fold}
 use Rattle.ppd_ast.specs.declared.plan.Plan.{Plan}
 use Rattle.ppd_ast.specs.declared.program.Program.{Program}
@@ -11,15 +12,15 @@ abbrev pub act_on : Program → Plan → Proc → Taken → Proc
 act_on program plan s x = act program plan s x.answer
 
 -- process p after these steps
-abbrev pub state_of : Program → Plan → ℕ → ℕ → List Taken → Proc
-state_of program plan budget p steps = fold (act_on program plan) (started program plan p budget) steps
+abbrev pub state_of : Setting → ℕ → List Taken → Proc
+state_of setting p steps = fold (act_on setting.program setting.plan) (started setting.program setting.plan p setting.budget) steps
 
 -- the processes from number p on after their steps
-abbrev pub states_from : Program → Plan → ℕ → ℕ → List (List Taken) → List Proc
-states_from program plan budget p [] = []
-states_from program plan budget p (steps ∷ rest) =
-    state_of program plan budget p steps ∷ states_from program plan budget (p + 1) rest
+abbrev pub states_from : Setting → ℕ → List (List Taken) → List Proc
+states_from setting p [] = []
+states_from setting p (steps ∷ rest) =
+    state_of setting p steps ∷ states_from setting (p + 1) rest
 
 -- the processes of a story after their steps
-abbrev pub states : Program → Plan → ℕ → Story → List Proc
-states program plan budget story = states_from program plan budget 0 story.steps
+abbrev pub states : Setting → Story → List Proc
+states setting story = states_from setting 0 story.steps

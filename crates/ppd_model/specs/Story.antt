@@ -1,4 +1,5 @@
 -- What each process did in a schedule: its steps, each with what it needed and was given.
+use Rattle.ppd_model.specs.Setting.{Setting}
 use Rattle.std.specs.Prelude.{ℕ, ◌+◌, ℤ, pos, List, [], ◌∷◌, ◌++◌, map, fold, length, get_or, slice_get, slice_set, count_by, Option, Some, None, option_map}
 use Rattle.std.specs.Option.{option_map_or}
 use Rattle.ppd_ast.specs.declared.program.Program.{Program}
@@ -95,11 +96,11 @@ abbrev pub begun : World → Telling
 begun w = record { world = w; writers = map (λ _. None) w.shared; moments = map (λ _. []) w.procs }
 
 -- what is told of a schedule from the start
-abbrev pub told : Program → Plan → ℕ → List ℕ → Telling
-told program plan budget h = fold (tell program plan) (begun (started_world program plan budget)) h
+abbrev pub told : Setting → List ℕ → Telling
+told setting h = fold (tell setting.program setting.plan) (begun (started_world setting)) h
 
 -- the story of a schedule: what is told, without the values of units
-abbrev pub story : Program → Plan → ℕ → List ℕ → Story
-story program plan budget h =
-    let t = told program plan budget h in
+abbrev pub story : Setting → List ℕ → Story
+story setting h =
+    let t = told setting h in
     record { steps = map steps_of t.moments; cells = t.world.shared; writers = t.writers }

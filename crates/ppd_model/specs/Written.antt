@@ -1,7 +1,6 @@
 -- Which step of a process wrote an entry of its log, and so the entries that an interval's steps wrote.
+use Rattle.ppd_model.specs.Setting.{Setting}
 use Rattle.std.specs.Prelude.{◌≡◌, ℕ, ◌<◌, ◌≤◌, ◌⊎◌, List, [], ◌∷◌, ◌++◌, length, slice_get, Some, None}
-use Rattle.ppd_ast.specs.declared.plan.Plan.{Plan}
-use Rattle.ppd_ast.specs.declared.program.Program.{Program}
 use Rattle.ppd_ast.specs.declared.status.Status.{Status}
 use Rattle.ppd_entry.specs.declared.entry.Entry.{Entry}
 use Rattle.ppd_entry.specs.declared.entry.Entry.TheVariants as entry
@@ -12,14 +11,14 @@ use Rattle.ppd_model.specs.Logs.{closed_log, log_of}
 use Rattle.ppd_model.specs.Story.{Moment, story, told}
 
 -- step n of process p wrote entry j: with the steps before it the log was shorter, with it the entry is there
-pub record WroteEntry (program : Program) (plan : Plan) (budget p : ℕ) (moments : List Moment) (n j : ℕ) : Type 0 where
+pub record WroteEntry (setting : Setting) (p : ℕ) (moments : List Moment) (n j : ℕ) : Type 0 where
   pub before : List Moment
   pub moment : Moment
   pub after : List Moment
   pub moments_are : moments ≡ before ++ moment ∷ after
   pub step : n ≡ length before
-  pub new : length (log_of program plan budget p before).entries ≤ j
-  pub there : j < length (log_of program plan budget p (before ++ moment ∷ [])).entries
+  pub new : length (log_of setting p before).entries ≤ j
+  pub there : j < length (log_of setting p (before ++ moment ∷ [])).entries
 
 -- entry j is an end of the process
 pub record IsEndAt (entries : List Entry) (j : ℕ) : Type 0 where
@@ -38,17 +37,17 @@ pub record IsOfSteps (IsOf : ℕ → ℕ → Type 0) (IsEnd : ℕ → Type 0) (i
   pub going : i.closed ≡ None → (j : ℕ) → x.last ≡ Some j → IsEnd j
 
 -- the intervals of a process's log are of its steps; an end is of a step too, or closes the log after all of them
-pub record AreOfSteps (program : Program) (plan : Plan) (budget p : ℕ) (x : Split) (moments : List Moment) : Type 0 where
-  pub kept_are : AreEach (IsOfSteps (WroteEntry program plan budget p moments)
-      (λ j. IsEndAt (log_of program plan budget p moments).entries j × ((n : ℕ) × WroteEntry program plan budget p moments n j)))
-      x.spans (extents (log_of program plan budget p moments).entries)
-  pub closed_are : AreEach (IsOfSteps (WroteEntry program plan budget p moments)
-      (λ j. IsEndAt (closed_log (log_of program plan budget p moments)) j
-      × ((j ≡ length (log_of program plan budget p moments).entries) ⊎ ((n : ℕ) × WroteEntry program plan budget p moments n j))))
-      x.spans (extents (closed_log (log_of program plan budget p moments)))
+pub record AreOfSteps (setting : Setting) (p : ℕ) (x : Split) (moments : List Moment) : Type 0 where
+  pub kept_are : AreEach (IsOfSteps (WroteEntry setting p moments)
+      (λ j. IsEndAt (log_of setting p moments).entries j × ((n : ℕ) × WroteEntry setting p moments n j)))
+      x.spans (extents (log_of setting p moments).entries)
+  pub closed_are : AreEach (IsOfSteps (WroteEntry setting p moments)
+      (λ j. IsEndAt (closed_log (log_of setting p moments)) j
+      × ((j ≡ length (log_of setting p moments).entries) ⊎ ((n : ℕ) × WroteEntry setting p moments n j))))
+      x.spans (extents (closed_log (log_of setting p moments)))
 
 -- so it is after each schedule
 abbrev pub IntervalsAreOfSteps : Type 0
 IntervalsAreOfSteps =
-    (program : Program) (plan : Plan) (budget : ℕ) (h : List ℕ) (p : ℕ) (x : Split) (moments : List Moment) → slice_get (splits program plan budget (story program plan budget h)) p ≡ Some x
-    → slice_get (told program plan budget h).moments p ≡ Some moments → AreOfSteps program plan budget p x moments
+    (setting : Setting) (h : List ℕ) (p : ℕ) (x : Split) (moments : List Moment) → slice_get (splits setting (story setting h)) p ≡ Some x
+    → slice_get (told setting h).moments p ≡ Some moments → AreOfSteps setting p x moments

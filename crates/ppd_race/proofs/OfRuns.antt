@@ -1,4 +1,5 @@
 -- The races of the logs of a run are those of the run.
+use Rattle.ppd_model.specs.Setting.{Setting}
 use Rattle.ppd_model.specs.Synchronizations.{sync_of}
 use Rattle.std.specs.Bool.{beq}
 use Rattle.std.proofs.Common.{◌≡◌, ℕ, zero, suc, ◌+◌, ◌<◌, ◌≤◌, List, [], ◌∷◌, ◌++◌, Some, Bool, true, false, refl, ap, sym, subst, ◌∙◌, arith, length, map, get_or, filter_map, ne_eqb, inl, inr, ◌&&◌, ◌||◌}
@@ -6,8 +7,6 @@ use Rattle.std.specs.Prelude.{nat_eq, slice_get}
 use Rattle.std.specs.List.{list_any, range_with_len}
 use Rattle.std.proofs.lemmas.Bool.{cases_eq}
 use Rattle.ppd_ast.specs.Valid.{IsValid}
-use Rattle.ppd_ast.specs.declared.plan.Plan.{Plan}
-use Rattle.ppd_ast.specs.declared.program.Program.{Program}
 use Rattle.ppd_ast.specs.Members.{has}
 use Rattle.ppd_model.specs.declared.graph.EdgeId.{EdgeId}
 use Rattle.ppd_model.specs.HappenedBefore.{is_edge_before}
@@ -55,50 +54,50 @@ and_between : (a c : Bool) → (a && false && c) ≡ false
 and_between true c = refl
 and_between false c = refl
 
-module _ (program : Program) (plan : Plan) (budget : ℕ) (h : List ℕ) (valid : IsValid program) where
-  count : (p : ℕ) → p < length (closed_logs program plan budget h).lists → length (get_or (edge_sets_in (closed_logs program plan budget h)) p []) ≡ last_edge (story program plan budget h) p + 1
+module _ (setting : Setting) (h : List ℕ) (valid : IsValid setting.program) where
+  count : (p : ℕ) → p < length (closed_logs setting h).lists → length (get_or (edge_sets_in (closed_logs setting h)) p []) ≡ last_edge (story setting h) p + 1
   count p lt =
-      let n = last_edge (story program plan budget h) p in
-      ap length (row_sets program plan budget h valid p lt) ∙ length_more (map (run_sets (story program plan budget h) p) (range_with_len 0 n)) (run_sets (story program plan budget h) p n) ∙ ap (λ k. k + 1) (count_range (run_sets (story program plan budget h) p) 0 n)
+      let n = last_edge (story setting h) p in
+      ap length (row_sets setting h valid p lt) ∙ length_more (map (run_sets (story setting h) p) (range_with_len 0 n)) (run_sets (story setting h) p n) ∙ ap (λ k. k + 1) (count_range (run_sets (story setting h) p) 0 n)
 
-  by_kind : (p i : ℕ) (w : Bool) → cells_by w (run_sets (story program plan budget h) p i) ≡ set_in (story program plan budget h) p i w
+  by_kind : (p i : ℕ) (w : Bool) → cells_by w (run_sets (story setting h) p i) ≡ set_in (story setting h) p i w
   unfolding run_sets
   by_kind p i true = refl
   by_kind p i false = refl
 
-  access : (a : EdgeId) (c : ℕ) (w : Bool) → IsThere (edges_of_logs program (closed_logs program plan budget h)) a
-      → has (cells_by w (sets_at (edge_sets_in (closed_logs program plan budget h)) a)) c ≡ has_access (story program plan budget h) a.process a.edge c w
+  access : (a : EdgeId) (c : ℕ) (w : Bool) → IsThere (edges_of_logs setting.program (closed_logs setting h)) a
+      → has (cells_by w (sets_at (edge_sets_in (closed_logs setting h)) a)) c ≡ has_access (story setting h) a.process a.edge c w
   access a c w x =
-      let n = last_edge (story program plan budget h) a.process in
+      let n = last_edge (story setting h) a.process in
       let inside : a.edge < n + 1 = subst (λ k. a.edge < k) (count a.process x.0) x.1 in
-      ap (λ sets. has (cells_by w (get_or sets a.edge no_sets)) c) (row_sets program plan budget h valid a.process x.0)
-      ∙ ap (λ sets. has (cells_by w sets) c) (at_through (run_sets (story program plan budget h) a.process) no_sets n a.edge inside)
-      ∙ ap (λ cells. has cells c) (by_kind a.process a.edge w) ∙ (cells_are (story program plan budget h) a.process a.edge w).are c
+      ap (λ sets. has (cells_by w (get_or sets a.edge no_sets)) c) (row_sets setting h valid a.process x.0)
+      ∙ ap (λ sets. has (cells_by w sets) c) (at_through (run_sets (story setting h) a.process) no_sets n a.edge inside)
+      ∙ ap (λ cells. has cells c) (by_kind a.process a.edge w) ∙ (cells_are (story setting h) a.process a.edge w).are c
 
-  size : length (story program plan budget h).cells ≡ length program.starts
-  size = (objects_stay program plan budget h).cells
+  size : length (story setting h).cells ≡ length setting.program.starts
+  size = (objects_stay setting h).cells
 
-  beyond : (p i c : ℕ) (w : Bool) → length program.starts ≤ c → has_access (story program plan budget h) p i c w ≡ false
-  beyond p i c w le = none_any (λ (a : SharedAccess). nat_eq a.edge i && nat_eq a.cell c && beq a.writes w) (accesses (story program plan budget h) p) (λ m a e.
-      let below = accesses_there program plan budget h p m a valid e in
+  beyond : (p i c : ℕ) (w : Bool) → length setting.program.starts ≤ c → has_access (story setting h) p i c w ≡ false
+  beyond p i c w le = none_any (λ (a : SharedAccess). nat_eq a.edge i && nat_eq a.cell c && beq a.writes w) (accesses (story setting h) p) (λ m a e.
+      let below = accesses_there setting h p m a valid e in
       ap (λ b. nat_eq a.edge i && b && beq a.writes w) (ne_eqb a.cell c (λ same. absurd (omega (arith, same, below, le)))) ∙ and_between (nat_eq a.edge i) (beq a.writes w))
 
-  records : record_in (closed_logs program plan budget h) ≡ record_of (story program plan budget h)
-  records = (record_syncs program plan budget h).closed
+  records : record_in (closed_logs setting h) ≡ record_of (story setting h)
+  records = (record_syncs setting h).closed
 
-  pub cells_there : AreCellsThere program (closed_logs program plan budget h)
+  pub cells_there : AreCellsThere setting.program (closed_logs setting h)
   cells_there a c w le x = access a c w x ∙ beyond a.process a.edge c w le
 
-  pub run_races : races_among (edges_of_logs program (closed_logs program plan budget h)) ≡ races program plan budget h
+  pub run_races : races_among (edges_of_logs setting.program (closed_logs setting h)) ≡ races setting h
   run_races =
-      alike_race (edges_of_logs program (closed_logs program plan budget h)) (edges_of_story program (story program plan budget h)) (record {
-        processes = sym (length_mapped (filter_map sync_in) (closed_logs program plan budget h).lists) ∙ ap length records ∙ length_mapped (filter_map sync_of) (story program plan budget h).steps;
+      alike_race (edges_of_logs setting.program (closed_logs setting h)) (edges_of_story setting.program (story setting h)) (record {
+        processes = sym (length_mapped (filter_map sync_in) (closed_logs setting h).lists) ∙ ap length records ∙ length_mapped (filter_map sync_of) (story setting h).steps;
         count = count;
         accesses = access;
-        before = λ a b x y. ap (λ r. is_edge_before program r a b) records;
+        before = λ a b x y. ap (λ r. is_edge_before setting.program r a b) records;
         cells = (let e = size in omega (arith, e));
         none = λ a c w le x. access a c w x ∙ beyond a.process a.edge c w (let e = size in omega (arith, e, le));
       })
 
 pub of_runs : RunRacesAreOfLogs
-of_runs program plan budget h valid = (run_races program plan budget h valid, cells_there program plan budget h valid)
+of_runs setting h valid = (run_races setting h valid, cells_there setting h valid)

@@ -1,7 +1,7 @@
 -- The races of logs, and those of a graph: each is the list of the races among its edges.
+use Rattle.ppd_model.specs.Setting.{Setting}
 use Rattle.std.specs.Prelude.{◌≡◌, ℕ, ◌<◌, ◌≤◌, Bool, true, false, List, [], length, get_or}
 use Rattle.ppd_ast.specs.declared.limits.TheConstants.{MOST_SHARED_CELLS}
-use Rattle.ppd_ast.specs.declared.plan.Plan.{Plan}
 use Rattle.ppd_ast.specs.declared.program.Program.{Program}
 use Rattle.ppd_ast.specs.Members.{has}
 use Rattle.ppd_ast.specs.Valid.{IsValid}
@@ -76,6 +76,6 @@ AreRacesOf g races =
 -- program alone
 abbrev pub RunRacesAreOfLogs : Type 0
 RunRacesAreOfLogs =
-    (program : Program) (plan : Plan) (budget : ℕ) (h : List ℕ) → IsValid program
-    → (races_among (edges_of_logs program (closed_logs program plan budget h)) ≡ races program plan budget h)
-    × AreCellsThere program (closed_logs program plan budget h)
+    (setting : Setting) (h : List ℕ) → IsValid setting.program
+    → (races_among (edges_of_logs setting.program (closed_logs setting h)) ≡ races setting h)
+    × AreCellsThere setting.program (closed_logs setting h)

@@ -1,4 +1,5 @@
 // The guided run: the world that it came to, and what is left of the record.
+ghost use Rattle.ppd_model.specs.Setting.{setting_of};
 ghost use Rattle.std.specs.Prelude.{◌≡◌, ◌≤◌, ◌<◌, ◌-◌, ◌∷◌, [], Some, drop, get_or, length, map, slice_get, IfOk, OnOk};
 ghost use Rattle.std.specs.Bool.{Decides};
 ghost use Rattle.ppd_ast.specs.Valid.{IsValid};
@@ -78,9 +79,9 @@ impl<'a> Guide<'a> {
         requires budget { budget ≤ MOST_BUDGET }
         ensures guiding { IfOk result
             (λ g. guiding_of g.world g.dues.items
-            ≡ guiding setting.now.program.now setting.now.plan.now budget (record_in logs.now)) }
+            ≡ guiding (setting_of setting.now.program.now setting.now.plan.now budget) (record_in logs.now)) }
         ensures begun { IfOk result
-            (λ g. IsHeld setting.now.program.now setting.now.plan.now budget g.world []) }
+            (λ g. IsHeld (setting_of setting.now.program.now setting.now.plan.now budget) g.world []) }
     {
         let world = World::new(setting.alloc, setting.program, setting.plan, budget)?;
         let dues = all_due(setting.alloc, logs.lists.as_slice())?;
@@ -101,7 +102,7 @@ impl<'a> Guide<'a> {
     fn may_step(&self, p: u8) -> bool
         requires { IsReached self.now.world }
         ensures { result
-            ≡ may_step_of self.now.world.program self.now.world.plan
+            ≡ may_step_of self.now.world.setting.program self.now.world.setting.plan
             (guiding_of self.now.world self.now.dues.items) p }
     {
         self.world.enabled(p) && is_let(sync_of(&self.world.next(p)), self.due(p))
@@ -111,7 +112,7 @@ impl<'a> Guide<'a> {
     pub fn chosen(&self) -> Option<u8>
         requires { IsReached self.now.world }
         ensures { result
-            ≡ chosen_of self.now.world.program self.now.world.plan
+            ≡ chosen_of self.now.world.setting.program self.now.world.setting.plan
             (guiding_of self.now.world self.now.dues.items) }
     {
         for p in 0..self.world.process_count() {
@@ -125,7 +126,7 @@ impl<'a> Guide<'a> {
     /// How many processes there are.
     pub fn process_count(&self) -> u8
         requires { IsReached self.now.world }
-        ensures { result ≡ length self.now.world.program.bodies - self.now.world.program.functions }
+        ensures { result ≡ length self.now.world.setting.program.bodies - self.now.world.setting.program.functions }
     {
         self.world.process_count()
     }
@@ -134,7 +135,7 @@ impl<'a> Guide<'a> {
     pub fn next(&self, p: u8) -> Taken
         requires { IsReached self.now.world }
         ensures { result
-            ≡ (logged_moment self.now.world.program self.now.world.plan self.now.world.world p).taken }
+            ≡ (logged_moment self.now.world.setting.program self.now.world.setting.plan self.now.world.world p).taken }
     {
         self.world.next(p)
     }
@@ -150,11 +151,11 @@ impl<'a> Guide<'a> {
     /// Process `p`, which may, takes its step.
     pub fn step(&mut self, p: u8) -> Result<(), Memory>
         requires reached { IsReached self.old.world }
-        requires may { chosen_of self.old.world.program self.old.world.plan
+        requires may { chosen_of self.old.world.setting.program self.old.world.setting.plan
             (guiding_of self.old.world self.old.dues.items) ≡ Some p }
         ensures stepped { OnOk result
             (guiding_of self.new.world self.new.dues.items
-            ≡ guide self.old.world.program self.old.world.plan
+            ≡ guide self.old.world.setting.program self.old.world.setting.plan
             (guiding_of self.old.world self.old.dues.items) p) }
         ensures comes { OnOk result (Takes self.old.world (p ∷ []) self.new.world) }
         ensures kept { OnOk result (IsReached self.new.world) }
@@ -178,7 +179,7 @@ impl<'a> Guide<'a> {
     pub fn has_record(&self) -> bool
         requires { IsReached self.now.world }
         ensures { Decides result
-            (IsOver self.now.world.program self.now.world.plan self.now.world.world
+            (IsOver self.now.world.setting.program self.now.world.setting.plan self.now.world.world
             × AreUsedUp (length self.now.world.world.procs) (map left_of self.now.dues.items)) }
     {
         self.world.over() && self.is_used_up()

@@ -1,4 +1,5 @@
 -- The guided schedule can be taken, and where it ends nobody may step.
+use Rattle.ppd_model.specs.Setting.{setting_of}
 use Rattle.std.specs.Option.{option_map_or}
 use Rattle.std.specs.List.{range_with_len}
 use Rattle.std.proofs.Common.{◌≡◌, ℕ, zero, suc, ◌+◌, ◌*◌, ◌<◌, ◌≤◌, ◌-◌, ◌&&◌, List, [], ◌∷◌, Option, Some, None, Bool, true, false, cond, refl, ap, sym, subst, ◌∙◌, arith, length, get_or, take, inl, inr}
@@ -109,15 +110,15 @@ module _ (program : Program) (plan : Plan) where
           rest p (paid_change program plan (answer g.world (need program plan g.world p)) p g.world.procs paid)
           (omega (arith, few, all_falls program plan g.world (answer g.world (need program plan g.world p)) p g.world.procs paid (chosen_can g p is)))
 
-  pub ends_guided : (budget : ℕ) (syncs : List (List Sync)) → EndsGuided program plan budget syncs
+  pub ends_guided : (budget : ℕ) (syncs : List (List Sync)) → EndsGuided (setting_of program plan budget) syncs
   ends_guided budget syncs =
       let n : ℕ = length program.bodies - program.functions in
-      let all : steps_left (started_procs program plan budget n) ≡ n * (budget + 1) = started_all program plan budget 0 n in
-      let few : steps_left (started_procs program plan budget n) ≤ most_steps program budget = subst (λ (m : ℕ). steps_left (started_procs program plan budget n) ≤ m) all (omega arith) in
+      let all : steps_left (started_procs (setting_of program plan budget) n) ≡ n * (budget + 1) = started_all (setting_of program plan budget) 0 n in
+      let few : steps_left (started_procs (setting_of program plan budget) n) ≤ most_steps program budget = subst (λ (m : ℕ). steps_left (started_procs (setting_of program plan budget) n) ≤ m) all (omega arith) in
       record {
-        runs = runs_from (most_steps program budget) (guiding program plan budget syncs);
-        stops = nobody_may (guided_end program plan budget syncs) (chosen_end (most_steps program budget) (guiding program plan budget syncs) (started_paid program plan budget 0 n) few);
+        runs = runs_from (most_steps program budget) (guiding (setting_of program plan budget) syncs);
+        stops = nobody_may (guided_end (setting_of program plan budget) syncs) (chosen_end (most_steps program budget) (guiding (setting_of program plan budget) syncs) (started_paid (setting_of program plan budget) 0 n) few);
       }
 
 pub schedules_end : GuidedSchedulesEnd
-schedules_end program plan budget syncs = ends_guided program plan budget syncs
+schedules_end setting syncs = ends_guided setting.program setting.plan setting.budget syncs

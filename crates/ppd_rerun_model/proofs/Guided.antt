@@ -1,8 +1,7 @@
 -- The guided schedule of the record of a whole schedule without a race is whole and has its story.
+use Rattle.ppd_model.specs.Setting.{Setting}
 use Rattle.std.specs.Prelude.{get_or}
 use Rattle.std.proofs.Common.{◌≡◌, ℕ, List, [], Some, Bool, true, false, refl, ap, sym, subst, ◌∙◌, arith, length, take_all}
-use Rattle.ppd_ast.specs.declared.plan.Plan.{Plan}
-use Rattle.ppd_ast.specs.declared.program.Program.{Program}
 use Rattle.ppd_model.specs.declared.tracing.Story.{Story}
 use Rattle.ppd_model.specs.Agreement.{Agree}
 use Rattle.ppd_model.specs.Laws.{begins}
@@ -28,59 +27,59 @@ use Rattle.ppd_rerun_model.proofs.Following.{Comes, comes}
 use Rattle.ppd_rerun_model.proofs.Lines.{monotone, once}
 use Rattle.ppd_rerun_model.proofs.Taking.{guided_run}
 
-module _ (program : Program) (plan : Plan) (budget : ℕ) where
-  module _ (h : List ℕ) (last : World) (e : sched.run_from program plan (sched.started_world program plan budget) h ≡ Some last) where
+module _ (setting : Setting) where
+  module _ (h : List ℕ) (last : World) (e : sched.run_from setting.program setting.plan (sched.started_world setting) h ≡ Some last) where
     abbrev t : Telling
-    t = told_to program plan budget h (length h)
+    t = told_to setting h (length h)
 
     world_is : t.world ≡ last
-    world_is = ap (λ (xs : List ℕ). (told program plan budget xs).world) (take_all (length h) h (omega arith)) ∙ stories_are_of_runs program plan budget h last e
+    world_is = ap (λ (xs : List ℕ). (told setting xs).world) (take_all (length h) h (omega arith)) ∙ stories_are_of_runs setting h last e
 
-    good_last : Good program plan budget t
-    good_last = good_to program plan budget h (length h)
+    good_last : Good setting t
+    good_last = good_to setting h (length h)
 
-    nobody_by : IsFinal (run_of program plan budget h last e) → (p : ℕ) (b : Bool) → enabled program plan last p ≡ b → enabled program plan last p ≡ false
+    nobody_by : IsFinal (run_of setting h last e) → (p : ℕ) (b : Bool) → enabled setting.program setting.plan last p ≡ b → enabled setting.program setting.plan last p ≡ false
     unfolding run_of
     nobody_by done p false is = is
     nobody_by done p true is =
         absurd (done p
-        (subst (λ (w : Want Line Tagged). Enabled (machine program plan budget) (view t) w) (sym (want_is program plan budget t p good_last))
-        (enabled_there program plan budget t good_last.sizes (next_event t p) (need program plan t.world p)
-        (ap (λ (w : World). enabled program plan w p) world_is ∙ is))))
+        (subst (λ (w : Want Line Tagged). Enabled (machine setting) (view t) w) (sym (want_is setting t p good_last))
+        (enabled_there setting t good_last.sizes (next_event t p) (need setting.program setting.plan t.world p)
+        (ap (λ (w : World). enabled setting.program setting.plan w p) world_is ∙ is))))
 
     -- where a schedule's run is final, nobody is enabled after it
-    over_by : IsFinal (run_of program plan budget h last e) → sched.IsOver program plan last
-    over_by done = record { nobody = λ p. nobody_by done p (enabled program plan last p) refl }
+    over_by : IsFinal (run_of setting h last e) → sched.IsOver setting.program setting.plan last
+    over_by done = record { nobody = λ p. nobody_by done p (enabled setting.program setting.plan last p) refl }
 
-  module _ (h : List ℕ) (w : sched.IsWhole program plan budget h) (none : races program plan budget h ≡ []) where
+  module _ (h : List ℕ) (w : sched.IsWhole setting h) (none : races setting h ≡ []) where
     abbrev syncs : List (List s.Sync)
-    syncs = sync_record program plan budget h
+    syncs = sync_record setting h
 
     abbrev g : List ℕ
-    g = guided program plan budget syncs
+    g = guided setting syncs
 
     abbrev last_world : World
-    last_world = (guided_end program plan budget syncs).world
+    last_world = (guided_end setting syncs).world
 
-    ends : EndsGuided program plan budget syncs
-    ends = ends_guided program plan budget syncs
+    ends : EndsGuided setting syncs
+    ends = ends_guided setting.program setting.plan setting.budget syncs
 
-    come : Comes (run_of program plan budget h w.last w.runs) (run_of program plan budget g last_world ends.runs)
+    come : Comes (run_of setting h w.last w.runs) (run_of setting g last_world ends.runs)
     come =
-        comes (run_of program plan budget h w.last w.runs) (sheet (λ q. get_or syncs q []))
-        (recorded program plan budget h w syncs refl)
-        (run_ordered program plan budget h w none)
-        (final program plan budget h w)
-        (run_of program plan budget g last_world ends.runs)
-        (guided_run program plan budget syncs ends.runs)
-        (fresh program plan budget)
-        (once program plan budget h)
-        (monotone program plan budget)
+        comes (run_of setting h w.last w.runs) (sheet (λ q. get_or syncs q []))
+        (recorded setting h w syncs refl)
+        (run_ordered setting h w none)
+        (final setting h w)
+        (run_of setting g last_world ends.runs)
+        (guided_run setting syncs ends.runs)
+        (fresh setting)
+        (once setting h)
+        (monotone setting)
 
-    one_story : story program plan budget g ≡ story program plan budget h
-    one_story = sym (story_by program plan budget h g w.last last_world w.runs ends.runs come.agrees)
+    one_story : story setting g ≡ story setting h
+    one_story = sym (story_by setting h g w.last last_world w.runs ends.runs come.agrees)
 
-    pub alike : IsGuidedAlike program plan budget h
+    pub alike : IsGuidedAlike setting h
     alike = record {
       agree = record {
         first = w;
@@ -91,4 +90,4 @@ module _ (program : Program) (plan : Plan) (budget : ℕ) where
     }
 
 pub schedules_agree : GuidedSchedulesAgree
-schedules_agree program plan budget h w none = alike program plan budget h w none
+schedules_agree setting h w none = alike setting h w none

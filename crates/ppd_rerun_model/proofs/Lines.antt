@@ -1,10 +1,9 @@
 -- A program's lines: more on other lines leaves a line free, and a record of a schedule has each entry once.
+use Rattle.ppd_model.specs.Setting.{Setting}
 use Rattle.std.proofs.Common.{◌≡◌, ℕ, zero, suc, ◌+◌, ◌<◌, ◌≤◌, List, [], ◌∷◌, Option, Some, None, Bool, true, refl, ap, ap₂, sym, subst, ◌∙◌, arith, length, eqb-true, eq-eqb, true≢false, nat_eq, ◌&&◌}
 use Rattle.std.specs.Prelude.{IsTrue, slice_get, get_or}
 use Rattle.std.proofs.lemmas.Bool.{and_from, and_parts}
 use Rattle.std.proofs.lemmas.Option.{none-some}
-use Rattle.ppd_ast.specs.declared.plan.Plan.{Plan}
-use Rattle.ppd_ast.specs.declared.program.Program.{Program}
 use Rattle.ppd_ast.specs.declared.status.SyncKind.{SyncKind}
 use Rattle.ppd_ast.specs.declared.status.SyncKind.TheVariants.{P, V, Send, Recv, Done}
 use Rattle.ppd_entry.specs.Entries.{same_kind}
@@ -50,8 +49,8 @@ stays capacity Send o c d h e le =
 stays capacity Recv o c d h e le = let more : c (Send, o) ≤ d (Send, o) = le (Send, o) in omega arith
 stays capacity Done o c d h e le = let more : c (Recv, o) ≤ d (Recv, o) = le (Recv, o) in omega arith
 
-pub monotone : (program : Program) (plan : Plan) (budget : ℕ) → IsMonotone (machine program plan budget)
-monotone program plan budget l c d h e le = stays (declared program l.1) l.0 l.1 c d h e le
+pub monotone : (setting : Setting) → IsMonotone (machine setting)
+monotone setting l c d h e le = stays (declared setting.program l.1) l.0 l.1 c d h e le
 
 -- ---- each entry once
 
@@ -64,14 +63,14 @@ there_is (x ∷ xs) (suc i) h = there_is xs i (omega (arith, h))
 pub entry_is : (x : s.Sync) (l : Line) (n : ℕ) → line_in (Some x) ≡ l → x.number ≡ n → x ≡ sync l.0 l.1 n
 entry_is x l n a b = ap₂ (λ (y : Line) (m : ℕ). sync y.0 y.1 m) a b
 
-pub once : (program : Program) (plan : Plan) (budget : ℕ) (h : List ℕ) → IsOnce (sheet (λ q. get_or (sync_record program plan budget h) q []))
-once program plan budget h p q i j hi hj line number =
-    let syncs : List (List s.Sync) = sync_record program plan budget h in
+pub once : (setting : Setting) (h : List ℕ) → IsOnce (sheet (λ q. get_or (sync_record setting h) q []))
+once setting h p q i j hi hj line number =
+    let syncs : List (List s.Sync) = sync_record setting h in
     let x = there_is (get_or syncs p []) i hi in
     let y = there_is (get_or syncs q []) j hj in
     let line2 : line_in (Some x.0) ≡ line_in (Some y.0) = sym (ap line_in x.1) ∙ line ∙ ap line_in y.1 in
     let number2 : x.0.number ≡ y.0.number = sym (ap number_at x.1) ∙ number ∙ ap number_at y.1 in
     let same : x.0 ≡ y.0 = entry_is x.0 (line_in (Some y.0)) y.0.number line2 number2 in
-    let counted : IsCounted (count_of (started_world program plan budget)) (count_of (told program plan budget h).world) syncs = are_counted program plan budget h in
+    let counted : IsCounted (count_of (started_world setting)) (count_of (told setting h).world) syncs = are_counted setting h in
     let one : node p i ≡ node q j = counted.once (node p i) (node q j) x.0 x.1 (y.1 ∙ ap (λ (z : s.Sync). Some z) (sym same)) in
     (ap (λ (a : NodeId). a.process) one, ap (λ (a : NodeId). a.sync) one)

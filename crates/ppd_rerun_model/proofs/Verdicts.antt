@@ -1,4 +1,6 @@
 -- Verdicts on logs are one, and on the logs of a whole schedule without a race they are yes.
+use Rattle.law_steps.specs.Policies.{setting_by}
+use Rattle.ppd_model.specs.Setting.{Setting, setting_of}
 use Rattle.std.proofs.Common.{◌≡◌, ℕ, ◌<◌, ◌≤◌, List, [], Option, Some, None, Ok, refl, ap, ap₂, sym, subst, ◌∙◌, arith, length, get_or, ⊎_elim}
 use Rattle.std.specs.Prelude.{slice_get}
 use Rattle.std.proofs.lemmas.Bool.{cases_eq, cases_lt}
@@ -32,12 +34,12 @@ use Rattle.ppd_rerun_model.proofs.Guided.{schedules_agree}
 
 -- ---- one verdict
 
-module _ (program : Program) (plan : Plan) (budget : ℕ) (logs : Logs) where
+module _ (setting : Setting) (logs : Logs) where
   abbrev g : List ℕ
-  g = guided program plan budget (record_in logs)
+  g = guided setting (record_in logs)
 
   -- of two first ones neither comes before the other
-  first_once : (p k q m : ℕ) → IsVerdict program plan budget logs (verdict.No (Interval p k)) → IsVerdict program plan budget logs (verdict.No (Interval q m)) → verdict.No (Interval p k) ≡ verdict.No (Interval q m)
+  first_once : (p k q m : ℕ) → IsVerdict setting logs (verdict.No (Interval p k)) → IsVerdict setting logs (verdict.No (Interval q m)) → verdict.No (Interval p k) ≡ verdict.No (Interval q m)
   first_once p k q m a b =
       ⊎_elim
       (λ (lt : p < q). absurd (a.1 (b.2 p k lt)))
@@ -47,10 +49,10 @@ module _ (program : Program) (plan : Plan) (budget : ℕ) (logs : Logs) where
       (λ (ge2 : p ≤ q).
       let same : p ≡ q = omega arith in
       ⊎_elim
-      (λ (lt : k < m). absurd (a.1 (subst (λ (x : ℕ). IsSame program plan budget logs g x k) (sym same) (b.3 k lt))))
+      (λ (lt : k < m). absurd (a.1 (subst (λ (x : ℕ). IsSame setting logs g x k) (sym same) (b.3 k lt))))
       (λ (ge3 : m ≤ k).
       ⊎_elim
-      (λ (lt : m < k). absurd (b.1 (subst (λ (x : ℕ). IsSame program plan budget logs g x m) same (a.3 m lt))))
+      (λ (lt : m < k). absurd (b.1 (subst (λ (x : ℕ). IsSame setting logs g x m) same (a.3 m lt))))
       (λ (ge4 : k ≤ m).
       let same2 : k ≡ m = omega arith in
       ap₂ (λ (x y : ℕ). verdict.No (Interval x y)) same same2)
@@ -60,13 +62,13 @@ module _ (program : Program) (plan : Plan) (budget : ℕ) (logs : Logs) where
       (cases_lt p q)
 
   -- a yes follows the record with every interval the same
-  follows : (h : List ℕ) → IsVerdict program plan budget logs (verdict.Yes h) → HasRecordOf program plan budget logs g
-  follows h y = subst (λ (x : List ℕ). HasRecordOf program plan budget logs x) y.0 y.1
+  follows : (h : List ℕ) → IsVerdict setting logs (verdict.Yes h) → HasRecordOf setting logs g
+  follows h y = subst (λ (x : List ℕ). HasRecordOf setting logs x) y.0 y.1
 
-  same_in : (h : List ℕ) → IsVerdict program plan budget logs (verdict.Yes h) → (p k : ℕ) → IsSame program plan budget logs g p k
-  same_in h y p k = subst (λ (x : List ℕ). IsSame program plan budget logs x p k) y.0 (y.2 p k)
+  same_in : (h : List ℕ) → IsVerdict setting logs (verdict.Yes h) → (p k : ℕ) → IsSame setting logs g p k
+  same_in h y p k = subst (λ (x : List ℕ). IsSame setting logs x p k) y.0 (y.2 p k)
 
-  pub one : (a b : Verdict) → IsVerdict program plan budget logs a → IsVerdict program plan budget logs b → a ≡ b
+  pub one : (a b : Verdict) → IsVerdict setting logs a → IsVerdict setting logs b → a ≡ b
   one (verdict.Yes h) (verdict.Yes h2) a b = ap (λ (x : List ℕ). verdict.Yes x) (a.0 ∙ sym b.0)
   one (verdict.Yes h) (verdict.No (Record n)) a b = absurd (b.1 (follows h a))
   one (verdict.Yes h) (verdict.No (Interval q m)) a b = absurd (b.1 (same_in h a q m))
@@ -78,7 +80,7 @@ module _ (program : Program) (plan : Plan) (budget : ℕ) (logs : Logs) where
   one (verdict.No (Interval p k)) (verdict.No (Interval q m)) a b = first_once p k q m a b
 
 pub verdicts_are_one : VerdictsAreOne
-verdicts_are_one program plan budget logs a b x y = one program plan budget logs a b x y
+verdicts_are_one setting logs a b x y = one setting logs a b x y
 
 -- ---- yes
 
@@ -92,40 +94,40 @@ matches_in k None = tt
 matches_in k (Some x) = matches_span x (slice_get x.spans k)
 
 module _ (program : Program) (policy : Policy) (budget : ℕ) (h : List ℕ) (v : IsValid program)
-    (w : IsWhole program (plan_of program policy) budget h) (none : races program (plan_of program policy) budget h ≡ []) where
+    (w : IsWhole (setting_by program policy budget) h) (none : races (setting_by program policy budget) h ≡ []) where
   abbrev plan : Plan
   plan = plan_of program policy
 
   abbrev kept : Logs
-  kept = closed_logs program plan budget h
+  kept = closed_logs (setting_of program plan budget) h
 
   abbrev again : List ℕ
-  again = guided program plan budget (record_in kept)
+  again = guided (setting_of program plan budget) (record_in kept)
 
   -- the record in the logs is the schedule's
-  recorded : record_in kept ≡ sync_record program plan budget h
-  recorded = (record_syncs program plan budget h).closed
+  recorded : record_in kept ≡ sync_record (setting_of program plan budget) h
+  recorded = (record_syncs (setting_of program plan budget) h).closed
 
-  alike : IsGuidedAlike program plan budget h
-  alike = schedules_agree program plan budget h w none
+  alike : IsGuidedAlike (setting_of program plan budget) h
+  alike = schedules_agree (setting_of program plan budget) h w none
 
-  guided_is : again ≡ guided program plan budget (sync_record program plan budget h)
-  guided_is = ap (λ (syncs : List (List s.Sync)). guided program plan budget syncs) recorded
+  guided_is : again ≡ guided (setting_of program plan budget) (sync_record (setting_of program plan budget) h)
+  guided_is = ap (λ (syncs : List (List s.Sync)). guided (setting_of program plan budget) syncs) recorded
 
-  story_is : story program plan budget again ≡ story program plan budget h
-  story_is = ap (λ (x : List ℕ). story program plan budget x) guided_is ∙ alike.story_is
+  story_is : story (setting_of program plan budget) again ≡ story (setting_of program plan budget) h
+  story_is = ap (λ (x : List ℕ). story (setting_of program plan budget) x) guided_is ∙ alike.story_is
 
-  same : (p k : ℕ) → IsSame program plan budget kept again p k
+  same : (p k : ℕ) → IsSame (setting_of program plan budget) kept again p k
   same p k =
-      subst (λ (x : Story). Matches (replay_at program plan budget h p k) (items program plan budget x p k)) (sym story_is)
-      (subst (λ (r : Option Replayed). Matches r (items program plan budget (story program plan budget h) p k)) (sym (replays_give_intervals program policy budget h p k v w none))
-      (matches_in k (slice_get (splits program plan budget (story program plan budget h)) p)))
+      subst (λ (x : Story). Matches (replay_at (setting_of program plan budget) h p k) (items (setting_of program plan budget) x p k)) (sym story_is)
+      (subst (λ (r : Option Replayed). Matches r (items (setting_of program plan budget) (story (setting_of program plan budget) h) p k)) (sym (replays_give_intervals program policy budget h p k v w none))
+      (matches_in k (slice_get (splits (setting_of program plan budget) (story (setting_of program plan budget) h)) p)))
 
-  pub yes_is : IsVerdict program plan budget kept (verdict.Yes again)
+  pub yes_is : IsVerdict (setting_of program plan budget) kept (verdict.Yes again)
   yes_is = (
     refl,
     record {
-      whole = subst (λ (x : List ℕ). IsWhole program plan budget x) (sym guided_is) alike.agree.second;
+      whole = subst (λ (x : List ℕ). IsWhole (setting_of program plan budget) x) (sym guided_is) alike.agree.second;
       record_is = ap record_of story_is ∙ sym recorded;
     },
     same,

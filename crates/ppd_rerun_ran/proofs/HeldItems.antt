@@ -1,4 +1,5 @@
 -- What is held of a process, step by step, is what the story has.
+use Rattle.ppd_model.specs.Setting.{Setting, setting_of}
 use Rattle.std.proofs.Common.{◌≡◌, ℕ, zero, suc, ◌+◌, Bool, true, false, List, [], ◌∷◌, ◌++◌, Option, Some, None, refl, ap, ap₂, sym, ◌∙◌, arith, length, map, if◌then◌else◌}
 use Rattle.std.specs.Prelude.{drop, fold, option_map, slice_get, is_some}
 use Rattle.std.specs.List.{flat_map}
@@ -178,7 +179,7 @@ module _ (program : Program) (plan : Plan) (story : Story) (p : ℕ) where
       held_all (split_step program plan story p x step) steps
       ∙ ap (λ (g : Course). fold (held_on program plan) g steps) (held_next x step)
 
-  pub held_is : (budget : ℕ) (steps : List Taken) → course_of (split_of program plan budget story p steps) ≡ course program plan budget p steps
+  pub held_is : (budget : ℕ) (steps : List Taken) → course_of (split_of (setting_of program plan budget) story p steps) ≡ course (setting_of program plan budget) p steps
   held_is budget steps = held_all (begun_split program plan p (started program plan p budget)) steps
 
 -- ---- items
@@ -207,22 +208,22 @@ items_at_is x k = ap (items_of_kept (held_of x)) (slice_get-map bare x.spans k) 
     by (Some i) = ap (λ (is : List Item). Some is) (items_are x i.parts)
 
 -- process p of a story in its intervals
-split_at : (program : Program) (plan : Plan) (budget : ℕ) (story : Story) (q p : ℕ) (lists : List (List Taken)) (steps : List Taken) → slice_get lists p ≡ Some steps
-    → slice_get (splits_from program plan budget story q lists) p ≡ Some (split_of program plan budget story (q + p) steps)
-split_at program plan budget story q p [] steps e = absurd (none-some steps e)
-split_at program plan budget story q zero (xs ∷ rest) steps e =
+split_at : (setting : Setting) (story : Story) (q p : ℕ) (lists : List (List Taken)) (steps : List Taken) → slice_get lists p ≡ Some steps
+    → slice_get (splits_from setting story q lists) p ≡ Some (split_of setting story (q + p) steps)
+split_at setting story q p [] steps e = absurd (none-some steps e)
+split_at setting story q zero (xs ∷ rest) steps e =
     let here : q ≡ q + zero = omega arith in
-    ap₂ (λ (r : ℕ) (ys : List Taken). Some (split_of program plan budget story r ys)) here (some e)
-split_at program plan budget story q (suc p) (xs ∷ rest) steps e =
+    ap₂ (λ (r : ℕ) (ys : List Taken). Some (split_of setting story r ys)) here (some e)
+split_at setting story q (suc p) (xs ∷ rest) steps e =
     let here : (q + 1) + p ≡ q + suc p = omega arith in
-    split_at program plan budget story (q + 1) p rest steps e ∙ ap (λ (r : ℕ). Some (split_of program plan budget story r steps)) here
+    split_at setting story (q + 1) p rest steps e ∙ ap (λ (r : ℕ). Some (split_of setting story r steps)) here
 
 -- what is held of a process that is there in a story gives the items of each of its intervals
-pub held_items_are : (program : Program) (plan : Plan) (budget : ℕ) (story : Story) (p k : ℕ) (steps : List Taken) → slice_get story.steps p ≡ Some steps
-    → held_items (course program plan budget p steps).held k ≡ items program plan budget story p k
-held_items_are program plan budget story p k steps e =
-    let x : Split = split_of program plan budget story p steps in
+pub held_items_are : (setting : Setting) (story : Story) (p k : ℕ) (steps : List Taken) → slice_get story.steps p ≡ Some steps
+    → held_items (course setting p steps).held k ≡ items setting story p k
+held_items_are setting story p k steps e =
+    let x : Split = split_of setting story p steps in
     let zero_more : 0 + p ≡ p = omega arith in
-    ap (λ (g : Course). held_items g.held k) (sym (held_is program plan story p budget steps))
+    ap (λ (g : Course). held_items g.held k) (sym (held_is setting.program setting.plan story p setting.budget steps))
     ∙ items_at_is x k
-    ∙ ap (items_in k) (sym (split_at program plan budget story 0 p story.steps steps e ∙ ap (λ (r : ℕ). Some (split_of program plan budget story r steps)) zero_more))
+    ∙ ap (items_in k) (sym (split_at setting story 0 p story.steps steps e ∙ ap (λ (r : ℕ). Some (split_of setting story r steps)) zero_more))

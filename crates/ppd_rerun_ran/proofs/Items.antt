@@ -1,4 +1,5 @@
 -- Items compared one by one with the parts of an interval that is held.
+use Rattle.ppd_model.specs.Setting.{Setting}
 use Rattle.std.proofs.Common.{◌≡◌, ℕ, zero, suc, ◌+◌, ◌<◌, ◌≤◌, Bool, true, false, ◌&&◌, List, [], ◌∷◌, ◌++◌, Option, Some, None, refl, ap, ap₂, sym, subst, ◌∙◌, arith, length, map, drop, get_or, length-append}
 use mathlib.Core.Bool.{beq}
 use Rattle.std.specs.Bool.{Decides}
@@ -8,8 +9,6 @@ use Rattle.std.proofs.lemmas.Bool.{and_from, and_parts, false≢true}
 use Rattle.std.proofs.lemmas.List.{drop_more, length-map}
 use Rattle.std.proofs.lemmas.Option.{none-some, slice_get-get_or, slice_get-map}
 use Rattle.ppd_ast.specs.Valid.{IsValid}
-use Rattle.ppd_ast.specs.declared.plan.Plan.{Plan}
-use Rattle.ppd_ast.specs.declared.program.Program.{Program}
 use Rattle.ppd_sem.specs.declared.event.Event.{Event}
 use Rattle.ppd_model.specs.declared.flow.Item.{Item}
 use Rattle.ppd_model.specs.declared.flow.Item.TheVariants as item
@@ -134,60 +133,60 @@ nested_is a b c d v w x y r h = (λ t. let p = h.0 t in let p0 : a ≡ c = p.0 i
 
 -- ---- what is held of a schedule
 
-course_at : (program : Program) (plan : Plan) (budget q : ℕ) (lists : List (List Taken)) (p : ℕ)
-    → slice_get (courses_from program plan budget q lists) p ≡ option_map (course program plan budget (q + p)) (slice_get lists p)
-course_at program plan budget q [] p = refl
-course_at program plan budget q (xs ∷ rest) zero = let here : q ≡ q + zero = omega arith in ap (λ (r : ℕ). Some (course program plan budget r xs)) here
-course_at program plan budget q (xs ∷ rest) (suc p) =
+course_at : (setting : Setting) (q : ℕ) (lists : List (List Taken)) (p : ℕ)
+    → slice_get (courses_from setting q lists) p ≡ option_map (course setting (q + p)) (slice_get lists p)
+course_at setting q [] p = refl
+course_at setting q (xs ∷ rest) zero = let here : q ≡ q + zero = omega arith in ap (λ (r : ℕ). Some (course setting r xs)) here
+course_at setting q (xs ∷ rest) (suc p) =
     let here : (q + 1) + p ≡ q + suc p = omega arith in
-    course_at program plan budget (q + 1) rest p ∙ ap (λ (r : ℕ). option_map (course program plan budget r) (slice_get rest p)) here
+    course_at setting (q + 1) rest p ∙ ap (λ (r : ℕ). option_map (course setting r) (slice_get rest p)) here
 
-no_split : (program : Program) (plan : Plan) (budget : ℕ) (s : Story) (q : ℕ) (lists : List (List Taken)) (p : ℕ) → slice_get lists p ≡ None
-    → slice_get (splits_from program plan budget s q lists) p ≡ None
-no_split program plan budget s q [] p e = refl
-no_split program plan budget s q (xs ∷ rest) zero e = absurd (none-some xs (sym e))
-no_split program plan budget s q (xs ∷ rest) (suc p) e = no_split program plan budget s (q + 1) rest p e
+no_split : (setting : Setting) (s : Story) (q : ℕ) (lists : List (List Taken)) (p : ℕ) → slice_get lists p ≡ None
+    → slice_get (splits_from setting s q lists) p ≡ None
+no_split setting s q [] p e = refl
+no_split setting s q (xs ∷ rest) zero e = absurd (none-some xs (sym e))
+no_split setting s q (xs ∷ rest) (suc p) e = no_split setting s (q + 1) rest p e
 
-split_there : (program : Program) (plan : Plan) (budget : ℕ) (s : Story) (q : ℕ) (lists : List (List Taken)) (p : ℕ) (steps : List Taken) → slice_get lists p ≡ Some steps
-    → slice_get (splits_from program plan budget s q lists) p ≡ Some (split_of program plan budget s (q + p) steps)
-split_there program plan budget s q [] p steps e = absurd (none-some steps e)
-split_there program plan budget s q (xs ∷ rest) zero steps e =
+split_there : (setting : Setting) (s : Story) (q : ℕ) (lists : List (List Taken)) (p : ℕ) (steps : List Taken) → slice_get lists p ≡ Some steps
+    → slice_get (splits_from setting s q lists) p ≡ Some (split_of setting s (q + p) steps)
+split_there setting s q [] p steps e = absurd (none-some steps e)
+split_there setting s q (xs ∷ rest) zero steps e =
     let here : q ≡ q + zero = omega arith in
-    ap₂ (λ (r : ℕ) (ys : List Taken). Some (split_of program plan budget s r ys)) here (some e)
-split_there program plan budget s q (xs ∷ rest) (suc p) steps e =
+    ap₂ (λ (r : ℕ) (ys : List Taken). Some (split_of setting s r ys)) here (some e)
+split_there setting s q (xs ∷ rest) (suc p) steps e =
     let here : (q + 1) + p ≡ q + suc p = omega arith in
-    split_there program plan budget s (q + 1) rest p steps e ∙ ap (λ (r : ℕ). Some (split_of program plan budget s r steps)) here
+    split_there setting s (q + 1) rest p steps e ∙ ap (λ (r : ℕ). Some (split_of setting s r steps)) here
 
-module _ (program : Program) (plan : Plan) (budget : ℕ) (h : List ℕ) where
+module _ (setting : Setting) (h : List ℕ) where
   abbrev told_story : Story
-  told_story = story program plan budget h
+  told_story = story setting h
 
-  held_at : (p : ℕ) → slice_get (helds program plan budget h) p ≡ option_map (λ (steps : List Taken). (course program plan budget p steps).held) (slice_get told_story.steps p)
+  held_at : (p : ℕ) → slice_get (helds setting h) p ≡ option_map (λ (steps : List Taken). (course setting p steps).held) (slice_get told_story.steps p)
   held_at p =
       let zero_more : 0 + p ≡ p = omega arith in
-      slice_get-map (λ g. g.held) (courses program plan budget told_story) p
-      ∙ ap (option_map (λ g. g.held)) (course_at program plan budget 0 told_story.steps p)
+      slice_get-map (λ g. g.held) (courses setting told_story) p
+      ∙ ap (option_map (λ g. g.held)) (course_at setting 0 told_story.steps p)
       ∙ twice (slice_get told_story.steps p)
-      ∙ ap (λ (r : ℕ). option_map (λ (steps : List Taken). (course program plan budget r steps).held) (slice_get told_story.steps p)) zero_more
+      ∙ ap (λ (r : ℕ). option_map (λ (steps : List Taken). (course setting r steps).held) (slice_get told_story.steps p)) zero_more
     where
-      twice : (o : Option (List Taken)) → option_map (λ g. g.held) (option_map (course program plan budget (0 + p)) o) ≡ option_map (λ (steps : List Taken). (course program plan budget (0 + p) steps).held) o
+      twice : (o : Option (List Taken)) → option_map (λ g. g.held) (option_map (course setting (0 + p)) o) ≡ option_map (λ (steps : List Taken). (course setting (0 + p) steps).held) o
       twice None = refl
       twice (Some x) = refl
 
   -- what is held gives the items of the story
-  pub items_same : (p k : ℕ) → items_at (helds program plan budget h) p k ≡ items_in_story program plan budget told_story p k
+  pub items_same : (p k : ℕ) → items_at (helds setting h) p k ≡ items_in_story setting told_story p k
   items_same p k = ap (items_if k) (held_at p) ∙ by (slice_get told_story.steps p) refl
     where
       by : (o : Option (List Taken)) → slice_get told_story.steps p ≡ o
-          → items_if k (option_map (λ (steps : List Taken). (course program plan budget p steps).held) o) ≡ items_in_story program plan budget told_story p k
-      by None e = sym (ap (items_in k) (no_split program plan budget told_story 0 told_story.steps p e))
-      by (Some steps) e = held_items_are program plan budget told_story p k steps e
+          → items_if k (option_map (λ (steps : List Taken). (course setting p steps).held) o) ≡ items_in_story setting told_story p k
+      by None e = sym (ap (items_in k) (no_split setting told_story 0 told_story.steps p e))
+      by (Some steps) e = held_items_are setting told_story p k steps e
 
   -- each part of what is held is one item
-  pub held_whole : IsValid program → (p : ℕ) (x : Holding) → slice_get (helds program plan budget h) p ≡ Some x → AreWhole x
+  pub held_whole : IsValid setting.program → (p : ℕ) (x : Holding) → slice_get (helds setting h) p ≡ Some x → AreWhole x
   held_whole valid p x e = by (slice_get told_story.steps p) refl (sym (held_at p) ∙ e)
     where
-      of_split : (y : Split) → slice_get (splits program plan budget told_story) p ≡ Some y → AreWhole (held_of y)
+      of_split : (y : Split) → slice_get (splits setting told_story) p ≡ Some y → AreWhole (held_of y)
       of_split y at k i f = of_span (slice_get y.spans k) refl (sym (slice_get-map bare y.spans k) ∙ f)
         where
           of_span : (o : Option Span) → slice_get y.spans k ≡ o → option_map bare o ≡ Some i → AreOnes (held_of y) i.parts
@@ -196,16 +195,16 @@ module _ (program : Program) (plan : Plan) (budget : ℕ) (h : List ℕ) where
               subst (λ (j : Kept). AreOnes (held_of y) j.parts) (some m)
               (ones_from (held_of y) (map part_of span.parts)
               (ap (λ (xs : List Item). length xs) (items_are y span.parts)
-              ∙ (items_whole program plan budget h p y valid at).whole k span g
+              ∙ (items_whole setting h p y valid at).whole k span g
               ∙ sym (length-map span.parts part_of)))
 
-      by : (o : Option (List Taken)) → slice_get told_story.steps p ≡ o → option_map (λ (steps : List Taken). (course program plan budget p steps).held) o ≡ Some x → AreWhole x
+      by : (o : Option (List Taken)) → slice_get told_story.steps p ≡ o → option_map (λ (steps : List Taken). (course setting p steps).held) o ≡ Some x → AreWhole x
       by None is f = absurd (none-some x f)
       by (Some steps) is f =
           let zero_more : 0 + p ≡ p = omega arith in
-          subst (λ (y : Holding). AreWhole y) (ap (λ (g : Course). g.held) (held_is program plan told_story p budget steps) ∙ some f)
-          (of_split (split_of program plan budget told_story p steps)
-          (split_there program plan budget told_story 0 told_story.steps p steps is ∙ ap (λ (r : ℕ). Some (split_of program plan budget told_story r steps)) zero_more))
+          subst (λ (y : Holding). AreWhole y) (ap (λ (g : Course). g.held) (held_is setting.program setting.plan told_story p setting.budget steps) ∙ some f)
+          (of_split (split_of setting told_story p steps)
+          (split_there setting told_story 0 told_story.steps p steps is ∙ ap (λ (r : ℕ). Some (split_of setting told_story r steps)) zero_more))
 
 -- ---- tests
 

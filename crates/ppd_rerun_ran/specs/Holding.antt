@@ -1,4 +1,5 @@
 -- The intervals of a process as a run goes on: its events, what stands in each interval, and which of them run.
+use Rattle.ppd_model.specs.Setting.{Setting}
 use Rattle.std.specs.Prelude.{◌≡◌, ℕ, ◌+◌, ℤ, Bool, true, false, List, [], ◌∷◌, ◌++◌, drop, fold, length, slice_get, Option, Some, None, unwrap_or}
 use Rattle.std.specs.List.{flat_map}
 use Rattle.ppd_ast.specs.declared.plan.BlockKind.TheVariants as block
@@ -108,23 +109,23 @@ abbrev pub begun_held : Program → Plan → ℕ → Holding
 begun_held program plan p = begun_in (unwrap_or (block_of plan (block.Process (program.functions + p))) 0)
 
 -- process p before its first step
-abbrev pub begun_course : Program → Plan → ℕ → ℕ → Course
-begun_course program plan budget p =
-    record { proc = started program plan p budget; held = begun_held program plan p }
+abbrev pub begun_course : Setting → ℕ → Course
+begun_course setting p =
+    record { proc = started setting.program setting.plan p setting.budget; held = begun_held setting.program setting.plan p }
 
 -- process p after its steps
-abbrev pub course : Program → Plan → ℕ → ℕ → List Taken → Course
-course program plan budget p steps = fold (held_on program plan) (begun_course program plan budget p) steps
+abbrev pub course : Setting → ℕ → List Taken → Course
+course setting p steps = fold (held_on setting.program setting.plan) (begun_course setting p) steps
 
 -- the processes from number p on
-abbrev pub courses_from : Program → Plan → ℕ → ℕ → List (List Taken) → List Course
-courses_from program plan budget p [] = []
-courses_from program plan budget p (steps ∷ rest) =
-    course program plan budget p steps ∷ courses_from program plan budget (p + 1) rest
+abbrev pub courses_from : Setting → ℕ → List (List Taken) → List Course
+courses_from setting p [] = []
+courses_from setting p (steps ∷ rest) =
+    course setting p steps ∷ courses_from setting (p + 1) rest
 
 -- the processes of a story
-abbrev pub courses : Program → Plan → ℕ → Story → List Course
-courses program plan budget story = courses_from program plan budget 0 story.steps
+abbrev pub courses : Setting → Story → List Course
+courses setting story = courses_from setting 0 story.steps
 
 -- ---- items
 

@@ -1,4 +1,5 @@
 // The guided run, with what is held of its processes.
+ghost use Rattle.ppd_model.specs.Setting.{setting_of};
 ghost use Rattle.std.specs.Prelude.{◌≡◌, ◌+◌, ◌*◌, ◌-◌, ◌<◌, ◌≤◌, ◌^◌, ◌++◌, ◌∷◌, [], Some, length, map, IfOk, OnOk};
 ghost use Rattle.ppd_ast.specs.Valid.{IsValid};
 ghost use Rattle.ppd_ast.specs.ValidPlan.{IsValidPlan};
@@ -87,13 +88,13 @@ fn take(
     p: u8,
 ) -> Result<(), Memory>
     requires reached { IsReached guide.old.world }
-    requires program { guide.old.world.program ≡ setting.now.program.now }
-    requires plan { guide.old.world.plan ≡ setting.now.plan.now }
-    requires may { chosen_of guide.old.world.program guide.old.world.plan
+    requires program { guide.old.world.setting.program ≡ setting.now.program.now }
+    requires plan { guide.old.world.setting.plan ≡ setting.now.plan.now }
+    requires may { chosen_of guide.old.world.setting.program guide.old.world.setting.plan
         (guiding_of guide.old.world guide.old.dues.items) ≡ Some p }
     ensures guided { OnOk result
         (guiding_of guide.new.world guide.new.dues.items
-        ≡ guide_of guide.old.world.program guide.old.world.plan
+        ≡ guide_of guide.old.world.setting.program guide.old.world.setting.plan
         (guiding_of guide.old.world guide.old.dues.items) p) }
     ensures comes { OnOk result (Takes guide.old.world (p ∷ []) guide.new.world) }
     ensures kept { OnOk result (IsReached guide.new.world) }
@@ -121,13 +122,13 @@ fn run(
     guide: &mut Guide,
     held: &mut Vec<Held>,
 ) -> Result<Bytes, Memory>
-    requires come { IsHeld setting.now.program.now setting.now.plan.now budget guide.old.world [] }
-    requires held { map seen held.old.items ≡ helds setting.now.program.now setting.now.plan.now budget [] }
+    requires come { IsHeld (setting_of setting.now.program.now setting.now.plan.now budget) guide.old.world [] }
+    requires held { map seen held.old.items ≡ helds (setting_of setting.now.program.now setting.now.plan.now budget) [] }
     ensures schedule { IfOk result
         (λ h. h ≡ guided_from setting.now.program.now setting.now.plan.now
         ((length setting.now.program.now.bodies - setting.now.program.now.functions) * (budget + 1)) (guiding_of guide.old.world guide.old.dues.items)) }
     ensures come { IfOk result
-        (λ h. HasCome setting.now.program.now setting.now.plan.now budget (map left_of guide.old.dues.items) h
+        (λ h. HasCome (setting_of setting.now.program.now setting.now.plan.now budget) (map left_of guide.old.dues.items) h
         guide.new.world (map left_of guide.new.dues.items) (map seen held.new.items)) }
 {
     let mut schedule = Bytes::new(setting.alloc);
@@ -145,7 +146,7 @@ pub fn guided_run(setting: &Setting, logs: &Logs, budget: u32) -> Result<Ran, Me
     requires program { IsValid setting.now.program.now }
     requires plan { IsValidPlan setting.now.program.now setting.now.plan.now }
     requires budget { budget ≤ MOST_BUDGET }
-    ensures { IfOk result (λ ran. IsRan setting.now.program.now setting.now.plan.now budget logs.now ran) }
+    ensures { IfOk result (λ ran. IsRan (setting_of setting.now.program.now setting.now.plan.now budget) logs.now ran) }
 {
     let mut guide = Guide::new(setting, logs, budget)?;
     let mut held = begin(setting, guide.process_count())?;

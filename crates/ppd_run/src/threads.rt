@@ -1,3 +1,4 @@
+ghost use Rattle.ppd_model.specs.Setting.{setting_of};
 ghost use Rattle.std.specs.Prelude.{◌≡◌, ◌≤◌, [], IfOk};
 ghost use Rattle.ppd_ast.specs.Valid.{IsValid};
 ghost use Rattle.ppd_ast.specs.ValidPlan.{IsValidPlan};
@@ -34,7 +35,7 @@ pub fn run<G: Gate, R: Threads + Wait + Sync>(
     requires program { IsValid program.now }
     requires plan { IsValidPlan program.now plan.now }
     requires budget { budget ≤ MOST_BUDGET }
-    ensures end { IfOk result (RanToEnd program.now plan.now budget) }
+    ensures end { IfOk result (RanToEnd (setting_of program.now plan.now budget)) }
     ensures bounded { IfOk result (λ ran. KeepsBudget program.now budget ran.schedule) }
 {
     let world = World::new(alloc, program, plan, budget)?;
@@ -49,13 +50,11 @@ fn run_as<J: Job + Send + Sync, G: Gate, R: Threads + Wait + Sync>(
     budget: u32,
     gate: &G,
 ) -> Result<Ran, Memory>
-    requires of_program { world.program ≡ J.program }
-    requires of_plan { world.plan ≡ J.plan }
-    requires of_budget { world.budget ≡ J.budget }
+    requires setting { world.setting ≡ J.setting }
     requires first { IsOf [] world }
     requires reached { IsReached world }
-    ensures end { IfOk result (RanToEnd J.program J.plan J.budget) }
-    ensures bounded { IfOk result (λ ran. KeepsBudget J.program J.budget ran.schedule) }
+    ensures end { IfOk result (RanToEnd J.setting) }
+    ensures bounded { IfOk result (λ ran. KeepsBudget J.setting.program J.setting.budget ran.schedule) }
 {
     let processes = world.process_count();
     let book: Book<'_, J> = Book::new(alloc, world);

@@ -1,6 +1,5 @@
 -- Of a run no line is left without an answer: each of its intervals has its items.
-use Rattle.ppd_ast.specs.declared.plan.Plan.{Plan}
-use Rattle.ppd_ast.specs.declared.program.Program.{Program}
+use Rattle.ppd_model.specs.Setting.{Setting}
 use Rattle.ppd_flow_past.specs.declared.flow_error.FlowError.TheVariants as flow_error
 use Rattle.ppd_flow_past.specs.declared.flow_error.FlowError.TheVariants.{NoEvent}
 use Rattle.ppd_model.specs.FlowbackEdges.{edges}
@@ -41,27 +40,27 @@ of_races : (rs : List Race) (q : ℕ) (xs : List Split) (k : ℕ) → failure_in
 of_races [] q xs k = of_process q q xs k
 of_races (r ∷ rs) q xs k = nowhere q k
 
-module _ (program : Program) (plan : Plan) (budget : ℕ) (h : List ℕ) where
+module _ (setting : Setting) (h : List ℕ) where
   abbrev known : Known
-  known = known_of_run program plan budget h
+  known = known_of_run setting h
 
   abbrev told : ℕ → Last
-  told = last_told program plan budget (story program plan budget h)
+  told = last_told setting (story setting h)
 
   pub of_name : (q : Option ℕ) (k : ℕ) → failure_at known q k ≡ None
   of_name None k = refl
-  of_name (Some q) k = of_races (races program plan budget h) q (splits program plan budget (story program plan budget h)) k
+  of_name (Some q) k = of_races (races setting h) q (splits setting (story setting h)) k
 
   of_none : (o : Option (List FlowEdge)) → unfound_flow (ok_or o NoEvent) ≡ None
   of_none None = refl
   of_none (Some es) = refl
 
   abbrev flows : ℕ → ℕ → ℕ → Flow
-  flows = flow_told program plan budget (story program plan budget h)
+  flows = flow_told setting (story setting h)
 
   of_cell : (p k c n j : ℕ) → unfound_flow (get_or (of_cells (flows p k) c n) j (Err flow_error.NoEvent)) ≡ None
   of_cell p k c zero j = refl
-  of_cell p k c (suc n) zero = of_none (edges program plan budget (story program plan budget h) p k c)
+  of_cell p k c (suc n) zero = of_none (edges setting (story setting h) p k c)
   of_cell p k c (suc n) (suc j) = of_cell p k (c + 1) n j
 
   of_cells_told : (p k j : ℕ) (t : Told) → unfound_flow (get_or (of_cells (flows p k) 0 (length (result_unwrap_or t []))) j (Err flow_error.NoEvent)) ≡ None
@@ -99,8 +98,8 @@ module _ (program : Program) (plan : Plan) (budget : ℕ) (h : List ℕ) where
   all_told c zero = refl
   all_told c (suc n) = all_told (c + 1) n
 
-  of_lasts : (rs : List Race) → slice_get (filter_map result_err (unless_raced rs (of_cells told 0 (length program.starts)))) 0 ≡ None
-  of_lasts [] = all_told 0 (length program.starts)
+  of_lasts : (rs : List Race) → slice_get (filter_map result_err (unless_raced rs (of_cells told 0 (length setting.program.starts)))) 0 ≡ None
+  of_lasts [] = all_told 0 (length setting.program.starts)
   of_lasts (r ∷ rs) = refl
 
   of_question : (asked : Question) → failure known asked ≡ None
@@ -108,11 +107,11 @@ module _ (program : Program) (plan : Plan) (budget : ℕ) (h : List ℕ) where
   of_question Unknown = refl
   of_question Quit = refl
   of_question Races = refl
-  of_question Final = of_lasts (races program plan budget h)
+  of_question Final = of_lasts (races setting h)
   of_question (Blocks q) = refl
   of_question (Open q k) = of_asked q k None
   of_question (Why q k j) = of_asked q k (Some j)
   of_question (Deps s) = refl
 
 pub run_answered : RunsAreAnswered
-run_answered program plan budget h line = of_question program plan budget h (question program line)
+run_answered setting h line = of_question setting h (question setting.program line)

@@ -1,4 +1,5 @@
 -- The edges of an item as replays give them.
+use Rattle.ppd_flow_past.specs.PastSetting.{past_setting}
 use Rattle.std.specs.Prelude.{Some, None, length, ◌<◌}
 use Rattle.std.proofs.Common.{◌≡◌, ℕ, List, [], map, Option, Result, Ok, Err, ap, sym, ◌∙◌}
 use Rattle.ppd_entry.specs.declared.entry.At.{At}
@@ -26,14 +27,14 @@ module _ (past : Past) (uncut : past.cut.now ≡ past.logs.now) (q k j : ℕ) wh
   answer = answer_if (found_edges past.program.now past.plan.now past.logs.now (seens_in past) q k j).found
 
   abbrev known : Flow
-  known = flow_by past.program.now past.plan.now past.budget past.logs.now q k j
+  known = flow_by (past_setting past) past.logs.now q k j
 
   -- by the logs that are replayed, and by the logs
   pub same : unless_failed (first_failed_in past replays) answer ≡ known
   same =
       ap (λ (l : Logs). unless_failed
-      (first_failed past.program.now past.plan.now past.budget l (found_edges past.program.now past.plan.now past.logs.now (map (λ entries. seen_by past.program.now past.plan.now past.budget entries) l.lists) q k j).replays)
-      (answer_if (found_edges past.program.now past.plan.now past.logs.now (map (λ entries. seen_by past.program.now past.plan.now past.budget entries) l.lists) q k j).found)) uncut
+      (first_failed (past_setting past) l (found_edges past.program.now past.plan.now past.logs.now (map (λ entries. seen_by (past_setting past) entries) l.lists) q k j).replays)
+      (answer_if (found_edges past.program.now past.plan.now past.logs.now (map (λ entries. seen_by (past_setting past) entries) l.lists) q k j).found)) uncut
 
   by_failure : (o : Option At) → first_failed_in past replays ≡ o → known ≡ unless_failed o answer
   by_failure o e = sym same ∙ ap (λ (f : Option At). unless_failed f answer) e
@@ -47,6 +48,6 @@ module _ (past : Past) (uncut : past.cut.now ≡ past.logs.now) (q k j : ℕ) wh
 
 -- of an item that is told the edges are those that are found by replays
 pub flow_there : (past : Past) (q k j : ℕ) (items : List Item) → told_at (known_by past []) q k ≡ Some (Ok items) → j < length items
-    → flow_at (known_by past []) q k j ≡ flow_by past.program.now past.plan.now past.budget past.logs.now q k j
+    → flow_at (known_by past []) q k j ≡ flow_by (past_setting past) past.logs.now q k j
 flow_there past q k j items told lt =
-    flow_inside (flow_by past.program.now past.plan.now past.budget past.logs.now) (known_by past []).items q k j items told lt
+    flow_inside (flow_by (past_setting past) past.logs.now) (known_by past []).items q k j items told lt

@@ -1,4 +1,6 @@
 -- What is known of the logs of a run is what is known of the run.
+use Rattle.law_steps.specs.Policies.{setting_by}
+use Rattle.ppd_model.specs.Setting.{Setting, setting_of}
 use Rattle.ppd_ast.specs.Valid.{IsValid}
 use Rattle.ppd_ast.specs.declared.plan.Plan.{Plan}
 use Rattle.ppd_ast.specs.declared.plan.Policy.{Policy}
@@ -69,9 +71,9 @@ same_shown f g (x ∷ xs) (y ∷ ys) e h =
     let head : f x ≡ g y = h 0 x y refl refl in
     let tail = same_shown f g xs ys n (λ p z w k l. h (suc p) z w k l) in cc
 
-length-logs : (program : Program) (plan : Plan) (budget q : ℕ) (moments : List (List Moment)) → length (logs_from program plan budget q moments) ≡ length moments
-length-logs program plan budget q [] = refl
-length-logs program plan budget q (x ∷ xs) = ap suc (length-logs program plan budget (q + 1) xs)
+length-logs : (setting : Setting) (q : ℕ) (moments : List (List Moment)) → length (logs_from setting q moments) ≡ length moments
+length-logs setting q [] = refl
+length-logs setting q (x ∷ xs) = ap suc (length-logs setting (q + 1) xs)
 
 abbrev shown_log : Logging → List Interval
 shown_log l = map of_extent (extents (closed_log l))
@@ -100,10 +102,10 @@ entries_there (m ∷ ls) (suc p) l e = entries_there ls p l e
 abbrev told_replayed : Replayed → Told
 told_replayed r = told_by r.answer
 
-replay_told : (program : Program) (plan : Plan) (budget : ℕ) (o : Option LoggedInterval)
-    → option_map (λ (i : LoggedInterval). told_by (replay program plan (log_by plan i) budget).answer) o ≡ option_map told_replayed (replay_of program plan budget (log_in plan o))
-replay_told program plan budget None = refl
-replay_told program plan budget (Some i) = refl
+replay_told : (setting : Setting) (o : Option LoggedInterval)
+    → option_map (λ (i : LoggedInterval). told_by (replay setting.program setting.plan (log_by setting.plan i) setting.budget).answer) o ≡ option_map told_replayed (replay_of setting (log_in setting.plan o))
+replay_told setting None = refl
+replay_told setting (Some i) = refl
 
 span_told : (x : Split) (o : Option Span) → option_map told_replayed (modelled_of x o) ≡ option_map (λ (i : Span). Ok (items_of x i)) o
 span_told x None = refl
@@ -119,42 +121,42 @@ module _ (program : Program) (policy : Policy) (budget : ℕ) (h : List ℕ) (va
   abbrev plan : Plan
   plan = plan_of program policy
 
-  same_count : length (splits program plan budget (story program plan budget h)) ≡ length (loggings program plan budget h)
+  same_count : length (splits (setting_of program plan budget) (story (setting_of program plan budget) h)) ≡ length (loggings (setting_of program plan budget) h)
   same_count =
-      splits_length program plan budget (story program plan budget h) 0 (story program plan budget h).steps
-      ∙ (length-map (told program plan budget h).moments steps_of ∙ sym (length-logs program plan budget 0 (told program plan budget h).moments))
+      splits_length (setting_of program plan budget) (story (setting_of program plan budget) h) 0 (story (setting_of program plan budget) h).steps
+      ∙ (length-map (told (setting_of program plan budget) h).moments steps_of ∙ sym (length-logs (setting_of program plan budget) 0 (told (setting_of program plan budget) h).moments))
 
-  same_intervals_all : map of_split (splits program plan budget (story program plan budget h)) ≡ map shown_log (loggings program plan budget h)
-  same_intervals_all = same_shown of_split shown_log (splits program plan budget (story program plan budget h)) (loggings program plan budget h) same_count (λ p x l e f.
-      same_intervals x.spans (extents (closed_log l)) (intervals_of_logs program plan budget h p x l e f).closed_are)
+  same_intervals_all : map of_split (splits (setting_of program plan budget) (story (setting_of program plan budget) h)) ≡ map shown_log (loggings (setting_of program plan budget) h)
+  same_intervals_all = same_shown of_split shown_log (splits (setting_of program plan budget) (story (setting_of program plan budget) h)) (loggings (setting_of program plan budget) h) same_count (λ p x l e f.
+      same_intervals x.spans (extents (closed_log l)) (intervals_of_logs (setting_of program plan budget) h p x l e f).closed_are)
 
-  module _ (whole : IsWhole program plan budget h) (free : races program plan budget h ≡ []) where
+  module _ (whole : IsWhole (setting_of program plan budget) h) (free : races (setting_of program plan budget) h ≡ []) where
     -- each replay gives the items of its interval
-    same_told : (p : ℕ) (x : Split) (l : Logging) → slice_get (splits program plan budget (story program plan budget h)) p ≡ Some x → slice_get (loggings program plan budget h) p ≡ Some l
-        → told_of_split x ≡ told_of_entries program plan budget (closed_log l)
+    same_told : (p : ℕ) (x : Split) (l : Logging) → slice_get (splits (setting_of program plan budget) (story (setting_of program plan budget) h)) p ≡ Some x → slice_get (loggings (setting_of program plan budget) h) p ≡ Some l
+        → told_of_split x ≡ told_of_entries (setting_of program plan budget) (closed_log l)
     same_told p x l e f =
-        let entries = entries_there (loggings program plan budget h) p l f in
-        let at : (k : ℕ) → replay_of program plan budget (interval_log plan (closed_log l) k) ≡ modelled_of x (slice_get x.spans k) =
-        λ k. ap (λ (es : List Entry). replay_of program plan budget (interval_log plan es k)) (sym entries)
+        let entries = entries_there (loggings (setting_of program plan budget) h) p l f in
+        let at : (k : ℕ) → replay_of (setting_of program plan budget) (interval_log plan (closed_log l) k) ≡ modelled_of x (slice_get x.spans k) =
+        λ k. ap (λ (es : List Entry). replay_of (setting_of program plan budget) (interval_log plan es k)) (sym entries)
         ∙ (replays_give_intervals program policy budget h p k valid whole free ∙ ap (modelled_in k) e) in
         sym (all_shown _ _ (indexed (closed_log l)) x.spans (λ k.
-        replay_told program plan budget (slice_get (indexed (closed_log l)) k)
+        replay_told (setting_of program plan budget) (slice_get (indexed (closed_log l)) k)
         ∙ (ap (option_map told_replayed) (at k) ∙ span_told x (slice_get x.spans k))))
 
-    same_told_all : map told_of_split (splits program plan budget (story program plan budget h)) ≡ map (told_of_entries program plan budget) (closed_logs program plan budget h).lists
+    same_told_all : map told_of_split (splits (setting_of program plan budget) (story (setting_of program plan budget) h)) ≡ map (told_of_entries (setting_of program plan budget)) (closed_logs (setting_of program plan budget) h).lists
     same_told_all =
-        same_shown told_of_split (λ (l : Logging). told_of_entries program plan budget (closed_log l)) (splits program plan budget (story program plan budget h)) (loggings program plan budget h) same_count same_told
-        ∙ sym (shown_logs (told_of_entries program plan budget) (loggings program plan budget h))
+        same_shown told_of_split (λ (l : Logging). told_of_entries (setting_of program plan budget) (closed_log l)) (splits (setting_of program plan budget) (story (setting_of program plan budget) h)) (loggings (setting_of program plan budget) h) same_count same_told
+        ∙ sym (shown_logs (told_of_entries (setting_of program plan budget)) (loggings (setting_of program plan budget) h))
 
   -- and where there is a race, nothing is told of items
-  same_items : IsWhole program plan budget h → (rs : List Race) → rs ≡ races program plan budget h
-      → unless_raced rs (map (told_of_entries program plan budget) (closed_logs program plan budget h).lists) ≡ unless_raced rs (map told_of_split (splits program plan budget (story program plan budget h)))
+  same_items : IsWhole (setting_of program plan budget) h → (rs : List Race) → rs ≡ races (setting_of program plan budget) h
+      → unless_raced rs (map (told_of_entries (setting_of program plan budget)) (closed_logs (setting_of program plan budget) h).lists) ≡ unless_raced rs (map told_of_split (splits (setting_of program plan budget) (story (setting_of program plan budget) h)))
   same_items whole [] e = sym (same_told_all whole (sym e))
   same_items whole (r ∷ rs) e = refl
 
-  module _ (whole : IsWhole program plan budget h) (free : races program plan budget h ≡ []) where
+  module _ (whole : IsWhole (setting_of program plan budget) h) (free : races (setting_of program plan budget) h ≡ []) where
     abbrev logs : Logs
-    logs = closed_logs program plan budget h
+    logs = closed_logs (setting_of program plan budget) h
 
     fails_nowhere : (k : ℕ) (o : Option Split) → failure_of (modelled_in k o) ≡ None
     fails_nowhere k None = refl
@@ -165,31 +167,31 @@ module _ (program : Program) (policy : Policy) (budget : ℕ) (h : List ℕ) (va
         by (Some i) = refl
 
     -- no replay fails
-    pub never : (ms : List (ℕ × ℕ)) → first_failed program plan budget logs ms ≡ None
+    pub never : (ms : List (ℕ × ℕ)) → first_failed (setting_of program plan budget) logs ms ≡ None
     never [] = refl
     never (m ∷ ms) =
-        let none : failed_at program plan budget (get_or logs.lists m.0 []) m.1 ≡ None =
+        let none : failed_at (setting_of program plan budget) (get_or logs.lists m.0 []) m.1 ≡ None =
         ap failure_of (replays_give_intervals program policy budget h m.0 m.1 valid whole free)
-        ∙ fails_nowhere m.1 (slice_get (splits program plan budget (story program plan budget h)) m.0) in
-        ap (λ o. failure_or m.0 o (first_failed program plan budget logs ms)) none ∙ never ms
+        ∙ fails_nowhere m.1 (slice_get (splits (setting_of program plan budget) (story (setting_of program plan budget) h)) m.0) in
+        ap (λ o. failure_or m.0 o (first_failed (setting_of program plan budget) logs ms)) none ∙ never ms
 
-    seen_there : (p : ℕ) (x : Split) (l : Logging) → slice_get (splits program plan budget (story program plan budget h)) p ≡ Some x → slice_get (loggings program plan budget h) p ≡ Some l
-        → seen_of x ≡ seen_by program plan budget (closed_log l)
+    seen_there : (p : ℕ) (x : Split) (l : Logging) → slice_get (splits (setting_of program plan budget) (story (setting_of program plan budget) h)) p ≡ Some x → slice_get (loggings (setting_of program plan budget) h) p ≡ Some l
+        → seen_of x ≡ seen_by (setting_of program plan budget) (closed_log l)
     seen_there p x l e f =
         sym (replays_are_seen program policy budget h p x valid whole free e).seen
-        ∙ ap (seen_by program plan budget) (entries_there (loggings program plan budget h) p l f)
+        ∙ ap (seen_by (setting_of program plan budget)) (entries_there (loggings (setting_of program plan budget) h) p l f)
 
     -- replays see what is there to be seen
-    pub all_there : all_seen program plan budget h ≡ seens program plan budget logs
+    pub all_there : all_seen (setting_of program plan budget) h ≡ seens (setting_of program plan budget) logs
     all_there =
-        same_shown seen_of (λ (l : Logging). seen_by program plan budget (closed_log l)) (splits program plan budget (story program plan budget h)) (loggings program plan budget h) same_count seen_there
-        ∙ sym (shown_logs (seen_by program plan budget) (loggings program plan budget h))
+        same_shown seen_of (λ (l : Logging). seen_by (setting_of program plan budget) (closed_log l)) (splits (setting_of program plan budget) (story (setting_of program plan budget) h)) (loggings (setting_of program plan budget) h) same_count seen_there
+        ∙ sym (shown_logs (seen_by (setting_of program plan budget)) (loggings (setting_of program plan budget) h))
 
-    same_last : (c : ℕ) → c < length program.starts → last_by program plan budget logs c ≡ last_told program plan budget (story program plan budget h) c
+    same_last : (c : ℕ) → c < length program.starts → last_by (setting_of program plan budget) logs c ≡ last_told (setting_of program plan budget) (story (setting_of program plan budget) h) c
     same_last c lt =
-        ap (λ o. unless_failed o (answer_of (found_last program logs (seens program plan budget logs) c).found)) (never (found_last program logs (seens program plan budget logs) c).replays)
+        ap (λ o. unless_failed o (answer_of (found_last program logs (seens (setting_of program plan budget) logs) c).found)) (never (found_last program logs (seens (setting_of program plan budget) logs) c).replays)
         ∙ (ap (λ xs. answer_of (found_last program logs xs c).found) (sym all_there)
-        ∙ ap answer_of (last_found program plan budget h whole.last valid whole.runs free c lt))
+        ∙ ap answer_of (last_found (setting_of program plan budget) h whole.last valid whole.runs free c lt))
 
     -- the edges that are found are those of the run
     no_split : (xs : List Split) (p : ℕ) → slice_get xs p ≡ None → seen_at (map (λ x. seen_of x) xs) p ≡ record { items = []; blocks = []; rounds = [] }
@@ -206,27 +208,27 @@ module _ (program : Program) (policy : Policy) (budget : ℕ) (h : List ℕ) (va
     answered None = refl
     answered (Some es) = refl
 
-    found_there : (p k j : ℕ) (o : Option Split) → slice_get (splits program plan budget (story program plan budget h)) p ≡ o
-        → answer_if (found_edges program plan logs (all_seen program plan budget h) p k j).found ≡ flow_told program plan budget (story program plan budget h) p k j
+    found_there : (p k j : ℕ) (o : Option Split) → slice_get (splits (setting_of program plan budget) (story (setting_of program plan budget) h)) p ≡ o
+        → answer_if (found_edges program plan logs (all_seen (setting_of program plan budget) h) p k j).found ≡ flow_told (setting_of program plan budget) (story (setting_of program plan budget) h) p k j
     found_there p k j (Some x) e =
-        ap answer_if (assembled program plan budget h whole.last valid whole.runs free p k j x e (own_parts program policy budget h p k j x valid e))
-        ∙ answered (edges program plan budget (story program plan budget h) p k j)
+        ap answer_if (assembled (setting_of program plan budget) h whole.last valid whole.runs free p k j x e (own_parts program policy budget h p k j x valid e))
+        ∙ answered (edges (setting_of program plan budget) (story (setting_of program plan budget) h) p k j)
     found_there p k j None e =
-        ap (λ i. answer_if (edges_if program plan logs (all_seen program plan budget h) p k j i).found) (no_item (all_seen program plan budget h) p k j (no_split (splits program plan budget (story program plan budget h)) p e))
-        ∙ ap (λ s. ok_or (edges_in program plan (splits program plan budget (story program plan budget h)) k j s) NoEvent) (sym e)
+        ap (λ i. answer_if (edges_if program plan logs (all_seen (setting_of program plan budget) h) p k j i).found) (no_item (all_seen (setting_of program plan budget) h) p k j (no_split (splits (setting_of program plan budget) (story (setting_of program plan budget) h)) p e))
+        ∙ ap (λ s. ok_or (edges_in program plan (splits (setting_of program plan budget) (story (setting_of program plan budget) h)) k j s) NoEvent) (sym e)
 
-    same_flow : (p k j : ℕ) → flow_by program plan budget logs p k j ≡ flow_told program plan budget (story program plan budget h) p k j
+    same_flow : (p k j : ℕ) → flow_by (setting_of program plan budget) logs p k j ≡ flow_told (setting_of program plan budget) (story (setting_of program plan budget) h) p k j
     same_flow p k j =
-        ap (λ o. unless_failed o (answer_if (found_edges program plan logs (seens program plan budget logs) p k j).found)) (never (found_edges program plan logs (seens program plan budget logs) p k j).replays)
+        ap (λ o. unless_failed o (answer_if (found_edges program plan logs (seens (setting_of program plan budget) logs) p k j).found)) (never (found_edges program plan logs (seens (setting_of program plan budget) logs) p k j).replays)
         ∙ (ap (λ xs. answer_if (found_edges program plan logs xs p k j).found) (sym all_there)
-        ∙ found_there p k j (slice_get (splits program plan budget (story program plan budget h)) p) refl)
+        ∙ found_there p k j (slice_get (splits (setting_of program plan budget) (story (setting_of program plan budget) h)) p) refl)
 
-  same_flows : IsWhole program plan budget h → (rs : List Race) → rs ≡ races program plan budget h
-      → of_processes (flow_by program plan budget (closed_logs program plan budget h)) 0 (unless_raced rs (map (told_of_entries program plan budget) (closed_logs program plan budget h).lists))
-      ≡ of_processes (flow_told program plan budget (story program plan budget h)) 0 (unless_raced rs (map told_of_split (splits program plan budget (story program plan budget h))))
+  same_flows : IsWhole (setting_of program plan budget) h → (rs : List Race) → rs ≡ races (setting_of program plan budget) h
+      → of_processes (flow_by (setting_of program plan budget) (closed_logs (setting_of program plan budget) h)) 0 (unless_raced rs (map (told_of_entries (setting_of program plan budget)) (closed_logs (setting_of program plan budget) h).lists))
+      ≡ of_processes (flow_told (setting_of program plan budget) (story (setting_of program plan budget) h)) 0 (unless_raced rs (map told_of_split (splits (setting_of program plan budget) (story (setting_of program plan budget) h))))
   same_flows whole [] e =
-      ap (λ f. of_processes f 0 (map (told_of_entries program plan budget) (closed_logs program plan budget h).lists)) (same_function (flow_by program plan budget (closed_logs program plan budget h)) (flow_told program plan budget (story program plan budget h)) (same_flow whole (sym e)))
-      ∙ ap (of_processes (flow_told program plan budget (story program plan budget h)) 0) (sym (same_told_all whole (sym e)))
+      ap (λ f. of_processes f 0 (map (told_of_entries (setting_of program plan budget)) (closed_logs (setting_of program plan budget) h).lists)) (same_function (flow_by (setting_of program plan budget) (closed_logs (setting_of program plan budget) h)) (flow_told (setting_of program plan budget) (story (setting_of program plan budget) h)) (same_flow whole (sym e)))
+      ∙ ap (of_processes (flow_told (setting_of program plan budget) (story (setting_of program plan budget) h)) 0) (sym (same_told_all whole (sym e)))
   same_flows whole (r ∷ rs) e = refl
 
   same_cells : (f g : ℕ → Last) (c n m : ℕ) → ((i : ℕ) → i < m → f i ≡ g i) → c + n ≤ m → of_cells f c n ≡ of_cells g c n
@@ -235,11 +237,11 @@ module _ (program : Program) (policy : Policy) (budget : ℕ) (h : List ℕ) (va
       let head = h c (omega arith) in
       let tail = same_cells f g (c + 1) n m h (omega arith) in cc
 
-  same_lasts : IsWhole program plan budget h → (rs : List Race) → rs ≡ races program plan budget h
-      → unless_raced rs (of_cells (last_by program plan budget (closed_logs program plan budget h)) 0 (length program.starts))
-      ≡ unless_raced rs (of_cells (last_told program plan budget (story program plan budget h)) 0 (length program.starts))
+  same_lasts : IsWhole (setting_of program plan budget) h → (rs : List Race) → rs ≡ races (setting_of program plan budget) h
+      → unless_raced rs (of_cells (last_by (setting_of program plan budget) (closed_logs (setting_of program plan budget) h)) 0 (length program.starts))
+      ≡ unless_raced rs (of_cells (last_told (setting_of program plan budget) (story (setting_of program plan budget) h)) 0 (length program.starts))
   same_lasts whole [] e =
-      same_cells (last_by program plan budget (closed_logs program plan budget h)) (last_told program plan budget (story program plan budget h))
+      same_cells (last_by (setting_of program plan budget) (closed_logs (setting_of program plan budget) h)) (last_told (setting_of program plan budget) (story (setting_of program plan budget) h))
       0 (length program.starts) (length program.starts) (same_last whole (sym e)) (omega arith)
   same_lasts whole (r ∷ rs) e = refl
 
@@ -254,20 +256,20 @@ same_known program plan a b i j s t k l m n e f g o u =
     ∙ (ap (as_known program plan a i (t a) (l a)) u
     ∙ (ap (λ r. as_known program plan r i (t r) (l r) (n r)) e ∙ ap (λ w. as_known program plan b w (t b) (l b) (n b)) f)))
 
-pub known_as : (program : Program) (policy : Policy) (budget : ℕ) (h : List ℕ) → IsValid program → IsWhole program (plan_of program policy) budget h
-    → known_of_logs program (plan_of program policy) budget (closed_logs program (plan_of program policy) budget h) ≡ known_of_run program (plan_of program policy) budget h
+pub known_as : (program : Program) (policy : Policy) (budget : ℕ) (h : List ℕ) → IsValid program → IsWhole (setting_by program policy budget) h
+    → known_of_logs (setting_by program policy budget) (closed_logs (setting_by program policy budget) h) ≡ known_of_run (setting_by program policy budget) h
 unfolding as_known
 known_as program policy budget h valid whole =
     let plan = plan_of program policy in
-    let rs : races_among (edges_of_logs program (closed_logs program plan budget h)) ≡ races program plan budget h = (of_runs program plan budget h valid).0 in
-    let spans = shown_logs (λ (entries : List Entry). map of_extent (extents entries)) (loggings program plan budget h) ∙ sym (same_intervals_all program policy budget h valid) in
-    let items = same_items program policy budget h valid whole (races_among (edges_of_logs program (closed_logs program plan budget h))) rs in
-    let lasts = same_lasts program policy budget h valid whole (races_among (edges_of_logs program (closed_logs program plan budget h))) rs in
-    let flows = same_flows program policy budget h valid whole (races_among (edges_of_logs program (closed_logs program plan budget h))) rs in
-    same_known program plan (races_among (edges_of_logs program (closed_logs program plan budget h))) (races program plan budget h) _ _
-    (λ rs. unless_raced rs (map (told_of_entries program plan budget) (closed_logs program plan budget h).lists))
-    (λ rs. unless_raced rs (map told_of_split (splits program plan budget (story program plan budget h))))
-    (λ rs. unless_raced rs (of_cells (last_by program plan budget (closed_logs program plan budget h)) 0 (length program.starts)))
-    (λ rs. unless_raced rs (of_cells (last_told program plan budget (story program plan budget h)) 0 (length program.starts)))
-    (λ rs. of_processes (flow_by program plan budget (closed_logs program plan budget h)) 0 (unless_raced rs (map (told_of_entries program plan budget) (closed_logs program plan budget h).lists)))
-    (λ rs. of_processes (flow_told program plan budget (story program plan budget h)) 0 (unless_raced rs (map told_of_split (splits program plan budget (story program plan budget h))))) rs spans items lasts flows
+    let rs : races_among (edges_of_logs program (closed_logs (setting_of program plan budget) h)) ≡ races (setting_of program plan budget) h = (of_runs (setting_of program plan budget) h valid).0 in
+    let spans = shown_logs (λ (entries : List Entry). map of_extent (extents entries)) (loggings (setting_of program plan budget) h) ∙ sym (same_intervals_all program policy budget h valid) in
+    let items = same_items program policy budget h valid whole (races_among (edges_of_logs program (closed_logs (setting_of program plan budget) h))) rs in
+    let lasts = same_lasts program policy budget h valid whole (races_among (edges_of_logs program (closed_logs (setting_of program plan budget) h))) rs in
+    let flows = same_flows program policy budget h valid whole (races_among (edges_of_logs program (closed_logs (setting_of program plan budget) h))) rs in
+    same_known program plan (races_among (edges_of_logs program (closed_logs (setting_of program plan budget) h))) (races (setting_of program plan budget) h) _ _
+    (λ rs. unless_raced rs (map (told_of_entries (setting_of program plan budget)) (closed_logs (setting_of program plan budget) h).lists))
+    (λ rs. unless_raced rs (map told_of_split (splits (setting_of program plan budget) (story (setting_of program plan budget) h))))
+    (λ rs. unless_raced rs (of_cells (last_by (setting_of program plan budget) (closed_logs (setting_of program plan budget) h)) 0 (length program.starts)))
+    (λ rs. unless_raced rs (of_cells (last_told (setting_of program plan budget) (story (setting_of program plan budget) h)) 0 (length program.starts)))
+    (λ rs. of_processes (flow_by (setting_of program plan budget) (closed_logs (setting_of program plan budget) h)) 0 (unless_raced rs (map (told_of_entries (setting_of program plan budget)) (closed_logs (setting_of program plan budget) h).lists)))
+    (λ rs. of_processes (flow_told (setting_of program plan budget) (story (setting_of program plan budget) h)) 0 (unless_raced rs (map told_of_split (splits (setting_of program plan budget) (story (setting_of program plan budget) h))))) rs spans items lasts flows

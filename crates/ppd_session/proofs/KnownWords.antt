@@ -1,4 +1,5 @@
 -- The words of proofs for what is known of a run and for its texts.
+use Rattle.ppd_model.specs.Setting.{Setting}
 use Rattle.ppd_ast.specs.declared.plan.Plan.{Plan}
 use Rattle.ppd_ast.specs.declared.program.Program.{Program}
 use Rattle.ppd_flow_past.specs.declared.flow_error.FlowError.{FlowError}
@@ -35,12 +36,12 @@ abbrev pub of_split : Split → List Interval
 of_split x = map of_span x.spans
 
 -- the last value of a cell, with the write of it
-abbrev pub last_told : Program → Plan → ℕ → Story → ℕ → Last
-last_told program plan budget s c = Ok (last program plan budget s c)
+abbrev pub last_told : Setting → Story → ℕ → Last
+last_told setting s c = Ok (last setting s c)
 
 -- the edges of item j of interval k of process p
-abbrev pub flow_told : Program → Plan → ℕ → Story → ℕ → ℕ → ℕ → Flow
-flow_told program plan budget s p k j = ok_or (edges program plan budget s p k j) NoEvent
+abbrev pub flow_told : Setting → Story → ℕ → ℕ → ℕ → Flow
+flow_told setting s p k j = ok_or (edges setting s p k j) NoEvent
 
 -- ---- texts
 

@@ -1,4 +1,5 @@
 -- A last value where the replay fails of the interval in which the writer's edge ends.
+use Rattle.ppd_flow_past.specs.PastSetting.{past_setting}
 use Rattle.std.specs.Prelude.{option_map}
 use Rattle.std.proofs.Common.{◌≡◌, ℕ, [], ◌∷◌, Option, Some, None, sym, subst, ◌∙◌}
 use Rattle.std.proofs.lemmas.Option.{none-some, same_Some}
@@ -35,7 +36,7 @@ module _ (past : Past) (uncut : past.cut.now ≡ past.logs.now) (c : ℕ) (l : L
 
   pub last_replay_fails : (e : SessionError) → last_edge past c ≡ Some l
       → IsCause (failure_at (known_by past []) (Some l.edge.process) l.interval) e
-      → IsWhy (unfound (last_by past.program.now past.plan.now past.budget past.logs.now c)) e
+      → IsWhy (unfound (last_by (past_setting past) past.logs.now c)) e
   last_replay_fails (Diverged at) is h =
       last_fails past uncut c 0 0 (flow_error.Diverged at.process at.entry)
       (replays_fail at (greatest_writing past.program.now past.logs.now c) is

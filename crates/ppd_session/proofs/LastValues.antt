@@ -1,4 +1,5 @@
 -- Last values that are found one after another, and why one is not found.
+use Rattle.ppd_flow_past.specs.PastSetting.{past_setting}
 use Rattle.std.specs.Result.{result_err}
 use Rattle.std.specs.List.{filter_map}
 use Rattle.std.specs.Prelude.{Some, None, option_map, slice_get}
@@ -32,14 +33,14 @@ module _ (past : Past) (uncut : past.cut.now ≡ past.logs.now) (c : ℕ) where
   answer = answer_of (found_last past.program.now past.logs.now (seens_in past) c).found
 
   abbrev known : Last
-  known = last_by past.program.now past.plan.now past.budget past.logs.now c
+  known = last_by (past_setting past) past.logs.now c
 
   -- by the logs that are replayed, and by the logs
   same : unless_failed (first_failed_in past replays) answer ≡ known
   same =
       ap (λ (l : Logs). unless_failed
-      (first_failed past.program.now past.plan.now past.budget l (found_last past.program.now past.logs.now (map (λ entries. seen_by past.program.now past.plan.now past.budget entries) l.lists) c).replays)
-      (answer_of (found_last past.program.now past.logs.now (map (λ entries. seen_by past.program.now past.plan.now past.budget entries) l.lists) c).found)) uncut
+      (first_failed (past_setting past) l (found_last past.program.now past.logs.now (map (λ entries. seen_by (past_setting past) entries) l.lists) c).replays)
+      (answer_of (found_last past.program.now past.logs.now (map (λ entries. seen_by (past_setting past) entries) l.lists) c).found)) uncut
 
   known_by_failure : (o : Option At) → first_failed_in past replays ≡ o → known ≡ unless_failed o answer
   known_by_failure o e = sym same ∙ ap (λ (f : Option At). unless_failed f answer) e

@@ -1,10 +1,9 @@
 -- What a line needs and is not found for want of a write: the write is missing.
+use Rattle.ppd_model.specs.Setting.{Setting}
 use Rattle.std.specs.Result.{result_err, result_unwrap_or}
 use Rattle.std.specs.List.{filter_map}
 use Rattle.std.specs.Prelude.{IfErr, None, Some, slice_get, option_and_then}
 use Rattle.std.proofs.Common.{◌≡◌, ℕ, zero, suc, ◌+◌, ℤ, List, [], ◌∷◌, get_or, length, Option, Result, Ok, Err, refl, ap, subst, ◌∙◌}
-use Rattle.ppd_ast.specs.declared.plan.Plan.{Plan}
-use Rattle.ppd_ast.specs.declared.program.Program.{Program}
 use Rattle.ppd_entry.specs.declared.entry.At.{At}
 use Rattle.ppd_entry.specs.declared.entry.Logs.{Logs}
 use Rattle.ppd_flow.specs.Answers.{answer_if}
@@ -87,13 +86,13 @@ of_lasts e X (r ∷ rs) lasts h is = absurd (cc is)
 
 -- ---- of logs
 
-module _ (program : Program) (plan : Plan) (budget : ℕ) (logs : Logs) (races : List Race) (indexed : AreIndexed program plan logs)
+module _ (setting : Setting) (logs : Logs) (races : List Race) (indexed : AreIndexed setting.program setting.plan logs)
     (q n c : ℕ) where
   abbrev Wanted : Type 0
-  Wanted = IsMissingWrite logs (seens program plan budget logs) (write_at q n c)
+  Wanted = IsMissingWrite logs (seens setting logs) (write_at q n c)
 
   abbrev known : Known
-  known = known_with program plan budget logs races
+  known = known_with setting logs races
 
   by_edges : (failed : Option At) (o : Option (Result (List FlowEdge) Missing))
       → unless_failed failed (answer_if o) ≡ Err (flow_error.Sets q n c) → o ≡ Some (Err (write_at q n c))
@@ -105,22 +104,22 @@ module _ (program : Program) (plan : Plan) (budget : ℕ) (logs : Logs) (races :
   by_last None r e = missed q n c r e
   by_last (Some at) r e = absurd (cc e)
 
-  of_flow : (p k j : ℕ) → flow_by program plan budget logs p k j ≡ Err (flow_error.Sets q n c) → Wanted
+  of_flow : (p k j : ℕ) → flow_by setting logs p k j ≡ Err (flow_error.Sets q n c) → Wanted
   of_flow p k j e =
-      (missing_writes_are_told program plan logs (seens program plan budget logs) indexed).edges p k j (write_at q n c)
-      (by_edges (first_failed program plan budget logs (found_edges program plan logs (seens program plan budget logs) p k j).replays)
-      (found_edges program plan logs (seens program plan budget logs) p k j).found e)
+      (missing_writes_are_told setting.program setting.plan logs (seens setting logs) indexed).edges p k j (write_at q n c)
+      (by_edges (first_failed setting logs (found_edges setting.program setting.plan logs (seens setting logs) p k j).replays)
+      (found_edges setting.program setting.plan logs (seens setting logs) p k j).found e)
 
-  of_last : (cell : ℕ) → last_by program plan budget logs cell ≡ Err (flow_error.Sets q n c) → Wanted
+  of_last : (cell : ℕ) → last_by setting logs cell ≡ Err (flow_error.Sets q n c) → Wanted
   of_last cell e =
-      (missing_writes_are_told program plan logs (seens program plan budget logs) indexed).last cell (write_at q n c)
-      (by_last (first_failed program plan budget logs (found_last program logs (seens program plan budget logs) cell).replays)
-      (found_last program logs (seens program plan budget logs) cell).found e)
+      (missing_writes_are_told setting.program setting.plan logs (seens setting logs) indexed).last cell (write_at q n c)
+      (by_last (first_failed setting logs (found_last setting.program logs (seens setting logs) cell).replays)
+      (found_last setting.program logs (seens setting logs) cell).found e)
 
   flow_missing : (p k j : ℕ) → flow_at known p k j ≡ Err (flow_error.Sets q n c) → Wanted
   flow_missing p k j =
       in_tables (λ r. r ≡ Err (flow_error.Sets q n c) → Wanted) (Err flow_error.NoEvent) (λ e. absurd (cc e))
-      (flow_by program plan budget logs) of_flow 0 known.items p k j
+      (flow_by setting logs) of_flow 0 known.items p k j
 
   -- ---- lines
 
@@ -155,15 +154,15 @@ module _ (program : Program) (plan : Plan) (budget : ℕ) (logs : Logs) (races :
   of_question Quit e = absurd (cc e)
   of_question Races e = absurd (cc e)
   of_question Final e =
-      of_lasts (flow_error.Sets q n c) Wanted races (of_cells (last_by program plan budget logs) 0 (length program.starts))
-      (first_of_cells (flow_error.Sets q n c) Wanted (last_by program plan budget logs) of_last 0 (length program.starts)) e
+      of_lasts (flow_error.Sets q n c) Wanted races (of_cells (last_by setting logs) 0 (length setting.program.starts))
+      (first_of_cells (flow_error.Sets q n c) Wanted (last_by setting logs) of_last 0 (length setting.program.starts)) e
   of_question (Blocks p) e = absurd (cc e)
   of_question (Open p k) e = of_opening p k None e
   of_question (Why p k j) e = of_opening p k (Some j) e
   of_question (Deps s) e = absurd (cc e)
 
   line_missing : (line : List ℕ) → failure_of known line ≡ Some (flow_error.Sets q n c) → Wanted
-  line_missing line e = of_question (question program line) e
+  line_missing line e = of_question (question setting.program line) e
 
 -- ---- the answer to a line
 
@@ -179,11 +178,11 @@ of_why (Some (flow_error.Sets i m c)) at e =
     (c, ap (λ (a : At). Some (flow_error.Sets a.process a.entry c)) same)
 
 pub missing_writes_told : MissingWritesAreTold
-missing_writes_told program plan budget logs races indexed = record {
-  flow = λ p k j q n c e. flow_missing program plan budget logs races indexed q n c p k j e;
+missing_writes_told setting logs races indexed = record {
+  flow = λ p k j q n c e. flow_missing setting logs races indexed q n c p k j e;
   lines = λ line at e.
-      let why = of_why (failure_of (known_with program plan budget logs races) line) at e in
-      (why.0, line_missing program plan budget logs races indexed at.process at.entry why.0 line why.1);
+      let why = of_why (failure_of (known_with setting logs races) line) at e in
+      (why.0, line_missing setting logs races indexed at.process at.entry why.0 line why.1);
 }
 
 pub cause_of_sets : {A : Type 0} (x : Known) (line : List ℕ) (r : Result A SessionError)
@@ -191,6 +190,6 @@ pub cause_of_sets : {A : Type 0} (x : Known) (line : List ℕ) (r : Result A Ses
 cause_of_sets x line (Ok a) h = tt
 cause_of_sets x line (Err Memory) h = tt
 cause_of_sets x line (Err (Diverged at)) h = tt
-cause_of_sets x line (Err (Sets at)) h = λ program plan budget logs races is indexed.
-    (missing_writes_told program plan budget logs races indexed).lines line at
+cause_of_sets x line (Err (Sets at)) h = λ setting logs races is indexed.
+    (missing_writes_told setting logs races indexed).lines line at
     (subst (λ (y : Known). IsWhy (failure_of y line) (Sets at)) is h)

@@ -1,8 +1,9 @@
 -- What the replay of an interval of a past tells, and why it fails.
+use Rattle.ppd_flow_past.specs.PastSetting.{past_setting}
+use Rattle.ppd_model.specs.Setting.{Setting}
 use Rattle.std.specs.Result.{result_err, result_unwrap_or}
 use Rattle.ppd_ast.proofs.Walks.{got_none}
 use Rattle.ppd_ast.specs.declared.plan.Plan.{Plan}
-use Rattle.ppd_ast.specs.declared.program.Program.{Program}
 use Rattle.ppd_emul_model.specs.Replay.{replay}
 use Rattle.ppd_emul_model.specs.declared.trace.BlockTrace.{BlockTrace}
 use Rattle.ppd_emul_model.specs.declared.trace.EmulError.{EmulError}
@@ -36,9 +37,9 @@ use Rattle.std.proofs.lemmas.List.{length-map}
 use Rattle.std.proofs.lemmas.Option.{same_Some, slice_get-map}
 use Rattle.std.specs.Prelude.{None, OnOk, Some, option_map, slice_get, ◌==◌}
 
-module _ (program : Program) (plan : Plan) (budget : ℕ) where
+module _ (setting : Setting) where
   abbrev pub answer_of : LoggedInterval → Result BlockTrace EmulError
-  answer_of i = (replay program plan (log_by plan i) budget).answer
+  answer_of i = (replay setting.program setting.plan (log_by setting.plan i) setting.budget).answer
 
   -- ---- one replay
 
@@ -47,7 +48,7 @@ module _ (program : Program) (plan : Plan) (budget : ℕ) where
   fails_as q (Err (Diverged n w f)) = refl
   fails_as q (Err Memory) = refl
 
-  failure_as : (q : ℕ) (o : Option LoggedInterval) → failure_or q (failure_of (replay_of program plan budget (log_in plan o))) None ≡ failure_in q (option_map (told_of program plan budget) o)
+  failure_as : (q : ℕ) (o : Option LoggedInterval) → failure_or q (failure_of (replay_of setting (log_in setting.plan o))) None ≡ failure_in q (option_map (told_of setting) o)
   failure_as q None = refl
   failure_as q (Some i) = fails_as q (answer_of i)
 
@@ -56,8 +57,8 @@ module _ (program : Program) (plan : Plan) (budget : ℕ) where
   tells_as q (Err (Diverged n w f)) e = absurd (cc)
   tells_as q (Err Memory) e = refl
 
-  told_as : (q : ℕ) (is : List LoggedInterval) (k : ℕ) → k < length is → failure_or q (failure_of (replay_of program plan budget (log_in plan (slice_get is k)))) None ≡ None
-      → slice_get (map (told_of program plan budget) is) k ≡ Some (Ok (get_or (map (λ i. result_unwrap_or (told_by (answer_of i)) []) is) k []))
+  told_as : (q : ℕ) (is : List LoggedInterval) (k : ℕ) → k < length is → failure_or q (failure_of (replay_of setting (log_in setting.plan (slice_get is k)))) None ≡ None
+      → slice_get (map (told_of setting) is) k ≡ Some (Ok (get_or (map (λ i. result_unwrap_or (told_by (answer_of i)) []) is) k []))
   told_as q [] k lt e = absurd (omega arith)
   told_as q (i ∷ is) zero lt e = ap Some (tells_as q (answer_of i) e)
   told_as q (i ∷ is) (suc k) lt e = told_as q is k (omega arith) e
@@ -69,10 +70,10 @@ module _ (program : Program) (plan : Plan) (budget : ℕ) where
   gives_as (Err (Diverged n w f)) items e = absurd (cc)
   gives_as (Err Memory) items e = cc
 
-  pub given_as : (is : List LoggedInterval) (k : ℕ) (items : List Item) → slice_get (map (told_of program plan budget) is) k ≡ Some (Ok items)
+  pub given_as : (is : List LoggedInterval) (k : ℕ) (items : List Item) → slice_get (map (told_of setting) is) k ≡ Some (Ok items)
       → items ≡ get_or (map (λ i. result_unwrap_or (told_by (answer_of i)) []) is) k []
   given_as [] k items e = absurd (cc)
-  given_as (i ∷ is) zero items e = gives_as (answer_of i) items (same_Some (told_of program plan budget i) (Ok items) e)
+  given_as (i ∷ is) zero items e = gives_as (answer_of i) items (same_Some (told_of setting i) (Ok items) e)
   given_as (i ∷ is) (suc k) items e = given_as is k items e
 
 -- ---- how many
@@ -130,34 +131,34 @@ module _ (past : Past) (uncut : past.cut.now ≡ past.logs.now) (q k : ℕ) wher
   abbrev entries : List Entry
   entries = get_or past.logs.now.lists q []
 
-  told_here : told_at (known_by past []) q k ≡ slice_get (told_of_entries past.program.now past.plan.now past.budget entries) k
-  told_here = ap (λ ts. slice_get ts k) (told_entries past.program.now past.plan.now past.budget past.logs.now.lists q)
+  told_here : told_at (known_by past []) q k ≡ slice_get (told_of_entries (past_setting past) entries) k
+  told_here = ap (λ ts. slice_get ts k) (told_entries (past_setting past) past.logs.now.lists q)
 
   -- the failure of the replay is the one that is told
   pub same_failure : first_failed_in past ((q, k) ∷ []) ≡ failure_at (known_by past []) (Some q) k
   same_failure =
-      ap (λ (l : Logs). first_failed past.program.now past.plan.now past.budget l ((q, k) ∷ [])) uncut
-      ∙ failure_as past.program.now past.plan.now past.budget q (slice_get (indexed entries) k)
+      ap (λ (l : Logs). first_failed (past_setting past) l ((q, k) ∷ [])) uncut
+      ∙ failure_as (past_setting past) q (slice_get (indexed entries) k)
       ∙ ap (failure_in q) (sym (told_here ∙ slice_get-map _ (indexed entries) k))
 
   -- what the replays give of the logs
-  same_items : items_in past q k ≡ get_or (seen_by past.program.now past.plan.now past.budget entries).items k []
-  same_items = ap (λ (l : Logs). get_or (seen_by past.program.now past.plan.now past.budget (get_or l.lists q [])).items k []) uncut
+  same_items : items_in past q k ≡ get_or (seen_by (past_setting past) entries).items k []
+  same_items = ap (λ (l : Logs). get_or (seen_by (past_setting past) (get_or l.lists q [])).items k []) uncut
 
   -- the items that are told are those of a replay that does not fail
   pub are_replayed : (items : List Item) → told_at (known_by past []) q k ≡ Some (Ok items) → AreReplayed past q k items
   are_replayed items e = (
     no_failure q (failed_in past q k) (same_failure ∙ ap (failure_in q) e),
-    given_as past.program.now past.plan.now past.budget (indexed entries) k items (sym told_here ∙ e) ∙ sym same_items,
+    given_as (past_setting past) (indexed entries) k items (sym told_here ∙ e) ∙ sym same_items,
   )
 
   -- of an interval that is not there nothing is told
   pub not_told : IsIndexOf past.plan.now past.logs.now past.index.now.tables → length (rows_at past.index.now.tables q) ≤ k → told_at (known_by past []) q k ≡ None
   not_told h le =
       let count = each_count past.plan.now past.index.now.tables past.logs.now.lists q h in
-      let long : length (told_of_entries past.program.now past.plan.now past.budget entries) ≤ k =
-      omega (arith, length-map (indexed entries) (told_of past.program.now past.plan.now past.budget), count) in
-      told_here ∙ got_none (told_of_entries past.program.now past.plan.now past.budget entries) k long
+      let long : length (told_of_entries (past_setting past) entries) ≤ k =
+      omega (arith, length-map (indexed entries) (told_of (past_setting past)), count) in
+      told_here ∙ got_none (told_of_entries (past_setting past) entries) k long
 
   -- a replay that does not fail tells its items
   pub tells : (items : List Item) (b e : ℕ) → IsIndexOf past.plan.now past.logs.now past.index.now.tables → k < length (rows_at past.index.now.tables q)
@@ -167,10 +168,10 @@ module _ (past : Past) (uncut : past.cut.now ≡ past.logs.now) (q k : ℕ) wher
       let count = each_count past.plan.now past.index.now.tables past.logs.now.lists q h in
       let there : k < length (indexed entries) = omega (arith, count) in
       let found : items_in past q k ≡ items = cc in
-      let same : get_or (seen_by past.program.now past.plan.now past.budget entries).items k [] ≡ items = sym same_items ∙ found in
-      let none = sym (ap (λ (l : Logs). first_failed past.program.now past.plan.now past.budget l ((q, k) ∷ [])) uncut) ∙ f.0 in
+      let same : get_or (seen_by (past_setting past) entries).items k [] ≡ items = sym same_items ∙ found in
+      let none = sym (ap (λ (l : Logs). first_failed (past_setting past) l ((q, k) ∷ [])) uncut) ∙ f.0 in
       told_here
-      ∙ (told_as past.program.now past.plan.now past.budget q (indexed entries) k there none
+      ∙ (told_as (past_setting past) q (indexed entries) k there none
       ∙ ap (λ (i : List Item). Some (Ok i)) same)
 
   -- and else why
@@ -181,7 +182,7 @@ module _ (past : Past) (uncut : past.cut.now ≡ past.logs.now) (q k : ℕ) wher
   causes b e flow_error.Memory f = tt
 
   -- an interval with an item is there
-  items_there : (is : List LoggedInterval) (m j : ℕ) (t : Item) → slice_get (get_or (map (λ i. result_unwrap_or (told_by (answer_of past.program.now past.plan.now past.budget i)) []) is) m []) j ≡ Some t → m < length is
+  items_there : (is : List LoggedInterval) (m j : ℕ) (t : Item) → slice_get (get_or (map (λ i. result_unwrap_or (told_by (answer_of (past_setting past) i)) []) is) m []) j ≡ Some t → m < length is
   items_there [] m zero t e = absurd (cc)
   items_there [] m (suc j) t e = absurd (cc)
   items_there (i ∷ is) zero j t e = omega arith
@@ -193,7 +194,7 @@ module _ (past : Past) (uncut : past.cut.now ≡ past.logs.now) (q k : ℕ) wher
       let item = subst (λ (is : List Item). slice_get is j ≡ Some t) same_items e in
       let there : k < length (indexed entries) = items_there (indexed entries) k j t item in
       let fine : failure_or q (failed_in past q k) None ≡ None = ap (λ (o : Option ℕ). failure_or q o None) none in
-      let none_failed = sym (ap (λ (l : Logs). first_failed past.program.now past.plan.now past.budget l ((q, k) ∷ [])) uncut) ∙ fine in
+      let none_failed = sym (ap (λ (l : Logs). first_failed (past_setting past) l ((q, k) ∷ [])) uncut) ∙ fine in
       told_here
-      ∙ (told_as past.program.now past.plan.now past.budget q (indexed entries) k there none_failed
+      ∙ (told_as (past_setting past) q (indexed entries) k there none_failed
       ∙ ap (λ (i : List Item). Some (Ok i)) (sym same_items))

@@ -1,10 +1,9 @@
 -- What is told of intervals, of items, of edges and of last values, place by place.
+use Rattle.ppd_model.specs.Setting.{Setting}
 use Rattle.std.specs.Prelude.{None, Some, option_map, slice_get}
 use Rattle.std.proofs.Common.{◌≡◌, ℕ, zero, suc, ◌+◌, ◌<◌, ◌≤◌, List, [], ◌∷◌, Option, Ok, Err, arith, get_or, length, map, refl, ap, sym, ◌∙◌}
 use Rattle.std.proofs.lemmas.List.{get_or_past}
 use Rattle.std.proofs.lemmas.Option.{get_or_from_slice_get, same_Some, slice_get-map, slice_get_past, slice_get_within}
-use Rattle.ppd_ast.specs.declared.plan.Plan.{Plan}
-use Rattle.ppd_ast.specs.declared.program.Program.{Program}
 use Rattle.ppd_emul_model.specs.Replay.{replay}
 use Rattle.ppd_entry.specs.declared.entry.Entry.{Entry}
 use Rattle.ppd_entry.specs.IntervalLogs.{LoggedInterval, indexed, log_by}
@@ -97,19 +96,19 @@ module _ (f : ℕ → ℕ → ℕ → Flow) (rows : List (List Told)) (p k j : �
 
 -- ---- what replays tell
 
-module _ (program : Program) (plan : Plan) (budget : ℕ) where
+module _ (setting : Setting) where
   abbrev pub told_of : LoggedInterval → Told
-  told_of i = told_by (replay program plan (log_by plan i) budget).answer
+  told_of i = told_by (replay setting.program setting.plan (log_by setting.plan i) setting.budget).answer
 
   -- of a process that is there, and of none
   pub told_entries : (lists : List (List Entry)) (q : ℕ)
-      → get_or (map (told_of_entries program plan budget) lists) q [] ≡ told_of_entries program plan budget (get_or lists q [])
+      → get_or (map (told_of_entries setting) lists) q [] ≡ told_of_entries setting (get_or lists q [])
   told_entries [] q = refl
   told_entries (es ∷ lists) zero = refl
   told_entries (es ∷ lists) (suc q) = told_entries lists q
 
   -- of an interval, by its own log
   pub told_logs : (lists : List (List Entry)) (q k : ℕ)
-      → slice_get (get_or (map (told_of_entries program plan budget) lists) q []) k ≡ option_map told_of (slice_get (indexed (get_or lists q [])) k)
+      → slice_get (get_or (map (told_of_entries setting) lists) q []) k ≡ option_map told_of (slice_get (indexed (get_or lists q [])) k)
   told_logs lists q k =
       ap (λ ts. slice_get ts k) (told_entries lists q) ∙ slice_get-map told_of (indexed (get_or lists q [])) k

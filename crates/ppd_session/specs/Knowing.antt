@@ -1,11 +1,10 @@
 -- What is known of all logs that the index accepts. Last values and edges are searched for among the items that replays
 -- give: of the logs of a run they are the run's (`LogsTellRuns`); of any others it is said here that they are there or
 -- why they are not, and not which they are.
+use Rattle.ppd_model.specs.Setting.{Setting}
 use Rattle.ppd_race.specs.Races.{races_among, edges_of_logs}
 use Rattle.std.specs.Prelude.{◌≡◌, ◌<◌, ℕ, List, length, map, slice_get, Some, Result, Ok, Err, ⊤}
 use Rattle.law_flow_missing.specs.Missing.{AreIndexed, IsMissingWrite, write_at}
-use Rattle.ppd_ast.specs.declared.plan.Plan.{Plan}
-use Rattle.ppd_ast.specs.declared.program.Program.{Program}
 use Rattle.ppd_entry.specs.declared.entry.Logs.{Logs}
 use Rattle.ppd_flow_past.specs.declared.flow_error.FlowError.{FlowError}
 use Rattle.ppd_flow_past.specs.declared.flow_error.FlowError.TheVariants.{Diverged, NoEvent, Sets, Memory}
@@ -16,30 +15,30 @@ use Rattle.ppd_session.specs.Texts.{flow_at, told_at}
 
 -- something is found, or there is a reason why it is not: an interval of the process is told to fail at that entry; or
 -- a write of the cell is missing that the entry records
-abbrev pub IsFoundOrNot : {A : Type 0} → Program → Plan → (budget : ℕ) → Logs → Known → Result A FlowError → Type 0
-IsFoundOrNot program plan budget logs x (Ok found) = ⊤
-IsFoundOrNot program plan budget logs x (Err (Diverged q n)) = (k : ℕ) × (told_at x q k ≡ Some (Err n))
-IsFoundOrNot program plan budget logs x (Err (Sets q n c)) =
-    IsMissingWrite logs (seens program plan budget logs) (write_at q n c)
-IsFoundOrNot program plan budget logs x (Err NoEvent) = ⊥
-IsFoundOrNot program plan budget logs x (Err Memory) = ⊥
+abbrev pub IsFoundOrNot : {A : Type 0} → Setting → Logs → Known → Result A FlowError → Type 0
+IsFoundOrNot setting logs x (Ok found) = ⊤
+IsFoundOrNot setting logs x (Err (Diverged q n)) = (k : ℕ) × (told_at x q k ≡ Some (Err n))
+IsFoundOrNot setting logs x (Err (Sets q n c)) =
+    IsMissingWrite logs (seens setting logs) (write_at q n c)
+IsFoundOrNot setting logs x (Err NoEvent) = ⊥
+IsFoundOrNot setting logs x (Err Memory) = ⊥
 
 -- this is known of logs: their program and plan, the races of their record and sets, the intervals of their entries
 -- and, where there is no race, what the replay of each tells; and then for each shared cell whether its last value is
 -- found, and for each item whether its edges are
-pub record IsKnownOfLogs (program : Program) (plan : Plan) (budget : ℕ) (logs : Logs) (x : Known) : Type 0 where
-  pub program_is : x.program ≡ program
-  pub plan_is : x.plan ≡ plan
-  pub races : x.races ≡ races_among (edges_of_logs program logs)
+pub record IsKnownOfLogs (setting : Setting) (logs : Logs) (x : Known) : Type 0 where
+  pub program_is : x.program ≡ setting.program
+  pub plan_is : x.plan ≡ setting.plan
+  pub races : x.races ≡ races_among (edges_of_logs setting.program logs)
   pub intervals : x.intervals ≡ map (λ entries. map of_extent (extents entries)) logs.lists
-  pub items : x.items ≡ unless_raced x.races (map (told_of_entries program plan budget) logs.lists)
-  pub cells : length x.lasts ≡ length (unless_raced x.races program.starts)
-  pub lasts : (c : ℕ) (l : Last) → slice_get x.lasts c ≡ Some l → IsFoundOrNot program plan budget logs x l
+  pub items : x.items ≡ unless_raced x.races (map (told_of_entries setting) logs.lists)
+  pub cells : length x.lasts ≡ length (unless_raced x.races setting.program.starts)
+  pub lasts : (c : ℕ) (l : Last) → slice_get x.lasts c ≡ Some l → IsFoundOrNot setting logs x l
   pub flow : (q k j : ℕ) (items : List Item) → told_at x q k ≡ Some (Ok items) → j < length items
-      → IsFoundOrNot program plan budget logs x (flow_at x q k j)
+      → IsFoundOrNot setting logs x (flow_at x q k j)
 
 -- so it is of all logs that the index accepts with what is known of them by those searches
 abbrev pub LogsAreKnown : Type 0
 LogsAreKnown =
-    (program : Program) (plan : Plan) (budget : ℕ) (logs : Logs)
-    → AreIndexed program plan logs → IsKnownOfLogs program plan budget logs (known_of_logs program plan budget logs)
+    (setting : Setting) (logs : Logs)
+    → AreIndexed setting.program setting.plan logs → IsKnownOfLogs setting logs (known_of_logs setting logs)

@@ -1,5 +1,6 @@
 -- What is known of a run or of a recording: its program and plan, its races, and the intervals of each process with
 -- their items.
+use Rattle.ppd_model.specs.Setting.{Setting}
 use Rattle.ppd_ast.specs.declared.plan.Plan.{Plan}
 use Rattle.ppd_ast.specs.declared.program.Program.{Program}
 use Rattle.ppd_emul_model.specs.Replay.{replay}
@@ -79,24 +80,24 @@ abbrev pub told_of_split : Split → List Told
 told_of_split x = map (λ i. Ok (items_of x i)) x.spans
 
 -- what is known of a story
-abbrev pub known_of_story : Program → Plan → ℕ → Story → Known
-known_of_story program plan budget s = record {
-  program = program;
-  plan = plan;
-  races = races_among (edges_of_story program s);
+abbrev pub known_of_story : Setting → Story → Known
+known_of_story setting s = record {
+  program = setting.program;
+  plan = setting.plan;
+  races = races_among (edges_of_story setting.program s);
   intervals = map
       (λ x. map (λ i. record { block = i.block; parent = slice_get i.round 0; closed = is_some i.closed }) x.spans)
-      (splits program plan budget s);
-  items = unless_raced (races_among (edges_of_story program s)) (map told_of_split (splits program plan budget s));
-  lasts = unless_raced (races_among (edges_of_story program s))
-      (map (λ c. Ok (last program plan budget s c)) (range_with_len 0 (length program.starts)));
-  flow = of_processes (λ p k j. ok_or (edges program plan budget s p k j) NoEvent) 0
-      (unless_raced (races_among (edges_of_story program s)) (map told_of_split (splits program plan budget s)));
+      (splits setting s);
+  items = unless_raced (races_among (edges_of_story setting.program s)) (map told_of_split (splits setting s));
+  lasts = unless_raced (races_among (edges_of_story setting.program s))
+      (map (λ c. Ok (last setting s c)) (range_with_len 0 (length setting.program.starts)));
+  flow = of_processes (λ p k j. ok_or (edges setting s p k j) NoEvent) 0
+      (unless_raced (races_among (edges_of_story setting.program s)) (map told_of_split (splits setting s)));
 }
 
 -- what is known of the run by a schedule
-abbrev pub known_of_run : Program → Plan → ℕ → List ℕ → Known
-known_of_run program plan budget h = known_of_story program plan budget (story program plan budget h)
+abbrev pub known_of_run : Setting → List ℕ → Known
+known_of_run setting h = known_of_story setting (story setting h)
 
 -- ---- of logs
 
@@ -104,13 +105,13 @@ abbrev pub of_extent : Extent → Interval
 of_extent x = record { block = x.block; parent = x.parent; closed = x.closed }
 
 -- the items of each interval of a process, by its replay from its own log
-abbrev pub told_of_entries : Program → Plan → ℕ → List Entry → List Told
-told_of_entries program plan budget entries =
-    map (λ i. told_by (replay program plan (log_by plan i) budget).answer) (indexed entries)
+abbrev pub told_of_entries : Setting → List Entry → List Told
+told_of_entries setting entries =
+    map (λ i. told_by (replay setting.program setting.plan (log_by setting.plan i) setting.budget).answer) (indexed entries)
 
 -- what the replays of each process give
-abbrev pub seens : Program → Plan → ℕ → Logs → List Seen
-seens program plan budget logs = map (λ entries. seen_by program plan budget entries) logs.lists
+abbrev pub seens : Setting → Logs → List Seen
+seens setting logs = map (λ entries. seen_by setting entries) logs.lists
 
 -- this is found, where no replay fails
 abbrev pub unless_failed : {A : Type 0} → Option At → Result A FlowError → Result A FlowError
@@ -118,31 +119,31 @@ unless_failed None found = found
 unless_failed (Some at) found = Err (flow_error.Diverged at.process at.entry)
 
 -- the last value of a cell by the replays that the search for its last write needs
-abbrev pub last_by : Program → Plan → ℕ → Logs → ℕ → Last
-last_by program plan budget logs c =
-    let search = found_last program logs (seens program plan budget logs) c in
-    unless_failed (first_failed program plan budget logs search.replays) (answer_of search.found)
+abbrev pub last_by : Setting → Logs → ℕ → Last
+last_by setting logs c =
+    let search = found_last setting.program logs (seens setting logs) c in
+    unless_failed (first_failed setting logs search.replays) (answer_of search.found)
 
 -- the edges of item j of interval k of process p by the replays that the search for them needs
-abbrev pub flow_by : Program → Plan → ℕ → Logs → ℕ → ℕ → ℕ → Flow
-flow_by program plan budget logs p k j =
-    let search = found_edges program plan logs (seens program plan budget logs) p k j in
-    unless_failed (first_failed program plan budget logs search.replays) (answer_if search.found)
+abbrev pub flow_by : Setting → Logs → ℕ → ℕ → ℕ → Flow
+flow_by setting logs p k j =
+    let search = found_edges setting.program setting.plan logs (seens setting logs) p k j in
+    unless_failed (first_failed setting logs search.replays) (answer_if search.found)
 
 -- what is known of logs that have these races: the intervals of their entries, and by replay their items, the last
 -- values of shared cells and the edges of items
-abbrev pub known_with : Program → Plan → (budget : ℕ) → Logs → List Race → Known
-known_with program plan budget logs races = record {
-  program = program;
-  plan = plan;
+abbrev pub known_with : Setting → Logs → List Race → Known
+known_with setting logs races = record {
+  program = setting.program;
+  plan = setting.plan;
   races = races;
   intervals = map (λ entries. map of_extent (extents entries)) logs.lists;
-  items = unless_raced races (map (told_of_entries program plan budget) logs.lists);
-  lasts = unless_raced races (map (last_by program plan budget logs) (range_with_len 0 (length program.starts)));
-  flow = of_processes (flow_by program plan budget logs) 0
-      (unless_raced races (map (told_of_entries program plan budget) logs.lists));
+  items = unless_raced races (map (told_of_entries setting) logs.lists);
+  lasts = unless_raced races (map (last_by setting logs) (range_with_len 0 (length setting.program.starts)));
+  flow = of_processes (flow_by setting logs) 0
+      (unless_raced races (map (told_of_entries setting) logs.lists));
 }
 
 -- what is known of logs: the races are those of their record and sets
-abbrev pub known_of_logs : Program → Plan → (budget : ℕ) → Logs → Known
-known_of_logs program plan budget logs = known_with program plan budget logs (races_among (edges_of_logs program logs))
+abbrev pub known_of_logs : Setting → Logs → Known
+known_of_logs setting logs = known_with setting logs (races_among (edges_of_logs setting.program logs))

@@ -1,7 +1,6 @@
 -- What `Sets` says of a line: a write that the entry records is missing.
+use Rattle.ppd_model.specs.Setting.{Setting}
 use Rattle.std.specs.Prelude.{◌≡◌, ℕ, List, Some, option_map, Result, Err, ⊤}
-use Rattle.ppd_ast.specs.declared.plan.Plan.{Plan}
-use Rattle.ppd_ast.specs.declared.program.Program.{Program}
 use Rattle.ppd_entry.specs.declared.entry.At.{At}
 use Rattle.ppd_entry.specs.declared.entry.Logs.{Logs}
 use Rattle.ppd_flow_model.specs.Seen.{Seen}
@@ -21,22 +20,22 @@ IsMissingAt logs xs at = (c : ℕ) × IsMissingWrite logs xs (write_at at.proces
 -- where `Sets` is answered of what is known of logs that the index accepts, such a write is missing
 abbrev pub IsCauseOfSets : {A : Type 0} → Known → Result A SessionError → Type 0
 IsCauseOfSets x (Err (Sets at)) =
-    (program : Program) (plan : Plan) (budget : ℕ) (logs : Logs) (races : List Race)
-    → x ≡ known_with program plan budget logs races → AreIndexed program plan logs
-    → IsMissingAt logs (seens program plan budget logs) at
+    (setting : Setting) (logs : Logs) (races : List Race)
+    → x ≡ known_with setting logs races → AreIndexed setting.program setting.plan logs
+    → IsMissingAt logs (seens setting logs) at
 IsCauseOfSets x result = ⊤
 
 -- of logs with these races: where the edges of an item, or what a line asks for, are not found for want of a write, that
 -- write is missing
-pub record AreMissing (program : Program) (plan : Plan) (budget : ℕ) (logs : Logs) (races : List Race) : Type 0 where
-  pub flow : (p k j q n c : ℕ) → flow_at (known_with program plan budget logs races) p k j ≡ Err (flow_error.Sets q n c)
-      → IsMissingWrite logs (seens program plan budget logs) (write_at q n c)
+pub record AreMissing (setting : Setting) (logs : Logs) (races : List Race) : Type 0 where
+  pub flow : (p k j q n c : ℕ) → flow_at (known_with setting logs races) p k j ≡ Err (flow_error.Sets q n c)
+      → IsMissingWrite logs (seens setting logs) (write_at q n c)
   pub lines : (line : List ℕ) (at : At)
-      → option_map error_of (failure_of (known_with program plan budget logs races) line) ≡ Some (Sets at)
-      → IsMissingAt logs (seens program plan budget logs) at
+      → option_map error_of (failure_of (known_with setting logs races) line) ≡ Some (Sets at)
+      → IsMissingAt logs (seens setting logs) at
 
 -- so it is of all logs that the index accepts
 abbrev pub MissingWritesAreTold : Type 0
 MissingWritesAreTold =
-    (program : Program) (plan : Plan) (budget : ℕ) (logs : Logs) (races : List Race)
-    → AreIndexed program plan logs → AreMissing program plan budget logs races
+    (setting : Setting) (logs : Logs) (races : List Race)
+    → AreIndexed setting.program setting.plan logs → AreMissing setting logs races

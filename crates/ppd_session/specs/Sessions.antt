@@ -4,6 +4,7 @@ use Rattle.ppd_entry.specs.declared.entry.At.{At}
 use Rattle.ppd_flow.specs.Answers.{LastEdge}
 use Rattle.ppd_flow.specs.SharedCells.{last_edge}
 use Rattle.ppd_flow_past.specs.Pasts.{IsPast}
+use Rattle.ppd_flow_past.specs.PastSetting.{past_setting}
 pub use Rattle.ppd_flow_past.specs.declared.flow_error.FlowError.{FlowError}
 use Rattle.ppd_flow_past.specs.declared.flow_error.FlowError.TheVariants as flow_error
 use Rattle.ppd_flow_past.specs.declared.past.Past.{Past}
@@ -26,7 +27,7 @@ use Rattle.std.specs.Prelude.{Contains, Err, List, None, Ok, Option, Some, [], g
 
 -- what is known of a past with these races
 abbrev pub known_by : Past → List Race → Known
-known_by past races = known_with past.program.now past.plan.now past.budget past.logs.now races
+known_by past races = known_with (past_setting past) past.logs.now races
 
 -- ---- where a session stands
 

@@ -5,6 +5,7 @@ ghost use Rattle.std.specs.Option.{unwrap_or};
 ghost use Rattle.std.specs.Prelude.{◌≡◌, ◌⊎◌, ◌<◌, ◌++◌, [], Ok, None, Some, IfOk, IfErr, IfSome, OnErr, OnOk, length, option_copied, slice_get};
 ghost use Rattle.ppd_index.specs.Indexes.{rows_at};
 ghost use Rattle.ppd_flow_past.specs.Pasts.{IsPast};
+ghost use Rattle.ppd_flow_past.specs.PastSetting.{past_setting};
 ghost use Rattle.ppd_session.specs.Known.{last_by, unless_raced};
 ghost use Rattle.ppd_flow.specs.Tabled.{IsOfInterval};
 ghost use Rattle.ppd_session.specs.LastTables.{AreOfLast};
@@ -44,9 +45,9 @@ fn last_in<L: Ledger>(
     requires past { IsPast past.now }
     requires uncut { past.now.cut.now ≡ past.now.logs.now }
     ensures value { IfOk result
-        (λ x. last_by past.now.program.now past.now.plan.now past.now.budget past.now.logs.now cell ≡ Ok x) }
+        (λ x. last_by (past_setting past.now) past.now.logs.now cell ≡ Ok x) }
     ensures error { IfErr result
-        (IsWhy (unfound (last_by past.now.program.now past.now.plan.now past.now.budget past.now.logs.now cell))) }
+        (IsWhy (unfound (last_by (past_setting past.now) past.now.logs.now cell))) }
 {
     let mut steps: Steps<L> = Steps::new(blank);
     match last(alloc, past, cell, &mut steps) {
@@ -60,9 +61,9 @@ fn last_of(alloc: Global, past: &Past, cell: u16) -> Result<(i64, Origin), Sessi
     requires past { IsPast past.now }
     requires uncut { past.now.cut.now ≡ past.now.logs.now }
     ensures value { IfOk result
-        (λ x. last_by past.now.program.now past.now.plan.now past.now.budget past.now.logs.now cell ≡ Ok x) }
+        (λ x. last_by (past_setting past.now) past.now.logs.now cell ≡ Ok x) }
     ensures error { IfErr result
-        (IsWhy (unfound (last_by past.now.program.now past.now.plan.now past.now.budget past.now.logs.now cell))) }
+        (IsWhy (unfound (last_by (past_setting past.now) past.now.logs.now cell))) }
 {
     last_in::<Brand>(alloc, past, cell, Blank::new(1))
 }
@@ -87,9 +88,9 @@ fn last_told_in<L: Ledger>(
     requires tables { IfSome (option_copied given.tables)
         (IsOfInterval past.now last.edge.process last.interval) }
     ensures value { IfOk result
-        (λ x. last_by past.now.program.now past.now.plan.now past.now.budget past.now.logs.now cell ≡ Ok x) }
+        (λ x. last_by (past_setting past.now) past.now.logs.now cell ≡ Ok x) }
     ensures error { IfErr result
-        (IsWhy (unfound (last_by past.now.program.now past.now.plan.now past.now.budget past.now.logs.now cell))) }
+        (IsWhy (unfound (last_by (past_setting past.now) past.now.logs.now cell))) }
 {
     let mut steps: Steps<L> = Steps::new(blank);
     match last_from(alloc, past, cell, last, given, &mut steps) {
@@ -113,9 +114,9 @@ fn last_told(
     requires tables { IfSome (option_copied given.tables)
         (IsOfInterval past.now last.edge.process last.interval) }
     ensures value { IfOk result
-        (λ x. last_by past.now.program.now past.now.plan.now past.now.budget past.now.logs.now cell ≡ Ok x) }
+        (λ x. last_by (past_setting past.now) past.now.logs.now cell ≡ Ok x) }
     ensures error { IfErr result
-        (IsWhy (unfound (last_by past.now.program.now past.now.plan.now past.now.budget past.now.logs.now cell))) }
+        (IsWhy (unfound (last_by (past_setting past.now) past.now.logs.now cell))) }
 {
     last_told_in::<Brand>(alloc, past, cell, last, given, Blank::new(1))
 }
@@ -135,9 +136,9 @@ fn last_looked_up<'a>(
     requires told { told_at (known_by past.now []) last.edge.process last.interval ≡ Some (Ok items.now) }
     requires tables { IfSome (option_copied tables) (IsOfInterval past.now last.edge.process last.interval) }
     ensures value { IfOk result
-        (λ x. last_by past.now.program.now past.now.plan.now past.now.budget past.now.logs.now cell ≡ Ok x) }
+        (λ x. last_by (past_setting past.now) past.now.logs.now cell ≡ Ok x) }
     ensures error { IfErr result
-        (IsWhy (unfound (last_by past.now.program.now past.now.plan.now past.now.budget past.now.logs.now cell))) }
+        (IsWhy (unfound (last_by (past_setting past.now) past.now.logs.now cell))) }
 {
     last_told(alloc, past, cell, last, TabledItems { items, tables })
 }
@@ -159,9 +160,9 @@ fn last_kept(
     requires last { last_edge_of past.now cell ≡ Some last }
     requires there { last.interval < length (rows_at past.now.index.now.tables last.edge.process) }
     ensures value { IfOk result
-        (λ x. last_by past.now.program.now past.now.plan.now past.now.budget past.now.logs.now cell ≡ Ok x) }
+        (λ x. last_by (past_setting past.now) past.now.logs.now cell ≡ Ok x) }
     ensures error { IfErr result
-        (IsWhy (unfound (last_by past.now.program.now past.now.plan.now past.now.budget past.now.logs.now cell))) }
+        (IsWhy (unfound (last_by (past_setting past.now) past.now.logs.now cell))) }
     ensures kept { IsAsked (known_by past.now []) (Some (place_of last)) kept.old kept.new }
     ensures tables { AreOfLast past.now tables.new }
 {
@@ -198,9 +199,9 @@ fn last_of_cell(
     requires kept { AreTold (known_by past.now []) kept.old.blocks }
     requires tables { AreOfLast past.now tables.old }
     ensures value { IfOk result
-        (λ x. last_by past.now.program.now past.now.plan.now past.now.budget past.now.logs.now cell ≡ Ok x) }
+        (λ x. last_by (past_setting past.now) past.now.logs.now cell ≡ Ok x) }
     ensures error { IfErr result
-        (IsWhy (unfound (last_by past.now.program.now past.now.plan.now past.now.budget past.now.logs.now cell))) }
+        (IsWhy (unfound (last_by (past_setting past.now) past.now.logs.now cell))) }
     ensures kept { OnOk result (IsAsked (known_by past.now []) (last_block past.now cell) kept.old kept.new) }
     ensures part { OnErr result
         ((kept.new ≡ kept.old) ⊎ IsAsked (known_by past.now []) (last_block past.now cell) kept.old kept.new) }
@@ -246,10 +247,10 @@ fn put_cell_line(
     requires tables { AreOfLast past.now tables.old }
     ensures told { OnOk result
         (IsLineOf past.now.program.now cell
-        (last_by past.now.program.now past.now.plan.now past.now.budget past.now.logs.now cell) text.old.items
+        (last_by (past_setting past.now) past.now.logs.now cell) text.old.items
         text.new.items) }
     ensures error { IfErr result
-        (IsWhy (unfound (last_by past.now.program.now past.now.plan.now past.now.budget past.now.logs.now cell))) }
+        (IsWhy (unfound (last_by (past_setting past.now) past.now.logs.now cell))) }
     ensures kept { OnOk result (IsAsked (known_by past.now []) (last_block past.now cell) kept.old kept.new) }
     ensures part { OnErr result
         ((kept.new ≡ kept.old) ⊎ IsAsked (known_by past.now []) (last_block past.now cell) kept.old kept.new) }

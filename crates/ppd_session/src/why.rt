@@ -1,6 +1,7 @@
 // An item with its flowback edges.
 ghost use Rattle.std.specs.Prelude.{◌≡◌, ◌<◌, ◌++◌, [], Some, None, Ok, IfOk, OnOk, IfErr, length};
 ghost use Rattle.ppd_flow_past.specs.Pasts.{IsPast};
+ghost use Rattle.ppd_flow_past.specs.PastSetting.{past_setting};
 ghost use Rattle.ppd_session.specs.Known.{flow_by};
 ghost use Rattle.ppd_session.specs.Sessions.{IsWhy, known_by};
 ghost use Rattle.ppd_session.specs.Texts.{flow_at, flow_text, told_at, told_failure, told_text, unfound_flow};
@@ -73,7 +74,7 @@ fn edges_in<L: Ledger>(
     requires told { told_at (known_by past.now []) block.now.process block.now.interval
         ≡ Some (Ok block.now.items.now) }
     ensures { IsMemoryOr
-        (flow_by past.now.program.now past.now.plan.now past.now.budget past.now.logs.now block.now.process
+        (flow_by (past_setting past.now) past.now.logs.now block.now.process
         block.now.interval item)
         result }
 {
@@ -102,7 +103,7 @@ fn edges_of(
     requires told { told_at (known_by past.now []) block.now.process block.now.interval
         ≡ Some (Ok block.now.items.now) }
     ensures { IsMemoryOr
-        (flow_by past.now.program.now past.now.plan.now past.now.budget past.now.logs.now block.now.process
+        (flow_by (past_setting past.now) past.now.logs.now block.now.process
         block.now.interval item)
         result }
 {
@@ -142,17 +143,17 @@ fn put_flow(
         (text.new.items
         ≡ text.old.items
         ++ flow_text past.now.program.now past.now.plan.now item shown.now
-        (flow_by past.now.program.now past.now.plan.now past.now.budget past.now.logs.now block.now.process
+        (flow_by (past_setting past.now) past.now.logs.now block.now.process
         block.now.interval item)) }
     ensures told { OnOk result
         (unfound_flow
-        (flow_by past.now.program.now past.now.plan.now past.now.budget past.now.logs.now block.now.process
+        (flow_by (past_setting past.now) past.now.logs.now block.now.process
         block.now.interval item)
         ≡ None) }
     ensures error { IfErr result
         (IsWhy
         (unfound_flow
-        (flow_by past.now.program.now past.now.plan.now past.now.budget past.now.logs.now block.now.process
+        (flow_by (past_setting past.now) past.now.logs.now block.now.process
         block.now.interval item))) }
 {
     match edges_of(alloc, past, block, item) {

@@ -15,6 +15,7 @@ use Rattle.ppd_flow_past.specs.declared.past.Past.{Past}
 use Rattle.ppd_flow_past.specs.ByReplays.{IsFoundBy, IsReplayed, failure_or}
 use Rattle.ppd_flow_past.specs.Keeping.{AreKeptOf, AreOthersKept, IsAllKept, RoseByKept, count_in, process_steps, steps_kept, steps_kept_of, sum_below}
 use Rattle.ppd_flow_past.specs.Pasts.{AreKept, IsPast}
+use Rattle.ppd_flow_past.specs.PastSetting.{past_setting}
 use Rattle.ppd_flow_past.specs.SeenBy.{failed_in, items_in, steps_in}
 use Rattle.ppd_flow_model.specs.Shared.{of_process}
 use Rattle.ppd_flow_past.proofs.Keeping.{AreFree, costs_nothing, kept_free}
@@ -101,7 +102,7 @@ module _ (past : Past) where
     graph_is = h.graph_is;
     cut_index_is = h.cut_index_is;
     fitting = h.fitting;
-    kept_are = subst (AreKept past.program.now past.plan.now past.budget past.cut.now) (sym e) k.items;
+    kept_are = subst (AreKept (past_setting past) past.cut.now) (sym e) k.items;
   }
 
   -- it is not there

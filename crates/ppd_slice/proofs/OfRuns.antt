@@ -1,4 +1,5 @@
 -- What is answered for the slice of an item is what the edges of the run reach.
+use Rattle.ppd_flow_past.specs.PastSetting.{past_setting}
 use Rattle.std.specs.Prelude.{slice_get, unwrap_or, get_or, ok_or}
 use Rattle.std.specs.Result.{result_unwrap_or}
 use Rattle.std.proofs.Common.{◌≡◌, ℕ, zero, suc, ◌+◌, List, [], ◌∷◌, map, Option, Some, None, Result, Ok, Err, refl, ap, sym, ◌∙◌}
@@ -83,7 +84,7 @@ no_item (suc j) = refl
 
 module _ (law : ReplaysAreSeen) (found : EdgesAreFound) (own : AllOwnPartsAreFound) (past : Past) (policy : Policy) (h : List ℕ) (v : IsValid past.program.now) (r : IsOfRun past policy h) where
   abbrev of_run : ItemAt → Option (List FlowEdge)
-  of_run b = edges past.program.now past.plan.now past.budget (story_in past h) b.process b.interval b.item
+  of_run b = edges (past_setting past) (story_in past h) b.process b.interval b.item
 
   never : (ms : List (ℕ × ℕ)) → first_failed_in past ms ≡ None
   never ms = by (first_failed_in past ms) refl
@@ -134,7 +135,7 @@ module _ (law : ReplaysAreSeen) (found : EdgesAreFound) (own : AllOwnPartsAreFou
     flow_is : flow_of past b ≡ ok_or (of_run b) NoEvent
     flow_is = ap (λ o. unless_failed o (answer_if found_there)) (never needed) ∙ answer_is
 
-    origins_are : origins past.program.now past.plan.now past.budget (story_in past h) b ≡ origins_in past b
+    origins_are : origins (past_setting past) (story_in past h) b ≡ origins_in past b
     origins_are = by (of_run b) ∙ ap (λ found. places_of (result_unwrap_or found [])) (sym flow_is)
       where
         by : (o : Option (List FlowEdge)) → places_of (unwrap_or o []) ≡ places_of (result_unwrap_or (ok_or o NoEvent) [])
@@ -155,13 +156,13 @@ module _ (law : ReplaysAreSeen) (found : EdgesAreFound) (own : AllOwnPartsAreFou
 
   module _ (reaches : ReachesAreSlices) (one : SlicesAreOne) (a : ItemAt) where
     abbrev of_item : List Reached
-    of_item = reach past.program.now past.plan.now past.budget (story_in past h) a.process a.interval a.item
+    of_item = reach (past_setting past) (story_in past h) a.process a.interval a.item
 
     reached : (es : List FlowEdge) → of_run a ≡ Some es → IsReach (origins_in past) a of_item
     reached es e =
         let i : IsPlaced (splits_in past h) a.process a.interval a.item = placed past.program.now past.plan.now (splits_in past h) a.process a.interval a.item es e in
-        reach_as (origins past.program.now past.plan.now past.budget (story_in past h)) (origins_in past) a of_item
-        (reaches past.program.now past.plan.now past.budget (story_in past h) a.process a.interval a.item i.split i.span i.part i.split_is i.span_is i.part_is)
+        reach_as (origins (past_setting past) (story_in past h)) (origins_in past) a of_item
+        (reaches (past_setting past) (story_in past h) a.process a.interval a.item i.split i.span i.part i.split_is i.span_is i.part_is)
         (λ q m. origins_are (item_of q))
 
     slice_is : (rs : List Reached) → IsSlice past a rs → ◌≡◌ {A = Result (List Reached) FlowError} (Ok rs) (slice_or_none (of_run a) of_item)
@@ -179,5 +180,5 @@ slices_of_runs law found own reaches one past a (Ok rs) v s = λ policy h r. sli
 slices_of_runs law found own reaches one past a (Err NoEvent) v s = λ policy h r. none_is law found own past policy h v r reaches one a (none_flow past a s)
 slices_of_runs law found own reaches one past a (Err (Diverged q n)) v s = λ policy h r. absurd (never_failed law found own past policy h v r q s.1.0 n s.1.1)
 slices_of_runs law found own reaches one past a (Err (Sets q n c)) v s = λ policy h r.
-    absurd (never_misses law found own past policy h v r (edges past.program.now past.plan.now past.budget (story_in past h) s.1.0.process s.1.0.interval s.1.0.item) q n c (sym (flow_is law found own past policy h v r s.1.0) ∙ s.1.1))
+    absurd (never_misses law found own past policy h v r (edges (past_setting past) (story_in past h) s.1.0.process s.1.0.interval s.1.0.item) q n c (sym (flow_is law found own past policy h v r s.1.0) ∙ s.1.1))
 slices_of_runs law found own reaches one past a (Err Memory) v s = λ policy h r. tt

@@ -1,4 +1,5 @@
 -- What an item of a run comes from is an item of the run, so that there are no more levels than items.
+use Rattle.ppd_model.specs.Setting.{Setting}
 use Rattle.std.proofs.Common.{◌≡◌, ℕ, zero, suc, ◌+◌, ◌<◌, ◌≤◌, ℤ, Bool, true, false, List, [], ◌∷◌, ◌++◌, Option, Some, None, refl, ap, ap₂, sym, subst, ◌∙◌, arith, length, length-append, map, inl, inr, ◌⊎◌, cond}
 use Rattle.ppd_sem.specs.declared.event.Spot.TheVariants.{Local}
 use Rattle.ppd_sem.specs.declared.event.Spot.{Spot}
@@ -242,15 +243,15 @@ module _ (xs : List Split) where
 
 -- ---- the slice of an item that is there
 
-pub reach_is_slice : (program : Program) (plan : Plan) (budget : ℕ) (story : Story) (p k j : ℕ) (x : Split) (i : Span) (q : Part)
-    → slice_get (splits program plan budget story) p ≡ Some x → slice_get x.spans k ≡ Some i → slice_get i.parts j ≡ Some q
-    → IsReach (origins program plan budget story) (at p k j) (reach program plan budget story p k j)
-reach_is_slice program plan budget story p k j x i q e f g =
-    let all : List ItemAt = items_from 0 (splits program plan budget story) in
+pub reach_is_slice : (setting : Setting) (story : Story) (p k j : ℕ) (x : Split) (i : Span) (q : Part)
+    → slice_get (splits setting story) p ≡ Some x → slice_get x.spans k ≡ Some i → slice_get i.parts j ≡ Some q
+    → IsReach (origins setting story) (at p k j) (reach setting story p k j)
+reach_is_slice setting story p k j x i q e f g =
+    let all : List ItemAt = items_from 0 (splits setting story) in
     let z : 0 + p ≡ p = omega arith in
-    let count : length (items_from 0 (splits program plan budget story)) ≡ count_items program plan budget story = count_all 0 (splits program plan budget story) in
-    levels_reach (origins program plan budget story) (items_from 0 (splits program plan budget story)) (at p k j) (count_items program plan budget story + 1)
-    (subst (λ a. IsIn (at a k j) (items_from 0 (splits program plan budget story))) z (in_items 0 p k j (splits program plan budget story) x i q e f g))
-    (λ b c m n. origins_good (splits program plan budget story) (edges program plan budget story b.process b.interval b.item)
-    (in_good (splits program plan budget story) program plan b.interval b.item (slice_get (splits program plan budget story) b.process)) c n)
+    let count : length (items_from 0 (splits setting story)) ≡ count_items setting story = count_all 0 (splits setting story) in
+    levels_reach (origins setting story) (items_from 0 (splits setting story)) (at p k j) (count_items setting story + 1)
+    (subst (λ a. IsIn (at a k j) (items_from 0 (splits setting story))) z (in_items 0 p k j (splits setting story) x i q e f g))
+    (λ b c m n. origins_good (splits setting story) (edges setting story b.process b.interval b.item)
+    (in_good (splits setting story) setting.program setting.plan b.interval b.item (slice_get (splits setting story) b.process)) c n)
     (omega (arith, count))

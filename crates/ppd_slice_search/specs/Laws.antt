@@ -1,7 +1,6 @@
 -- That the search by levels finds the slice, and that there is one slice.
+use Rattle.ppd_model.specs.Setting.{Setting}
 use Rattle.std.specs.Prelude.{◌≡◌, ℕ, ◌<◌, List, length, slice_get, Some}
-use Rattle.ppd_ast.specs.declared.plan.Plan.{Plan}
-use Rattle.ppd_ast.specs.declared.program.Program.{Program}
 use Rattle.ppd_model.specs.declared.tracing.Story.{Story}
 use Rattle.ppd_model.specs.Intervals.{Part, Span, Split, splits}
 use Rattle.ppd_slice_search.specs.declared.reached.ItemAt.{ItemAt}
@@ -25,7 +24,7 @@ SlicesAreOne =
 -- in each story the slice of an item that is there is the one that `reach` computes
 abbrev pub ReachesAreSlices : Type 0
 ReachesAreSlices =
-    (program : Program) (plan : Plan) (budget : ℕ) (story : Story) (p k j : ℕ) (x : Split) (i : Span) (q : Part)
-    → slice_get (splits program plan budget story) p ≡ Some x → slice_get x.spans k ≡ Some i
+    (setting : Setting) (story : Story) (p k j : ℕ) (x : Split) (i : Span) (q : Part)
+    → slice_get (splits setting story) p ≡ Some x → slice_get x.spans k ≡ Some i
     → slice_get i.parts j ≡ Some q
-    → IsReach (origins program plan budget story) (at p k j) (reach program plan budget story p k j)
+    → IsReach (origins setting story) (at p k j) (reach setting story p k j)

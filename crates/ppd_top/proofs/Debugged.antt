@@ -1,7 +1,8 @@
 -- What `debug` comes to, by its status.
+use Rattle.law_steps.specs.Policies.{setting_by}
+use Rattle.ppd_top_query.specs.Recordings.{recorded_setting}
 use Rattle.ppd_top.specs.declared.loads.TheConstants.{MOST_RECORDING}
 use Rattle.ppd_ast.specs.declared.program.Program.{Program}
-use Rattle.ppd_blocks.specs.Blocks.{plan_of}
 use Rattle.ppd_codec.specs.declared.recording.Header.{Header}
 use Rattle.ppd_codec.specs.declared.recording.Recording.{Recording}
 use Rattle.ppd_entry.specs.declared.entry.At.{At}
@@ -41,9 +42,9 @@ use Rattle.std.proofs.Common.{List, [], arith, inl, inr, refl, subst, sym, ℕ, 
 use Rattle.std.specs.Prelude.{None, ◌⊎◌}
 
 -- by what is known of a run no replay fails
-no_failure : (x : Known) (program : Program) (header : Header) (h : List ℕ) → x ≡ known_of_run program (plan_of program header.policy) header.budget h → (line : List ℕ) → failure_of x line ≡ None
+no_failure : (x : Known) (program : Program) (header : Header) (h : List ℕ) → x ≡ known_of_run (setting_by program header.policy header.budget) h → (line : List ℕ) → failure_of x line ≡ None
 no_failure x program header h known line =
-    subst (λ (y : Known). failure_of y line ≡ None) (sym known) (run_answered program (plan_of program header.policy) header.budget h line)
+    subst (λ (y : Known). failure_of y line ≡ None) (sym known) (run_answered (setting_by program header.policy header.budget) h line)
 
 -- what `debug` comes to has one of these
 debugs_in : (bytes : List ℕ) (a b : Standing) (status : ℕ) → Debugs bytes a b status → IsIn status (0 ∷ 7 ∷ 8 ∷ 3 ∷ 4 ∷ 5 ∷ 6 ∷ [])
@@ -70,7 +71,7 @@ module _ (c : Call) (name bytes : List ℕ) (asks : Asks c.words (on_recording n
     asked = asks;
     loaded = loads;
     accepted = accepted;
-    knows = logs_are_known r.program r.plan r.header.budget r.logs accepted.indexed;
+    knows = logs_are_known (recorded_setting r) r.logs accepted.indexed;
     of_runs = runs_are_recalled bytes r accepted;
   }
 
@@ -141,9 +142,9 @@ module _ (c : Call) (name bytes : List ℕ) (asks : Asks c.words (on_recording n
 
   -- a write that a line asks for is missing
   is_missing : (r : Recording) → IsAccepted bytes r → (line : List ℕ) (at : At)
-      → IsWhy (failure_of (known_of_recording r) line) (Sets at) → IsMissingAt r.logs (seens r.program r.plan r.header.budget r.logs) at
+      → IsWhy (failure_of (known_of_recording r) line) (Sets at) → IsMissingAt r.logs (seens (recorded_setting r) r.logs) at
   is_missing r accepted line at f =
-      (missing_writes_told r.program r.plan r.header.budget r.logs (races_among (edges_of_logs r.program r.logs)) accepted.indexed).lines line at f
+      (missing_writes_told (recorded_setting r) r.logs (races_among (edges_of_logs r.program r.logs)) accepted.indexed).lines line at f
 
   pub debug_refused : Debugs bytes c.before.io c.after.io c.status → c.status ≡ 6 → (b : List ℕ) × RecordingRefused c b
       × ((source : List ℕ) (header : Header) (program : Program) (h : List ℕ) → IsRunRecorded source header program h b → ⊥)

@@ -17,7 +17,7 @@ use Rattle.ppd_top.specs.Clauses.WasDone.{drilled as done_drilled}
 use Rattle.ppd_top.specs.Clauses.WriteFailed.{output_failed}
 use Rattle.ppd_top.specs.Ran.{Drilled, Drills, Refuses}
 use Rattle.ppd_top.specs.Ran.Drilled.{drilled, no_program}
-use Rattle.ppd_top.specs.Top.{drill_commands, drill_options, out_of}
+use Rattle.ppd_top.specs.Top.{drill_options, out_of}
 use Rattle.ppd_top.specs.Top.Writes.{for_number}
 use Rattle.ppd_top_requests.specs.Words.{Asks, Command, asked}
 use Rattle.ppd_top_requests.specs.Words.Request.{on_number, on_recording, on_source}
@@ -58,34 +58,34 @@ never_rose r =
 
 module _ (program : Program) (schedule : List ℕ) where
   -- all answers end well
-  drill_status : (out_of program drill_options schedule drill_commands).status ≡ 0
+  drill_status : (out_of program drill_options schedule (codes "final\n")).status ≡ 0
   drill_status =
       let few : 0 < MOST_INPUT_LINES = omega arith in
       let short : 5 ≤ MOST_LINE_BYTES = omega arith in
       one_fine (known_of program drill_options schedule) 0 (codes "final") (no_failure program drill_options schedule (codes "final")) few short
 
-  module _ (a b : Standing) (rest : List ℕ) (e : a.left ≡ Some drill_commands) (f : b.left ≡ Some rest) (none : Rose a.reads b.reads → ⊥) where
+  module _ (a b : Standing) (rest : List ℕ) (e : a.left ≡ Some (codes "final\n")) (f : b.left ≡ Some rest) (none : Rose a.reads b.reads → ⊥) where
     ends_of : (status : ℕ) → Talks (known_of program drill_options schedule) (summary_of_run program drill_options schedule) a b status
-        → Finished a.written b.written a.writes b.writes status 0 (out_of program drill_options schedule drill_commands).text
-        ⊎ ((status ≡ 5) × AppendsFront a.written b.written (out_of program drill_options schedule drill_commands).text)
+        → Finished a.written b.written a.writes b.writes status 0 (out_of program drill_options schedule (codes "final\n")).text
+        ⊎ ((status ≡ 5) × AppendsFront a.written b.written (out_of program drill_options schedule (codes "final\n")).text)
     ends_of status (whole commands told further written) =
         let x = known_of program drill_options schedule in
         let first = summary_of_run program drill_options schedule in
-        let s = same_commands a.left b.left drill_commands rest commands e f told in
+        let s = same_commands a.left b.left (codes "final\n") rest commands e f told in
         inl (inl (ap (λ cs. (answers x cs).status) s ∙ drill_status, subst (λ cs. Appends a.written b.written (first ++ (answers x cs).text)) s written))
     ends_of status (unread broken) = absurd (none broken.rose)
     ends_of status (unwritten commands told rose part) =
         let x = known_of program drill_options schedule in
         let first = summary_of_run program drill_options schedule in
-        let s = same_commands a.left b.left drill_commands rest commands e f told in
+        let s = same_commands a.left b.left (codes "final\n") rest commands e f told in
         inl (inr (refl, rose, subst (λ cs. AppendsPart a.written b.written (first ++ (answers x cs).text)) s part))
     ends_of status (unfinished commands told part) =
         let x = known_of program drill_options schedule in
         let first = summary_of_run program drill_options schedule in
-        let s = same_commands a.left b.left drill_commands rest commands e f told in
+        let s = same_commands a.left b.left (codes "final\n") rest commands e f told in
         inr (refl, subst (λ cs. AppendsFront a.written b.written (first ++ (answers x cs).text)) s part)
 
-pub drills_from : (program : Program) (schedule : List ℕ) (a b : Standing) (status : ℕ) (rest : List ℕ) → Flows program drill_options schedule a b status → a.left ≡ Some drill_commands → b.left ≡ Some rest
+pub drills_from : (program : Program) (schedule : List ℕ) (a b : Standing) (status : ℕ) (rest : List ℕ) → Flows program drill_options schedule a b status → a.left ≡ Some (codes "final\n") → b.left ≡ Some rest
     → (Rose a.reads b.reads → ⊥) → Drills program schedule a.written b.written a.writes b.writes status
 drills_from program schedule a b status rest (inl h) e f none = inl (h.0, h.1.no_run, h.1.written)
 drills_from program schedule a b status rest (inr t) e f none = inr (record { whole = t.whole; ends = ends_of program schedule a b rest e f none status t.talks })
@@ -104,8 +104,8 @@ module _ (c : Call) (number : ℕ) (asks : Asks c.words (on_number number)) wher
   -- what is written of a program
   abbrev Ends : Program → Type 0
   Ends program =
-      Finished c.before.io.written c.after.io.written c.before.io.writes c.after.io.writes c.status 0 (out_of program drill_options c.schedule drill_commands).text
-      ⊎ ((c.status ≡ 5) × AppendsFront c.before.io.written c.after.io.written (out_of program drill_options c.schedule drill_commands).text)
+      Finished c.before.io.written c.after.io.written c.before.io.writes c.after.io.writes c.status 0 (out_of program drill_options c.schedule (codes "final\n")).text
+      ⊎ ((c.status ≡ 5) × AppendsFront c.before.io.written c.after.io.written (out_of program drill_options c.schedule (codes "final\n")).text)
 
   ends_in : (program : Program) → Ends program → IsIn c.status (0 ∷ 4 ∷ 5 ∷ [])
   ends_in program (inl (inl h)) = inl h.0
@@ -124,8 +124,8 @@ module _ (c : Call) (number : ℕ) (asks : Asks c.words (on_number number)) wher
     where
       by : Ends program → WasDone c
       by (inl (inl h)) =
-          done_drilled number program asks read w.whole (out_of program drill_options c.schedule drill_commands) refl (drill_status program c.schedule) h.1
-          (of_agreeing program drill_options c.schedule drill_commands)
+          done_drilled number program asks read w.whole (out_of program drill_options c.schedule (codes "final\n")) refl (drill_status program c.schedule) h.1
+          (of_agreeing program drill_options c.schedule (codes "final\n"))
       by (inl (inr h)) = absurd (omega (arith, h.0))
       by (inr h) = absurd (omega (arith, h.0))
 
@@ -141,7 +141,7 @@ module _ (c : Call) (number : ℕ) (asks : Asks c.words (on_number number)) wher
       by (inl (inl h)) = absurd (omega (arith, h.0))
       by (inl (inr h)) =
           let t = same_input c.before.io.left c.after.io.left same.left in
-          output_failed t.0 (out_of program drill_options c.schedule drill_commands) h.1 t.1
+          output_failed t.0 (out_of program drill_options c.schedule (codes "final\n")) h.1 t.1
           (for_number number program asks read w.whole) h.2
       by (inr h) = absurd (omega (arith, h.0))
 

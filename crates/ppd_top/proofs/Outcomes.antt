@@ -1,4 +1,5 @@
 -- From what a command comes to to the clauses of the top call.
+use Rattle.law_steps.specs.Policies.{setting_by}
 use Rattle.ppd_top.specs.declared.loads.TheConstants.{MOST_BYTES}
 use Rattle.ppd_blocks.specs.Blocks.{plan_of}
 use Rattle.ppd_ast.specs.declared.program.Program.{Program}
@@ -90,7 +91,7 @@ write_failed c commands status text told w other (inr h) is = output_failed comm
 
 -- of a run no replay fails
 pub no_failure : (program : Program) (options : Options) (schedule line : List ℕ) → failure_of (known_of program options schedule) line ≡ None
-no_failure program options schedule line = run_answered program (plan_of program options.policy) options.budget schedule line
+no_failure program options schedule line = run_answered (setting_by program options.policy options.budget) schedule line
 
 -- what `flow` comes to has one of these
 pub flows_in : (program : Program) (options : Options) (schedule : List ℕ) (a b : Standing) (result : ℕ) → Flows program options schedule a b result → IsIn result (0 ∷ 7 ∷ 8 ∷ 3 ∷ 4 ∷ 5 ∷ [])

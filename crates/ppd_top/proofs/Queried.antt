@@ -1,4 +1,5 @@
 -- What a query comes to, by its status.
+use Rattle.ppd_top_query.specs.Recordings.{recorded_setting}
 use Rattle.ppd_top.specs.declared.loads.TheConstants.{MOST_RECORDING}
 use Rattle.ppd_ast.specs.declared.limits.TheConstants.{MOST_BUDGET}
 use Rattle.ppd_ast.specs.declared.program.Program.{Program}
@@ -104,7 +105,7 @@ module _ (c : Call) (name : List ℕ) (query : Query) (bytes : List ℕ) (asks :
     asked = asks;
     loaded = loads;
     accepted = accepted;
-    knows = logs_are_known r.program r.plan r.header.budget r.logs accepted.indexed;
+    knows = logs_are_known (recorded_setting r) r.logs accepted.indexed;
     of_runs = runs_are_recalled bytes r accepted;
   }
 
@@ -185,16 +186,16 @@ module _ (c : Call) (name : List ℕ) (query : Query) (bytes : List ℕ) (asks :
   query_complete (queried r accepted n text g (inr h)) p = absurd (p.no_write_fault h.1)
 
 -- where a schedule was taken
-confirms : (r : Recording) (query : Query) (schedule : List ℕ) (status : ℕ) (text : List ℕ) → Gives r query schedule status text → (schedule ≡ []) ⊎ ((query ≡ Rerun) × IsVerdict r.program r.plan r.header.budget r.logs (Yes schedule))
+confirms : (r : Recording) (query : Query) (schedule : List ℕ) (status : ℕ) (text : List ℕ) → Gives r query schedule status text → (schedule ≡ []) ⊎ ((query ≡ Rerun) × IsVerdict (recorded_setting r) r.logs (Yes schedule))
 confirms r query schedule status text (refuses line why) = inl refl
 confirms r query schedule status text (fails error none why) = inl refl
 confirms r query schedule status text (answers h t none a) = by query a
   where
-    by : (q : Query) → IsAnswer r q h t → (h ≡ []) ⊎ ((q ≡ Rerun) × IsVerdict r.program r.plan r.header.budget r.logs (Yes h))
+    by : (q : Query) → IsAnswer r q h t → (h ≡ []) ⊎ ((q ≡ Rerun) × IsVerdict (recorded_setting r) r.logs (Yes h))
     by (Slice a) b = inl b.0
     by (Whole workers) b = inl b.0
     by (Clean a) b = inl b.0
-    by Rerun (Yes g, is, same, line) = inr (refl, subst (λ (k : List ℕ). IsVerdict r.program r.plan r.header.budget r.logs (Yes k)) (sym same) is)
+    by Rerun (Yes g, is, same, line) = inr (refl, subst (λ (k : List ℕ). IsVerdict (recorded_setting r) r.logs (Yes k)) (sym same) is)
     by Rerun (No why, is, same, line) = inl same
 
 pub query_taken : (c : Call) (name : List ℕ) (query : Query) (bytes : List ℕ) → Asks c.words (on_query name query) → Loads c.before.held name MOST_RECORDING bytes
@@ -203,7 +204,7 @@ query_taken c name query bytes asks loads (no_query is empty same) = inl empty
 query_taken c name query bytes asks loads (query_refused line why empty f) = inl empty
 query_taken c name query bytes asks loads (queried r accepted n text g f) = by (confirms r query c.schedule n text g)
   where
-    by : (c.schedule ≡ []) ⊎ ((query ≡ Rerun) × IsVerdict r.program r.plan r.header.budget r.logs (Yes c.schedule)) → (c.schedule ≡ []) ⊎ IsTaken c
+    by : (c.schedule ≡ []) ⊎ ((query ≡ Rerun) × IsVerdict (recorded_setting r) r.logs (Yes c.schedule)) → (c.schedule ≡ []) ⊎ IsTaken c
     by (inl empty) = inl empty
     by (inr (same, is)) = inr (by_rerun name bytes r (subst (λ (than : Query). Asks c.words (on_query name than)) same asks) loads accepted is)
 

@@ -1,8 +1,9 @@
 -- The clauses of the top call, each over the call: what it came to by its status, and when it succeeds.
+use Rattle.ppd_top_query.specs.Recordings.{recorded_setting}
 use Rattle.ppd_top.specs.declared.loads.TheConstants.{MOST_BYTES, MOST_RECORDING}
 use Rattle.ppd_blocks.specs.Blocks.{plan_of}
 use Rattle.ppd_io.specs.Causes.{Rose}
-use Rattle.std.specs.Prelude.{◌≡◌, ◌≢◌, ◌⊎◌, ◌<◌, ℕ, List, [], take, Option, Some, option_map, None}
+use Rattle.std.specs.Prelude.{◌≡◌, ◌≢◌, ◌⊎◌, ◌<◌, ℕ, List, [], take, Option, Some, option_map, None, codes}
 use Rattle.std.specs.Borrow.{Bor}
 use Rattle.ppd_io.specs.Content.{Loads, Stores, StoreFails, AppendsPart}
 use Rattle.ppd_ast.specs.declared.program.Program.{Program}
@@ -32,7 +33,7 @@ use Rattle.ppd_top_commands.specs.Commands.{IsWholeRun, header_of, known_of, sum
 use Rattle.ppd_top_requests.specs.declared.options.Options.{Options}
 use Rattle.ppd_top.specs.Call.{Call, HasFailedLoad, HasFailedWrite, Wrote}
 use Rattle.ppd_top_commands.specs.Output.{AreCommands, IsBroken, IsReadNoFurther, Output, answers, IsUnread, AppendsFront}
-use Rattle.ppd_top.specs.Top.{IsOfAgreeing, IsRecalledFrom, WasRead, Writes, drill_commands, drill_options, out_of, usage}
+use Rattle.ppd_top.specs.Top.{IsOfAgreeing, IsRecalledFrom, WasRead, Writes, drill_options, out_of, usage}
 use Rattle.ppd_top_requests.specs.Words.{Asks, AsksRecording, Command, asked}
 use Rattle.ppd_top_requests.specs.Words.Request.{on_source, on_recording, on_number, on_query}
 use Rattle.ppd_top_requests.specs.Words.Command.{Flow, Run, Show}
@@ -97,8 +98,8 @@ pub data WasDone (c : Call) : Type 0 where
   -- and all that `flow` writes of it and of `final` was written
   drilled : (number : ℕ) (program : Program) → Asks c.words (on_number number) → IsRead (generated number) program
       → IsWholeRun program drill_options c.schedule → (out : Output)
-      → out ≡ out_of program drill_options c.schedule drill_commands → out.status ≡ 0 → Wrote c out.text
-      → IsOfAgreeing program drill_options c.schedule drill_commands out → WasDone c
+      → out ≡ out_of program drill_options c.schedule (codes "final\n") → out.status ≡ 0 → Wrote c out.text
+      → IsOfAgreeing program drill_options c.schedule (codes "final\n") out → WasDone c
   queried : WasQueried c → WasDone c
 
 -- status 1, which no drill has: the loaded source has no program, and the line that says why was written
@@ -161,7 +162,7 @@ pub data MemoryRanOut (c : Call) : Type 0 where
   in_drill : (number : ℕ) (program : Program) → Asks c.words (on_number number) → IsRead (generated number) program
       → IsWholeRun program drill_options c.schedule
       → AppendsFront c.before.io.written c.after.io.written
-      (out_of program drill_options c.schedule drill_commands).text → MemoryRanOut c
+      (out_of program drill_options c.schedule (codes "final\n")).text → MemoryRanOut c
   -- or in `debug`, and a prefix of what the command writes went out
   in_debug : (recording : Recording) (known : Known) (commands : List ℕ)
       → IsRecalledFrom c on_recording recording known → c.schedule ≡ []
@@ -180,7 +181,7 @@ pub data RecordingRefused (c : Call) : (bytes : List ℕ) → Type 0 where
   line_failed : (w : WasAnswered c)
       → ((line : List ℕ) (at : At) → option_map error_of (failure_of w.known line) ≡ Some (Sets at)
       → IsMissingAt w.recording.logs
-      (seens w.recording.program w.recording.plan w.recording.header.budget w.recording.logs) at)
+      (seens (recorded_setting w.recording) w.recording.logs) at)
       → RecordingRefused c w.recalled.bytes
   -- or one that the answer to a query needs, and the line that says so was written
   query_failed : (w : WasQueried c)
@@ -242,7 +243,7 @@ pub data IsTaken (c : Call) : Type 0 where
       → IsWholeRun program drill_options c.schedule → IsTaken c
   by_rerun : (name bytes : List ℕ) (r : Recording) → Asks c.words (on_query name Rerun)
       → Loads c.before.held name MOST_RECORDING bytes → IsAccepted bytes r
-      → IsVerdict r.program r.plan r.header.budget r.logs (Yes c.schedule) → IsTaken c
+      → IsVerdict (recorded_setting r) r.logs (Yes c.schedule) → IsTaken c
 
 -- ---- all clauses of the top call but that on the input
 

@@ -14,11 +14,11 @@ use Rattle.ppd_top_requests.specs.Words.{Asks}
 use Rattle.ppd_top_requests.specs.Words.Request.{on_source, on_recording}
 use Rattle.ppd_top_requests.specs.Words.Command.{Flow, Run as RunTo}
 use Rattle.law_headline.specs.Headline.{Headline}
-use Rattle.law_headline.specs.Runs.{Run, plan_in}
+use Rattle.law_headline.specs.Runs.{Run, plan_in, setting_in}
 
 -- how the processes of the run ended, then the race report by what is told of it
 abbrev pub report : Run → Known → List ℕ
-report r x = summary_of r.program (close r.program (plan_in r) r.budget r.schedule).ends x.races
+report r x = summary_of r.program (close (setting_in r) r.schedule).ends x.races
 
 -- the bytes are the recording of the run
 abbrev pub IsRecorded : Run → (bytes : List ℕ) → Type 0

@@ -1,6 +1,6 @@
 -- What a command comes to, by the schedule that was taken.
 use Rattle.ppd_top.specs.declared.loads.TheConstants.{MOST_BYTES, MOST_RECORDING}
-use Rattle.std.specs.Prelude.{◌≡◌, ◌≢◌, ◌⊎◌, ℕ, List, [], Option, None}
+use Rattle.std.specs.Prelude.{◌≡◌, ◌≢◌, ◌⊎◌, ℕ, List, [], Option, None, codes}
 use Rattle.ppd_ast.specs.declared.program.Program.{Program}
 use Rattle.ppd_check.specs.Read.{IsRead, IsRefused}
 use Rattle.ppd_top_drill.specs.Drills.{generated}
@@ -14,7 +14,7 @@ pub use Rattle.ppd_top_requests.specs.declared.options.Options.{Options}
 use Rattle.ppd_top.specs.Call.{Call, Devices, HasFailedLoad, LeftShelf}
 use Rattle.ppd_top_commands.specs.Output.{AppendsFront, Finished, IsUnread}
 use Rattle.ppd_text_refusals.specs.Sources.{refused}
-use Rattle.ppd_top.specs.Top.{drill_commands, drill_options, out_of, usage}
+use Rattle.ppd_top.specs.Top.{drill_options, out_of, usage}
 use Rattle.ppd_top_query.specs.Queries.{Gives}
 use Rattle.ppd_top_requests.specs.Questions.{Query}
 use Rattle.ppd_top_requests.specs.Words.{Asks, AsksRecording, Command, asked}
@@ -57,8 +57,8 @@ Refuses error old new before now status =
 pub record WasDrilledBy (program : Program) (schedule : List ℕ) (old new : Option (List ℕ)) (before now : ℕ)
     (status : ℕ) : Type 0 where
   pub whole : IsWholeRun program drill_options schedule
-  pub ends : Finished old new before now status 0 (out_of program drill_options schedule drill_commands).text
-      ⊎ ((status ≡ 5) × AppendsFront old new (out_of program drill_options schedule drill_commands).text)
+  pub ends : Finished old new before now status 0 (out_of program drill_options schedule (codes "final\n")).text
+      ⊎ ((status ≡ 5) × AppendsFront old new (out_of program drill_options schedule (codes "final\n")).text)
 
 -- what a drill comes to for a program: want of memory before there was anything to write, or what it writes
 abbrev pub Drills : Program → (schedule : List ℕ) → Option (List ℕ) → Option (List ℕ) → ℕ → ℕ → (status : ℕ) → Type 0

@@ -1,4 +1,6 @@
 -- What is written for the words, the source, the run and the commands, and with which status.
+use Rattle.law_steps.specs.Policies.{setting_by}
+use Rattle.ppd_top_query.specs.Recordings.{recorded_setting}
 use Rattle.ppd_top.specs.declared.loads.TheConstants.{MOST_BYTES, MOST_RECORDING}
 use Rattle.ppd_blocks.specs.Blocks.{plan_of}
 use Rattle.std.specs.Prelude.{◌≡◌, ◌≢◌, ℕ, List, [], codes, None}
@@ -39,15 +41,12 @@ out_of program options schedule commands =
 -- where this schedule has no race, each schedule that agrees with it has that output too
 abbrev pub IsOfAgreeing : Program → Options → (schedule commands : List ℕ) → Output → Type 0
 IsOfAgreeing program options schedule commands out =
-    races program (plan_of program options.policy) options.budget schedule ≡ [] → (h' : List ℕ)
-    → Agree program (plan_of program options.policy) options.budget schedule h' → out ≡ out_of program options h' commands
+    races (setting_by program options.policy options.budget) schedule ≡ [] → (h' : List ℕ)
+    → Agree (setting_by program options.policy options.budget) schedule h' → out ≡ out_of program options h' commands
 
--- with what a drill's source is run, and all that is asked of it
+-- with what a drill's source is run; what is asked of it then is `final` alone
 abbrev pub drill_options : Options
 drill_options = record { budget = MOST_BUDGET; policy = record { leaf = 0; loops = 0 } }
-
-abbrev pub drill_commands : List ℕ
-drill_commands = codes "final\n"
 
 -- ---- what is written
 
@@ -73,7 +72,7 @@ pub record IsRecalledFrom (c : Call) (request : (name : List ℕ) → Request) (
   pub asked : Asks c.words (request name)
   pub loaded : Loads c.before.held name MOST_RECORDING bytes
   pub accepted : IsAccepted bytes recording
-  pub knows : IsKnownOfLogs recording.program recording.plan recording.header.budget recording.logs known
+  pub knows : IsKnownOfLogs (recorded_setting recording) recording.logs known
   pub of_runs : IsKnownOfRuns bytes known
 
 -- what a call writes in all, by its words, what the shelf held and the schedule, where the input has these commands
@@ -91,7 +90,7 @@ pub data Writes (c : Call) (commands : List ℕ) : Output → Type 0 where
       → Writes c commands (output 0 (table_of read.program (plan_of read.program read.options.policy)))
   for_number : (number : ℕ) (program : Program) → Asks c.words (on_number number) → IsRead (generated number) program
       → IsWholeRun program drill_options c.schedule
-      → Writes c commands (out_of program drill_options c.schedule drill_commands)
+      → Writes c commands (out_of program drill_options c.schedule (codes "final\n"))
   -- of a recording, for the lines of the input or for a query: why it is refused, or what belongs to it
   refused_recording : (name bytes line : List ℕ) → AsksRecording c.words name
       → Loads c.before.held name MOST_RECORDING bytes → IsRefusedBy bytes line → c.schedule ≡ []

@@ -1,6 +1,5 @@
 -- The past of a run that came to its end.
-use Rattle.ppd_ast.specs.declared.plan.Plan.{Plan}
-use Rattle.ppd_ast.specs.declared.program.Program.{Program}
+use Rattle.ppd_model.specs.Setting.{Setting}
 use Rattle.ppd_codec_runs.proofs.Keeping.{nothing_kept}
 use Rattle.ppd_codec_runs.specs.Pasts.{BelongTogether}
 use Rattle.ppd_graph.specs.Graphs.{IsGraphOf}
@@ -14,14 +13,14 @@ use Rattle.ppd_top_runs.specs.Runs.{CanBeTold}
 use Rattle.std.proofs.Common.{[], ℕ}
 
 -- with their index and graph they are what a session is about
-pub together : (program : Program) (plan : Plan) (budget : ℕ) (closed : Closed) (index : LogIndex) (graph : SyncGraph) → CanBeTold program plan budget closed → IsIndexOf plan closed.logs index.tables → AreFittingLogs plan closed.logs → IsGraphOf program closed.logs graph → BelongTogether program plan closed.logs index graph closed.logs index budget []
-together program plan budget closed index graph t i f k = record {
+pub together : (setting : Setting) (closed : Closed) (index : LogIndex) (graph : SyncGraph) → CanBeTold setting closed → IsIndexOf setting.plan closed.logs index.tables → AreFittingLogs setting.plan closed.logs → IsGraphOf setting.program closed.logs graph → BelongTogether setting closed.logs index graph closed.logs index []
+together setting closed index graph t i f k = record {
   program_ok = t.program_ok;
   plan_ok = t.plan_ok;
-  cells = told_cells program plan budget closed t;
+  cells = told_cells setting closed t;
   index_is = i;
   cut_index_is = i;
   fitting = f;
   graph_is = k;
-  kept_are = nothing_kept program plan budget closed.logs;
+  kept_are = nothing_kept setting closed.logs;
 }

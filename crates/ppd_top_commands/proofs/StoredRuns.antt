@@ -1,4 +1,6 @@
 -- A run whose recording is stored, by the schedule that was taken.
+use Rattle.law_steps.specs.Policies.{setting_by}
+use Rattle.ppd_model.specs.Setting.{setting_of}
 use Rattle.ppd_blocks.specs.Blocks.{plan_of}
 use Rattle.ppd_race.specs.Races.{races_among, edges_of_logs}
 use Rattle.std.specs.Prelude.{Option}
@@ -29,14 +31,14 @@ keeps_as P Q name summary x y status f (not_kept is unstored written) = not_kept
 keeps_as P Q name summary x y status f (store_failed is rose others written) = store_failed is rose others written
 keeps_as P Q name summary x y status f (kept b p s others end) = kept b (f b p) s others end
 
-module _ (source : List ℕ) (program : Program) (options : Options) (plan : Plan) (closed : Closed) (h : List ℕ) (accepted : IsRead source program) (p : plan ≡ plan_of program options.policy) (whole : IsWhole program plan options.budget h) (is : closed ≡ close program plan options.budget h) where
-  as_close : closed ≡ close program (plan_of program options.policy) options.budget h
-  as_close = is ∙ ap (λ (q : Plan). close program q options.budget h) p
+module _ (source : List ℕ) (program : Program) (options : Options) (plan : Plan) (closed : Closed) (h : List ℕ) (accepted : IsRead source program) (p : plan ≡ plan_of program options.policy) (whole : IsWhole (setting_of program plan options.budget) h) (is : closed ≡ close (setting_of program plan options.budget) h) where
+  as_close : closed ≡ close (setting_by program options.policy options.budget) h
+  as_close = is ∙ ap (λ (q : Plan). close (setting_of program q options.budget) h) p
 
-  as_whole : IsWhole program (plan_of program options.policy) options.budget h
-  as_whole = subst (λ (q : Plan). IsWhole program q options.budget h) p whole
+  as_whole : IsWhole (setting_by program options.policy options.budget) h
+  as_whole = subst (λ (q : Plan). IsWhole (setting_of program q options.budget) h) p whole
 
-  as_logs : closed.logs ≡ closed_logs program (plan_of program options.policy) options.budget h
+  as_logs : closed.logs ≡ closed_logs (setting_by program options.policy options.budget) h
   as_logs = ap (λ (c : Closed). c.logs) as_close
 
   -- its logs are those of a run

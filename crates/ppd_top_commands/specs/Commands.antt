@@ -1,4 +1,5 @@
 -- What the commands on a source come to for its program.
+use Rattle.law_steps.specs.Policies.{setting_by}
 use Rattle.std.specs.Prelude.{◌≡◌, ◌⊎◌, ℕ, List, [], Option}
 use Rattle.ppd_io.specs.Causes.{Rose}
 use Rattle.ppd_io.specs.Content.{StoreFails, Stores}
@@ -19,17 +20,17 @@ use Rattle.ppd_codec_runs.specs.Recordings.{IsRunRecorded}
 
 -- the schedule is one that the processes take until nobody can take a step
 abbrev pub IsWholeRun : Program → Options → List ℕ → Type 0
-IsWholeRun program options schedule = IsWhole program (plan_of program options.policy) options.budget schedule
+IsWholeRun program options schedule = IsWhole (setting_by program options.policy options.budget) schedule
 
 -- the summary of that run
 abbrev pub summary_of_run : Program → Options → List ℕ → List ℕ
 summary_of_run program options schedule =
-    summary_of program (close program (plan_of program options.policy) options.budget schedule).ends
-    (races program (plan_of program options.policy) options.budget schedule)
+    summary_of program (close (setting_by program options.policy options.budget) schedule).ends
+    (races (setting_by program options.policy options.budget) schedule)
 
 -- what is known of that run
 abbrev pub known_of : Program → Options → List ℕ → Known
-known_of program options schedule = known_of_run program (plan_of program options.policy) options.budget schedule
+known_of program options schedule = known_of_run (setting_by program options.policy options.budget) schedule
 
 -- with what a source is run, as its recording says it
 abbrev pub header_of : Options → Header

@@ -7,7 +7,7 @@ ghost use Rattle.ppd_codec.specs.Recordings.{IsRecordingOf};
 ghost use Rattle.ppd_codec_runs.specs.Recordings.{AreOfSomeRun};
 ghost use Rattle.ppd_top_commands.specs.Commands.{Keeps, Records, keeping, header_of as header_for};
 ghost use Rattle.ppd_top_requests.specs.Words.{AreInRange};
-ghost use Rattle.ppd_top_runs.specs.Runs.{CanBeTold};
+ghost use Rattle.ppd_top_runs.specs.Runs.{CanBeTold, run_setting};
 ghost use Rattle.ppd_top_commands.specs.Summary.{summary_of};
 
 use crate::telling::summarize;
@@ -74,7 +74,7 @@ fn store<F: Shelf, O: Sink>(
     shelf: &mut F,
     output: &mut O,
 ) -> u8
-    requires told { CanBeTold run.now.program.now run.now.plan run.now.budget run.now.closed }
+    requires told { CanBeTold (run_setting run.now) run.now.closed }
     requires of_run { AreOfSomeRun task.now.source.now (header_for task.now.task.options) run.now.closed.logs }
     ensures { Keeps (IsRecordingOf task.now.source.now
         (header_for task.now.task.options) run.now.closed.logs) task.now.recording.now

@@ -6,7 +6,7 @@ ghost use Rattle.ppd_index.specs.Fitting.{AreFittingLogs};
 ghost use Rattle.ppd_index.specs.Indexes.{IsIndexOf};
 ghost use Rattle.ppd_codec_runs.specs.Known.{known_of_logs};
 ghost use Rattle.ppd_top_commands.specs.Output.{Talks, standing};
-ghost use Rattle.ppd_top_runs.specs.Runs.{CanBeTold};
+ghost use Rattle.ppd_top_runs.specs.Runs.{CanBeTold, run_setting};
 ghost use Rattle.ppd_top_commands.specs.Summary.{summary_of};
 
 use crate::asking::talk;
@@ -77,7 +77,7 @@ struct LogTables {
 }
 
 fn tables_of(alloc: Global, run: &ClosedRun<'_>) -> Result<LogTables, Memory>
-    requires { CanBeTold run.now.program.now run.now.plan run.now.budget run.now.closed }
+    requires { CanBeTold (run_setting run.now) run.now.closed }
     ensures index { IfOk result (λ t. IsIndexOf run.now.plan run.now.closed.logs t.index.tables) }
     ensures fitting { OnOk result (AreFittingLogs run.now.plan run.now.closed.logs) }
     ensures graph { IfOk result (λ t. IsGraphOf run.now.program.now run.now.closed.logs t.graph) }
@@ -94,7 +94,7 @@ fn summarize_by(
     run: &ClosedRun<'_>,
     tables: &LogTables,
 ) -> Result<Vec<u8>, Memory>
-    requires told { CanBeTold run.now.program.now run.now.plan run.now.budget run.now.closed }
+    requires told { CanBeTold (run_setting run.now) run.now.closed }
     requires index { IsIndexOf run.now.plan run.now.closed.logs tables.now.index.tables }
     requires fitting { AreFittingLogs run.now.plan run.now.closed.logs }
     requires graph { IsGraphOf run.now.program.now run.now.closed.logs tables.now.graph }
@@ -122,7 +122,7 @@ pub(crate) fn summarize(
     alloc: Global,
     run: &ClosedRun<'_>,
 ) -> Result<Vec<u8>, Memory>
-    requires { CanBeTold run.now.program.now run.now.plan run.now.budget run.now.closed }
+    requires { CanBeTold (run_setting run.now) run.now.closed }
     ensures { IfOk result (λ text. text.items ≡ summary_of run.now.program.now run.now.closed.ends
         (races_among (edges_of_logs run.now.program.now run.now.closed.logs))) }
 {
@@ -139,11 +139,11 @@ fn tell_by<I: Source, O: Sink>(
     input: &mut I,
     output: &mut O,
 ) -> u8
-    requires told { CanBeTold run.now.program.now run.now.plan run.now.budget run.now.closed }
+    requires told { CanBeTold (run_setting run.now) run.now.closed }
     requires index { IsIndexOf run.now.plan run.now.closed.logs tables.now.index.tables }
     requires fitting { AreFittingLogs run.now.plan run.now.closed.logs }
     requires graph { IsGraphOf run.now.program.now run.now.closed.logs tables.now.graph }
-    ensures { Talks (known_of_logs run.now.program.now run.now.plan run.now.budget run.now.closed.logs)
+    ensures { Talks (known_of_logs (run_setting run.now) run.now.closed.logs)
         (summary_of run.now.program.now run.now.closed.ends
         (races_among (edges_of_logs run.now.program.now run.now.closed.logs)))
         (standing (I.left input.old) (I.before_last input.old)
@@ -177,8 +177,8 @@ pub fn tell<I: Source, O: Sink>(
     input: &mut I,
     output: &mut O,
 ) -> u8
-    requires { CanBeTold run.now.program.now run.now.plan run.now.budget run.now.closed }
-    ensures { Talks (known_of_logs run.now.program.now run.now.plan run.now.budget run.now.closed.logs)
+    requires { CanBeTold (run_setting run.now) run.now.closed }
+    ensures { Talks (known_of_logs (run_setting run.now) run.now.closed.logs)
         (summary_of run.now.program.now run.now.closed.ends
         (races_among (edges_of_logs run.now.program.now run.now.closed.logs)))
         (standing (I.left input.old) (I.before_last input.old)

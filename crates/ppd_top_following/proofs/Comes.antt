@@ -1,5 +1,6 @@
 -- From a world that was reached to the run of its program.
-use Rattle.ppd_blocks.specs.Blocks.{plan_of}
+use Rattle.law_steps.specs.Policies.{setting_by}
+use Rattle.ppd_model.specs.Setting.{Setting}
 use Rattle.std.specs.Prelude.{Some}
 use Rattle.std.proofs.Common.{◌≡◌, ℕ, List, subst}
 use Rattle.ppd_ast.specs.declared.program.Program.{Program}
@@ -7,9 +8,6 @@ use Rattle.ppd_model.specs.Schedule.{run}
 use Rattle.ppd_world.specs.Running.{Running}
 use Rattle.ppd_top_requests.specs.declared.options.Options.{Options}
 
-module _ (program : Program) (options : Options) (r : Running) (is_program : r.program ≡ program) (is_plan : r.plan ≡ plan_of program options.policy) (is_budget : r.budget ≡ options.budget) where
-  pub runs_as : (h : List ℕ) → run r.program r.plan r.budget h ≡ Some r.world → run program (plan_of program options.policy) options.budget h ≡ Some r.world
-  runs_as h e =
-      subst (λ b. run program (plan_of program options.policy) b h ≡ Some r.world) is_budget
-      (subst (λ q. run program q r.budget h ≡ Some r.world) is_plan
-      (subst (λ p. run p r.plan r.budget h ≡ Some r.world) is_program e))
+pub runs_as : (program : Program) (options : Options) (r : Running) → r.setting ≡ setting_by program options.policy options.budget
+    → (h : List ℕ) → run r.setting h ≡ Some r.world → run (setting_by program options.policy options.budget) h ≡ Some r.world
+runs_as program options r same h e = subst (λ (x : Setting). run x h ≡ Some r.world) same e

@@ -1,4 +1,5 @@
 -- A run that can be told: its logs have an index and a graph, and what is told of it is of its schedule.
+use Rattle.ppd_model.specs.Setting.{setting_of}
 use Rattle.ppd_blocks.specs.Blocks.{plan_of}
 use Rattle.ppd_race.specs.Races.{races_among, edges_of_logs}
 use Rattle.std.specs.Prelude.{IfOk, IfErr, Result}
@@ -24,28 +25,28 @@ use Rattle.ppd_top_commands.proofs.Told.{known_from, summary_from}
 -- ---- by a schedule that is handed in
 
 module _ (program : Program) (options : Options) (commands h : List ℕ) (plan : Plan) (closed : Closed) (valid : IsValid program) (p : plan ≡ plan_of program options.policy) (r : IsClosed program options h closed) where
-  out_is : before (summary_of program closed.ends (races_among (edges_of_logs program closed.logs))) (answers (known_of_logs program plan options.budget closed.logs) commands) ≡ out_of program options h commands
+  out_is : before (summary_of program closed.ends (races_among (edges_of_logs program closed.logs))) (answers (known_of_logs (setting_of program plan options.budget) closed.logs) commands) ≡ out_of program options h commands
   out_is =
-      ap (λ text. before text (answers (known_of_logs program plan options.budget closed.logs) commands)) (summary_from program options closed h valid r.is)
+      ap (λ text. before text (answers (known_of_logs (setting_of program plan options.budget) closed.logs) commands)) (summary_from program options closed h valid r.is)
       ∙ ap (λ (x : Known). before (summary_of_run program options h) (answers x commands)) (known_from program options plan closed h valid p r.whole r.is)
 
-  ran_to : (text : List ℕ) → before (summary_of program closed.ends (races_among (edges_of_logs program closed.logs))) (answers (known_of_logs program plan options.budget closed.logs) commands) ≡ output 0 text → RanTo program options commands h text
+  ran_to : (text : List ℕ) → before (summary_of program closed.ends (races_among (edges_of_logs program closed.logs))) (answers (known_of_logs (setting_of program plan options.budget) closed.logs) commands) ≡ output 0 text → RanTo program options commands h text
   ran_to text e = record { whole = r.whole; is = sym out_is ∙ e }
 
   pub ran_ok : {T E : Type 0} (result : Result T E) (items : T → List ℕ)
-      → IfOk result (λ t. before (summary_of program closed.ends (races_among (edges_of_logs program closed.logs))) (answers (known_of_logs program plan options.budget closed.logs) commands) ≡ output 0 (items t))
+      → IfOk result (λ t. before (summary_of program closed.ends (races_among (edges_of_logs program closed.logs))) (answers (known_of_logs (setting_of program plan options.budget) closed.logs) commands) ≡ output 0 (items t))
       → IfOk result (λ t. RanTo program options commands h (items t))
   ran_ok (Ok t) items e = ran_to (items t) e
   ran_ok (Err e) items k = tt
 
-  ends_with : (status : ℕ) → (answers (known_of_logs program plan options.budget closed.logs) commands).status ≡ status → EndsWith program options commands h status
+  ends_with : (status : ℕ) → (answers (known_of_logs (setting_of program plan options.budget) closed.logs) commands).status ≡ status → EndsWith program options commands h status
   ends_with status f = record {
     whole = r.whole;
     is = ap (λ (o : Output). o.status) (sym out_is) ∙ f;
     agreeing = of_agreeing program options h commands;
   }
 
-  fails_by : (e : FollowError) → FailsBy (answers (known_of_logs program plan options.budget closed.logs) commands).status e → ScheduleFails program options commands h e
+  fails_by : (e : FollowError) → FailsBy (answers (known_of_logs (setting_of program plan options.budget) closed.logs) commands).status e → ScheduleFails program options commands h e
   fails_by (Refused error) f = absurd f
   fails_by (NotEnabled n) f = absurd f
   fails_by NotWhole f = absurd f
@@ -53,7 +54,7 @@ module _ (program : Program) (options : Options) (commands h : List ℕ) (plan :
   fails_by ManyLines f = ends_with 8 f
   fails_by Memory f = tt
 
-  pub fails_err : {T : Type 0} (result : Result T FollowError) → IfErr result (λ e. FailsBy (answers (known_of_logs program plan options.budget closed.logs) commands).status e) → IfErr result (λ e. ScheduleFails program options commands h e)
+  pub fails_err : {T : Type 0} (result : Result T FollowError) → IfErr result (λ e. FailsBy (answers (known_of_logs (setting_of program plan options.budget) closed.logs) commands).status e) → IfErr result (λ e. ScheduleFails program options commands h e)
   fails_err (Ok t) f = tt
   fails_err (Err e) f = fails_by e f
 

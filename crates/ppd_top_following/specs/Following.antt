@@ -1,4 +1,5 @@
 -- What a run by a schedule that is handed in comes to.
+use Rattle.law_steps.specs.Policies.{setting_by}
 use Rattle.ppd_ast.specs.declared.program.Program.{Program}
 use Rattle.ppd_blocks.specs.Blocks.{plan_of}
 use Rattle.ppd_check.specs.Read.{IsRead, IsRefused}
@@ -30,7 +31,7 @@ pub record Follows (bytes : List ℕ) (options : Options) (commands schedule : L
 -- number n of the schedule, the first such, names no process that can take a step
 pub record IsStuckAt (program : Program) (options : Options) (schedule : List ℕ) (n : ℕ) : Type 0 where
   pub world : World
-  pub runs : run_of program (plan_of program options.policy) options.budget (take n schedule) ≡ Some world
+  pub runs : run_of (setting_by program options.policy options.budget) (take n schedule) ≡ Some world
   pub process : ℕ
   pub next : slice_get schedule n ≡ Some process
   pub stuck : enabled program (plan_of program options.policy) world process ≡ false
@@ -38,7 +39,7 @@ pub record IsStuckAt (program : Program) (options : Options) (schedule : List �
 -- the schedule can be taken, and some process can take a step after it
 pub record IsUnfinished (program : Program) (options : Options) (schedule : List ℕ) : Type 0 where
   pub world : World
-  pub runs : run_of program (plan_of program options.policy) options.budget schedule ≡ Some world
+  pub runs : run_of (setting_by program options.policy options.budget) schedule ≡ Some world
   pub process : ℕ
   pub next : enabled program (plan_of program options.policy) world process ≡ true
 
@@ -71,7 +72,7 @@ pub record RanTo (program : Program) (options : Options) (commands schedule text
 -- a whole schedule, and what it leaves
 pub record IsClosed (program : Program) (options : Options) (schedule : List ℕ) (closed : Closed) : Type 0 where
   pub whole : IsWholeRun program options schedule
-  pub is : closed ≡ close program (plan_of program options.policy) options.budget schedule
+  pub is : closed ≡ close (setting_by program options.policy options.budget) schedule
 
 -- why a schedule cannot be taken to a whole run
 abbrev pub StopsAt : Program → Options → List ℕ → FollowError → Type 0

@@ -1,4 +1,5 @@
 // A run by a schedule that is handed in.
+ghost use Rattle.law_steps.specs.Policies.{setting_by};
 ghost use Rattle.ppd_blocks.specs.Blocks.{plan_of};
 ghost use Rattle.ppd_race.specs.Races.{races_among, edges_of_logs};
 ghost use Rattle.std.specs.Prelude.{◌≡◌, ◌≤◌, [], IfOk, IfErr};
@@ -9,7 +10,7 @@ ghost use Rattle.ppd_session.specs.Known.{known_of_logs};
 ghost use Rattle.ppd_model.specs.Schedule.{IsOver};
 ghost use Rattle.ppd_top_commands.specs.Output.{answers, before, output};
 ghost use Rattle.ppd_top_following.specs.Following.{FailsBy, IsClosed, RanTo, ScheduleFails, StopsAt, drive_error as drive_error_of};
-ghost use Rattle.ppd_top_runs.specs.Runs.{CanBeTold};
+ghost use Rattle.ppd_top_runs.specs.Runs.{CanBeTold, run_setting};
 ghost use Rattle.ppd_top_commands.specs.Summary.{summary_of};
 ghost use Rattle.ppd_top_following.specs.Following.{FollowFails, Follows};
 ghost use Rattle.ppd_world.specs.Running.{IsOf, IsReached, begun};
@@ -79,10 +80,8 @@ fn close_world(
 ) -> Result<Closed, FollowError>
     requires reached { IsReached world }
     requires comes { IsOf schedule.now world }
-    requires over { IsOver world.program world.plan world.world }
-    requires program { world.program ≡ program.now }
-    requires plan { world.plan ≡ plan_of program.now options.now.policy }
-    requires budget { world.budget ≡ options.now.budget }
+    requires over { IsOver world.setting.program world.setting.plan world.world }
+    requires setting { world.setting ≡ setting_by program.now options.now.policy options.now.budget }
     ensures closed { IfOk result (λ closed. IsClosed program.now options.now schedule.now closed) }
     ensures error { IfErr result (λ e. StopsAt program.now options.now schedule.now e) }
 {
@@ -97,7 +96,7 @@ fn follow_world(
     schedule: &[u8],
 ) -> Result<Closed, FollowError>
     requires reached { IsReached world }
-    requires first { world ≡ begun program.now (plan_of program.now options.now.policy) options.now.budget }
+    requires first { world ≡ begun (setting_by program.now options.now.policy options.now.budget) }
     requires comes { IsOf [] world }
     ensures closed { IfOk result (λ closed. IsClosed program.now options.now schedule.now closed) }
     ensures error { IfErr result (λ e. StopsAt program.now options.now schedule.now e) }
@@ -119,13 +118,13 @@ fn tell_all(
     run: &ClosedRun<'_>,
     commands: &[u8],
 ) -> Result<Vec<u8>, FollowError>
-    requires { CanBeTold run.now.program.now run.now.plan run.now.budget run.now.closed }
+    requires { CanBeTold (run_setting run.now) run.now.closed }
     ensures text { IfOk result (λ text. before (summary_of run.now.program.now run.now.closed.ends
         (races_among (edges_of_logs run.now.program.now run.now.closed.logs)))
-        (answers (known_of_logs run.now.program.now run.now.plan run.now.budget run.now.closed.logs) commands.now)
+        (answers (known_of_logs (run_setting run.now) run.now.closed.logs) commands.now)
         ≡ output 0 text.items) }
     ensures error { IfErr result (λ e. FailsBy (answers
-        (known_of_logs run.now.program.now run.now.plan run.now.budget run.now.closed.logs) commands.now).status e) }
+        (known_of_logs (run_setting run.now) run.now.closed.logs) commands.now).status e) }
 {
     let Ok(bytes) = Vec::from_slice(alloc, commands) else {
         return Err(FollowError::Memory);

@@ -1,4 +1,6 @@
 -- What is answered of an item of the recording of a run, with races or without, is that of the run.
+use Rattle.law_steps.specs.Policies.{setting_by}
+use Rattle.ppd_model.specs.Setting.{setting_of}
 use Rattle.std.specs.Prelude.{codes, nat_lt, slice_get, if◌then◌else◌}
 use Rattle.std.proofs.Common.{◌≡◌, ℕ, zero, suc, ◌<◌, Bool, true, false, List, [], ◌∷◌, Option, Some, None, Result, Err, length, map, get_or, refl, ap, sym, ◌∙◌, subst, arith}
 use Rattle.std.proofs.lemmas.Bool.{lt-ltb, ltb-true}
@@ -84,41 +86,41 @@ told (y ∷ ys) zero k x i e f =
 told (y ∷ ys) (suc q) k x i e f = told ys q k x i e f
 
 module _ (r : Recording) (header : Header) (program : Program) (h : List ℕ)
-    (three : (logs : Logs) → logs ≡ closed_logs program (plan_of program header.policy) header.budget h → (r.program ≡ program) × (r.plan ≡ plan_of program header.policy) × (r.header ≡ header) × (r.logs ≡ logs))
-    (known : known_of r ≡ known_of_run program (plan_of program header.policy) header.budget h) (valid : IsValid program) (whole : IsWhole program (plan_of program header.policy) header.budget h) (answers_are : CleansAreOfRuns) where
+    (three : (logs : Logs) → logs ≡ closed_logs (setting_by program header.policy header.budget) h → (r.program ≡ program) × (r.plan ≡ plan_of program header.policy) × (r.header ≡ header) × (r.logs ≡ logs))
+    (known : known_of r ≡ known_of_run (setting_by program header.policy header.budget) h) (valid : IsValid program) (whole : IsWhole (setting_by program header.policy header.budget) h) (answers_are : CleansAreOfRuns) where
   plan : Plan
   plan = plan_of program header.policy
 
   abbrev logs : Logs
-  logs = closed_logs program (plan_of program header.policy) header.budget h
+  logs = closed_logs (setting_by program header.policy header.budget) h
 
-  parts : (r.program ≡ program) × (r.plan ≡ plan_of program header.policy) × (r.header ≡ header) × (r.logs ≡ closed_logs program (plan_of program header.policy) header.budget h)
-  parts = three (closed_logs program (plan_of program header.policy) header.budget h) refl
+  parts : (r.program ≡ program) × (r.plan ≡ plan_of program header.policy) × (r.header ≡ header) × (r.logs ≡ closed_logs (setting_by program header.policy header.budget) h)
+  parts = three (closed_logs (setting_by program header.policy header.budget) h) refl
 
-  races_are : (known_of r).races ≡ races program (plan_of program header.policy) header.budget h
+  races_are : (known_of r).races ≡ races (setting_by program header.policy header.budget) h
   races_are = ap (λ (x : Known). x.races) known
 
   module _ (q k j : ℕ) where
-    clean_is : clean_of r q k j ≡ clean_by program (plan_of program header.policy) header.budget (closed_logs program (plan_of program header.policy) header.budget h) (races program (plan_of program header.policy) header.budget h) q k j
+    clean_is : clean_of r q k j ≡ clean_by (setting_by program header.policy header.budget) (closed_logs (setting_by program header.policy header.budget) h) (races (setting_by program header.policy header.budget) h) q k j
     clean_is =
-        ap (λ (p : Program). clean_by p r.plan r.header.budget r.logs (known_of r).races q k j) parts.0
-        ∙ (ap (λ (p : Plan). clean_by program p r.header.budget r.logs (known_of r).races q k j) parts.1
-        ∙ (ap (λ (d : Header). clean_by program (plan_of program header.policy) d.budget r.logs (known_of r).races q k j) parts.2
-        ∙ (ap (λ (l : Logs). clean_by program (plan_of program header.policy) header.budget l (known_of r).races q k j) parts.3
-        ∙ ap (λ (rs : List Race). clean_by program (plan_of program header.policy) header.budget (closed_logs program (plan_of program header.policy) header.budget h) rs q k j) races_are)))
+        ap (λ (p : Program). clean_by (setting_of p r.plan r.header.budget) r.logs (known_of r).races q k j) parts.0
+        ∙ (ap (λ (p : Plan). clean_by (setting_of program p r.header.budget) r.logs (known_of r).races q k j) parts.1
+        ∙ (ap (λ (d : Header). clean_by (setting_of program (plan_of program header.policy) d.budget) r.logs (known_of r).races q k j) parts.2
+        ∙ (ap (λ (l : Logs). clean_by (setting_by program header.policy header.budget) l (known_of r).races q k j) parts.3
+        ∙ ap (λ (rs : List Race). clean_by (setting_by program header.policy header.budget) (closed_logs (setting_by program header.policy header.budget) h) rs q k j) races_are)))
 
-    module _ (x : Split) (i : Span) (at : slice_get (splits program (plan_of program header.policy) header.budget (story program (plan_of program header.policy) header.budget h)) q ≡ Some x) (at_k : slice_get x.spans k ≡ Some i) where
-      answer_is : clean_of r q k j ≡ answer_of program (plan_of program header.policy) header.budget h q k j
+    module _ (x : Split) (i : Span) (at : slice_get (splits (setting_by program header.policy header.budget) (story (setting_by program header.policy header.budget) h)) q ≡ Some x) (at_k : slice_get x.spans k ≡ Some i) where
+      answer_is : clean_of r q k j ≡ answer_of (setting_by program header.policy header.budget) h q k j
       answer_is = clean_is ∙ answers_are program header.policy header.budget h q k j x i valid whole at at_k
 
       -- no replay fails
-      answered : (res : Result GivenClean CleanError) → IsFoundClean r q k j res → IsAnswer (answer_of program (plan_of program header.policy) header.budget h q k j) res
+      answered : (res : Result GivenClean CleanError) → IsFoundClean r q k j res → IsAnswer (answer_of (setting_by program header.policy header.budget) h q k j) res
       answered res f =
-          let a : Found program r.plan r.header.budget r.logs (known_of r).races q k j res = subst (λ (p : Program). Found p r.plan r.header.budget r.logs (known_of r).races q k j res) parts.0 f in
-          let b : Found program (plan_of program header.policy) r.header.budget r.logs (known_of r).races q k j res = subst (λ (p : Plan). Found program p r.header.budget r.logs (known_of r).races q k j res) parts.1 a in
-          let c : Found program (plan_of program header.policy) header.budget r.logs (known_of r).races q k j res = subst (λ (d : Header). Found program (plan_of program header.policy) d.budget r.logs (known_of r).races q k j res) parts.2 b in
-          let d : Found program (plan_of program header.policy) header.budget (closed_logs program (plan_of program header.policy) header.budget h) (known_of r).races q k j res = subst (λ (l : Logs). Found program (plan_of program header.policy) header.budget l (known_of r).races q k j res) parts.3 c in
-          let e : Found program (plan_of program header.policy) header.budget (closed_logs program (plan_of program header.policy) header.budget h) (races program (plan_of program header.policy) header.budget h) q k j res = subst (λ (rs : List Race). Found program (plan_of program header.policy) header.budget (closed_logs program (plan_of program header.policy) header.budget h) rs q k j res) races_are d in
+          let a : Found (setting_of program r.plan r.header.budget) r.logs (known_of r).races q k j res = subst (λ (p : Program). Found (setting_of p r.plan r.header.budget) r.logs (known_of r).races q k j res) parts.0 f in
+          let b : Found (setting_of program (plan_of program header.policy) r.header.budget) r.logs (known_of r).races q k j res = subst (λ (p : Plan). Found (setting_of program p r.header.budget) r.logs (known_of r).races q k j res) parts.1 a in
+          let c : Found (setting_by program header.policy header.budget) r.logs (known_of r).races q k j res = subst (λ (d : Header). Found (setting_of program (plan_of program header.policy) d.budget) r.logs (known_of r).races q k j res) parts.2 b in
+          let d : Found (setting_by program header.policy header.budget) (closed_logs (setting_by program header.policy header.budget) h) (known_of r).races q k j res = subst (λ (l : Logs). Found (setting_by program header.policy header.budget) l (known_of r).races q k j res) parts.3 c in
+          let e : Found (setting_by program header.policy header.budget) (closed_logs (setting_by program header.policy header.budget) h) (races (setting_by program header.policy header.budget) h) q k j res = subst (λ (rs : List Race). Found (setting_by program header.policy header.budget) (closed_logs (setting_by program header.policy header.budget) h) rs q k j res) races_are d in
           of_plan program header.budget h q k j answers_are header.policy valid x i at_k res (plan_of program header.policy) refl whole at e
 
   module _ (a : ItemAsked) where
@@ -130,10 +132,10 @@ module _ (r : Recording) (header : Header) (program : Program) (h : List ℕ)
     by_block q false e m = absurd (none_or_some m (ap (λ (b : Bool). if b then None else Some (codes "? block\n")) e))
 
     -- the interval of an item that is not refused is there
-    placed : (q : ℕ) → process_named r.program a.process ≡ Some q → refusal (known_of r) (Clean a) ≡ None → IsThere (splits program (plan_of program header.policy) header.budget (story program (plan_of program header.policy) header.budget h)) q a.interval
+    placed : (q : ℕ) → process_named r.program a.process ≡ Some q → refusal (known_of r) (Clean a) ≡ None → IsThere (splits (setting_by program header.policy header.budget) (story (setting_by program header.policy header.budget) h)) q a.interval
     placed q named m =
         let lt : a.interval < length (get_or (known_of r).intervals q []) = by_block q (nat_lt a.interval (length (get_or (known_of r).intervals q []))) refl (sym (ap refused named) ∙ m) in
-        there (splits program (plan_of program header.policy) header.budget (story program (plan_of program header.policy) header.budget h)) q a.interval
+        there (splits (setting_by program header.policy header.budget) (story (setting_by program header.policy header.budget) h)) q a.interval
         (subst (λ (x : Known). a.interval < length (get_or x.intervals q [])) known lt)
 
     pub never_fails : (error : SessionError) → refusal (known_of r) (Clean a) ≡ None → IsCleanFailure r a error → ⊥
@@ -145,17 +147,17 @@ module _ (r : Recording) (header : Header) (program : Program) (h : List ℕ)
         answered q a.interval a.item t.split t.span t.split_is t.span_is (Err (clean_error.Sets failure.process failure.entry c)) e
     never_fails Memory m f = f
 
-    module _ (q : ℕ) (x : Split) (i : Span) (named : process_named program a.process ≡ Some q) (at : slice_get (splits program (plan_of program header.policy) header.budget (story program (plan_of program header.policy) header.budget h)) q ≡ Some x) (at_k : slice_get x.spans a.interval ≡ Some i) where
+    module _ (q : ℕ) (x : Split) (i : Span) (named : process_named program a.process ≡ Some q) (at : slice_get (splits (setting_by program header.policy header.budget) (story (setting_by program header.policy header.budget) h)) q ≡ Some x) (at_k : slice_get x.spans a.interval ≡ Some i) where
       named_here : process_named r.program a.process ≡ Some q
       named_here = ap (λ (p : Program). process_named p a.process) parts.0 ∙ named
 
       not_refused : refusal (known_of r) (Clean a) ≡ None
       not_refused =
-          let lt : a.interval < length (get_or (known_of_run program (plan_of program header.policy) header.budget h).intervals q []) = told (splits program (plan_of program header.policy) header.budget (story program (plan_of program header.policy) header.budget h)) q a.interval x i at at_k in
+          let lt : a.interval < length (get_or (known_of_run (setting_by program header.policy header.budget) h).intervals q []) = told (splits (setting_by program header.policy header.budget) (story (setting_by program header.policy header.budget) h)) q a.interval x i at at_k in
           let here : nat_lt a.interval (length (get_or (known_of r).intervals q [])) ≡ true = lt-ltb a.interval (length (get_or (known_of r).intervals q [])) (subst (λ (y : Known). a.interval < length (get_or y.intervals q [])) (sym known) lt) in
           ap refused named_here ∙ ap (λ (b : Bool). if b then None else Some (codes "? block\n")) here
 
-      text_is : (schedule text : List ℕ) → Gives r (Clean a) schedule 0 text → clean_text program (plan_of program header.policy) a.item (answer_of program (plan_of program header.policy) header.budget h q a.interval a.item) ≡ Some text
+      text_is : (schedule text : List ℕ) → Gives r (Clean a) schedule 0 text → clean_text program (plan_of program header.policy) a.item (answer_of (setting_by program header.policy header.budget) h q a.interval a.item) ≡ Some text
       text_is schedule text (refuses line said) = absurd (none_or_some not_refused said)
       text_is schedule text (answers s t none (no_run, (p, name, is))) =
           let same : p ≡ q = same_number (sym name ∙ named_here) in
@@ -164,5 +166,5 @@ module _ (r : Recording) (header : Header) (program : Program) (h : List ℕ)
           ∙ (ap (λ (d : Plan). clean_text program d a.item (clean_of r q a.interval a.item)) (sym parts.1)
           ∙ (ap (λ (d : Program). clean_text d r.plan a.item (clean_of r q a.interval a.item)) (sym parts.0) ∙ here))
 
-    pub clean_told : (schedule text : List ℕ) → Gives r (Clean a) schedule 0 text → IsOfRun program (plan_of program header.policy) header.budget h (Clean a) schedule text
+    pub clean_told : (schedule text : List ℕ) → Gives r (Clean a) schedule 0 text → IsOfRun (setting_by program header.policy header.budget) h (Clean a) schedule text
     clean_told schedule text g = λ q x i named at at_k. text_is q x i named at at_k schedule text g

@@ -1,4 +1,5 @@
 -- What is answered of an item of a recording with or without races.
+use Rattle.ppd_model.specs.Setting.{Setting, setting_of}
 use Rattle.law_clean.specs.Answers.{CleanOr, is_reached}
 use Rattle.law_clean.specs.Cuts.{cut_logs}
 use Rattle.law_clean.specs.Pasts.{first_raced}
@@ -9,7 +10,7 @@ use Rattle.ppd_clean.specs.Answers.{IsCleanBy, IsFound, IsOrdered}
 use Rattle.ppd_clean.specs.declared.clean.Clean.{Clean as GivenClean}
 use Rattle.ppd_clean.specs.declared.clean_error.CleanError.{CleanError}
 use Rattle.ppd_codec.specs.declared.recording.Recording.{Recording}
-use Rattle.ppd_codec_runs.specs.Recordings.{known_of}
+use Rattle.ppd_codec_runs.specs.Recordings.{known_of, recorded_setting}
 use Rattle.ppd_entry.specs.declared.entry.Logs.{Logs}
 use Rattle.ppd_flow_model.specs.Ends.{first_edge}
 use Rattle.ppd_flow_past.specs.SeenBy.{failed_at}
@@ -37,13 +38,13 @@ use Rattle.std.specs.Prelude.{IfErr, IfOk, Vec, codes, false, get_or, if◌then�
 
 -- ---- of a past with the parts of a recording
 
-abbrev pub Fails : Program → Plan → ℕ → Logs → List Race → (q k j p n : ℕ) → Type 0
-Fails program plan budget logs races q k j p n =
-    (is_reached (first_edge (get_or logs.lists q []) k) (first_raced program (record_in logs) races (get_or logs.lists q []) q k) ≡ false)
-    × ((m : ℕ) × (failed_at program plan budget (get_or (cut_logs (last_wanted program (record_in logs) races q (first_raced program (record_in logs) races (get_or logs.lists q []) q k)) logs).lists p []) m ≡ Some n))
+abbrev pub Fails : Setting → Logs → List Race → (q k j p n : ℕ) → Type 0
+Fails setting logs races q k j p n =
+    (is_reached (first_edge (get_or logs.lists q []) k) (first_raced setting.program (record_in logs) races (get_or logs.lists q []) q k) ≡ false)
+    × ((m : ℕ) × (failed_at setting (get_or (cut_logs (last_wanted setting.program (record_in logs) races q (first_raced setting.program (record_in logs) races (get_or logs.lists q []) q k)) logs).lists p []) m ≡ Some n))
 
-abbrev pub Found : Program → Plan → ℕ → Logs → List Race → (q k j : ℕ) → Result GivenClean CleanError → Type 0
-Found program plan budget logs races q k j res = IsFound (Fails program plan budget logs races q k j) (clean_by program plan budget logs races q k j) res
+abbrev pub Found : Setting → Logs → List Race → (q k j : ℕ) → Result GivenClean CleanError → Type 0
+Found setting logs races q k j res = IsFound (Fails setting logs races q k j) (clean_by setting logs races q k j) res
 
 module _ (r : Recording) (past : Past) (program : past.program.now ≡ r.program) (plan : past.plan.now ≡ r.plan) (logs : past.logs.now ≡ r.logs) (budget : past.budget ≡ r.header.budget) where
   pub ordered : AreOrdered r.program r.logs → IsOrdered past
@@ -55,15 +56,15 @@ module _ (r : Recording) (past : Past) (program : past.program.now ≡ r.program
 
   pub found_as : (races : List Race) → races ≡ (known_of r).races → (q k j : ℕ) (res : Result GivenClean CleanError) → IsCleanBy past races q k j res → IsFoundClean r q k j res
   found_as races e q k j res h =
-      let a : Found r.program past.plan.now past.budget past.logs.now races q k j res = subst (λ (p : Program). Found p past.plan.now past.budget past.logs.now races q k j res) program h in
-      let b : Found r.program r.plan past.budget past.logs.now races q k j res = subst (λ (p : Plan). Found r.program p past.budget past.logs.now races q k j res) plan a in
-      let c : Found r.program r.plan r.header.budget past.logs.now races q k j res = subst (λ (n : ℕ). Found r.program r.plan n past.logs.now races q k j res) budget b in
-      let d : Found r.program r.plan r.header.budget r.logs races q k j res = subst (λ (l : Logs). Found r.program r.plan r.header.budget l races q k j res) logs c in
-      subst (λ (rs : List Race). Found r.program r.plan r.header.budget r.logs rs q k j res) e d
+      let a : Found (setting_of r.program past.plan.now past.budget) past.logs.now races q k j res = subst (λ (p : Program). Found (setting_of p past.plan.now past.budget) past.logs.now races q k j res) program h in
+      let b : Found (setting_of r.program r.plan past.budget) past.logs.now races q k j res = subst (λ (p : Plan). Found (setting_of r.program p past.budget) past.logs.now races q k j res) plan a in
+      let c : Found (recorded_setting r) past.logs.now races q k j res = subst (λ (n : ℕ). Found (setting_of r.program r.plan n) past.logs.now races q k j res) budget b in
+      let d : Found (recorded_setting r) r.logs races q k j res = subst (λ (l : Logs). Found (recorded_setting r) l races q k j res) logs c in
+      subst (λ (rs : List Race). Found (recorded_setting r) r.logs rs q k j res) e d
 
   -- the intervals of a process are the same
   pub there_as : (q n : ℕ) → nat_lt n (length (get_or (known_by past []).intervals q [])) ≡ nat_lt n (length (get_or (known_of r).intervals q []))
-  there_as q n = ap (λ (l : Logs). nat_lt n (length (get_or (known_with r.program r.plan r.header.budget l []).intervals q []))) logs
+  there_as q n = ap (λ (l : Logs). nat_lt n (length (get_or (known_with (recorded_setting r) l []).intervals q []))) logs
 
 -- ---- an interval that is there
 

@@ -5,7 +5,7 @@ use Rattle.law_clean.specs.Search.{by_first, by_item, from_first, with_edges}
 use Rattle.law_flow_missing.proofs.MissingWrites.{missing_writes_are_told}
 use Rattle.law_flow_missing.specs.Missing.{AreIndexed, IsMissingWrite, write_at}
 use Rattle.ppd_codec.specs.declared.recording.Recording.{Recording}
-use Rattle.ppd_codec_runs.specs.Recordings.{IsAccepted, known_of}
+use Rattle.ppd_codec_runs.specs.Recordings.{IsAccepted, known_of, recorded_setting}
 use Rattle.ppd_entry.specs.declared.entry.At.{At}
 use Rattle.ppd_flow_model.specs.Ends.{first_edge}
 use Rattle.ppd_flow_model.specs.Found.{edges_if, found_edges, item_edges}
@@ -20,10 +20,11 @@ use Rattle.ppd_session.specs.declared.reply.SessionError.TheVariants.{Diverged, 
 use Rattle.ppd_top_query.proofs.Firsts.{all_tell, first_told}
 use Rattle.ppd_top_query.proofs.Missing.{failures_missing}
 use Rattle.ppd_top_query.proofs.OfRuns.{no_races}
-use Rattle.ppd_top_query.specs.Determined.{AnswersAreDetermined, FailedAreMissing, GivesBy, IsAnsweredBy, IsCleanBy, IsFailedBy, cut_seens, is_item_raced}
+use Rattle.ppd_top_query.specs.Determined.{AnswersAreDetermined, FailedAreMissing, GivesBy, IsAnsweredBy, IsCleanBy, IsFailedBy, is_item_raced}
 use Rattle.ppd_top_query.specs.Determined.IsCleanBy.{begins_raced, ends_before, has_edges, is_raced}
 use Rattle.ppd_top_query.specs.Missing.{IsMissingFor}
-use Rattle.ppd_top_query.specs.Queries.{Gives, IsAnswer, IsFailure, clean_of, first_raced_of, refusal}
+use Rattle.ppd_session.specs.Known.{seens}
+use Rattle.ppd_top_query.specs.Queries.{Gives, IsAnswer, IsFailure, clean_of, cut_of, first_raced_of, refusal}
 use Rattle.ppd_top_requests.specs.Questions.{Query}
 use Rattle.ppd_top_query.specs.Queries.IsWritten.{answers, fails, refuses}
 use Rattle.ppd_top_requests.specs.Questions.Query.{Clean, Rerun, Slice, Whole}
@@ -35,40 +36,40 @@ module _ (r : Recording) (q k j : ℕ) where
   begun = first_edge (get_or r.logs.lists q []) k
 
   abbrev item_told : Option Item
-  item_told = slice_get (get_or (seen_at (cut_seens r q k j) q).items k []) j
+  item_told = slice_get (get_or (seen_at (seens (recorded_setting r) (cut_of r q k j)) q).items k []) j
 
   -- ---- what is found is determined but for the edges
 
   module _ (indexed : AreIndexed r.program r.plan r.logs) where
     abbrev found_of : Option Item → Option (Result (List FlowEdge) Missing)
-    found_of o = (edges_if r.program r.plan r.logs (cut_seens r q k j) q k j o).found
+    found_of o = (edges_if r.program r.plan r.logs (seens (recorded_setting r) (cut_of r q k j)) q k j o).found
 
     abbrev with_found : Item → Option (Result (List FlowEdge) Missing) → CleanOr
-    with_found t o = with_edges r.program r.plan r.header.budget r.logs (record_in r.logs) (races_among (edges_of_logs r.program r.logs)) q k j t o
+    with_found t o = with_edges (recorded_setting r) r.logs (record_in r.logs) (races_among (edges_of_logs r.program r.logs)) q k j t o
 
     module _ (late : is_reached begun (first_raced_of r q k) ≡ false) where
       some_edges : (t : Item) → item_told ≡ Some t → is_item_raced r q k j t ≡ false → (e : Result (List FlowEdge) Missing) → found_of (Some t) ≡ Some e → IsCleanBy r q k j (with_found t (Some e))
       some_edges t at whole (Ok es) f = has_edges late t at whole (inl (es, refl))
-      some_edges t at whole (Err m) f = has_edges late t at whole (inr (m, refl, (missing_writes_are_told r.program r.plan r.logs (cut_seens r q k j) indexed).edges q k j m (ap found_of at ∙ f)))
+      some_edges t at whole (Err m) f = has_edges late t at whole (inr (m, refl, (missing_writes_are_told r.program r.plan r.logs (seens (recorded_setting r) (cut_of r q k j)) indexed).edges q k j m (ap found_of at ∙ f)))
 
       item_found : (o : Option Item) → item_told ≡ o
-          → IsCleanBy r q k j (by_item r.program r.plan r.header.budget r.logs (record_in r.logs) (races_among (edges_of_logs r.program r.logs)) q k j (first_raced_of r q k) (cut_seens r q k j) o)
+          → IsCleanBy r q k j (by_item (recorded_setting r) r.logs (record_in r.logs) (races_among (edges_of_logs r.program r.logs)) q k j (first_raced_of r q k) (seens (recorded_setting r) (cut_of r q k j)) o)
       item_found None at = ends_before late at refl
       item_found (Some t) at = by (is_item_raced r q k j t) refl
         where
-          edges : is_item_raced r q k j t ≡ false → IsCleanBy r q k j (with_found t (found_edges r.program r.plan r.logs (cut_seens r q k j) q k j).found)
-          edges whole = subst (λ o. IsCleanBy r q k j (with_found t (found_of o))) (sym at) (some_edges t at whole (item_edges r.program r.plan r.logs (cut_seens r q k j) q k j t).found refl)
+          edges : is_item_raced r q k j t ≡ false → IsCleanBy r q k j (with_found t (found_edges r.program r.plan r.logs (seens (recorded_setting r) (cut_of r q k j)) q k j).found)
+          edges whole = subst (λ o. IsCleanBy r q k j (with_found t (found_of o))) (sym at) (some_edges t at whole (item_edges r.program r.plan r.logs (seens (recorded_setting r) (cut_of r q k j)) q k j t).found refl)
 
           by : (b : Bool) → is_item_raced r q k j t ≡ b
-              → IsCleanBy r q k j (if b then unclean_or q (first_raced_of r q k) no_item else with_found t (found_edges r.program r.plan r.logs (cut_seens r q k j) q k j).found)
+              → IsCleanBy r q k j (if b then unclean_or q (first_raced_of r q k) no_item else with_found t (found_edges r.program r.plan r.logs (seens (recorded_setting r) (cut_of r q k j)) q k j).found)
           by true f = is_raced late t at f refl
           by false f = edges f
 
     abbrev from : Option ℕ → CleanOr
-    from o = from_first r.program r.plan r.header.budget r.logs (record_in r.logs) (races_among (edges_of_logs r.program r.logs)) q k j o
+    from o = from_first (recorded_setting r) r.logs (record_in r.logs) (races_among (edges_of_logs r.program r.logs)) q k j o
 
     abbrev first : Option ℕ → CleanOr
-    first o = by_first r.program r.plan r.header.budget r.logs (record_in r.logs) (races_among (edges_of_logs r.program r.logs)) q k j o
+    first o = by_first (recorded_setting r) r.logs (record_in r.logs) (races_among (edges_of_logs r.program r.logs)) q k j o
 
     replayed : (o : Option ℕ) → first_raced_of r q k ≡ o → is_reached begun (first_raced_of r q k) ≡ false → IsCleanBy r q k j (first o)
     replayed o e late = subst (λ z. IsCleanBy r q k j (first z)) e (item_found late item_told refl)
@@ -95,7 +96,7 @@ module _ (r : Recording) (q k j : ℕ) where
     not_reached true o e = no_edge o e
     not_reached false o e = cc e
 
-    missed : IsCleanBy r q k j (unwritten m) → IsMissingWrite r.logs (cut_seens r q k j) m
+    missed : IsCleanBy r q k j (unwritten m) → IsMissingWrite r.logs (seens (recorded_setting r) (cut_of r q k j)) m
     missed (begins_raced late e) = absurd (no_edge (first_raced_of r q k) e)
     missed (ends_before late gone e) = absurd (not_reached (is_reached (left_edge (get_or r.logs.lists q []) k) (first_raced_of r q k)) (first_raced_of r q k) e)
     missed (is_raced late t at f e) = absurd (no_edge (first_raced_of r q k) e)
@@ -103,7 +104,7 @@ module _ (r : Recording) (q k j : ℕ) where
     missed (has_edges late t at f (inr h)) =
         let e : unwritten m ≡ unwritten h.0 = h.1 in
         let same : m ≡ h.0 = cc e in
-        subst (IsMissingWrite r.logs (cut_seens r q k j)) (sym same) h.2
+        subst (IsMissingWrite r.logs (seens (recorded_setting r) (cut_of r q k j))) (sym same) h.2
 
 -- ---- answers
 

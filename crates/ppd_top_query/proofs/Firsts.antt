@@ -1,4 +1,5 @@
 -- The first interval of a recording whose replay fails, by what is told of the intervals.
+use Rattle.ppd_codec_runs.specs.Recordings.{recorded_setting}
 use Rattle.ppd_codec.specs.declared.recording.Recording.{Recording}
 use Rattle.ppd_entry.specs.IntervalLogs.{indexed}
 use Rattle.ppd_entry.specs.declared.entry.At.{At}
@@ -38,14 +39,14 @@ either m n = by (nat_lt m n) refl
 
 module _ (r : Recording) where
   abbrev known : Known
-  known = known_with r.program r.plan r.header.budget r.logs []
+  known = known_with (recorded_setting r) r.logs []
 
   -- where the replay of interval k of process q fails
   abbrev F : ℕ → ℕ → Option ℕ
-  F q k = failed_at r.program r.plan r.header.budget (get_or r.logs.lists q []) k
+  F q k = failed_at (recorded_setting r) (get_or r.logs.lists q []) k
 
   abbrev first_of : List (ℕ × ℕ) → Option At
-  first_of ms = first_failed r.program r.plan r.header.budget r.logs ms
+  first_of ms = first_failed (recorded_setting r) r.logs ms
 
   abbrev row : (p a n : ℕ) → List (ℕ × ℕ)
   row p a n = map (λ k. (p, k)) (range_with_len a n)
@@ -104,7 +105,7 @@ module _ (r : Recording) where
   -- ---- of all processes
 
   abbrev seen_of : List Entry → Seen
-  seen_of entries = seen_by r.program r.plan r.header.budget entries
+  seen_of entries = seen_by (recorded_setting r) entries
 
   -- these are the entries of the processes from number p on
   abbrev AreFrom : (p : ℕ) → List (List Entry) → Type 0
@@ -113,7 +114,7 @@ module _ (r : Recording) where
   -- an interval that fails is among those of its process
   in_row : (p k n : ℕ) (entries : List Entry) → entries ≡ get_or r.logs.lists p [] → F p k ≡ Some n → k < length (seen_of entries).items
   in_row p k n entries e f =
-      let lt : k < length (indexed entries) = subst (λ es. k < length (indexed es)) (sym e) (there r.program r.plan r.header.budget r.logs p k n f) in
+      let lt : k < length (indexed entries) = subst (λ es. k < length (indexed es)) (sym e) (there (recorded_setting r) r.logs p k n f) in
       let count : length (seen_of entries).items ≡ length (indexed entries) = length-map (indexed entries) _ in
       omega (arith, lt, count)
 
@@ -130,7 +131,7 @@ module _ (r : Recording) where
   -- a process that is not there has no interval
   none_there : (p i k n : ℕ) → AreFrom p [] → F (p + i) k ≡ Some n → ⊥
   none_there p i k n h f =
-      let lt : k < length (indexed []) = subst (λ es. k < length (indexed es)) (sym (h i) ∙ no_entries i) (there r.program r.plan r.header.budget r.logs (p + i) k n f) in
+      let lt : k < length (indexed []) = subst (λ es. k < length (indexed es)) (sym (h i) ∙ no_entries i) (there (recorded_setting r) r.logs (p + i) k n f) in
       omega (arith, lt)
 
   all_clear : (p : ℕ) (lists : List (List Entry)) → AreFrom p lists → first_of (intervals_from p (map seen_of lists)) ≡ None → (i k n : ℕ) → F (p + i) k ≡ Some n → ⊥
@@ -216,16 +217,16 @@ module _ (r : Recording) where
   none_fails : first_failure r ≡ None → NoneFails known
   none_fails e q k n f =
       let z : 0 + q ≡ q = omega arith in
-      all_clear 0 r.logs.lists from_start e q k n (ap (λ i. F i k) z ∙ failing r.program r.plan r.header.budget r.logs q k n f)
+      all_clear 0 r.logs.lists from_start e q k n (ap (λ i. F i k) z ∙ failing (recorded_setting r) r.logs q k n f)
 
   first_is : (workers : ℕ) (at : At) → first_failure r ≡ Some at → IsFailedBy r known (Whole workers) (Diverged at)
   first_is workers at e = (
     found.interval,
-    failing_is_told r.program r.plan r.header.budget r.logs at.process found.interval at.entry found.fails,
+    failing_is_told (recorded_setting r) r.logs at.process found.interval at.entry found.fails,
     λ q k n f.
         let z : 0 + q ≡ q = omega arith in
         subst (λ i. (at.process < i) ⊎ ((at.process ≡ i) × (found.interval ≤ k))) z
-        (found.first q k n (ap (λ i. F i k) z ∙ failing r.program r.plan r.header.budget r.logs q k n f)),
+        (found.first q k n (ap (λ i. F i k) z ∙ failing (recorded_setting r) r.logs q k n f)),
   )
     where
       found : IsFirst 0 at
@@ -233,8 +234,8 @@ module _ (r : Recording) where
 
 -- where there is no race
 module _ (r : Recording) (races : List Race) (none : races ≡ []) where
-  pub all_tell : first_failure r ≡ None → NoneFails (known_with r.program r.plan r.header.budget r.logs races)
-  all_tell e = subst (λ rs. NoneFails (known_with r.program r.plan r.header.budget r.logs rs)) (sym none) (none_fails r e)
+  pub all_tell : first_failure r ≡ None → NoneFails (known_with (recorded_setting r) r.logs races)
+  all_tell e = subst (λ rs. NoneFails (known_with (recorded_setting r) r.logs rs)) (sym none) (none_fails r e)
 
-  pub first_told : (workers : ℕ) (at : At) → first_failure r ≡ Some at → IsFailedBy r (known_with r.program r.plan r.header.budget r.logs races) (Whole workers) (Diverged at)
-  first_told workers at e = subst (λ rs. IsFailedBy r (known_with r.program r.plan r.header.budget r.logs rs) (Whole workers) (Diverged at)) (sym none) (first_is r workers at e)
+  pub first_told : (workers : ℕ) (at : At) → first_failure r ≡ Some at → IsFailedBy r (known_with (recorded_setting r) r.logs races) (Whole workers) (Diverged at)
+  first_told workers at e = subst (λ rs. IsFailedBy r (known_with (recorded_setting r) r.logs rs) (Whole workers) (Diverged at)) (sym none) (first_is r workers at e)

@@ -1,4 +1,5 @@
 -- The slice of a past, by what is known of it.
+use Rattle.ppd_flow_past.specs.PastSetting.{past_setting}
 use Rattle.std.specs.Prelude.{slice_get, nat_lt, if◌then◌else◌}
 use Rattle.std.specs.Result.{result_unwrap_or}
 use Rattle.std.proofs.Common.{◌≡◌, ℕ, zero, suc, ◌+◌, ◌<◌, ◌≤◌, Bool, true, false, true≢false, List, [], ◌∷◌, Option, Some, None, Result, Ok, Err, length, refl, ap, sym, ◌∙◌, arith}
@@ -50,7 +51,7 @@ module _ (past : Past) (uncut : past.cut.now ≡ past.logs.now) where
   same_unless None r = refl
   same_unless (Some failure) r = refl
 
-  same_flow : (a : ItemAt) → flow_of past a ≡ flow_by past.program.now past.plan.now past.budget past.logs.now a.process a.interval a.item
+  same_flow : (a : ItemAt) → flow_of past a ≡ flow_by (past_setting past) past.logs.now a.process a.interval a.item
   same_flow a =
       same_unless (first_failed_in past (found_edges past.program.now past.plan.now past.logs.now (seens_in past) a.process a.interval a.item).replays)
       (answer_if (found_edges past.program.now past.plan.now past.logs.now (seens_in past) a.process a.interval a.item).found)

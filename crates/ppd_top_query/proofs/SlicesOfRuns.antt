@@ -1,7 +1,6 @@
 -- Where the items of a run are told to come from is where its flowback edges come from.
+use Rattle.ppd_model.specs.Setting.{Setting}
 use Rattle.ppd_ast.specs.Valid.{IsValid}
-use Rattle.ppd_ast.specs.declared.plan.Plan.{Plan}
-use Rattle.ppd_ast.specs.declared.program.Program.{Program}
 use Rattle.ppd_flow_past.specs.declared.flow_error.FlowError.TheVariants as flow_error
 use Rattle.ppd_flow_past.specs.declared.flow_error.FlowError.TheVariants.{NoEvent}
 use Rattle.ppd_model.proofs.EdgeWords.{edges_if, edges_in, part_in}
@@ -119,38 +118,38 @@ count_row (y ∷ ys) (suc q) = count_row ys q
 
 -- ---- a run
 
-module _ (whole : ItemsAreWhole) (program : Program) (plan : Plan) (budget : ℕ) (h : List ℕ) (v : IsValid program) where
+module _ (whole : ItemsAreWhole) (setting : Setting) (h : List ℕ) (v : IsValid setting.program) where
   abbrev told_story : Story
-  told_story = story program plan budget h
+  told_story = story setting h
 
   abbrev xs : List Split
-  xs = splits program plan budget (story program plan budget h)
+  xs = splits setting (story setting h)
 
   abbrev known : Known
-  known = known_of_run program plan budget h
+  known = known_of_run setting h
 
   abbrev flows : ℕ → ℕ → ℕ → Flow
-  flows = flow_told program plan budget (story program plan budget h)
+  flows = flow_told setting (story setting h)
 
   abbrev of_run : ItemAt → List ItemAt
-  of_run = origins program plan budget (story program plan budget h)
+  of_run = origins setting (story setting h)
 
   -- what is told where these are the races
   abbrev rows : List Race → List (List Told)
-  rows rs = unless_raced rs (map told_of_split (splits program plan budget (story program plan budget h)))
+  rows rs = unless_raced rs (map told_of_split (splits setting (story setting h)))
 
   abbrev flow_in : List Race → ItemAt → Flow
-  flow_in rs a = get_or (get_or (get_or (of_processes (flow_told program plan budget (story program plan budget h)) 0 (rows rs)) a.process []) a.interval []) a.item (Err flow_error.NoEvent)
+  flow_in rs a = get_or (get_or (get_or (of_processes (flow_told setting (story setting h)) 0 (rows rs)) a.process []) a.interval []) a.item (Err flow_error.NoEvent)
 
   abbrev origins_in : List Race → ItemAt → List ItemAt
   origins_in rs a = origins_told (slice_get (get_or (rows rs) a.process []) a.interval) a.item (flow_in rs a)
 
   module _ (a : ItemAt) where
     abbrev told_here : Option Told
-    told_here = slice_get (get_or (map told_of_split (splits program plan budget (story program plan budget h))) a.process []) a.interval
+    told_here = slice_get (get_or (map told_of_split (splits setting (story setting h))) a.process []) a.interval
 
     -- nothing is told, and there are no edges
-    nowhere : told_here ≡ None → edges program plan budget (story program plan budget h) a.process a.interval a.item ≡ None → origins_in [] a ≡ of_run a
+    nowhere : told_here ≡ None → edges setting (story setting h) a.process a.interval a.item ≡ None → origins_in [] a ≡ of_run a
     nowhere e f = ap (λ o. origins_told o a.item (flow_in [] a)) e ∙ sym (ap (λ (o : Option (List FlowEdge)). places_of (unwrap_or o [])) f)
 
     places_are : (o : Option (List FlowEdge)) → places_of (result_unwrap_or (ok_or o NoEvent) []) ≡ places_of (unwrap_or o [])
@@ -166,15 +165,15 @@ module _ (whole : ItemsAreWhole) (program : Program) (plan : Plan) (budget : ℕ
         ∙ ap (λ p. flows p a.interval a.item) z in
         ap (λ o. origins_told o a.item (flow_in [] a)) is
         ∙ (ap (λ b. if b then places_of (result_unwrap_or (flow_in [] a) []) else []) g
-        ∙ (ap (λ found. places_of (result_unwrap_or found [])) flow ∙ places_are (edges program plan budget (story program plan budget h) a.process a.interval a.item)))
+        ∙ (ap (λ found. places_of (result_unwrap_or found [])) flow ∙ places_are (edges setting (story setting h) a.process a.interval a.item)))
     in_span y e i f false g =
         let is : told_here ≡ Some (Ok (items_of y i)) = told_row xs a.process a.interval ∙ (ap (λ o. told_in o a.interval) e ∙ ap (told_in_span y) f) in
-        let count : length (items_of y i) ≡ length i.parts = (whole program plan budget h a.process y v e).whole a.interval i f in
+        let count : length (items_of y i) ≡ length i.parts = (whole setting h a.process y v e).whole a.interval i f in
         let over : length (items_of y i) ≤ a.item = ltb-false a.item (length (items_of y i)) g in
         let long : length i.parts ≤ a.item = omega (arith, over, count) in
-        let gone : edges program plan budget (story program plan budget h) a.process a.interval a.item ≡ None =
-        ap (λ o. edges_in program plan xs a.interval a.item o) e
-        ∙ (ap (λ o. edges_if program plan xs y (part_in o a.item)) f ∙ ap (edges_if program plan xs y) (past_end i.parts a.item long)) in
+        let gone : edges setting (story setting h) a.process a.interval a.item ≡ None =
+        ap (λ o. edges_in setting.program setting.plan xs a.interval a.item o) e
+        ∙ (ap (λ o. edges_if setting.program setting.plan xs y (part_in o a.item)) f ∙ ap (edges_if setting.program setting.plan xs y) (past_end i.parts a.item long)) in
         ap (λ o. origins_told o a.item (flow_in [] a)) is
         ∙ (ap (λ b. if b then places_of (result_unwrap_or (flow_in [] a) []) else []) g ∙ sym (ap (λ (o : Option (List FlowEdge)). places_of (unwrap_or o [])) gone))
 
@@ -182,7 +181,7 @@ module _ (whole : ItemsAreWhole) (program : Program) (plan : Plan) (budget : ℕ
     in_split y e (Some i) f = in_span y e i f (nat_lt a.item (length (items_of y i))) refl
     in_split y e None f =
         nowhere (told_row xs a.process a.interval ∙ (ap (λ o. told_in o a.interval) e ∙ ap (told_in_span y) f))
-        (ap (λ o. edges_in program plan xs a.interval a.item o) e ∙ ap (λ o. edges_if program plan xs y (part_in o a.item)) f)
+        (ap (λ o. edges_in setting.program setting.plan xs a.interval a.item o) e ∙ ap (λ o. edges_if setting.program setting.plan xs y (part_in o a.item)) f)
 
     origins_are : origins_in [] a ≡ of_run a
     origins_are = by (slice_get xs a.process) refl
@@ -191,7 +190,7 @@ module _ (whole : ItemsAreWhole) (program : Program) (plan : Plan) (budget : ℕ
         by (Some y) e = in_split y e (slice_get y.spans a.interval) refl
         by None e =
             nowhere (told_row xs a.process a.interval ∙ ap (λ o. told_in o a.interval) e)
-            (ap (λ o. edges_in program plan xs a.interval a.item o) e)
+            (ap (λ o. edges_in setting.program setting.plan xs a.interval a.item o) e)
 
   -- ---- an item that is told
 
@@ -213,7 +212,7 @@ module _ (whole : ItemsAreWhole) (program : Program) (plan : Plan) (budget : ℕ
     where
       in_place : (y : Split) → slice_get xs q ≡ Some y → (i : Span) → slice_get y.spans k ≡ Some i → items_of y i ≡ items → IsPlaced q k j
       in_place y f i g is =
-          let count : length (items_of y i) ≡ length i.parts = (whole program plan budget h q y v f).whole k i g in
+          let count : length (items_of y i) ≡ length i.parts = (whole setting h q y v f).whole k i g in
           let same : length (items_of y i) ≡ length items = ap length is in
           let there = got i.parts j (omega (arith, lt, count, same)) in
           record { split = y; span = i; part = there.0; split_is = f; span_is = g; part_is = there.1 }
@@ -264,12 +263,12 @@ module _ (whole : ItemsAreWhole) (program : Program) (plan : Plan) (budget : ℕ
       by true e f = within q k j (ltb-true k (length (get_or known.intervals q [])) e) f
       by false e f = absurd (cc)
 
-  answer_is : (a : ItemAsked) (schedule text : List ℕ) → IsSliceAnswer known a schedule text → IsOfRun program plan budget h (Slice a) schedule text
+  answer_is : (a : ItemAsked) (schedule text : List ℕ) → IsSliceAnswer known a schedule text → IsOfRun setting h (Slice a) schedule text
   answer_is a schedule text (no_run, (q, named, t)) = λ m.
       let there : (items : List Item) × (told_at known q a.interval ≡ Some (Ok items)) × (a.item < length items) =
-      asked_there (races_among (edges_of_story program (story program plan budget h))) q a.interval a.item
+      asked_there (races_among (edges_of_story setting.program (story setting h))) q a.interval a.item
       (sym (ap (λ o. option_or (races_refusal known.races) (process_refusal o (λ p. block_refusal known p a.interval (event_refusal (told_at known p a.interval) a.item)))) named) ∙ m) in
-      let free : races_among (edges_of_story program (story program plan budget h)) ≡ [] = no_race (races_among (edges_of_story program (story program plan budget h))) q a.interval (Ok there.0) there.1 in
+      let free : races_among (edges_of_story setting.program (story setting h)) ≡ [] = no_race (races_among (edges_of_story setting.program (story setting h))) q a.interval (Ok there.0) there.1 in
       let of_edges : IsReach of_run (at q a.interval a.item) t.slice =
       reach_as (origins_of known) of_run (at q a.interval a.item) t.slice t.is_slice
       (λ r m. ap (λ rs. origins_in rs (item_of r)) free ∙ origins_are (item_of r)) in
@@ -278,22 +277,22 @@ module _ (whole : ItemsAreWhole) (program : Program) (plan : Plan) (budget : ℕ
   -- ---- the lines of the slice that is computed
 
   module _ (reaches : ReachesAreSlices) (one : SlicesAreOne) where
-    text_is : (q k j : ℕ) (text : List ℕ) (items : List Item) → told_at known q k ≡ Some (Ok items) → j < length items → IsSliceText known q k j text → text ≡ lines_of_reach program plan budget h q k j
+    text_is : (q k j : ℕ) (text : List ℕ) (items : List Item) → told_at known q k ≡ Some (Ok items) → j < length items → IsSliceText known q k j text → text ≡ lines_of_reach setting h q k j
     text_is q k j text items told lt t =
-        let free : races_among (edges_of_story program (story program plan budget h)) ≡ [] = no_race (races_among (edges_of_story program (story program plan budget h))) q k (Ok items) told in
+        let free : races_among (edges_of_story setting.program (story setting h)) ≡ [] = no_race (races_among (edges_of_story setting.program (story setting h))) q k (Ok items) told in
         let i : IsPlaced q k j = placed q k j items (sym (ap (λ rs. slice_get (get_or (rows rs) q []) k) free) ∙ told) lt in
-        let run : IsReach of_run (at q k j) (reach program plan budget (story program plan budget h) q k j) =
-        reaches program plan budget (story program plan budget h) q k j i.split i.span i.part i.split_is i.span_is i.part_is in
-        let told : IsReach (origins_of known) (at q k j) (reach program plan budget (story program plan budget h) q k j) =
-        reach_as of_run (origins_of known) (at q k j) (reach program plan budget (story program plan budget h) q k j) run
+        let run : IsReach of_run (at q k j) (reach setting (story setting h) q k j) =
+        reaches setting (story setting h) q k j i.split i.span i.part i.split_is i.span_is i.part_is in
+        let told : IsReach (origins_of known) (at q k j) (reach setting (story setting h) q k j) =
+        reach_as of_run (origins_of known) (at q k j) (reach setting (story setting h) q k j) run
         (λ r m. sym (ap (λ rs. origins_in rs (item_of r)) free ∙ origins_are (item_of r))) in
-        let same : t.slice ≡ reach program plan budget (story program plan budget h) q k j =
-        one (origins_of known) (at q k j) t.slice (reach program plan budget (story program plan budget h) q k j) t.is_slice told in
-        t.is ∙ ap (λ (ss : List Reached). flat_map (reached_line program) ss) same
+        let same : t.slice ≡ reach setting (story setting h) q k j =
+        one (origins_of known) (at q k j) t.slice (reach setting (story setting h) q k j) t.is_slice told in
+        t.is ∙ ap (λ (ss : List Reached). flat_map (reached_line setting.program) ss) same
 
 pub slice_texts_of_runs : ItemsAreWhole → ReachesAreSlices → SlicesAreOne → SliceTextsAreOfRuns
-slice_texts_of_runs whole reaches one program plan budget h q k j text v items told lt t =
-    text_is whole program plan budget h v reaches one q k j text items told lt t
+slice_texts_of_runs whole reaches one setting h q k j text v items told lt t =
+    text_is whole setting h v reaches one q k j text items told lt t
 
 pub slices_of_runs : ItemsAreWhole → SlicesAreOfRuns
-slices_of_runs whole program plan budget h a schedule text v t = answer_is whole program plan budget h v a schedule text t
+slices_of_runs whole setting h a schedule text v t = answer_is whole setting h v a schedule text t

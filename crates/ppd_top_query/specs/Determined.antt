@@ -6,7 +6,7 @@ use Rattle.law_clean.specs.Pasts.{left_edge}
 use Rattle.law_clean.specs.Search.{is_unclean}
 use Rattle.law_flow_missing.specs.Missing.{IsMissingWrite, write_at}
 use Rattle.ppd_codec.specs.declared.recording.Recording.{Recording}
-use Rattle.ppd_codec_runs.specs.Recordings.{IsAccepted, known_of}
+use Rattle.ppd_codec_runs.specs.Recordings.{IsAccepted, known_of, recorded_setting}
 use Rattle.ppd_entry.specs.declared.entry.At.{At}
 use Rattle.ppd_flow_model.specs.Ends.{first_edge}
 use Rattle.ppd_flow_model.specs.Seen.{Seen}
@@ -29,38 +29,34 @@ use Rattle.std.specs.Prelude.{Bool, Err, List, None, Some, [], false, get_or, if
 -- ---- an item in a run with races: item j of interval k of process q
 
 module _ (r : Recording) (q k j : ℕ) where
-  -- what the replays of the cut logs give
-  abbrev pub cut_seens : List Seen
-  cut_seens = seens r.program r.plan r.header.budget (cut_of r q k j)
-
-  -- the past of this item has one
+  -- the past of this item, among what the replays of the cut logs give, has one
   abbrev pub is_item_raced : Item → Bool
   is_item_raced t =
-      is_unclean r.program r.plan r.header.budget r.logs (record_in r.logs)
+      is_unclean (recorded_setting r) r.logs (record_in r.logs)
       (races_among (edges_of_logs r.program r.logs)) q k j
-      cut_seens (first_raced_of r q k) t
+      (seens (recorded_setting r) (cut_of r q k j)) (first_raced_of r q k) t
 
--- this is found of an item in a run with races
+-- this is found of an item in a run with races, by replays of the logs that are cut for it
 pub data IsCleanBy (r : Recording) (q k j : ℕ) (found : CleanOr) : Type 0 where
   -- where the interval begins in an edge whose past has a race, the first such edge
   begins_raced : is_reached (first_edge (get_or r.logs.lists q []) k) (first_raced_of r q k) ≡ true
       → found ≡ unclean_or q (first_raced_of r q k) no_item → IsCleanBy r q k j found
   -- else, where the replays give no such item, that edge if the interval reaches it
   ends_before : is_reached (first_edge (get_or r.logs.lists q []) k) (first_raced_of r q k) ≡ false
-      → slice_get (get_or (seen_at (cut_seens r q k j) q).items k []) j ≡ None
+      → slice_get (get_or (seen_at (seens (recorded_setting r) (cut_of r q k j)) q).items k []) j ≡ None
       → found ≡ (if is_reached (left_edge (get_or r.logs.lists q []) k) (first_raced_of r q k)
       then unclean_or q (first_raced_of r q k) no_item else no_item) → IsCleanBy r q k j found
   -- where they give the item, and its past has a race, the edge whose past has one
   is_raced : is_reached (first_edge (get_or r.logs.lists q []) k) (first_raced_of r q k) ≡ false
-      → (t : Item) → slice_get (get_or (seen_at (cut_seens r q k j) q).items k []) j ≡ Some t
+      → (t : Item) → slice_get (get_or (seen_at (seens (recorded_setting r) (cut_of r q k j)) q).items k []) j ≡ Some t
       → is_item_raced r q k j t ≡ true
       → found ≡ unclean_or q (first_raced_of r q k) no_item → IsCleanBy r q k j found
   -- and where it has none, the item with some edges, or a write that is missing
   has_edges : is_reached (first_edge (get_or r.logs.lists q []) k) (first_raced_of r q k) ≡ false
-      → (t : Item) → slice_get (get_or (seen_at (cut_seens r q k j) q).items k []) j ≡ Some t
+      → (t : Item) → slice_get (get_or (seen_at (seens (recorded_setting r) (cut_of r q k j)) q).items k []) j ≡ Some t
       → is_item_raced r q k j t ≡ false
       → ((es : List FlowEdge) × (found ≡ clean t es))
-      ⊎ ((m : Missing) × (found ≡ unwritten m) × IsMissingWrite r.logs (cut_seens r q k j) m) → IsCleanBy r q k j found
+      ⊎ ((m : Missing) × (found ≡ unwritten m) × IsMissingWrite r.logs (seens (recorded_setting r) (cut_of r q k j)) m) → IsCleanBy r q k j found
 
 -- ---- answers
 

@@ -1,9 +1,9 @@
 -- What is answered of the recording of a whole run, by the run itself.
+use Rattle.law_steps.specs.Policies.{setting_by}
+use Rattle.ppd_model.specs.Setting.{Setting}
 use Rattle.law_clean.specs.Answers.{answer_of}
 use Rattle.ppd_ast.specs.Valid.{IsValid}
-use Rattle.ppd_ast.specs.declared.plan.Plan.{Plan}
 use Rattle.ppd_ast.specs.declared.program.Program.{Program}
-use Rattle.ppd_blocks.specs.Blocks.{plan_of}
 use Rattle.ppd_codec.specs.declared.recording.Header.{Header}
 use Rattle.ppd_codec.specs.declared.recording.Recording.{Recording}
 use Rattle.ppd_codec_runs.specs.Recordings.{IsAccepted, IsRunRecorded}
@@ -30,29 +30,29 @@ use Rattle.std.specs.Prelude.{List, None, Some, [], slice_get, ℕ, ◌≡◌}
 -- for, of the process of that name, and no other; the whole trace is the text of its full
 -- trace; a run again is confirmed, by a schedule that agrees with it; and clean flowback of an item of an interval that
 -- is there is what is to be answered by the run itself
-abbrev pub IsOfRun : Program → Plan → ℕ → List ℕ → Query → (schedule text : List ℕ) → Type 0
-IsOfRun program plan budget h (Slice a) schedule text =
-    refusal (known_of_run program plan budget h) (Slice a) ≡ None → (q : ℕ)
-    × (process_named program a.process ≡ Some q)
+abbrev pub IsOfRun : Setting → List ℕ → Query → (schedule text : List ℕ) → Type 0
+IsOfRun setting h (Slice a) schedule text =
+    refusal (known_of_run setting h) (Slice a) ≡ None → (q : ℕ)
+    × (process_named setting.program a.process ≡ Some q)
     × ((slice : List Reached)
-    × IsReach (origins program plan budget (story program plan budget h)) (at q a.interval a.item) slice
-    × (text ≡ flat_map (reached_line program) slice))
-IsOfRun program plan budget h (Whole workers) schedule text =
-    text ≡ whole_text program (full_trace program plan budget (story program plan budget h))
-IsOfRun program plan budget h Rerun schedule text = Agree program plan budget h schedule
-    × (text ≡ verdict_text program (verdict.Yes schedule))
-IsOfRun program plan budget h (Clean a) schedule text =
-    (q : ℕ) (x : Split) (i : Span) → process_named program a.process ≡ Some q
-    → slice_get (splits program plan budget (story program plan budget h)) q ≡ Some x
+    × IsReach (origins setting (story setting h)) (at q a.interval a.item) slice
+    × (text ≡ flat_map (reached_line setting.program) slice))
+IsOfRun setting h (Whole workers) schedule text =
+    text ≡ whole_text setting.program (full_trace setting (story setting h))
+IsOfRun setting h Rerun schedule text = Agree setting h schedule
+    × (text ≡ verdict_text setting.program (verdict.Yes schedule))
+IsOfRun setting h (Clean a) schedule text =
+    (q : ℕ) (x : Split) (i : Span) → process_named setting.program a.process ≡ Some q
+    → slice_get (splits setting (story setting h)) q ≡ Some x
     → slice_get x.spans a.interval ≡ Some i
-    → clean_text program plan a.item (answer_of program plan budget h q a.interval a.item) ≡ Some text
+    → clean_text setting.program setting.plan a.item (answer_of setting h q a.interval a.item) ≡ Some text
 
 -- so is a slice by what is known of a run
 abbrev pub SlicesAreOfRuns : Type 0
 SlicesAreOfRuns =
-    (program : Program) (plan : Plan) (budget : ℕ) (h : List ℕ) (a : ItemAsked) (schedule text : List ℕ)
-    → IsValid program → IsSliceAnswer (known_of_run program plan budget h) a schedule text
-    → IsOfRun program plan budget h (Slice a) schedule text
+    (setting : Setting) (h : List ℕ) (a : ItemAsked) (schedule text : List ℕ)
+    → IsValid setting.program → IsSliceAnswer (known_of_run setting h) a schedule text
+    → IsOfRun setting h (Slice a) schedule text
 
 -- clean flowback is so of each whole run of which the bytes are the recording, with races or without; and the others of
 -- each without a race, and of each schedule that agrees with it
@@ -60,12 +60,12 @@ abbrev pub IsOfRuns : List ℕ → Query → (schedule text : List ℕ) → Type
 IsOfRuns bytes (Clean a) schedule text =
     (source : List ℕ) (header : Header) (program : Program) (h : List ℕ)
     → IsRunRecorded source header program h bytes
-    → IsOfRun program (plan_of program header.policy) header.budget h (Clean a) schedule text
+    → IsOfRun (setting_by program header.policy header.budget) h (Clean a) schedule text
 IsOfRuns bytes query schedule text =
     (source : List ℕ) (header : Header) (program : Program) (h h' : List ℕ)
-    → IsRunRecorded source header program h bytes → races program (plan_of program header.policy) header.budget h ≡ []
-    → Agree program (plan_of program header.policy) header.budget h h'
-    → IsOfRun program (plan_of program header.policy) header.budget h' query schedule text
+    → IsRunRecorded source header program h bytes → races (setting_by program header.policy header.budget) h ≡ []
+    → Agree (setting_by program header.policy header.budget) h h'
+    → IsOfRun (setting_by program header.policy header.budget) h' query schedule text
 
 -- what is answered of an accepted recording is so
 abbrev pub AnswersAreOfRuns : Type 0

@@ -7,7 +7,7 @@ use Rattle.law_whole.specs.Linked.{joined_trace}
 use Rattle.ppd_ast.specs.declared.plan.Plan.{Plan}
 use Rattle.ppd_ast.specs.declared.program.Program.{Program}
 use Rattle.ppd_codec.specs.declared.recording.Recording.{Recording}
-use Rattle.ppd_codec_runs.specs.Recordings.{known_of}
+use Rattle.ppd_codec_runs.specs.Recordings.{known_of, recorded_setting}
 use Rattle.ppd_entry.specs.declared.entry.At.{At}
 use Rattle.ppd_entry.specs.declared.entry.Logs.{Logs}
 use Rattle.ppd_flow_model.specs.Ends.{first_edge}
@@ -89,13 +89,13 @@ IsSliceFailure x Memory = ⊥
 -- the failure of the first interval, by process and number, whose replay fails, if one does
 abbrev pub first_failure : Recording → Option At
 first_failure r =
-    first_failed r.program r.plan r.header.budget r.logs
-    (intervals_from 0 (seens r.program r.plan r.header.budget r.logs))
+    first_failed (recorded_setting r) r.logs
+    (intervals_from 0 (seens (recorded_setting r) r.logs))
 
 -- the text of the trace that the items of all replays make
 abbrev pub IsWholeAnswer : Recording → (schedule text : List ℕ) → Type 0
 IsWholeAnswer r schedule text = (schedule ≡ []) × (first_failure r ≡ None)
-    × (text ≡ whole_text r.program (joined_trace r.program r.logs (seens r.program r.plan r.header.budget r.logs)))
+    × (text ≡ whole_text r.program (joined_trace r.program r.logs (seens (recorded_setting r) r.logs)))
 
 abbrev pub IsWholeFailure : Recording → SessionError → Type 0
 IsWholeFailure r (Diverged failure) = first_failure r ≡ Some failure
@@ -111,7 +111,7 @@ schedule_of (verdict.No why) = []
 
 -- the line of the verdict on the logs
 abbrev pub IsRerunAnswer : Recording → (schedule text : List ℕ) → Type 0
-IsRerunAnswer r schedule text = (v : Verdict) × IsVerdict r.program r.plan r.header.budget r.logs v
+IsRerunAnswer r schedule text = (v : Verdict) × IsVerdict (recorded_setting r) r.logs v
     × (schedule ≡ schedule_of v) × (text ≡ verdict_text r.program v)
 
 -- ---- an item in a run with races
@@ -129,7 +129,7 @@ clean_text p plan j (unwritten m) = None
 
 -- what is found of item j of interval k of process q by the logs of a recording, cut off where its races are
 abbrev pub clean_of : Recording → (q k j : ℕ) → CleanOr
-clean_of r q k j = clean_by r.program r.plan r.header.budget r.logs (races_among (edges_of_logs r.program r.logs)) q k j
+clean_of r q k j = clean_by (recorded_setting r) r.logs (races_among (edges_of_logs r.program r.logs)) q k j
 
 -- the least edge of process q, from the one in which the interval begins, whose past has a race
 abbrev pub first_raced_of : Recording → (q k : ℕ) → Option ℕ
@@ -149,7 +149,7 @@ cut_of r q k j =
 abbrev pub Diverges : Recording → (q k j : ℕ) → (p n : ℕ) → Type 0
 Diverges r q k j p n =
     (is_reached (first_edge (get_or r.logs.lists q []) k) (first_raced_of r q k) ≡ false)
-    × ((m : ℕ) × (failed_at r.program r.plan r.header.budget (get_or (cut_of r q k j).lists p []) m ≡ Some n))
+    × ((m : ℕ) × (failed_at (recorded_setting r) (get_or (cut_of r q k j).lists p []) m ≡ Some n))
 
 abbrev pub IsCleanAnswer : Recording → ItemAsked → (schedule text : List ℕ) → Type 0
 IsCleanAnswer r a schedule text = (schedule ≡ []) × ((q : ℕ) × (process_named r.program a.process ≡ Some q)

@@ -5,7 +5,7 @@ ghost use Rattle.ppd_graph.specs.declared.refusal.BadSync.TheVariants as no_grap
 ghost use Rattle.ppd_index.specs.Fitting.{AreFittingLogs};
 ghost use Rattle.ppd_index.specs.Indexes.{IsIndexOf};
 ghost use Rattle.ppd_index.specs.declared.refusal.BadLog.TheVariants as no_index;
-ghost use Rattle.ppd_top_runs.specs.Runs.{CanBeTold};
+ghost use Rattle.ppd_top_runs.specs.Runs.{CanBeTold, run_setting};
 
 use crate::run::ClosedRun;
 use ppd_ast::Memory;
@@ -35,7 +35,7 @@ fn why_no_graph(bad: &BadSync) -> Memory
 
 /// The index of the logs of a run that can be told.
 pub fn index_of(alloc: Global, run: &ClosedRun<'_>) -> Result<LogIndex, Memory>
-    requires { CanBeTold run.now.program.now run.now.plan run.now.budget run.now.closed }
+    requires { CanBeTold (run_setting run.now) run.now.closed }
     ensures index { IfOk result (λ index. IsIndexOf run.now.plan run.now.closed.logs index.tables) }
     ensures fitting { OnOk result (AreFittingLogs run.now.plan run.now.closed.logs) }
 {
@@ -47,7 +47,7 @@ pub fn index_of(alloc: Global, run: &ClosedRun<'_>) -> Result<LogIndex, Memory>
 
 /// The graph of the synchronization of a run that can be told.
 pub fn graph_of(alloc: Global, run: &ClosedRun<'_>) -> Result<SyncGraph, Memory>
-    requires { CanBeTold run.now.program.now run.now.plan run.now.budget run.now.closed }
+    requires { CanBeTold (run_setting run.now) run.now.closed }
     ensures { IfOk result (IsGraphOf run.now.program.now run.now.closed.logs) }
 {
     match graph(alloc, run.program, &run.closed.logs) {

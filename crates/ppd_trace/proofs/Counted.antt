@@ -1,4 +1,5 @@
 -- How many events and steps there are in what is told, and how few.
+use Rattle.ppd_model.specs.Setting.{Setting}
 use Rattle.std.proofs.Common.{◌≡◌, ℕ, zero, suc, ◌+◌, ◌-◌, ◌*◌, ◌≤◌, Bool, true, false, cond, List, [], ◌∷◌, ◌++◌, length, map, get_or, slice_set, Some, refl, ap, sym, ◌∙◌, arith, length-append}
 use Rattle.std.specs.Prelude.{fold, replicate}
 use Rattle.std.proofs.lemmas.List.Sums.{count_by-le-length, sum_by-append}
@@ -81,19 +82,19 @@ none_yet : (n : ℕ) (ps : List Proc) → Each (λ (ms : List Moment). length ms
 none_yet n [] = tt
 none_yet n (s ∷ ss) = (omega arith, none_yet n ss)
 
-pub moments_within : (program : Program) (plan : Plan) (budget : ℕ) (h : List ℕ) → Each (λ (ms : List Moment). length ms ≤ length h) (told program plan budget h).moments
-moments_within program plan budget h =
-    each_more (λ (ms : List Moment). length ms ≤ 0 + length h) (λ (ms : List Moment). length ms ≤ length h) (told program plan budget h).moments (λ ms lt. omega arith)
-    (told_within program plan (begun (started_world program plan budget)) 0 h (none_yet 0 (started_world program plan budget).procs))
+pub moments_within : (setting : Setting) (h : List ℕ) → Each (λ (ms : List Moment). length ms ≤ length h) (told setting h).moments
+moments_within setting h =
+    each_more (λ (ms : List Moment). length ms ≤ 0 + length h) (λ (ms : List Moment). length ms ≤ length h) (told setting h).moments (λ ms lt. omega arith)
+    (told_within setting.program setting.plan (begun (started_world setting)) 0 h (none_yet 0 (started_world setting).procs))
 
 length_none : (ps : List Proc) → length {A = List Moment} (map (λ _. []) ps) ≡ length ps
 length_none [] = refl
 length_none (s ∷ ss) = ap suc (length_none ss)
 
-pub how_many : (program : Program) (plan : Plan) (budget : ℕ) (h : List ℕ) → length (told program plan budget h).moments ≡ length program.bodies - program.functions
-how_many program plan budget h =
-    same_length program plan (begun (started_world program plan budget)) h ∙ length_none (started_world program plan budget).procs
-    ∙ started_count program plan budget 0 (length program.bodies - program.functions)
+pub how_many : (setting : Setting) (h : List ℕ) → length (told setting h).moments ≡ length setting.program.bodies - setting.program.functions
+how_many setting h =
+    same_length setting.program setting.plan (begun (started_world setting)) h ∙ length_none (started_world setting).procs
+    ∙ started_count setting 0 (length setting.program.bodies - setting.program.functions)
 
 count_within : (k p : ℕ) (moments : List (List Moment)) → Each (λ (ms : List Moment). length ms ≤ k) moments → get_or (map count_events moments) p 0 ≤ k
 count_within k p [] e = omega arith
@@ -104,21 +105,21 @@ count_within k zero (ms ∷ rest) e =
 count_within k (suc p) (ms ∷ rest) e = count_within k p rest e.1
 
 -- the steps of 16 processes with the greatest budget
-pub few_taken : (program : Program) (plan : Plan) (budget : ℕ) (h : List ℕ) (w : World) → IsValid program → budget ≤ MOST_BUDGET → run program plan budget h ≡ Some w → length h ≤ MOST_PROCESSES * (MOST_BUDGET + 1)
-few_taken program plan budget h w v few e =
-    let n : ℕ = length program.bodies - program.functions in
-    let processes : length program.bodies ≤ program.functions + MOST_PROCESSES = v.limits.processes in
-    let paid : ArePaid (started_procs program plan budget n) = started_paid program plan budget 0 n in
-    let all : length h + steps_left w.procs ≤ steps_left (started_procs program plan budget n) = in_all program plan (started_world program plan budget) w h paid e in
-    let left : steps_left (started_procs program plan budget n) ≡ n * (budget + 1) = started_all program plan budget 0 n in
-    let most : n * (budget + 1) ≤ MOST_PROCESSES * (MOST_BUDGET + 1) = mul-le n (budget + 1) MOST_PROCESSES (MOST_BUDGET + 1) (omega arith) (omega arith) in
+pub few_taken : (setting : Setting) (h : List ℕ) (w : World) → IsValid setting.program → setting.budget ≤ MOST_BUDGET → run setting h ≡ Some w → length h ≤ MOST_PROCESSES * (MOST_BUDGET + 1)
+few_taken setting h w v few e =
+    let n : ℕ = length setting.program.bodies - setting.program.functions in
+    let processes : length setting.program.bodies ≤ setting.program.functions + MOST_PROCESSES = v.limits.processes in
+    let paid : ArePaid (started_procs setting n) = started_paid setting 0 n in
+    let all : length h + steps_left w.procs ≤ steps_left (started_procs setting n) = in_all setting.program setting.plan (started_world setting) w h paid e in
+    let left : steps_left (started_procs setting n) ≡ n * (setting.budget + 1) = started_all setting 0 n in
+    let most : n * (setting.budget + 1) ≤ MOST_PROCESSES * (MOST_BUDGET + 1) = mul-le n (setting.budget + 1) MOST_PROCESSES (MOST_BUDGET + 1) (omega arith) (omega arith) in
     omega arith
 
-pub few_events_at : (program : Program) (plan : Plan) (budget p : ℕ) (h : List ℕ) (w : World) → IsValid program → budget ≤ MOST_BUDGET → run program plan budget h ≡ Some w
-    → get_or (map count_events (told program plan budget h).moments) p 0 ≤ MOST_PROCESSES * (MOST_BUDGET + 1)
-few_events_at program plan budget p h w v few e =
-    let taken : length h ≤ MOST_PROCESSES * (MOST_BUDGET + 1) = few_taken program plan budget h w v few e in
-    let within : get_or (map count_events (told program plan budget h).moments) p 0 ≤ length h = count_within (length h) p (told program plan budget h).moments (moments_within program plan budget h) in
+pub few_events_at : (setting : Setting) (p : ℕ) (h : List ℕ) (w : World) → IsValid setting.program → setting.budget ≤ MOST_BUDGET → run setting h ≡ Some w
+    → get_or (map count_events (told setting h).moments) p 0 ≤ MOST_PROCESSES * (MOST_BUDGET + 1)
+few_events_at setting p h w v few e =
+    let taken : length h ≤ MOST_PROCESSES * (MOST_BUDGET + 1) = few_taken setting h w v few e in
+    let within : get_or (map count_events (told setting h).moments) p 0 ≤ length h = count_within (length h) p (told setting h).moments (moments_within setting h) in
     omega arith
 
 -- ---- before the first step

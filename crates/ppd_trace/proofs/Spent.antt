@@ -1,4 +1,5 @@
 -- The cells of a step are those of its statement at most, and the steps of a story those of its schedule.
+use Rattle.ppd_model.specs.Setting.{Setting}
 use Rattle.std.proofs.Common.{◌≡◌, ℕ, zero, suc, ◌+◌, ◌≤◌, ℤ, Bool, true, false, cond, List, [], ◌∷◌, ◌++◌, length, map, Option, Some, None, Ok, Err, refl, ap, sym, ◌∙◌, subst, arith, length-append}
 use Rattle.std.specs.Prelude.{fold, slice_get, get_or, pos}
 use Rattle.std.specs.List.{sum_by}
@@ -276,11 +277,11 @@ same_steps (ms ∷ rest) =
     let all : sum_by length (map steps_of rest) ≡ sum_by length rest = same_steps rest in
     omega arith
 
-pub steps_within : (program : Program) (plan : Plan) (budget : ℕ) (h : List ℕ) → steps_in (story program plan budget h) ≤ length h
-steps_within program plan budget h =
-    let all : sum_by length (map steps_of (told program plan budget h).moments) ≡ sum_by length (told program plan budget h).moments = same_steps (told program plan budget h).moments in
-    let within : sum_by length (told program plan budget h).moments ≤ sum_by length (begun (started_world program plan budget)).moments + length h = told_more program plan (begun (started_world program plan budget)) h in
-    let none : sum_by length (begun (started_world program plan budget)).moments ≡ 0 = none_yet (started_world program plan budget).procs in
+pub steps_within : (setting : Setting) (h : List ℕ) → steps_in (story setting h) ≤ length h
+steps_within setting h =
+    let all : sum_by length (map steps_of (told setting h).moments) ≡ sum_by length (told setting h).moments = same_steps (told setting h).moments in
+    let within : sum_by length (told setting h).moments ≤ sum_by length (begun (started_world setting)).moments + length h = told_more setting.program setting.plan (begun (started_world setting)) h in
+    let none : sum_by length (begun (started_world setting)).moments ≡ 0 = none_yet (started_world setting).procs in
     omega arith
 
 -- ---- the shared cells are as many as at the start
@@ -293,7 +294,7 @@ cells_after : (program : Program) (plan : Plan) (t : Telling) (h : List ℕ) →
 cells_after program plan t [] = refl
 cells_after program plan t (p ∷ h) = cells_after program plan (tell program plan t p) h ∙ cells_stay t.world (need program plan t.world p)
 
-pub cells_told : (program : Program) (plan : Plan) (budget : ℕ) (h : List ℕ) (r : Running) (counts : List ℕ) (writers : List Tag) (steps : List (List Taken)) → Tells program plan budget h r counts writers steps
-    → length r.world.shared ≡ length program.starts
-cells_told program plan budget h r counts writers steps b =
-    ap (λ (x : Running). length x.world.shared) b.world ∙ cells_after program plan (begun (started_world program plan budget)) h
+pub cells_told : (setting : Setting) (h : List ℕ) (r : Running) (counts : List ℕ) (writers : List Tag) (steps : List (List Taken)) → Tells setting h r counts writers steps
+    → length r.world.shared ≡ length setting.program.starts
+cells_told setting h r counts writers steps b =
+    ap (λ (x : Running). length x.world.shared) b.world ∙ cells_after setting.program setting.plan (begun (started_world setting)) h

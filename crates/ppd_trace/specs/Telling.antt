@@ -1,7 +1,6 @@
 -- A world with what is told of it: the events so far, the last writers and the steps.
+use Rattle.ppd_model.specs.Setting.{Setting}
 use Rattle.std.specs.Prelude.{◌≡◌, ℕ, ◌+◌, List, [], ◌∷◌, ◌++◌, map, get_or, slice_set, Some, None, if◌then◌else◌, count_by}
-use Rattle.ppd_ast.specs.declared.plan.Plan.{Plan}
-use Rattle.ppd_ast.specs.declared.program.Program.{Program}
 use Rattle.ppd_sem.specs.declared.proc.Need.{Need}
 use Rattle.ppd_sem.specs.declared.proc.Need.TheVariants.{Read, Write}
 use Rattle.ppd_sem.specs.Described.{is_event}
@@ -40,7 +39,7 @@ next_of counts p = record { process = p; number = get_or counts p 0 }
 
 -- the next step of process p
 abbrev pub next_taken : Running → List Tag → ℕ → Taken
-next_taken r writers p = with_writer writers (logged_moment r.program r.plan r.world p).taken
+next_taken r writers p = with_writer writers (logged_moment r.setting.program r.setting.plan r.world p).taken
 
 -- a world, the counts of events, the last writers and the steps, after the next step of process p
 pub record HasTold (r : Running) (counts : List ℕ) (writers : List Tag) (steps : List (List Taken)) (p : ℕ)
@@ -51,21 +50,19 @@ pub record HasTold (r : Running) (counts : List ℕ) (writers : List Tag) (steps
   pub added : steps' ≡ change (λ xs. xs ++ next_taken r writers p ∷ []) p steps
 
 -- the world to which a schedule comes
-abbrev pub after : Program → Plan → ℕ → List ℕ → Running
-after program plan budget h = record {
-  program = program;
-  plan = plan;
-  budget = budget;
-  world = (told program plan budget h).world;
-  loggings = loggings program plan budget h;
+abbrev pub after : Setting → List ℕ → Running
+after setting h = record {
+  setting = setting;
+  world = (told setting h).world;
+  loggings = loggings setting h;
 }
 
 -- the schedule was taken, and the world, the counts of events, the last writers and the steps are those that are told
 -- of it
-pub record Tells (program : Program) (plan : Plan) (budget : ℕ) (h : List ℕ) (r : Running) (counts : List ℕ)
+pub record Tells (setting : Setting) (h : List ℕ) (r : Running) (counts : List ℕ)
     (writers : List Tag) (steps : List (List Taken)) : Type 0 where
-  pub runs : run program plan budget h ≡ Some (told program plan budget h).world
-  pub world : r ≡ after program plan budget h
-  pub counted : counts ≡ map (λ ms. count_by (λ m. is_event m.taken.need) ms) (told program plan budget h).moments
-  pub written : writers ≡ (told program plan budget h).writers
-  pub added : steps ≡ map steps_of (told program plan budget h).moments
+  pub runs : run setting h ≡ Some (told setting h).world
+  pub world : r ≡ after setting h
+  pub counted : counts ≡ map (λ ms. count_by (λ m. is_event m.taken.need) ms) (told setting h).moments
+  pub written : writers ≡ (told setting h).writers
+  pub added : steps ≡ map steps_of (told setting h).moments

@@ -18,13 +18,14 @@ pub struct Setting<'a> {
 }
 
 impl<'a> Model for Setting<'a> {
-    ghost use Rattle.ppd_trace.specs.Settings.{IsValidSetup, Setup};
+    ghost use Rattle.ppd_trace.specs.Settings.{IsValidSetting};
+    ghost use Rattle.ppd_model.specs.Setting.{Setting};
 
-    ghost Value = { Setup };
+    ghost Value = { Setting };
 
     ghost view = { λ s. record { program = s.program.now; plan = s.plan.now; budget = s.budget } };
 
-    ghost invariant = { λ s. IsValidSetup (record { program = s.program.now; plan = s.plan.now; budget = s.budget }) };
+    ghost invariant = { λ s. IsValidSetting (record { program = s.program.now; plan = s.plan.now; budget = s.budget }) };
 }
 
 impl<'a> Setting<'a> {

@@ -1,3 +1,4 @@
+ghost use Rattle.ppd_model.specs.Setting.{setting_of};
 ghost use Rattle.std.specs.Prelude.{◌≡◌, ◌+◌, ◌*◌, ◌<◌, ◌≤◌, ◌^◌, [], fold, length, IfOk, OnOk};
 ghost use Rattle.ppd_model.specs.declared.tracing.Tracing.{Tracing};
 ghost use Rattle.ppd_model.specs.FullTrace.{begun_tracing, trace_step as step_of, tracing_of};
@@ -164,7 +165,7 @@ pub(crate) fn trace_process<L: Ledger>(
     requires own { AreOwn subject.now.program.now subject.now.plan.now (started_with subject.now budget) own.now }
     ensures events { IfOk result
         (λ events. events
-        ≡ (tracing_of subject.now.program.now subject.now.plan.now budget subject.now.told.now.story subject.now.process
+        ≡ (tracing_of (setting_of subject.now.program.now subject.now.plan.now budget) subject.now.told.now.story subject.now.process
         own.now).events) }
     ensures cost { steps.new
         ≤ steps.old + 2 + 2 * body_size subject.now

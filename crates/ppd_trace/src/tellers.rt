@@ -232,7 +232,7 @@ fn begin<'a, L: Ledger>(setting: &Setting<'a>, steps: &mut Steps<L>) -> Result<T
     ensures cost { steps.new
         ≤ steps.old + 4 * (length setting.now.program.starts + length setting.now.program.bodies) }
     ensures told { IfOk result
-        (λ t. Tells setting.now.program setting.now.plan setting.now.budget [] t.world t.counts t.writers
+        (λ t. Tells setting.now [] t.world t.counts t.writers
         t.steps.items) }
 {
     let alloc = setting.alloc;
@@ -299,9 +299,9 @@ pub fn tell_story_in<L: Ledger>(
     schedule: &[u8],
     steps: &mut Steps<L>,
 ) -> Result<Story, DriveError>
-    ensures story { IsStoryOf setting.now.program setting.now.plan setting.now.budget schedule.now result }
+    ensures story { IsStoryOf setting.now schedule.now result }
     ensures traceable { IfOk result
-        (IsTraceable setting.now.program setting.now.plan setting.now.budget) }
+        (IsTraceable setting.now) }
     ensures cost { steps.new
         ≤ steps.old
         + 7 * (length schedule.now + length setting.now.program.starts + length setting.now.program.bodies) }

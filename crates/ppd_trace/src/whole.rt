@@ -1,3 +1,4 @@
+ghost use Rattle.ppd_model.specs.Setting.{setting_of};
 ghost use Rattle.std.specs.Prelude.{◌≡◌, ◌+◌, ◌*◌, ◌<◌, ◌≤◌, length, IfOk};
 ghost use Rattle.std.specs.List.{sum_by};
 ghost use Rattle.ppd_ast.specs.Valid.{IsValid};
@@ -25,11 +26,11 @@ fn trace_all<L: Ledger>(
     told: &PairedStory,
     steps: &mut Steps<L>,
 ) -> Result<Trace, Memory>
-    requires story { IsTraceable setting.now.program setting.now.plan setting.now.budget told.now.story }
+    requires story { IsTraceable setting.now told.now.story }
     requires pairs { ArePaired setting.now.program told.now }
     ensures trace { IfOk result
         (λ trace. trace
-        ≡ full_trace setting.now.program setting.now.plan setting.now.budget told.now.story) }
+        ≡ full_trace setting.now told.now.story) }
     ensures cost { steps.new
         ≤ steps.old + 4 * length setting.now.program.bodies + 2 * sum_by (λ b. b.cells) setting.now.program.bodies
         + (3 * most_statement_cells setting.now.program + 12) * steps_in told.now.story }
@@ -60,9 +61,9 @@ fn trace_story<L: Ledger>(
     story: Story,
     steps: &mut Steps<L>,
 ) -> Result<Trace, Memory>
-    requires story { IsTraceable setting.now.program setting.now.plan setting.now.budget story }
+    requires story { IsTraceable setting.now story }
     ensures trace { IfOk result
-        (λ trace. trace ≡ full_trace setting.now.program setting.now.plan setting.now.budget story) }
+        (λ trace. trace ≡ full_trace setting.now story) }
     ensures cost { steps.new
         ≤ steps.old + 8 * extent setting.now.program
         + (3 * most_statement_cells setting.now.program + 24) * steps_in story }
@@ -82,7 +83,7 @@ pub fn full_trace_in<L: Ledger>(
     schedule: &[u8],
     steps: &mut Steps<L>,
 ) -> Result<Trace, DriveError>
-    ensures trace { IsTraceOf setting.now.program setting.now.plan setting.now.budget schedule.now result }
+    ensures trace { IsTraceOf setting.now schedule.now result }
     ensures cost { steps.new
         ≤ steps.old + (3 * most_statement_cells setting.now.program + 31) *
         (length schedule.now + extent setting.now.program) }
@@ -100,7 +101,7 @@ fn full_trace_from<L: Ledger>(
     requires name { blank.name ≡ L.name }
     requires parts { blank.parts ≡ L.parts }
     requires some { 0 < blank.parts }
-    ensures { IsTraceOf setting.now.program setting.now.plan setting.now.budget schedule.now result }
+    ensures { IsTraceOf setting.now schedule.now result }
 {
     let mut steps: Steps<L> = Steps::new(blank);
     full_trace_in(setting, schedule, &mut steps)
@@ -124,8 +125,8 @@ pub fn full_trace(
     requires program { IsValid program.now }
     requires plan { IsValidPlan program.now plan.now }
     requires budget { budget ≤ MOST_BUDGET }
-    ensures trace { IsTraceOf program.now plan.now budget schedule.now result }
-    ensures agreeing { IsTraceOfAgreeing program.now plan.now budget schedule.now result }
+    ensures trace { IsTraceOf (setting_of program.now plan.now budget) schedule.now result }
+    ensures agreeing { IsTraceOfAgreeing (setting_of program.now plan.now budget) schedule.now result }
 {
     let setting = Setting::new(alloc, program, plan, budget);
     full_trace_from::<Brand>(&setting, schedule, Blank::new(1))

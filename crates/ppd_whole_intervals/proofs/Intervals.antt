@@ -1,4 +1,5 @@
 -- The intervals of all processes, one process after the other.
+use Rattle.ppd_flow_past.specs.PastSetting.{past_setting}
 use Rattle.std.proofs.Common.{◌≡◌, ℕ, zero, suc, ◌+◌, ◌<◌, List, [], ◌∷◌, ◌++◌, length, map, drop, take, get_or, refl, ap, ap₂, sym, ◌∙◌, arith}
 use Rattle.std.specs.List.{flat_map, range_with_len}
 use Rattle.std.proofs.Math.ListN as math
@@ -16,7 +17,7 @@ use Rattle.ppd_whole_intervals.specs.Intervals.{all_intervals, intervals_from, i
 
 module _ (past : Past) (uncut : past.cut.now ≡ past.logs.now) where
   abbrev seen : List Entry → Seen
-  seen entries = seen_by past.program.now past.plan.now past.budget entries
+  seen entries = seen_by (past_setting past) entries
 
   pub seens_count : length (seens_in past) ≡ length past.logs.now.lists
   seens_count = length-map past.cut.now.lists seen ∙ ap (λ (l : Logs). length l.lists) uncut

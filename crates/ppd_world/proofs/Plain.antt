@@ -104,26 +104,26 @@ moved_at r p s t n at = record {
   logs = λ l g. let was = got_change (gone_on t n) p r.loggings l g in ap (λ (x : Logging). x.proc) (sym was.2);
 }
 
-plain_need : (r : Running) (p : ℕ) (s : Proc) → IsAt r p s → need_of r.program r.plan s ≡ Plain → need r.program r.plan r.world p ≡ Plain
-plain_need r p s at e = ap (λ o. need_at r.program r.plan o) at.procs ∙ e
+plain_need : (r : Running) (p : ℕ) (s : Proc) → IsAt r p s → need_of r.setting.program r.setting.plan s ≡ Plain → need r.setting.program r.setting.plan r.world p ≡ Plain
+plain_need r p s at e = ap (λ o. need_at r.setting.program r.setting.plan o) at.procs ∙ e
 
-pub plain_can : (r : Running) (p : ℕ) (s : Proc) → IsAt r p s → need_of r.program r.plan s ≡ Plain → can_step r p ≡ true
+pub plain_can : (r : Running) (p : ℕ) (s : Proc) → IsAt r p s → need_of r.setting.program r.setting.plan s ≡ Plain → can_step r p ≡ true
 plain_can r p s at e = ap (λ (n : Need). can r.world n) (plain_need r p s at e)
 
 parts : (r : Running) (w v : World) (ls ks : List Logging) → w ≡ v → ls ≡ ks → record r { world = w; loggings = ls } ≡ record r { world = v; loggings = ks }
 parts r w v ls ks e f = ap (λ (x : World). record r { world = x; loggings = ls }) e ∙ ap (λ (x : List Logging). record r { world = v; loggings = x }) f
 
-one_moved : (r : Running) (p : ℕ) (s : Proc) → IsAt r p s → need_of r.program r.plan s ≡ Plain → stepped r p ≡ moved r p (act r.program r.plan s Go) 1
+one_moved : (r : Running) (p : ℕ) (s : Proc) → IsAt r p s → need_of r.setting.program r.setting.plan s ≡ Plain → stepped r p ≡ moved r p (act r.setting.program r.setting.plan s Go) 1
 one_moved r p s at e =
-    let n : need r.program r.plan r.world p ≡ Plain = plain_need r p s at e in
-    let t : Proc = act r.program r.plan s Go in
-    let w : World = step_by r.program r.plan r.world p (need r.program r.plan r.world p) in
-    let m : Moment = moment_by r.plan r.world w.shared (need r.program r.plan r.world p) in
-    parts r w (record r.world { procs = change (λ (_ : Proc). t) p r.world.procs }) (change (λ l. log_step r.program r.plan l m) p r.loggings) (change (gone_on t 1) p r.loggings)
-    (plain_world r.program r.plan r.world p (need r.program r.plan r.world p) n
-    ∙ ap (λ (ps : List Proc). record r.world { procs = ps }) (change_at (λ (x : Proc). act r.program r.plan x Go) (λ (_ : Proc). t) p r.world.procs (λ x g. ap (λ (y : Proc). act r.program r.plan y Go) (some (sym g ∙ at.procs)))))
-    (change_at (λ l. log_step r.program r.plan l m) (gone_on t 1) p r.loggings
-    (λ l g. plain_log r.program r.plan r.world w.shared l (need r.program r.plan r.world p) n ∙ ap (λ (y : Proc). gone_on (act r.program r.plan y Go) 1 l) (at.logs l g)))
+    let n : need r.setting.program r.setting.plan r.world p ≡ Plain = plain_need r p s at e in
+    let t : Proc = act r.setting.program r.setting.plan s Go in
+    let w : World = step_by r.setting.program r.setting.plan r.world p (need r.setting.program r.setting.plan r.world p) in
+    let m : Moment = moment_by r.setting.plan r.world w.shared (need r.setting.program r.setting.plan r.world p) in
+    parts r w (record r.world { procs = change (λ (_ : Proc). t) p r.world.procs }) (change (λ l. log_step r.setting.program r.setting.plan l m) p r.loggings) (change (gone_on t 1) p r.loggings)
+    (plain_world r.setting.program r.setting.plan r.world p (need r.setting.program r.setting.plan r.world p) n
+    ∙ ap (λ (ps : List Proc). record r.world { procs = ps }) (change_at (λ (x : Proc). act r.setting.program r.setting.plan x Go) (λ (_ : Proc). t) p r.world.procs (λ x g. ap (λ (y : Proc). act r.setting.program r.setting.plan y Go) (some (sym g ∙ at.procs)))))
+    (change_at (λ l. log_step r.setting.program r.setting.plan l m) (gone_on t 1) p r.loggings
+    (λ l g. plain_log r.setting.program r.setting.plan r.world w.shared l (need r.setting.program r.setting.plan r.world p) n ∙ ap (λ (y : Proc). gone_on (act r.setting.program r.setting.plan y Go) 1 l) (at.logs l g)))
 
 -- ---- many steps
 
@@ -141,35 +141,33 @@ not_moved r p s t at e =
     (ap (λ (ps : List Proc). record r.world { procs = ps }) (change_none (λ (_ : Proc). t) p r.world.procs (λ x g. sym e ∙ some (sym at.procs ∙ g))))
     (change_none (gone_on t 0) p r.loggings (λ l g. let none : l.rest + 0 ≡ l.rest = omega arith in ap (λ (i : ℕ). record l { proc = t; rest = i }) none ∙ ap (λ (y : Proc). record l { proc = y }) (sym e ∙ sym (at.logs l g)))))
 
-pub all_moved : (n : ℕ) (r : Running) (p : ℕ) (s t : Proc) → IsAt r p s → GoesPlainly r.program r.plan s n t → stepped_times r p n ≡ moved r p t n
+pub all_moved : (n : ℕ) (r : Running) (p : ℕ) (s t : Proc) → IsAt r p s → GoesPlainly r.setting.program r.setting.plan s n t → stepped_times r p n ≡ moved r p t n
 all_moved zero r p s t at g = not_moved r p s t at g
 all_moved (suc n) r p s t at g =
-    let a : Proc = act r.program r.plan s Go in
+    let a : Proc = act r.setting.program r.setting.plan s Go in
     ap (λ (x : Running). stepped_times x p n) (one_moved r p s at g.0)
     ∙ all_moved n (moved r p a 1) p a t (moved_at r p s a 1 at) g.1
     ∙ moved_on r p a t 1 n (suc n) (omega arith)
 
-after_one : (r : Running) (p : ℕ) (s : Proc) → IsAt r p s → need_of r.program r.plan s ≡ Plain → IsAt (stepped r p) p (act r.program r.plan s Go)
-after_one r p s at e = subst (λ (x : Running). IsAt x p (act r.program r.plan s Go)) (sym (one_moved r p s at e)) (moved_at r p s (act r.program r.plan s Go) 1 at)
+after_one : (r : Running) (p : ℕ) (s : Proc) → IsAt r p s → need_of r.setting.program r.setting.plan s ≡ Plain → IsAt (stepped r p) p (act r.setting.program r.setting.plan s Go)
+after_one r p s at e = subst (λ (x : Running). IsAt x p (act r.setting.program r.setting.plan s Go)) (sym (one_moved r p s at e)) (moved_at r p s (act r.setting.program r.setting.plan s Go) 1 at)
 
-times_of : (n : ℕ) (r : Running) (p : ℕ) (s t : Proc) (h : List ℕ) → IsAt r p s → GoesPlainly r.program r.plan s n t → IsOf h r → IsOf (h ++ replicate n p) (stepped_times r p n)
+times_of : (n : ℕ) (r : Running) (p : ℕ) (s t : Proc) (h : List ℕ) → IsAt r p s → GoesPlainly r.setting.program r.setting.plan s n t → IsOf h r → IsOf (h ++ replicate n p) (stepped_times r p n)
 times_of zero r p s t h at g o = subst (λ (l : List ℕ). IsOf l r) (sym (append-nil h)) o
 times_of (suc n) r p s t h at g o =
     subst (λ (l : List ℕ). IsOf l (stepped_times (stepped r p) p n)) (append_assoc h (p ∷ []) (replicate n p))
-    (times_of n (stepped r p) p (act r.program r.plan s Go) t (h ++ p ∷ []) (after_one r p s at g.0) g.1 (of_step h r p (plain_can r p s at g.0) o))
+    (times_of n (stepped r p) p (act r.setting.program r.setting.plan s Go) t (h ++ p ∷ []) (after_one r p s at g.0) g.1 (of_step h r p (plain_can r p s at g.0) o))
 
-pub times_reached : (n : ℕ) (r : Running) (p : ℕ) (s t : Proc) → IsAt r p s → GoesPlainly r.program r.plan s n t → IsReached r → IsReached (stepped_times r p n)
+pub times_reached : (n : ℕ) (r : Running) (p : ℕ) (s t : Proc) → IsAt r p s → GoesPlainly r.setting.program r.setting.plan s n t → IsReached r → IsReached (stepped_times r p n)
 times_reached zero r p s t at g h = h
 times_reached (suc n) r p s t at g h =
-    times_reached n (stepped r p) p (act r.program r.plan s Go) t (after_one r p s at g.0) g.1 (reached_step r p (plain_can r p s at g.0) h)
+    times_reached n (stepped r p) p (act r.setting.program r.setting.plan s Go) t (after_one r p s at g.0) g.1 (reached_step r p (plain_can r p s at g.0) h)
 
-pub times_taken : (n : ℕ) (r : Running) (p : ℕ) (s t : Proc) → IsAt r p s → GoesPlainly r.program r.plan s n t → Takes r (replicate n p) (stepped_times r p n)
+pub times_taken : (n : ℕ) (r : Running) (p : ℕ) (s t : Proc) → IsAt r p s → GoesPlainly r.setting.program r.setting.plan s n t → Takes r (replicate n p) (stepped_times r p n)
 times_taken n r p s t at g =
     let e : stepped_times r p n ≡ moved r p t n = all_moved n r p s t at g in
     record {
-      program = ap (λ (x : Running). x.program) e;
-      plan = ap (λ (x : Running). x.plan) e;
-      budget = ap (λ (x : Running). x.budget) e;
+      setting = ap (λ (x : Running). x.setting) e;
       comes = λ h o. times_of n r p s t h at g o;
     }
 
@@ -187,11 +185,11 @@ pub rests_fit : (r : Running) (p n : ℕ) (t : Proc) → IsReached r → ComesPl
 rests_fit r p n t h c =
     let s = reached_sound r h in
     let got = got_map (λ (l : Logging). l.proc) p r.loggings c.before (ap (λ (ps : List Proc). slice_get ps p) s.same ∙ c.there) in
-    let own : IsSoundLogging r.program got.0 = every_at (IsSoundLogging r.program) r.loggings p got.0 s.logs got.1 in
-    let few : n ≤ measure got.0.proc = goes_few r.program r.plan n got.0.proc t own.proc.spent (subst (λ (x : Proc). GoesPlainly r.program r.plan x n t) (sym got.2) c.goes) in
+    let own : IsSoundLogging r.setting.program got.0 = every_at (IsSoundLogging r.setting.program) r.loggings p got.0 s.logs got.1 in
+    let few : n ≤ measure got.0.proc = goes_few r.setting.program r.setting.plan n got.0.proc t own.proc.spent (subst (λ (x : Proc). GoesPlainly r.setting.program r.setting.plan x n t) (sym got.2) c.goes) in
     let most : got.0.rest + measure got.0.proc ≤ MOST_BUDGET + 1 = own.rest in
     every_all (λ (l : Logging). l.rest + n < 2 ^ 32) r.loggings
-    (each_more (IsSoundLogging r.program) (λ (l : Logging). l.rest + n < 2 ^ 32) r.loggings (λ l q. let rest : l.rest + measure l.proc ≤ MOST_BUDGET + 1 = q.rest in omega arith) s.logs)
+    (each_more (IsSoundLogging r.setting.program) (λ (l : Logging). l.rest + n < 2 ^ 32) r.loggings (λ l q. let rest : l.rest + measure l.proc ≤ MOST_BUDGET + 1 = q.rest in omega arith) s.logs)
 
 -- ---- the world from its parts
 
@@ -226,8 +224,8 @@ pub comes_printed : (r : Running) (p n : ℕ) (after : Proc) → (c : ComesPrint
 comes_printed r p n after c = record {
   before = c.before;
   there = c.there;
-  goes = subst (λ (x : Proc). GoesPlainly r.program r.plan x n (printed_before c.before.prints after)) (with_own c.before)
-      (goes_printed r.program r.plan c.before.prints n (unprinted c.before) after c.goes);
+  goes = subst (λ (x : Proc). GoesPlainly r.setting.program r.setting.plan x n (printed_before c.before.prints after)) (with_own c.before)
+      (goes_printed r.setting.program r.setting.plan c.before.prints n (unprinted c.before) after c.goes);
 }
 
 -- the process at the changed place is the one that is there

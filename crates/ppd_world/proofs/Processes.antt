@@ -30,13 +30,13 @@ past program plan w (s ∷ ps) zero h = absurd (omega arith)
 past program plan w (s ∷ ps) (suc q) h = past program plan w ps q (omega arith)
 
 -- where none of them can take a step, nobody can
-pub none_of_all : (r : Running) → ((q : ℕ) → q < length r.world.procs → can_step r q ≡ false) → IsOver r.program r.plan r.world
+pub none_of_all : (r : Running) → ((q : ℕ) → q < length r.world.procs → can_step r q ≡ false) → IsOver r.setting.program r.setting.plan r.world
 none_of_all r none = record {
-  nobody = λ q. elim (cases_lt q (length r.world.procs)) [ inl lt ↦ none q lt | inr le ↦ past r.program r.plan r.world r.world.procs q le ];
+  nobody = λ q. elim (cases_lt q (length r.world.procs)) [ inl lt ↦ none q lt | inr le ↦ past r.setting.program r.setting.plan r.world r.world.procs q le ];
 }
 
 -- there are as many as the program has processes
-pub reached_count : (r : Running) → IsReached r → length r.world.procs ≡ length r.program.bodies - r.program.functions
+pub reached_count : (r : Running) → IsReached r → length r.world.procs ≡ length r.setting.program.bodies - r.setting.program.functions
 reached_count r i =
-    run_keeps r.program r.plan (started_world r.program r.plan r.budget) r.world i.schedule i.comes.runs
-    ∙ length-map-range_with_len (λ p. started r.program r.plan p r.budget) 0 (length r.program.bodies - r.program.functions)
+    run_keeps r.setting.program r.setting.plan (started_world r.setting) r.world i.schedule i.comes.runs
+    ∙ length-map-range_with_len (λ p. started r.setting.program r.setting.plan p r.setting.budget) 0 (length r.setting.program.bodies - r.setting.program.functions)

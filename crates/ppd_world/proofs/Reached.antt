@@ -1,4 +1,5 @@
 -- A schedule goes on by the step that a world takes, and what the code may ask of a world that is reached.
+use Rattle.ppd_model.specs.Setting.{Setting, setting_of}
 use Rattle.std.proofs.Common.{◌≡◌, ℕ, ◌+◌, ◌-◌, ◌<◌, ◌≤◌, ℤ, Bool, true, false, cond, List, [], ◌∷◌, ◌++◌, length, map, take, get_or, Option, Some, None, Result, Ok, Err, OnOk, OnErr, refl, ap, sym, ◌∙◌, subst, arith}
 use Rattle.std.specs.Prelude.{slice_get, IsSomeAnd}
 use Rattle.std.proofs.lemmas.List.{append_assoc, append-nil, take_all, take_more}
@@ -50,12 +51,12 @@ run_more program plan first last (q ∷ h) p e can =
 
 pub of_step : (h : List ℕ) (r : Running) (p : ℕ) → can_step r p ≡ true → IsOf h r → IsOf (h ++ p ∷ []) (stepped r p)
 of_step h r p can o =
-    let told_is : (told r.program r.plan r.budget h).world ≡ r.world = stories_are_of_runs r.program r.plan r.budget h r.world o.runs in
+    let told_is : (told r.setting h).world ≡ r.world = stories_are_of_runs r.setting h r.world o.runs in
     record {
-      runs = run_more r.program r.plan (started_world r.program r.plan r.budget) r.world h p o.runs can;
-      logs = ap (λ (ls : List Logging). change (λ l. log_step r.program r.plan l (logged_moment r.program r.plan r.world p)) p ls) o.logs
-          ∙ ap (λ (w : World). change (λ l. log_step r.program r.plan l (logged_moment r.program r.plan w p)) p (loggings r.program r.plan r.budget h)) (sym told_is)
-          ∙ sym (logs_grow r.program r.plan r.budget h p);
+      runs = run_more r.setting.program r.setting.plan (started_world r.setting) r.world h p o.runs can;
+      logs = ap (λ (ls : List Logging). change (λ l. log_step r.setting.program r.setting.plan l (logged_moment r.setting.program r.setting.plan r.world p)) p ls) o.logs
+          ∙ ap (λ (w : World). change (λ l. log_step r.setting.program r.setting.plan l (logged_moment r.setting.program r.setting.plan w p)) p (loggings r.setting h)) (sym told_is)
+          ∙ sym (logs_grow r.setting h p);
     }
 
 pub reached_step : (r : Running) (p : ℕ) → can_step r p ≡ true → IsReached r → IsReached (stepped r p)
@@ -69,31 +70,29 @@ reached_step r p can h = record {
 
 -- ---- the world from its parts
 
-abbrev running : Program → Plan → ℕ → World → List Logging → Running
-running program plan budget w ls = record { program = program; plan = plan; budget = budget; world = w; loggings = ls }
+abbrev running : Setting → World → List Logging → Running
+running setting w ls = record { setting = setting; world = w; loggings = ls }
 
-same_running : (program : Program) (plan : Plan) (budget : ℕ) (w v : World) (ls ks : List Logging) → w ≡ v → ls ≡ ks → running program plan budget w ls ≡ running program plan budget v ks
-same_running program plan budget w v ls ks e f = ap (λ (x : World). running program plan budget x ls) e ∙ ap (λ (l : List Logging). running program plan budget v l) f
+same_running : (setting : Setting) (w v : World) (ls ks : List Logging) → w ≡ v → ls ≡ ks → running setting w ls ≡ running setting v ks
+same_running setting w v ls ks e f = ap (λ (x : World). running setting x ls) e ∙ ap (λ (l : List Logging). running setting v l) f
 
 pub took : {E : Type 0} (r : Result (Unit {0}) E) (program : Program) (plan : Plan) (budget : ℕ) (w now : World) (ls new : List Logging) (p : ℕ)
     → OnOk r (now ≡ step program plan w p) → OnOk r (new ≡ change (λ l. log_step program plan l (logged_moment program plan w p)) p ls)
-    → OnOk r (running program plan budget now new ≡ stepped (running program plan budget w ls) p)
-took (Ok u) program plan budget w now ls new p e f = same_running program plan budget now (step program plan w p) new (change (λ l. log_step program plan l (logged_moment program plan w p)) p ls) e f
+    → OnOk r (running (setting_of program plan budget) now new ≡ stepped (running (setting_of program plan budget) w ls) p)
+took (Ok u) program plan budget w now ls new p e f = same_running (setting_of program plan budget) now (step program plan w p) new (change (λ l. log_step program plan l (logged_moment program plan w p)) p ls) e f
 took (Err x) program plan budget w now ls new p e f = tt
 
 pub left_it : {E : Type 0} (r : Result (Unit {0}) E) (program : Program) (plan : Plan) (budget : ℕ) (s t : World) (ls ks : List Logging) → OnErr r (t ≡ s) → OnErr r (ks ≡ ls)
-    → OnErr r (running program plan budget (world_of t ks) ks ≡ running program plan budget (world_of s ls) ls)
+    → OnErr r (running (setting_of program plan budget) (world_of t ks) ks ≡ running (setting_of program plan budget) (world_of s ls) ls)
 left_it (Ok u) program plan budget s t ls ks e f = tt
 left_it (Err x) program plan budget s t ls ks e f =
-    ap (λ (x : World). running program plan budget (world_of x ks) ks) e ∙ ap (λ (x : List Logging). running program plan budget (world_of s x) x) f
+    ap (λ (x : World). running (setting_of program plan budget) (world_of x ks) ks) e ∙ ap (λ (x : List Logging). running (setting_of program plan budget) (world_of s x) x) f
 
 -- ---- answers of a step
 
 takes_step : (old now : Running) (p : ℕ) → can_step old p ≡ true → now ≡ stepped old p → Takes old (p ∷ []) now
 takes_step old now p can e = record {
-  program = ap (λ (x : Running). x.program) e;
-  plan = ap (λ (x : Running). x.plan) e;
-  budget = ap (λ (x : Running). x.budget) e;
+  setting = ap (λ (x : Running). x.setting) e;
   comes = λ g o. subst (λ (x : Running). IsOf (g ++ p ∷ []) x) (sym e) (of_step g old p can o);
 }
 
@@ -108,13 +107,11 @@ kept_by (Err x) old now p can e f h = subst (λ (x : Running). IsReached x) (sym
 -- ---- driving
 
 pub takes_none : (r : Running) (h : List ℕ) → Takes r (take 0 h) r
-takes_none r h = record { program = refl; plan = refl; budget = refl; comes = λ g o. subst (λ (l : List ℕ). IsOf l r) (sym (append-nil g)) o }
+takes_none r h = record { setting = refl; comes = λ g o. subst (λ (l : List ℕ). IsOf l r) (sym (append-nil g)) o }
 
 pub takes_more : (old now next : Running) (h : List ℕ) (i p : ℕ) → i < length h → p ≡ get_or h i p → Takes old (take i h) now → Takes now (p ∷ []) next → Takes old (take (i + 1) h) next
 takes_more old now next h i p lt is before after = record {
-  program = after.program ∙ before.program;
-  plan = after.plan ∙ before.plan;
-  budget = after.budget ∙ before.budget;
+  setting = after.setting ∙ before.setting;
   comes = λ g o.
       let one : IsOf ((g ++ take i h) ++ p ∷ []) next = after.comes (g ++ take i h) (before.comes g o) in
       let more : take (i + 1) h ≡ take i h ++ p ∷ [] = take_more h i p lt ∙ ap (λ (x : ℕ). take i h ++ x ∷ []) (sym is) in
@@ -163,47 +160,47 @@ small_chan left x s =
 small_logging : (program : Program) (l : Logging) → IsSoundLogging program l → IsSmallLogging program l
 small_logging program l s = let rest : l.rest + measure l.proc ≤ MOST_BUDGET + 1 = s.rest in record { proc = s.proc; rest = omega arith }
 
-pub runnable : (r : Running) → IsReached r → IsRunnable r.program
-runnable r h = valid-runnable r.program h.program
+pub runnable : (r : Running) → IsReached r → IsRunnable r.setting.program
+runnable r h = valid-runnable r.setting.program h.program
 
-pub numbered : (r : Running) → IsReached r → IsNumbered r.plan
-numbered r h = valid-numbered r.program r.plan h.program h.plan
+pub numbered : (r : Running) → IsReached r → IsNumbered r.setting.plan
+numbered r h = valid-numbered r.setting.program r.setting.plan h.program h.plan
 
 -- what a step asks of the parts that a world which is reached is made of, with these loggings
-pub parts_ready : (program : Program) (plan : Plan) (budget : ℕ) (s : World) (ls ks : List Logging) (r : Running)
-    → running program plan budget (world_of s ls) ls ≡ r → ks ≡ ls → IsReached r → IsReady program plan s ks
-parts_ready program plan budget s ls ks r view same h =
-    let reached : IsReached (running program plan budget (world_of s ls) ls) = subst (λ (x : Running). IsReached x) (sym view) h in
-    let sound : IsSound (running program plan budget (world_of s ls) ls) = reached_sound _ reached in
+pub parts_ready : (setting : Setting) (s : World) (ls ks : List Logging) (r : Running)
+    → running setting (world_of s ls) ls ≡ r → ks ≡ ls → IsReached r → IsReady setting.program setting.plan s ks
+parts_ready setting s ls ks r view same h =
+    let reached : IsReached (running setting (world_of s ls) ls) = subst (λ (x : Running). IsReached x) (sym view) h in
+    let sound : IsSound (running setting (world_of s ls) ls) = reached_sound _ reached in
     let left : ℕ = steps_left (map (λ l. l.proc) ls) in
-    let ready : IsReady program plan s ls = record {
+    let ready : IsReady setting.program setting.plan s ls = record {
       runnable = runnable _ reached;
       numbered = numbered _ reached;
       sems = every_all IsSmallSem s.sems (each_more (IsSoundSem left) IsSmallSem s.sems (small_sem left) sound.sems);
       chans = every_all IsSmallChan s.chans (each_more (IsSoundChan left) IsSmallChan s.chans (small_chan left) sound.chans);
-      small = every_all (IsSmallLogging program) ls (each_more (IsSoundLogging program) (IsSmallLogging program) ls (small_logging program) sound.logs);
+      small = every_all (IsSmallLogging setting.program) ls (each_more (IsSoundLogging setting.program) (IsSmallLogging setting.program) ls (small_logging setting.program) sound.logs);
     } in
-    subst (λ (x : List Logging). IsReady program plan s x) (sym same) ready
+    subst (λ (x : List Logging). IsReady setting.program setting.plan s x) (sym same) ready
 
 -- ---- the start
 
-pub begun_is : (program : Program) (plan : Plan) (budget n : ℕ) (shared : List ℤ) (sems : List Counts) (chans : List Channel) (ls : List Logging) → n ≡ length program.bodies - program.functions → shared ≡ program.starts → sems ≡ begun_sems program → chans ≡ begun_chans program → ls ≡ begun_logs program plan budget n
-    → running program plan budget (world_of (store shared sems chans) ls) ls ≡ begun program plan budget
-begun_is program plan budget n shared sems chans ls count s_is m_is c_is l_is =
-    let k : ℕ = length program.bodies - program.functions in
-    let logs : ls ≡ loggings program plan budget [] = l_is ∙ ap (λ (i : ℕ). begun_logs program plan budget i) count ∙ sym (logs_begun program plan budget 0 k) in
-    let procs : map (λ l. l.proc) ls ≡ started_procs program plan budget k = ap (λ (x : List Logging). map (λ l. l.proc) x) (l_is ∙ ap (λ (i : ℕ). begun_logs program plan budget i) count) ∙ procs_begun program plan budget 0 k in
-    same_running program plan budget (world_of (store shared sems chans) ls) (started_world program plan budget) ls (loggings program plan budget [])
-    (ap (λ (x : List ℤ). world_of (store x sems chans) ls) s_is ∙ ap (λ (x : List Counts). world_of (store program.starts x chans) ls) m_is
-    ∙ ap (λ (x : List Channel). world_of (store program.starts (begun_sems program) x) ls) c_is
-    ∙ ap (λ (x : List Proc). record { shared = program.starts; sems = begun_sems program; chans = begun_chans program; procs = x }) procs)
+pub begun_is : (setting : Setting) (n : ℕ) (shared : List ℤ) (sems : List Counts) (chans : List Channel) (ls : List Logging) → n ≡ length setting.program.bodies - setting.program.functions → shared ≡ setting.program.starts → sems ≡ begun_sems setting.program → chans ≡ begun_chans setting.program → ls ≡ begun_logs setting n
+    → running setting (world_of (store shared sems chans) ls) ls ≡ begun setting
+begun_is setting n shared sems chans ls count s_is m_is c_is l_is =
+    let k : ℕ = length setting.program.bodies - setting.program.functions in
+    let logs : ls ≡ loggings setting [] = l_is ∙ ap (λ (i : ℕ). begun_logs setting i) count ∙ sym (logs_begun setting 0 k) in
+    let procs : map (λ l. l.proc) ls ≡ started_procs setting k = ap (λ (x : List Logging). map (λ l. l.proc) x) (l_is ∙ ap (λ (i : ℕ). begun_logs setting i) count) ∙ procs_begun setting 0 k in
+    same_running setting (world_of (store shared sems chans) ls) (started_world setting) ls (loggings setting [])
+    (ap (λ (x : List ℤ). world_of (store x sems chans) ls) s_is ∙ ap (λ (x : List Counts). world_of (store setting.program.starts x chans) ls) m_is
+    ∙ ap (λ (x : List Channel). world_of (store setting.program.starts (begun_sems setting.program) x) ls) c_is
+    ∙ ap (λ (x : List Proc). record { shared = setting.program.starts; sems = begun_sems setting.program; chans = begun_chans setting.program; procs = x }) procs)
     logs
 
-pub begun_of : (program : Program) (plan : Plan) (budget : ℕ) (r : Running) → r ≡ begun program plan budget → IsOf [] r
-begun_of program plan budget r e = subst (λ (x : Running). IsOf [] x) (sym e) record { runs = refl; logs = refl }
+pub begun_of : (setting : Setting) (r : Running) → r ≡ begun setting → IsOf [] r
+begun_of setting r e = subst (λ (x : Running). IsOf [] x) (sym e) record { runs = refl; logs = refl }
 
-pub begun_reached : (program : Program) (plan : Plan) (budget : ℕ) (r : Running) → IsValid program → IsValidPlan program plan → budget ≤ MOST_BUDGET → r ≡ begun program plan budget → IsReached r
-begun_reached program plan budget r v w b e = subst (λ (x : Running). IsReached x) (sym e) record {
+pub begun_reached : (setting : Setting) (r : Running) → IsValid setting.program → IsValidPlan setting.program setting.plan → setting.budget ≤ MOST_BUDGET → r ≡ begun setting → IsReached r
+begun_reached setting r v w b e = subst (λ (x : Running). IsReached x) (sym e) record {
   program = v;
   plan = w;
   budget = b;

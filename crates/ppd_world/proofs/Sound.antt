@@ -1,4 +1,5 @@
 -- What holds in each world that a schedule comes to.
+use Rattle.ppd_model.specs.Setting.{Setting}
 use Rattle.std.proofs.Common.{◌≡◌, ℕ, ℤ, zero, suc, ◌+◌, ◌-◌, ◌*◌, ◌<◌, ◌≤◌, true, List, [], ◌∷◌, ◌++◌, length, map, Option, Some, refl, ap, sym, ◌∙◌, subst, arith, length-append}
 use Rattle.std.specs.Prelude.{fold, slice_get}
 use Rattle.std.specs.List.{AllByRecursion as Each, range_with_len}
@@ -63,7 +64,7 @@ pub record IsSoundChan (left : ℕ) (x : Channel) : Type 0 where
 
 pub record IsSound (r : Running) : Type 0 where
   pub same : map (λ l. l.proc) r.loggings ≡ r.world.procs
-  pub logs : Each (IsSoundLogging r.program) r.loggings
+  pub logs : Each (IsSoundLogging r.setting.program) r.loggings
   pub sems : Each (IsSoundSem (steps_left r.world.procs)) r.world.sems
   pub chans : Each (IsSoundChan (steps_left r.world.procs)) r.world.chans
   pub few : steps_left r.world.procs ≤ most
@@ -152,21 +153,21 @@ logging_sound program plan w l x run e h =
 
 pub left_less : (r : Running) (p : ℕ) → can_step r p ≡ true → IsSound r → steps_left (stepped r p).world.procs + 1 ≤ steps_left r.world.procs
 left_less r p e s =
-    let paid : ArePaid r.world.procs = subst (λ (ps : List Proc). ArePaid ps) s.same (paid_of r.program r.loggings s.logs) in
-    all_falls r.program r.plan r.world (answer r.world (need r.program r.plan r.world p)) p r.world.procs paid e
+    let paid : ArePaid r.world.procs = subst (λ (ps : List Proc). ArePaid ps) s.same (paid_of r.setting.program r.loggings s.logs) in
+    all_falls r.setting.program r.setting.plan r.world (answer r.world (need r.setting.program r.setting.plan r.world p)) p r.world.procs paid e
 
-pub step_sound : (r : Running) (p : ℕ) → IsRunnable r.program → can_step r p ≡ true → IsSound r → IsSound (stepped r p)
+pub step_sound : (r : Running) (p : ℕ) → IsRunnable r.setting.program → can_step r p ≡ true → IsSound r → IsSound (stepped r p)
 step_sound r p run e s =
-    let n : Need = need r.program r.plan r.world p in
-    let x : Moment = logged_moment r.program r.plan r.world p in
+    let n : Need = need r.setting.program r.setting.plan r.world p in
+    let x : Moment = logged_moment r.setting.program r.setting.plan r.world p in
     let less : steps_left (stepped r p).world.procs + 1 ≤ steps_left r.world.procs = left_less r p e s in
     let few : steps_left r.world.procs ≤ most = s.few in
-    let at : (l : Logging) → slice_get r.loggings p ≡ Some l → can r.world (need_of r.program r.plan l.proc) ≡ true =
+    let at : (l : Logging) → slice_get r.loggings p ≡ Some l → can r.world (need_of r.setting.program r.setting.plan l.proc) ≡ true =
     λ l is. let found : slice_get r.world.procs p ≡ Some l.proc = ap (λ (ps : List Proc). slice_get ps p) (sym s.same) ∙ map_get (λ (y : Logging). y.proc) r.loggings p l is in
-    sym (ap (λ (o : Option Proc). can r.world (need_at r.program r.plan o)) found) ∙ e in
+    sym (ap (λ (o : Option Proc). can r.world (need_at r.setting.program r.setting.plan o)) found) ∙ e in
     record {
-      same = map_change (λ l. l.proc) (λ l. log_step r.program r.plan l x) (λ t. act r.program r.plan t x.taken.answer) p r.loggings (λ l. refl) ∙ ap (λ (ps : List Proc). change (λ t. act r.program r.plan t x.taken.answer) p ps) s.same;
-      logs = every_change (IsSoundLogging r.program) (IsSoundLogging r.program) (λ l. log_step r.program r.plan l x) p r.loggings (λ l h. h) (λ l is h. logging_sound r.program r.plan r.world l x run (at l is) h) s.logs;
+      same = map_change (λ l. l.proc) (λ l. log_step r.setting.program r.setting.plan l x) (λ t. act r.setting.program r.setting.plan t x.taken.answer) p r.loggings (λ l. refl) ∙ ap (λ (ps : List Proc). change (λ t. act r.setting.program r.setting.plan t x.taken.answer) p ps) s.same;
+      logs = every_change (IsSoundLogging r.setting.program) (IsSoundLogging r.setting.program) (λ l. log_step r.setting.program r.setting.plan l x) p r.loggings (λ l h. h) (λ l is h. logging_sound r.setting.program r.setting.plan r.world l x run (at l is) h) s.logs;
       sems = sems_sound r.world (steps_left r.world.procs) (steps_left (stepped r p).world.procs) less n e s.sems;
       chans = chans_sound r.world (steps_left r.world.procs) (steps_left (stepped r p).world.procs) less n e s.chans;
       few = omega arith;
@@ -174,11 +175,11 @@ step_sound r p run e s =
 
 -- ---- the start
 
-logs_sound : (program : Program) (plan : Plan) (budget p n : ℕ) → IsRunnable program → budget ≤ MOST_BUDGET → program.functions + (p + n) ≤ length program.bodies → Each (IsSoundLogging program) (map (λ q. begun_log program plan budget q) (range_with_len p n))
-logs_sound program plan budget p zero run few lt = tt
-logs_sound program plan budget p (suc n) run few lt = (
-  record { proc = started_runs program (program.functions + p) budget run (omega arith) (omega arith); rest = omega arith },
-  logs_sound program plan budget (p + 1) n run few (omega arith),
+logs_sound : (setting : Setting) (p n : ℕ) → IsRunnable setting.program → setting.budget ≤ MOST_BUDGET → setting.program.functions + (p + n) ≤ length setting.program.bodies → Each (IsSoundLogging setting.program) (map (λ q. begun_log setting q) (range_with_len p n))
+logs_sound setting p zero run few lt = tt
+logs_sound setting p (suc n) run few lt = (
+  record { proc = started_runs setting.program (setting.program.functions + p) setting.budget run (omega arith) (omega arith); rest = omega arith },
+  logs_sound setting (p + 1) n run few (omega arith),
 )
 
 sems_begun : (left : ℕ) (sems : List Sem) → left ≤ MOST_PROCESSES * (MOST_BUDGET + 1) → Each (λ s. s.start ≤ MOST_START) sems → Each (IsSoundSem left) (map (λ s. record { given = s.start; taken = 0 }) sems)
@@ -192,50 +193,50 @@ chans_begun left (c ∷ cs) few = (record { sent = omega arith; received = omega
 few_steps : (n budget : ℕ) → n ≤ MOST_PROCESSES → budget ≤ MOST_BUDGET → n * (budget + 1) ≤ MOST_PROCESSES * (MOST_BUDGET + 1)
 few_steps n budget h k = mul-le n (budget + 1) MOST_PROCESSES (MOST_BUDGET + 1) h (omega arith)
 
-pub begun_sound : (program : Program) (plan : Plan) (budget : ℕ) → IsValid program → budget ≤ MOST_BUDGET → IsSound (begun_running program plan budget)
-begun_sound program plan budget v h =
-    let n : ℕ = length program.bodies - program.functions in
-    let run : IsRunnable program = valid-runnable program v in
-    let process : program.functions < length program.bodies = v.limits.process in
-    let processes : length program.bodies ≤ program.functions + MOST_PROCESSES = v.limits.processes in
-    let left : steps_left (started_procs program plan budget n) ≡ n * (budget + 1) = started_all program plan budget 0 n in
-    let few : n * (budget + 1) ≤ MOST_PROCESSES * (MOST_BUDGET + 1) = few_steps n budget (omega arith) h in
-    let logs : loggings program plan budget [] ≡ map (λ q. begun_log program plan budget q) (range_with_len 0 n) = logs_begun program plan budget 0 n in
-    let starts : Each (λ (s : Sem). s.start ≤ MOST_START) program.sems = all_every (λ (s : Sem). s.start ≤ MOST_START) program.sems (λ i d lt. (v.limits.sems i d lt).1) in
+pub begun_sound : (setting : Setting) → IsValid setting.program → setting.budget ≤ MOST_BUDGET → IsSound (begun_running setting)
+begun_sound setting v h =
+    let n : ℕ = length setting.program.bodies - setting.program.functions in
+    let run : IsRunnable setting.program = valid-runnable setting.program v in
+    let process : setting.program.functions < length setting.program.bodies = v.limits.process in
+    let processes : length setting.program.bodies ≤ setting.program.functions + MOST_PROCESSES = v.limits.processes in
+    let left : steps_left (started_procs setting n) ≡ n * (setting.budget + 1) = started_all setting 0 n in
+    let few : n * (setting.budget + 1) ≤ MOST_PROCESSES * (MOST_BUDGET + 1) = few_steps n setting.budget (omega arith) h in
+    let logs : loggings setting [] ≡ map (λ q. begun_log setting q) (range_with_len 0 n) = logs_begun setting 0 n in
+    let starts : Each (λ (s : Sem). s.start ≤ MOST_START) setting.program.sems = all_every (λ (s : Sem). s.start ≤ MOST_START) setting.program.sems (λ i d lt. (v.limits.sems i d lt).1) in
     record {
-      same = ap (λ (ls : List Logging). map (λ l. l.proc) ls) logs ∙ procs_begun program plan budget 0 n;
-      logs = subst (λ (ls : List Logging). Each (IsSoundLogging program) ls) (sym logs) (logs_sound program plan budget 0 n run h (omega arith));
-      sems = sems_begun (steps_left (started_procs program plan budget n)) program.sems (omega arith) starts;
-      chans = chans_begun (steps_left (started_procs program plan budget n)) program.chans (omega arith);
+      same = ap (λ (ls : List Logging). map (λ l. l.proc) ls) logs ∙ procs_begun setting 0 n;
+      logs = subst (λ (ls : List Logging). Each (IsSoundLogging setting.program) ls) (sym logs) (logs_sound setting 0 n run h (omega arith));
+      sems = sems_begun (steps_left (started_procs setting n)) setting.program.sems (omega arith) starts;
+      chans = chans_begun (steps_left (started_procs setting n)) setting.program.chans (omega arith);
       few = omega arith;
     }
 
 -- ---- schedules
 
-module _ (program : Program) (plan : Plan) (budget : ℕ) where
+module _ (setting : Setting) where
   -- the world and the logs of what is told
   abbrev telling : Telling → Running
-  telling t = record { program = program; plan = plan; budget = budget; world = t.world; loggings = logs_from program plan budget 0 t.moments }
+  telling t = record { setting = setting; world = t.world; loggings = logs_from setting 0 t.moments }
 
-  with_logs : (w : World) (ls ls' : List Logging) → ls ≡ ls' → IsSound (record { program = program; plan = plan; budget = budget; world = w; loggings = ls }) → IsSound (record { program = program; plan = plan; budget = budget; world = w; loggings = ls' })
-  with_logs w ls ls' e s = subst (λ (l : List Logging). IsSound (record { program = program; plan = plan; budget = budget; world = w; loggings = l })) e s
+  with_logs : (w : World) (ls ls' : List Logging) → ls ≡ ls' → IsSound (record { setting = setting; world = w; loggings = ls }) → IsSound (record { setting = setting; world = w; loggings = ls' })
+  with_logs w ls ls' e s = subst (λ (l : List Logging). IsSound (record { setting = setting; world = w; loggings = l })) e s
 
-  with_world : (w w' : World) (ls : List Logging) → w ≡ w' → IsSound (record { program = program; plan = plan; budget = budget; world = w; loggings = ls }) → IsSound (record { program = program; plan = plan; budget = budget; world = w'; loggings = ls })
-  with_world w w' ls e s = subst (λ (x : World). IsSound (record { program = program; plan = plan; budget = budget; world = x; loggings = ls })) e s
+  with_world : (w w' : World) (ls : List Logging) → w ≡ w' → IsSound (record { setting = setting; world = w; loggings = ls }) → IsSound (record { setting = setting; world = w'; loggings = ls })
+  with_world w w' ls e s = subst (λ (x : World). IsSound (record { setting = setting; world = x; loggings = ls })) e s
 
-  told_sound : (t : Telling) (h : List ℕ) (last : World) → IsRunnable program → IsSound (telling t) → run_from program plan t.world h ≡ Some last → IsSound (telling (fold (tell program plan) t h))
+  told_sound : (t : Telling) (h : List ℕ) (last : World) → IsRunnable setting.program → IsSound (telling t) → run_from setting.program setting.plan t.world h ≡ Some last → IsSound (telling (fold (tell setting.program setting.plan) t h))
   told_sound t [] last run s e = s
   told_sound t (p ∷ h) last run s e =
-      let g : Goes program plan t.world last p h = goes program plan t.world last p h e in
+      let g : Goes setting.program setting.plan t.world last p h = goes setting.program setting.plan t.world last p h e in
       let one : IsSound (stepped (telling t) p) = step_sound (telling t) p run g.enables s in
-      let next : IsSound (telling (tell program plan t p)) =
-      with_logs (step program plan t.world p) (change (λ l. log_step program plan l (logged_moment program plan t.world p)) p (logs_from program plan budget 0 t.moments)) (logs_from program plan budget 0 (tell program plan t p).moments)
-      (sym (logs-change program plan budget (moment_of program plan t p) p 0 t.moments)) one in
-      told_sound (tell program plan t p) h last run next g.rest
+      let next : IsSound (telling (tell setting.program setting.plan t p)) =
+      with_logs (step setting.program setting.plan t.world p) (change (λ l. log_step setting.program setting.plan l (logged_moment setting.program setting.plan t.world p)) p (logs_from setting 0 t.moments)) (logs_from setting 0 (tell setting.program setting.plan t p).moments)
+      (sym (logs-change setting (moment_of setting.program setting.plan t p) p 0 t.moments)) one in
+      told_sound (tell setting.program setting.plan t p) h last run next g.rest
 
 pub reached_sound : (r : Running) → IsReached r → IsSound r
 reached_sound r h =
-    let last : IsSound (telling r.program r.plan r.budget (told r.program r.plan r.budget h.schedule)) =
-    told_sound r.program r.plan r.budget (begun (started_world r.program r.plan r.budget)) h.schedule r.world (valid-runnable r.program h.program) (begun_sound r.program r.plan r.budget h.program h.budget) h.comes.runs in
-    with_logs r.program r.plan r.budget r.world (loggings r.program r.plan r.budget h.schedule) r.loggings (sym h.comes.logs)
-    (with_world r.program r.plan r.budget (told r.program r.plan r.budget h.schedule).world r.world (loggings r.program r.plan r.budget h.schedule) (stories_are_of_runs r.program r.plan r.budget h.schedule r.world h.comes.runs) last)
+    let last : IsSound (telling r.setting (told r.setting h.schedule)) =
+    told_sound r.setting (begun (started_world r.setting)) h.schedule r.world (valid-runnable r.setting.program h.program) (begun_sound r.setting h.program h.budget) h.comes.runs in
+    with_logs r.setting r.world (loggings r.setting h.schedule) r.loggings (sym h.comes.logs)
+    (with_world r.setting (told r.setting h.schedule).world r.world (loggings r.setting h.schedule) (stories_are_of_runs r.setting h.schedule r.world h.comes.runs) last)

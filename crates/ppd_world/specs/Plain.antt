@@ -20,13 +20,13 @@ GoesPlainly program plan s (suc n) t =
 pub record ComesPlainly (r : Running) (p n : ℕ) (after : Proc) : Type 0 where
   pub before : Proc
   pub there : slice_get r.world.procs p ≡ Some before
-  pub goes : GoesPlainly r.program r.plan before n after
+  pub goes : GoesPlainly r.setting.program r.setting.plan before n after
 
 -- process p, which is there, would come to this state by n such steps if it had printed nothing before
 pub record ComesPrinting (r : Running) (p n : ℕ) (after : Proc) : Type 0 where
   pub before : Proc
   pub there : slice_get r.world.procs p ≡ Some before
-  pub goes : GoesPlainly r.program r.plan (unprinted before) n after
+  pub goes : GoesPlainly r.setting.program r.setting.plan (unprinted before) n after
 
 -- process p takes n steps
 abbrev pub stepped_times : Running → ℕ → ℕ → Running

@@ -1,4 +1,5 @@
 -- The parts of a world before its first step, and after its last.
+use Rattle.ppd_model.specs.Setting.{Setting}
 use Rattle.std.specs.Prelude.{ℕ, List, [], ◌∷◌, map, Option, Some, None, unwrap_or}
 use Rattle.std.specs.List.{range_with_len}
 use Rattle.ppd_ast.specs.declared.plan.BlockKind.TheVariants as block
@@ -24,8 +25,8 @@ first_entries program plan body =
     ∷ entry.Unit u (values_of_unit plan program.starts u) ∷ []
 
 -- the first n processes with their logs
-abbrev pub begun_logs : Program → Plan → ℕ → ℕ → List Logging
-begun_logs program plan budget n = map (λ p. begun_log program plan budget p) (range_with_len 0 n)
+abbrev pub begun_logs : Setting → ℕ → List Logging
+begun_logs setting n = map (λ p. begun_log setting p) (range_with_len 0 n)
 
 -- the counts of the semaphores
 abbrev pub begun_sems : Program → List Counts

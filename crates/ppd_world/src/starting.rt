@@ -1,3 +1,4 @@
+ghost use Rattle.ppd_model.specs.Setting.{setting_of};
 ghost use Rattle.std.specs.Prelude.{◌≡◌, ◌+◌, ◌≤◌, ◌<◌, ◌^◌, ◌++◌, ◌∷◌, [], length, IfOk, OnOk, unwrap_or};
 ghost use Rattle.ppd_ast.specs.declared.plan.BlockKind.TheVariants.{Process};
 ghost use Rattle.ppd_model.specs.Logs.{begun_log};
@@ -56,7 +57,7 @@ fn start_log(
     requires plan { IsNumbered plan.now }
     requires process { program.now.functions + process < length program.now.bodies }
     requires range { program.now.functions + process < 2 ^ 16 }
-    ensures { IfOk result (λ logging. logging ≡ begun_log program.now plan.now budget process) }
+    ensures { IfOk result (λ logging. logging ≡ begun_log (setting_of program.now plan.now budget) process) }
 {
     let proc = Proc::start(alloc, program, plan, process, budget)?;
     let functions = program.functions;
@@ -89,7 +90,7 @@ pub(crate) fn start_logs(
     requires plan { IsNumbered plan.now }
     requires processes { program.now.functions + count ≤ length program.now.bodies }
     requires range { program.now.functions + count < 2 ^ 16 }
-    ensures { IfOk result (λ loggings. loggings.items ≡ begun_logs program.now plan.now budget count) }
+    ensures { IfOk result (λ loggings. loggings.items ≡ begun_logs (setting_of program.now plan.now budget) count) }
 {
     let mut loggings = Vec::new(alloc);
     for process in 0..count {

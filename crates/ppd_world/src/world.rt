@@ -1,3 +1,4 @@
+ghost use Rattle.ppd_model.specs.Setting.{setting_of};
 ghost use Rattle.std.specs.Prelude.{◌≡◌, ◌+◌, ◌-◌, ◌<◌, ◌≤◌, ◌↔◌, ◌∷◌, [], length, replicate, slice_get, true, IsTrue, IfErr, IfNone, IfOk, IfSome, OnOk, OnErr, List, ℕ, Some};
 ghost use Rattle.ppd_ast.specs.Valid.{IsValid};
 ghost use Rattle.ppd_ast.specs.ValidPlan.{IsValidPlan};
@@ -36,13 +37,12 @@ impl<'a> Model for World<'a> {
     ghost use Rattle.std.specs.Prelude.{◌≡◌};
     ghost use Rattle.ppd_world.specs.Parts.{needs_of, world_of};
     ghost use Rattle.ppd_world.specs.Running.{Running};
+    ghost use Rattle.ppd_model.specs.Setting.{setting_of};
 
     ghost Value = { Running };
 
     ghost view = { λ w. record {
-      program = w.code.program.now;
-      plan = w.code.plan.now;
-      budget = w.budget;
+      setting = setting_of w.code.program.now w.code.plan.now w.budget;
       world = world_of w.store w.loggings.items;
       loggings = w.loggings.items;
     } };
@@ -77,7 +77,7 @@ impl<'a> World<'a> {
         requires program { IsValid program.now }
         requires plan { IsValidPlan program.now plan.now }
         requires budget { budget ≤ MOST_BUDGET }
-        ensures world { IfOk result (λ world. world ≡ begun program.now plan.now budget) }
+        ensures world { IfOk result (λ world. world ≡ begun (setting_of program.now plan.now budget)) }
         ensures comes { IfOk result (λ world. IsOf [] world) }
         ensures reached { IfOk result (λ world. IsReached world) }
     {
@@ -116,7 +116,7 @@ impl<'a> World<'a> {
     pub fn process_count(&self) -> u8
         requires { IsReached self.now }
         ensures procs { result ≡ length self.now.world.procs }
-        ensures program { result ≡ length self.now.program.bodies - self.now.program.functions }
+        ensures program { result ≡ length self.now.setting.program.bodies - self.now.setting.program.functions }
     {
         process_count(self.code.program)
     }
@@ -125,7 +125,7 @@ impl<'a> World<'a> {
     pub fn lowest(&self) -> Option<u8>
         requires { IsReached self.now }
         ensures some { IfSome result (IsLowest self.now) }
-        ensures none { IfNone result (IsOver self.now.program self.now.plan self.now.world) }
+        ensures none { IfNone result (IsOver self.now.setting.program self.now.setting.plan self.now.world) }
     {
         for p in 0..self.process_count() {
             if self.enabled(p) {
@@ -138,7 +138,7 @@ impl<'a> World<'a> {
     /// Whether no process can take a step.
     pub fn over(&self) -> bool
         requires { IsReached self.now }
-        ensures { IsTrue result ↔ IsOver self.now.program self.now.plan self.now.world }
+        ensures { IsTrue result ↔ IsOver self.now.setting.program self.now.setting.plan self.now.world }
     {
         match self.lowest() {
             Some(_) => false,
@@ -150,21 +150,21 @@ impl<'a> World<'a> {
     /// given, and the number that it takes as a synchronization. The writer of a `Read` is left out.
     pub fn next(&self, p: u8) -> Taken
         requires { IsReached self.now }
-        ensures { result ≡ (logged_moment self.now.program self.now.plan self.now.world p).taken }
+        ensures { result ≡ (logged_moment self.now.setting.program self.now.setting.plan self.now.world p).taken }
     {
         next_step(&self.store, need_at(self.needs.as_slice(), p as usize))
     }
 
     /// The program that is run.
     pub fn program(&self) -> &'a Program
-        ensures { result.now ≡ self.now.program }
+        ensures { result.now ≡ self.now.setting.program }
     {
         self.code.program
     }
 
     /// Its plan.
     pub fn plan(&self) -> &'a Plan
-        ensures { result.now ≡ self.now.plan }
+        ensures { result.now ≡ self.now.setting.plan }
     {
         self.code.plan
     }
@@ -284,11 +284,11 @@ impl<'a> World<'a> {
     /// want of memory: the world is gone.
     pub fn close(self) -> Result<Closed, Memory>
         requires reached { IsReached self }
-        requires over { IsOver self.program self.plan self.world }
+        requires over { IsOver self.setting.program self.setting.plan self.world }
         ensures closed { IfOk result (λ closed. closed ≡ closed_of self.entry) }
         ensures whole { IfOk result
             (λ closed. (h : List ℕ) → IsOf h self.entry
-            → closed ≡ close_of self.entry.program self.entry.plan self.entry.budget h) }
+            → closed ≡ close_of self.entry.setting h) }
     {
         close_all(self.code.alloc, self.code.program, self.loggings)
     }

@@ -1,11 +1,10 @@
 -- Who can take a step in what is told can take it in the machine, and the step is the same.
+use Rattle.ppd_model.specs.Setting.{Setting}
 use Rattle.std.proofs.Common.{◌≡◌, ℕ, zero, suc, ◌+◌, ◌<◌, ◌≤◌, ◌↔◌, ℤ, pos, List, [], ◌∷◌, Option, Some, None, Bool, true, false, refl, ap, ap₂, sym, subst, ◌∙◌, arith, length, ltb-true, lt-ltb, true≢false, inl, inr}
 use Rattle.std.specs.Prelude.{nat_lt, option_map, slice_get}
 use Rattle.std.proofs.lemmas.Bool.{cases_lt}
 use Rattle.std.proofs.lemmas.List.{get_or_past}
-use Rattle.ppd_ast.specs.declared.plan.Plan.{Plan}
 use Rattle.ppd_ast.specs.declared.program.Chan.{Chan}
-use Rattle.ppd_ast.specs.declared.program.Program.{Program}
 use Rattle.ppd_ast.specs.declared.status.SyncKind.TheVariants.{V, Send, Recv, Done}
 use Rattle.ppd_sem.proofs.TableWords.{capacity_in}
 use Rattle.ppd_sem.specs.declared.proc.Answer.TheVariants.{Value}
@@ -75,11 +74,11 @@ can_there test [] o none h = absurd (true≢false (sym h ∙ none))
 can_there test (x ∷ xs) zero none h = omega arith
 can_there test (x ∷ xs) (suc o) none h = let below : o < length xs = can_there test xs o none h in omega arith
 
-module _ (program : Program) (plan : Plan) (budget : ℕ) (t : Telling) (sizes : Sizes program t) (e : EventId) where
+module _ (setting : Setting) (t : Telling) (sizes : Sizes setting.program t) (e : EventId) where
   abbrev Free : Need → Type 0
-  Free need = Enabled (machine program plan budget) (view t) (sorted program e need)
+  Free need = Enabled (machine setting) (view t) (sorted setting.program e need)
 
-  free_if : (b : Bool) (w : Want Line Tagged) → Enabled (machine program plan budget) (view t) w → Enabled (machine program plan budget) (view t) (if_there b w)
+  free_if : (b : Bool) (w : Want Line Tagged) → Enabled (machine setting) (view t) w → Enabled (machine setting) (view t) (if_there b w)
   free_if true w h = h
   free_if false w h = tt
 
@@ -87,20 +86,20 @@ module _ (program : Program) (plan : Plan) (budget : ℕ) (t : Telling) (sizes :
   abbrev RoomAt : Option ℕ → ℕ → Type 0
   RoomAt capacity c = has_room capacity (count_of t.world Send c) (count_of t.world Recv c) (count_of t.world Done c)
 
-  capacity_is : (c : ℕ) → capacity_at (slice_get t.world.chans c) ≡ declared program c
-  capacity_is c = same_capacity t.world.chans program.chans c sizes.chans (sizes.capacities c)
+  capacity_is : (c : ℕ) → capacity_at (slice_get t.world.chans c) ≡ declared setting.program c
+  capacity_is c = same_capacity t.world.chans setting.program.chans c sizes.chans (sizes.capacities c)
 
-  has_room_there : (c : ℕ) → can_send (slice_get t.world.chans c) ≡ true → RoomAt (declared program c) c
+  has_room_there : (c : ℕ) → can_send (slice_get t.world.chans c) ≡ true → RoomAt (declared setting.program c) c
   has_room_there c h = subst (λ (r : Option ℕ). RoomAt r c) (capacity_is c) ((sends (slice_get t.world.chans c)).0 h)
 
-  has_room_back : (c : ℕ) → RoomAt (declared program c) c → can_send (slice_get t.world.chans c) ≡ true
+  has_room_back : (c : ℕ) → RoomAt (declared setting.program c) c → can_send (slice_get t.world.chans c) ≡ true
   has_room_back c h = (sends (slice_get t.world.chans c)).1 (subst (λ (r : Option ℕ). RoomAt r c) (sym (capacity_is c)) h)
 
   pub enabled_there : (need : Need) → can t.world need ≡ true → Free need
-  enabled_there (n.Read c) h = free_if (nat_lt c (length program.starts)) (Read c) tt
-  enabled_there (n.Write c v) h = free_if (nat_lt c (length program.starts)) (Write c (v, Some e)) tt
+  enabled_there (n.Read c) h = free_if (nat_lt c (length setting.program.starts)) (Read c) tt
+  enabled_there (n.Write c v) h = free_if (nat_lt c (length setting.program.starts)) (Write c (v, Some e)) tt
   enabled_there (n.P s u) h = (takes (slice_get t.world.sems s)).0 h
-  enabled_there (n.V s u) h = free_if (nat_lt s (length program.sems)) (line V s blank) tt
+  enabled_there (n.V s u) h = free_if (nat_lt s (length setting.program.sems)) (line V s blank) tt
   enabled_there (n.Send c v u) h = has_room_there c h
   enabled_there (n.Offer c v) h = has_room_there c h
   enabled_there (n.Done c u) h = (completes (slice_get t.world.chans c)).0 h
@@ -120,13 +119,13 @@ module _ (program : Program) (plan : Plan) (budget : ℕ) (t : Telling) (sizes :
   -- ---- the same step
 
   abbrev answered : Need → Tagged
-  answered need = answer_for (machine program plan budget) (view t) (sorted program e need)
+  answered need = answer_for (machine setting) (view t) (sorted setting.program e need)
 
   -- what is read is what the cell holds, and 0 where it is not there
-  read_is : (c : ℕ) (b : Bool) → nat_lt c (length program.starts) ≡ b → answer_for (machine program plan budget) (view t) (if_there b (Read c)) ≡ cell_in t.world.shared t.writers c
+  read_is : (c : ℕ) (b : Bool) → nat_lt c (length setting.program.starts) ≡ b → answer_for (machine setting) (view t) (if_there b (Read c)) ≡ cell_in t.world.shared t.writers c
   read_is c true is = refl
   read_is c false is =
-      let out : length program.starts ≤ c = elim (cases_lt c (length program.starts)) [ inl lt ↦ absurd (true≢false (sym (lt-ltb c (length program.starts) lt) ∙ is)) | inr ge ↦ ge ] in
+      let out : length setting.program.starts ≤ c = elim (cases_lt c (length setting.program.starts)) [ inl lt ↦ absurd (true≢false (sym (lt-ltb c (length setting.program.starts) lt) ∙ is)) | inr ge ↦ ge ] in
       let past : length t.world.shared ≤ c = omega (arith, sizes.cells, out) in
       let past2 : length t.writers ≤ c = omega (arith, sizes.writers, out) in
       ap₂ (λ (x : ℤ) (w : Option EventId). (x, w)) (sym (get_or_past t.world.shared c (pos 0) past)) (sym (get_or_past t.writers c None past2))
@@ -136,30 +135,30 @@ module _ (program : Program) (plan : Plan) (budget : ℕ) (t : Telling) (sizes :
   value_received (Some c) = refl
 
   answer_is : (need : Need) → answer t.world need ≡ given need (answered need)
-  answer_is (n.Read c) = ap (λ (a : Tagged). Value a.0) (sym (read_is c (nat_lt c (length program.starts)) refl))
+  answer_is (n.Read c) = ap (λ (a : Tagged). Value a.0) (sym (read_is c (nat_lt c (length setting.program.starts)) refl))
   answer_is (n.Recv c u) = ap (λ (x : ℤ). Value x) (sym (value_received (slice_get t.world.chans c)))
   answer_is need = refl
 
   writer_is : (need : Need) → writer_of t need ≡ written need (answered need)
-  writer_is (n.Read c) = ap (λ (a : Tagged). a.1) (sym (read_is c (nat_lt c (length program.starts)) refl))
+  writer_is (n.Read c) = ap (λ (a : Tagged). a.1) (sym (read_is c (nat_lt c (length setting.program.starts)) refl))
   writer_is need = refl
 
-  given_number : (s : ℕ) (b : Bool) → nat_lt s (length program.sems) ≡ b → number_after (λ (x : Counts). x.given) (slice_get t.world.sems s) ≡ if_some b (number_for (view t) (if_there b (line V s blank)))
+  given_number : (s : ℕ) (b : Bool) → nat_lt s (length setting.program.sems) ≡ b → number_after (λ (x : Counts). x.given) (slice_get t.world.sems s) ≡ if_some b (number_for (view t) (if_there b (line V s blank)))
   given_number s true is =
-      let below : s < length program.sems = ltb-true s (length program.sems) is in
+      let below : s < length setting.program.sems = ltb-true s (length setting.program.sems) is in
       next_is (λ (x : Counts). x.given) t.world.sems s (omega (arith, below, sizes.sems))
   given_number s false is =
-      let out : length program.sems ≤ s = elim (cases_lt s (length program.sems)) [ inl lt ↦ absurd (true≢false (sym (lt-ltb s (length program.sems) lt) ∙ is)) | inr ge ↦ ge ] in
+      let out : length setting.program.sems ≤ s = elim (cases_lt s (length setting.program.sems)) [ inl lt ↦ absurd (true≢false (sym (lt-ltb s (length setting.program.sems) lt) ∙ is)) | inr ge ↦ ge ] in
       no_next (λ (x : Counts). x.given) t.world.sems s (omega (arith, out, sizes.sems))
 
-  number_is : (need : Need) → can t.world need ≡ true → number_of t.world need ≡ number_in program need (number_for (view t) (sorted program e need))
+  number_is : (need : Need) → can t.world need ≡ true → number_of t.world need ≡ number_in setting.program need (number_for (view t) (sorted setting.program e need))
   number_is (n.P s u) h = next_is (λ (x : Counts). x.taken) t.world.sems s (can_there can_take t.world.sems s refl h)
-  number_is (n.V s u) h = given_number s (nat_lt s (length program.sems)) refl
+  number_is (n.V s u) h = given_number s (nat_lt s (length setting.program.sems)) refl
   number_is (n.Send c v u) h = next_is (λ (x : Channel). length x.sent) t.world.chans c (can_there can_send t.world.chans c refl h)
   number_is (n.Offer c v) h = next_is (λ (x : Channel). length x.sent) t.world.chans c (can_there can_send t.world.chans c refl h)
   number_is (n.Done c u) h = next_is (λ (x : Channel). x.completed) t.world.chans c (can_there can_complete t.world.chans c refl h)
   number_is (n.Recv c u) h = next_is (λ (x : Channel). x.received) t.world.chans c (can_there can_receive t.world.chans c refl h)
   number_is need h = refl
 
-  pub taken_is : (need : Need) → can t.world need ≡ true → taken_of t need ≡ made program need (answered need) (number_for (view t) (sorted program e need))
+  pub taken_is : (need : Need) → can t.world need ≡ true → taken_of t need ≡ made setting.program need (answered need) (number_for (view t) (sorted setting.program e need))
   taken_is need h = (λ i. record { need = need; answer = answer_is need i; writer = writer_is need i; number = number_is need h i })

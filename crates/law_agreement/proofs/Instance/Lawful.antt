@@ -1,4 +1,5 @@
 -- The machine of a program is lawful.
+use Rattle.ppd_model.specs.Setting.{setting_of}
 use Rattle.std.proofs.Common.{◌≡◌, ℕ, zero, suc, ◌+◌, ◌<◌, ◌≤◌, [], ◌∷◌, ◌++◌, Option, Some, None, Bool, true, false, nat_eq, refl, ap, sym, subst, ◌∙◌, arith, length, length-append, eqb-true, lt-ltb, true≢false}
 use Rattle.std.specs.Prelude.{IsTrue, nat_lt, option_map, option_to_list, slice_get, filter_map}
 use Rattle.std.proofs.lemmas.Bool.{and_parts}
@@ -111,17 +112,17 @@ module _ (program : Program) where
   from_line capacity Recv o c g r e = subst (λ (x : Line). c (Recv, o) < c x) (some e) r
 
   module _ (plan : Plan) (budget : ℕ) where
-    counted : (p : ℕ) (h : History) (a : Tagged) (k : ℕ) → synced_in (grown program plan budget p h a k) ≡ tick (want_after program plan budget p h) (synced_in h)
+    counted : (p : ℕ) (h : History) (a : Tagged) (k : ℕ) → synced_in (grown (setting_of program plan budget) p h a k) ≡ tick (want_after (setting_of program plan budget) p h) (synced_in h)
     counted p None a k = refl
     counted p (Some xs) a k =
-        let x : Taken = made program (need_after program plan budget p xs) a k in
+        let x : Taken = made program (need_after (setting_of program plan budget) p xs) a k in
         let longer : length (filter_map sync_of (xs ++ x ∷ [])) ≡ length (filter_map sync_of xs) + length (option_to_list (sync_of x)) = ap length (syncs-append xs x) ∙ length-append (filter_map sync_of xs) (option_to_list (sync_of x)) in
-        let ticks : length (option_to_list (sync_of x)) + length (filter_map sync_of xs) ≡ tick (sorted program (event_after p xs) (need_after program plan budget p xs)) (length (filter_map sync_of xs)) =
-        one_more (need_after program plan budget p xs) (event_after p xs) a k (length (filter_map sync_of xs)) in
+        let ticks : length (option_to_list (sync_of x)) + length (filter_map sync_of xs) ≡ tick (sorted program (event_after p xs) (need_after (setting_of program plan budget) p xs)) (length (filter_map sync_of xs)) =
+        one_more (need_after (setting_of program plan budget) p xs) (event_after p xs) a k (length (filter_map sync_of xs)) in
         let swap : length (filter_map sync_of xs) + length (option_to_list (sync_of x)) ≡ length (option_to_list (sync_of x)) + length (filter_map sync_of xs) = omega arith in
         longer ∙ swap ∙ ticks
 
-    pub lawful : Lawful (machine program plan budget)
+    pub lawful : Lawful (machine (setting_of program plan budget))
     lawful = record {
       paired = paired;
       counted = counted;

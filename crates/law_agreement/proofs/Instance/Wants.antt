@@ -1,7 +1,7 @@
 -- A program's processes as a machine: what a process did is the list of its steps.
+use Rattle.ppd_model.specs.Setting.{Setting}
 use Rattle.std.proofs.Common.{ℕ, zero, suc, ◌+◌, ◌<◌, ℤ, pos, List, [], ◌∷◌, ◌++◌, Option, Some, None, Bool, true, false, length, map, get_or}
 use Rattle.std.specs.Prelude.{IsTrue, count_by, nat_lt, option_map, slice_get, filter_map}
-use Rattle.ppd_ast.specs.declared.plan.Plan.{Plan}
 use Rattle.ppd_ast.specs.declared.program.Chan.{Chan}
 use Rattle.ppd_ast.specs.declared.program.Program.{Program}
 use Rattle.ppd_ast.specs.declared.status.SyncKind.{SyncKind}
@@ -93,15 +93,15 @@ made program n a k = record { need = n; answer = given n a; writer = written n a
 abbrev pub event_after : ℕ → List Taken → EventId
 event_after p xs = record { process = p; number = count_by (λ (x : Taken). is_event x.need) xs }
 
-abbrev pub need_after : Program → Plan → ℕ → ℕ → List Taken → Need
-need_after program plan budget p xs = need_of program plan (state_of program plan budget p xs)
+abbrev pub need_after : Setting → ℕ → List Taken → Need
+need_after setting p xs = need_of setting.program setting.plan (state_of setting p xs)
 
-abbrev pub want_after : Program → Plan → ℕ → ℕ → History → Want Line Tagged
-want_after program plan budget p None = Stop
-want_after program plan budget p (Some xs) = sorted program (event_after p xs) (need_after program plan budget p xs)
+abbrev pub want_after : Setting → ℕ → History → Want Line Tagged
+want_after setting p None = Stop
+want_after setting p (Some xs) = sorted setting.program (event_after p xs) (need_after setting p xs)
 
-abbrev pub grown : Program → Plan → ℕ → ℕ → History → Tagged → ℕ → History
-grown program plan budget p h a k = option_map (λ (xs : List Taken). xs ++ made program (need_after program plan budget p xs) a k ∷ []) h
+abbrev pub grown : Setting → ℕ → History → Tagged → ℕ → History
+grown setting p h a k = option_map (λ (xs : List Taken). xs ++ made setting.program (need_after setting p xs) a k ∷ []) h
 
 abbrev pub synced_in : History → ℕ
 synced_in None = 0
@@ -133,14 +133,14 @@ source_of Send o = None
 source_of Recv o = Some (Send, o)
 source_of Done o = None
 
-abbrev pub machine : Program → Plan → ℕ → Machine History Line Tagged
-machine program plan budget = record {
-  want = want_after program plan budget;
-  grow = grown program plan budget;
+abbrev pub machine : Setting → Machine History Line Tagged
+machine setting = record {
+  want = want_after setting;
+  grow = grown setting;
   synced = synced_in;
   blank = blank;
-  Ready = λ l c. ready (declared program l.1) l.0 l.1 c;
-  Pairs = λ l k l0 k0. IsTrue (leads_at program (Some (sync l0.0 l0.1 k0)) (Some (sync l.0 l.1 k)));
+  Ready = λ l c. ready (declared setting.program l.1) l.0 l.1 c;
+  Pairs = λ l k l0 k0. IsTrue (leads_at setting.program (Some (sync l0.0 l0.1 k0)) (Some (sync l.0 l.1 k)));
   source = λ l. source_of l.0 l.1;
 }
 

@@ -1,9 +1,9 @@
 -- Where no race is listed, steps of a run that touch one cell are ordered.
+use Rattle.ppd_model.specs.Setting.{Setting}
 use Rattle.ppd_model.specs.Races.{races_among, edges_of_story}
 use Rattle.std.proofs.Common.{◌≡◌, ℕ, zero, suc, ◌+◌, ◌<◌, ◌≤◌, ◌⊎◌, ◌≢◌, ◌&&◌, nat_eq, List, [], ◌∷◌, Option, Some, refl, ap, sym, subst, ◌∙◌, arith, length, map, get_or, eqb-true, inl, inr, ⊎_elim}
 use Rattle.std.specs.Prelude.{IsTrue, is_some, slice_get, filter_map}
 use Rattle.std.proofs.lemmas.Bool.{and_parts, cases_eq, cases_lt, or_cases, or_left}
-use Rattle.ppd_ast.specs.declared.plan.Plan.{Plan}
 use Rattle.ppd_ast.specs.declared.program.Program.{Program}
 use Rattle.ppd_model.specs.declared.graph.NodeId.{NodeId}
 use Rattle.ppd_model.specs.declared.tracing.Story.{Story}
@@ -67,7 +67,7 @@ module _ (program : Program) (syncs : List (List s.Sync)) where
 
 -- ---- the times of synchronizations
 
-module _ (program : Program) (plan : Plan) (budget : ℕ) {first : Scene History Line Tagged} (R : Run (machine program plan budget) first) (fresh : (q : ℕ) → synced_in (first.hist q) ≡ 0) where
+module _ (setting : Setting) {first : Scene History Line Tagged} (R : Run (machine setting) first) (fresh : (q : ℕ) → synced_in (first.hist q) ≡ 0) where
   -- the time of synchronization i of process q
   record SyncAt (q i : ℕ) : Type 0 where
     time : ℕ
@@ -114,13 +114,13 @@ module _ (program : Program) (plan : Plan) (budget : ℕ) {first : Scene History
     entry_is : (q i : ℕ) (a : SyncAt q i) → sync_at syncs (node q i) ≡ Some (sync a.line.0 a.line.1 (suc ((R.at a.time).count a.line)))
     entry_is q i a =
         let made : s.Sync = sync a.line.0 a.line.1 (suc ((R.at a.time).count a.line)) in
-        let e : slice_get (syncs_in ((R.at R.ends).hist (R.who a.time))) (synced_in ((R.at a.time).hist (R.who a.time))) ≡ Some made = entry_at program plan budget R a.time a.line a.value a.in_run a.is in
+        let e : slice_get (syncs_in ((R.at R.ends).hist (R.who a.time))) (synced_in ((R.at a.time).hist (R.who a.time))) ≡ Some made = entry_at setting R a.time a.line a.value a.in_run a.is in
         let at_q : slice_get (syncs_in ((R.at R.ends).hist q)) (synced_in ((R.at a.time).hist q)) ≡ Some made = subst (λ (p : ℕ). slice_get (syncs_in ((R.at R.ends).hist p)) (synced_in ((R.at a.time).hist p)) ≡ Some made) a.own e in
         ap (λ (ss : List s.Sync). slice_get ss i) (same q) ∙ ap (λ (k : ℕ). slice_get (syncs_in ((R.at R.ends).hist q)) k) (sym a.index) ∙ at_q
 
     -- what the record calls before happened before
-    times : (a b : NodeId) → Before program syncs a b → (x : SyncAt a.process a.sync) (y : SyncAt b.process b.sync) → Hb R x.time y.time
-    times a b (direct d) x y = elim (direct_cases program syncs a b d) [
+    times : (a b : NodeId) → Before setting.program syncs a b → (x : SyncAt a.process a.sync) (y : SyncAt b.process b.sync) → Hb R x.time y.time
+    times a b (direct d) x y = elim (direct_cases setting.program syncs a b d) [
       | inl next ↦
           let of_b : synced_in ((R.at y.time).hist a.process) ≡ b.sync = ap (λ (p : ℕ). synced_in ((R.at y.time).hist p)) next.process ∙ y.index in
           ⊎_elim
@@ -131,13 +131,13 @@ module _ (program : Program) (plan : Plan) (budget : ℕ) {first : Scene History
           absurd (omega (arith, grown, of_b, x.index, next.sync)))
           (cases_lt x.time y.time)
       | inr l ↦
-          let la : IsTrue (leads_at program (Some (sync x.line.0 x.line.1 (suc ((R.at x.time).count x.line)))) (Some (sync y.line.0 y.line.1 (suc ((R.at y.time).count y.line))))) =
-          subst (λ (o : Option s.Sync). IsTrue (leads_at program (Some (sync x.line.0 x.line.1 (suc ((R.at x.time).count x.line)))) o)) (entry_is b.process b.sync y)
-          (subst (λ (o : Option s.Sync). IsTrue (leads_at program o (sync_at syncs b))) (entry_is a.process a.sync x) l) in
+          let la : IsTrue (leads_at setting.program (Some (sync x.line.0 x.line.1 (suc ((R.at x.time).count x.line)))) (Some (sync y.line.0 y.line.1 (suc ((R.at y.time).count y.line))))) =
+          subst (λ (o : Option s.Sync). IsTrue (leads_at setting.program (Some (sync x.line.0 x.line.1 (suc ((R.at x.time).count x.line)))) o)) (entry_is b.process b.sync y)
+          (subst (λ (o : Option s.Sync). IsTrue (leads_at setting.program o (sync_at syncs b))) (entry_is a.process a.sync x) l) in
           Pair x.time y.time y.line x.line y.value x.value x.in_run y.in_run x.is y.is la
     ]
     times a b (through {b = m} h k) x y =
-        let z : SyncAt m.process m.sync = time_of m.process m.sync (second_there program syncs a m h) in
+        let z : SyncAt m.process m.sync = time_of m.process m.sync (second_there setting.program syncs a m h) in
         Then x.time z.time y.time (times a m h x z) (times m b k z y)
 
     -- a step that is no synchronization
@@ -146,14 +146,14 @@ module _ (program : Program) (plan : Plan) (budget : ℕ) {first : Scene History
 
     -- steps in edges of which the first is before the second
     edges : (i j x : ℕ) → i < R.ends → j < R.ends → R.who i ≢ R.who j → Touches x (want_at R i) → Touches x (want_at R j)
-        → EdgeBefore program syncs (edge (R.who i) (synced_in ((R.at i).hist (R.who i)))) (edge (R.who j) (synced_in ((R.at j).hist (R.who j)))) → Hb R i j
+        → EdgeBefore setting.program syncs (edge (R.who i) (synced_in ((R.at i).hist (R.who i)))) (edge (R.who j) (synced_in ((R.at j).hist (R.who j)))) → Hb R i j
     edges i j x hi hj ne ti tj (hb.earlier same lt) = absurd (ne same)
     edges i j x hi hj ne ti tj (hb.across d k next h) =
         let p : ℕ = R.who i in
         let q : ℕ = R.who j in
         let e : ℕ = synced_in ((R.at i).hist p) in
-        let one : SyncAt p e = time_of p e (first_there program syncs (node p e) (node q k) h) in
-        let two : SyncAt q k = time_of q k (second_there program syncs (node p e) (node q k) h) in
+        let one : SyncAt p e = time_of p e (first_there setting.program syncs (node p e) (node q k) h) in
+        let two : SyncAt q k = time_of q k (second_there setting.program syncs (node p e) (node q k) h) in
         let middle : Hb R one.time two.time = times (node p e) (node q k) h one two in
         let first_part : i < one.time =
         ⊎_elim
@@ -182,13 +182,13 @@ module _ (program : Program) (plan : Plan) (budget : ℕ) {first : Scene History
         (Then one.time two.time j middle (Own two.time j last_part two.own))
 
   -- a story with the steps of the run that lists no race
-  pub ordered : (story : Story) → ((p : ℕ) → slice_get story.steps p ≡ (R.at R.ends).hist p) → length story.cells ≡ length program.starts → races_among (edges_of_story program story) ≡ [] → IsOrdered R
+  pub ordered : (story : Story) → ((p : ℕ) → slice_get story.steps p ≡ (R.at R.ends).hist p) → length story.cells ≡ length setting.program.starts → races_among (edges_of_story setting.program story) ≡ [] → IsOrdered R
   ordered story steps cells none i j x hi hj ne w t no_ij no_ji =
       let syncs : List (List s.Sync) = record_of story in
       let same : (p : ℕ) → get_or syncs p [] ≡ syncs_in ((R.at R.ends).hist p) = λ p. syncs_at story.steps p ∙ ap syncs_in (steps p) in
       let ti : Touches x (want_at R i) = writes_touches x (want_at R i) w in
-      let a : IsAccess program plan budget R i x = is_access program plan budget R i x hi ti in
-      let b : IsAccess program plan budget R j x = is_access program plan budget R j x hj t in
+      let a : IsAccess setting R i x = is_access setting R i x hi ti in
+      let b : IsAccess setting R j x = is_access setting R j x hj t in
       let one = access (synced_in ((R.at i).hist (R.who i))) x a.writes in
       let two = access (synced_in ((R.at j).hist (R.who j))) x b.writes in
       let conflict : DoConflict story (R.who i) (R.who j) one two = record {
@@ -199,7 +199,7 @@ module _ (program : Program) (plan : Plan) (budget : ℕ) {first : Scene History
         there = omega (arith, a.there, cells);
         writes = or_left a.writes b.writes (a.writing w);
       } in
-      elim (no_race program story none (R.who i) (R.who j) one two conflict) [
+      elim (no_race setting.program story none (R.who i) (R.who j) one two conflict) [
         | inl before ↦ no_ij (edges syncs same i j x hi hj ne ti t before)
         | inr before ↦ no_ji (edges syncs same j i x hj hi (λ e. ne (sym e)) t ti before)
       ]

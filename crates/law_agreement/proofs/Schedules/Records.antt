@@ -1,8 +1,8 @@
 -- The record and the accesses of a run of the machine.
+use Rattle.ppd_model.specs.Setting.{Setting}
 use Rattle.std.proofs.Common.{◌≡◌, ℕ, suc, ◌+◌, ◌<◌, ◌≤◌, List, [], ◌∷◌, ◌++◌, Option, Some, None, Bool, true, false, refl, ap, sym, subst, ◌∙◌, arith, length, ltb-true, ⊎_elim}
 use Rattle.std.specs.Prelude.{nat_lt, option_to_list, slice_get, filter_map}
 use Rattle.std.proofs.lemmas.Bool.{cases_eq}
-use Rattle.ppd_ast.specs.declared.plan.Plan.{Plan}
 use Rattle.ppd_ast.specs.declared.program.Program.{Program}
 use Rattle.ppd_ast.specs.declared.status.SyncKind.TheVariants.{P, V}
 use Rattle.ppd_sem.specs.declared.proc.Need.{Need}
@@ -100,9 +100,9 @@ sheet syncs = record {
   total = λ p. length (syncs p);
 }
 
-module _ (program : Program) (plan : Plan) (budget : ℕ) {first : Scene History Line Tagged} (R : Run (machine program plan budget) first) where
+module _ (setting : Setting) {first : Scene History Line Tagged} (R : Run (machine setting) first) where
   -- what one more step keeps
-  pub grows : (K : History → Type 0) → ((p : ℕ) (h : History) (a : Tagged) (k : ℕ) → K h → K (grown program plan budget p h a k)) → (q i j : ℕ) → i ≤ j → j ≤ R.ends → K ((R.at i).hist q) → K ((R.at j).hist q)
+  pub grows : (K : History → Type 0) → ((p : ℕ) (h : History) (a : Tagged) (k : ℕ) → K h → K (grown setting p h a k)) → (q i j : ℕ) → i ≤ j → j ≤ R.ends → K ((R.at i).hist q) → K ((R.at j).hist q)
   grows K more q i j lo hi base =
       climb (λ m. K ((R.at m).hist q)) i R.ends base
       (λ m a b hyp. ⊎_elim
@@ -113,17 +113,17 @@ module _ (program : Program) (plan : Plan) (budget : ℕ) {first : Scene History
       (cases_eq q (R.who m)))
       j lo hi
 
-  entry_keeps : (i : ℕ) (x : s.Sync) (p : ℕ) (h : History) (a : Tagged) (k : ℕ) → slice_get (syncs_in h) i ≡ Some x → slice_get (syncs_in (grown program plan budget p h a k)) i ≡ Some x
+  entry_keeps : (i : ℕ) (x : s.Sync) (p : ℕ) (h : History) (a : Tagged) (k : ℕ) → slice_get (syncs_in h) i ≡ Some x → slice_get (syncs_in (grown setting p h a k)) i ≡ Some x
   entry_keeps i x p None a k e = e
   entry_keeps i x p (Some xs) a k e =
-      ap (λ (ss : List s.Sync). slice_get ss i) (syncs-append xs (made program (need_after program plan budget p xs) a k))
-      ∙ kept_at (filter_map sync_of xs) (option_to_list (sync_of (made program (need_after program plan budget p xs) a k))) i x e
+      ap (λ (ss : List s.Sync). slice_get ss i) (syncs-append xs (made setting.program (need_after setting p xs) a k))
+      ∙ kept_at (filter_map sync_of xs) (option_to_list (sync_of (made setting.program (need_after setting p xs) a k))) i x e
 
-  entry_new : (p : ℕ) (h : History) (a : Tagged) (k : ℕ) (l : Line) (v : Tagged) → want_after program plan budget p h ≡ Sync l v → slice_get (syncs_in (grown program plan budget p h a k)) (synced_in h) ≡ Some (sync l.0 l.1 k)
+  entry_new : (p : ℕ) (h : History) (a : Tagged) (k : ℕ) (l : Line) (v : Tagged) → want_after setting p h ≡ Sync l v → slice_get (syncs_in (grown setting p h a k)) (synced_in h) ≡ Some (sync l.0 l.1 k)
   entry_new p None a k l v is = cc
   entry_new p (Some xs) a k l v is =
-      ap (λ (ss : List s.Sync). slice_get ss (length (filter_map sync_of xs))) (syncs-append xs (made program (need_after program plan budget p xs) a k))
-      ∙ ap (λ (o : Option s.Sync). slice_get (filter_map sync_of xs ++ option_to_list o) (length (filter_map sync_of xs))) (sync_made program (need_after program plan budget p xs) (event_after p xs) a k l v is)
+      ap (λ (ss : List s.Sync). slice_get ss (length (filter_map sync_of xs))) (syncs-append xs (made setting.program (need_after setting p xs) a k))
+      ∙ ap (λ (o : Option s.Sync). slice_get (filter_map sync_of xs ++ option_to_list o) (length (filter_map sync_of xs))) (sync_made setting.program (need_after setting p xs) (event_after p xs) a k l v is)
       ∙ last_at (filter_map sync_of xs) (sync l.0 l.1 k)
 
   -- the record at the end has the entry that the step at time i made
@@ -132,8 +132,8 @@ module _ (program : Program) (plan : Plan) (budget : ℕ) {first : Scene History
       let q : ℕ = R.who i in
       let here : History = (R.at i).hist q in
       let k : ℕ = number_for (R.at i) (want_at R i) in
-      let a : Tagged = answer_for (machine program plan budget) (R.at i) (want_at R i) in
-      let new : slice_get (syncs_in (grown program plan budget q here a k)) (synced_in here) ≡ Some (sync l.0 l.1 k) = entry_new q here a k l v is in
+      let a : Tagged = answer_for (machine setting) (R.at i) (want_at R i) in
+      let new : slice_get (syncs_in (grown setting q here a k)) (synced_in here) ≡ Some (sync l.0 l.1 k) = entry_new q here a k l v is in
       let number : k ≡ suc ((R.at i).count l) = ap (number_for (R.at i)) is in
       grows (λ h. slice_get (syncs_in h) (synced_in here) ≡ Some (sync l.0 l.1 (suc ((R.at i).count l)))) (entry_keeps (synced_in here) (sync l.0 l.1 (suc ((R.at i).count l)))) q (suc i) R.ends lt (omega arith)
       (ap (λ (h : History). slice_get (syncs_in h) (synced_in here)) (hist_own R i lt) ∙ new ∙ ap (λ (m : ℕ). Some (sync l.0 l.1 m)) number)
@@ -147,25 +147,25 @@ module _ (program : Program) (plan : Plan) (budget : ℕ) {first : Scene History
 
   -- ---- accesses
 
-  access_keeps : (x : SharedAccess) (p : ℕ) (h : History) (a : Tagged) (k : ℕ) → (m : ℕ) × (slice_get (accesses_in h) m ≡ Some x) → (m : ℕ) × (slice_get (accesses_in (grown program plan budget p h a k)) m ≡ Some x)
+  access_keeps : (x : SharedAccess) (p : ℕ) (h : History) (a : Tagged) (k : ℕ) → (m : ℕ) × (slice_get (accesses_in h) m ≡ Some x) → (m : ℕ) × (slice_get (accesses_in (grown setting p h a k)) m ≡ Some x)
   access_keeps x p None a k f = f
   access_keeps x p (Some xs) a k f =
-      let y : Taken = made program (need_after program plan budget p xs) a k in
+      let y : Taken = made setting.program (need_after setting p xs) a k in
       (f.0, ap (λ (as' : List SharedAccess). slice_get as' f.0) (accesses-append 0 xs y) ∙ kept_at (accesses_from 0 xs) (access_at (0 + length (filter_map sync_of xs)) y.need) f.0 x f.1)
 
   -- the step at this time accesses the cell, as the accesses at the end have it
   pub record IsAccess (i x : ℕ) : Type 0 where
     pub writes : Bool
-    pub there : x < length program.starts
+    pub there : x < length setting.program.starts
     pub found : (m : ℕ) × (slice_get (accesses_in ((R.at R.ends).hist (R.who i))) m ≡ Some (access (synced_in ((R.at i).hist (R.who i))) x writes))
     pub writing : Writes x (want_at R i) → writes ≡ true
 
-  access_new : (p : ℕ) (h : History) (a : Tagged) (k x : ℕ) → Touches x (want_after program plan budget p h)
-      → (w : Bool) × ((m : ℕ) × (slice_get (accesses_in (grown program plan budget p h a k)) m ≡ Some (access (synced_in h) x w))) × (x < length program.starts) × (Writes x (want_after program plan budget p h) → w ≡ true)
+  access_new : (p : ℕ) (h : History) (a : Tagged) (k x : ℕ) → Touches x (want_after setting p h)
+      → (w : Bool) × ((m : ℕ) × (slice_get (accesses_in (grown setting p h a k)) m ≡ Some (access (synced_in h) x w))) × (x < length setting.program.starts) × (Writes x (want_after setting p h) → w ≡ true)
   access_new p None a k x t = absurd t
   access_new p (Some xs) a k x t =
-      let y : Taken = made program (need_after program plan budget p xs) a k in
-      let r : Accesses program (event_after p xs) (need_after program plan budget p xs) x = touched program (event_after p xs) (need_after program plan budget p xs) x t in
+      let y : Taken = made setting.program (need_after setting p xs) a k in
+      let r : Accesses setting.program (event_after p xs) (need_after setting p xs) x = touched setting.program (event_after p xs) (need_after setting p xs) x t in
       let e : ℕ = length (filter_map sync_of xs) in
       let zero_more : 0 + e ≡ e = omega arith in (
         r.writes,
@@ -183,7 +183,7 @@ module _ (program : Program) (plan : Plan) (budget : ℕ) {first : Scene History
   is_access i x lt t =
       let q : ℕ = R.who i in
       let here : History = (R.at i).hist q in
-      let a : Tagged = answer_for (machine program plan budget) (R.at i) (want_at R i) in
+      let a : Tagged = answer_for (machine setting) (R.at i) (want_at R i) in
       let k : ℕ = number_for (R.at i) (want_at R i) in
       let new = access_new q here a k x t in
       let now : (m : ℕ) × (slice_get (accesses_in ((R.at (suc i)).hist q)) m ≡ Some (access (synced_in here) x new.0)) =

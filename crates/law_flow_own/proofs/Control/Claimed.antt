@@ -1,4 +1,6 @@
 -- What is claimed of each part of an interval, and where a step adds a part.
+use Rattle.law_steps.specs.Policies.{setting_by}
+use Rattle.ppd_model.specs.Setting.{setting_of}
 use Rattle.std.proofs.Common.{◌≡◌, ℕ, ◌-◌, Bool, true, false, List, [], ◌∷◌, Option, Some, None, refl, ap, sym, ◌∙◌, append-nil, true≢false}
 use Rattle.std.specs.Option.{option_map_or}
 use Rattle.std.specs.Prelude.{slice_get}
@@ -30,16 +32,16 @@ use Rattle.law_flow_own.specs.Places.Levels.{StandsIn, Level as Place}
 use Rattle.law_flow_own.proofs.Control.IntervalParts.{parts_in}
 
 module _ (program : Program) (policy : Policy) (budget : ℕ) (h : List ℕ) (p : ℕ) (y : Split) (v : IsValid program)
-    (at : slice_get (splits program (plan_of program policy) budget (story program (plan_of program policy) budget h))
+    (at : slice_get (splits (setting_by program policy budget) (story (setting_by program policy budget) h))
     p ≡ Some y) where
   abbrev plan : Plan
   plan = plan_of program policy
 
   abbrev s : Story
-  s = story program plan budget h
+  s = story (setting_of program plan budget) h
 
   abbrev xs : List Split
-  xs = splits program plan budget s
+  xs = splits (setting_of program plan budget) s
 
   abbrev pub Found : ℕ → ℕ → ℕ → Option EventId → Type 0
   Found k j st parent = (control_origin program plan (seen_of y) p k j st).found ≡ option_map_or (ref xs) parent origin.Entry

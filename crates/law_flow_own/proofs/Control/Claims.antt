@@ -1,4 +1,6 @@
 -- The control of each new part is found.
+use Rattle.law_steps.specs.Policies.{setting_by}
+use Rattle.ppd_model.specs.Setting.{setting_of}
 use Rattle.std.proofs.Common.{◌≡◌, ℕ, ◌+◌, ◌-◌, ◌<◌, Bool, true, false, List, [], ◌∷◌, ◌++◌, Option, Some, None, refl, ap, sym, subst, ◌∙◌, arith, length, length-append, inl, inr, true≢false, if◌then◌else◌}
 use Rattle.std.specs.Option.{option_map_or}
 use Rattle.std.specs.Prelude.{slice_get}
@@ -41,13 +43,13 @@ use Rattle.law_flow_own.proofs.Control.Referred.{refers, part_of, head_found}
 use Rattle.law_flow_own.proofs.Control.Claimed.{Claim, Claims, Found, HasHead, has_head, IsFirst, first_of, loop_number}
 
 module _ (program : Program) (policy : Policy) (budget : ℕ) (h : List ℕ) (p : ℕ) (y : Split) (v : IsValid program)
-    (at : slice_get (splits program (plan_of program policy) budget (story program (plan_of program policy) budget h))
+    (at : slice_get (splits (setting_by program policy budget) (story (setting_by program policy budget) h))
     p ≡ Some y) where
   abbrev plan : Plan
   plan = plan_of program policy
 
   abbrev s : Story
-  s = story program plan budget h
+  s = story (setting_of program plan budget) h
 
   abbrev FoundAt : ℕ → ℕ → ℕ → Option EventId → Type 0
   FoundAt k j st parent = Found program policy budget h p y v at k j st parent
@@ -173,7 +175,7 @@ module _ (program : Program) (policy : Policy) (budget : ℕ) (h : List ℕ) (p 
           λ l is_l. absurd (true≢false (sym (ap is_loop (sym kind ∙ is_l)))),
           λ isnt. ap (λ j. origin.Item p k j) (before parts)
               ∙ sym (refers program policy budget h p y v at n k (length parts) (call_part.1) call_part.0)
-              ∙ ap (λ o. option_map_or (ref (splits program plan budget s)) o origin.Entry) (sym control),
+              ∙ ap (λ o. option_map_or (ref (splits (setting_of program plan budget) s)) o origin.Entry) (sym control),
         )
       where
         before : (ps : List Part) → length (ps ++ own n ∷ []) - 1 ≡ length ps

@@ -1,4 +1,6 @@
 -- What is found in the running intervals is where the trace refers to, at the head of each moment.
+use Rattle.law_steps.specs.Policies.{setting_by}
+use Rattle.ppd_model.specs.Setting.{setting_of}
 use Rattle.std.proofs.Common.{◌≡◌, ℕ, zero, suc, ◌<◌, List, [], ◌∷◌, ◌++◌, Option, Some, None, refl, ap, sym, subst, ◌∙◌, length}
 use Rattle.std.specs.Option.{option_map_or}
 use Rattle.std.specs.Prelude.{⊤, slice_get}
@@ -76,19 +78,19 @@ sight_traced es (nested m ∷ ps) (None ∷ qs) (suc j) q s e = sight_traced es 
 sight_traced es (nested m ∷ ps) (Some r ∷ qs) j q s e = absurd s
 
 module _ (program : Program) (policy : Policy) (budget : ℕ) (h : List ℕ) (p : ℕ) (y : Split) (v : IsValid program)
-    (at : slice_get (splits program (plan_of program policy) budget (story program (plan_of program policy) budget h))
+    (at : slice_get (splits (setting_by program policy budget) (story (setting_by program policy budget) h))
     p ≡ Some y) where
   abbrev plan : Plan
   plan = plan_of program policy
 
   abbrev s : Story
-  s = story program plan budget h
+  s = story (setting_of program plan budget) h
 
   abbrev xs : List Split
-  xs = splits program plan budget s
+  xs = splits (setting_of program plan budget) s
 
   pub all_items : HasWholeItems xs y p
-  all_items = items_whole program plan budget h p y v at
+  all_items = items_whole (setting_of program plan budget) h p y v at
 
   -- ---- where an event is an item
 

@@ -1,4 +1,6 @@
 -- The search finds the control edge of each item of a process.
+use Rattle.law_steps.specs.Policies.{setting_by}
+use Rattle.ppd_model.specs.Setting.{setting_of}
 use Rattle.std.proofs.Common.{◌≡◌, ℕ, zero, suc, List, [], ◌∷◌, Some, None, subst}
 use Rattle.std.specs.Prelude.{fold, slice_get, get_or}
 use Rattle.std.proofs.lemmas.Option.{none-some}
@@ -29,13 +31,13 @@ use Rattle.law_flow_own.proofs.Control.Claimed.{Claims}
 use Rattle.law_flow_own.proofs.Control.Claims.{step_claims}
 
 module _ (program : Program) (policy : Policy) (budget : ℕ) (h : List ℕ) (p : ℕ) (y : Split) (v : IsValid program)
-    (at : slice_get (splits program (plan_of program policy) budget (story program (plan_of program policy) budget h))
+    (at : slice_get (splits (setting_by program policy budget) (story (setting_by program policy budget) h))
     p ≡ Some y) where
   abbrev plan : Plan
   plan = plan_of program policy
 
   abbrev s : Story
-  s = story program plan budget h
+  s = story (setting_of program plan budget) h
 
   -- ---- all steps
 
@@ -60,15 +62,15 @@ module _ (program : Program) (policy : Policy) (budget : ℕ) (h : List ℕ) (p 
 
   pub claims_hold : Claims program policy budget h p y v at y
   claims_hold =
-      let there = process_below program plan budget h p y at in
+      let there = process_below (setting_of program plan budget) h p y at in
       let f = begins program policy budget h p y v at in
       all_claims (begun_split program plan p (started program plan p budget))
       (record { interval = 0; block = process_block program plan p; parts = [] } ∷ []) (get_or s.steps p [])
-      (own_steps_told program plan budget h p) f.stands
+      (own_steps_told (setting_of program plan budget) h p) f.stands
       (started-home program plan p budget v)
       (λ runs. start_moment program policy p v s budget
       (process_there program policy v s p y (all_items program policy budget h p y v at).whole there))
-      (split_is program plan budget h p y at) none_yet
+      (split_is (setting_of program plan budget) h p y at) none_yet
 
 pub controls_found : ControlsAreFound
 controls_found program policy budget h p y v at k j = record {

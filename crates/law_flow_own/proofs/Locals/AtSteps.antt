@@ -1,4 +1,6 @@
 -- What is told of the tags before each step of a process of a schedule.
+use Rattle.law_steps.specs.Policies.{setting_by}
+use Rattle.ppd_model.specs.Setting.{setting_of}
 use Rattle.std.proofs.Common.{◌≡◌, ℕ, List, [], ◌∷◌, ◌++◌, Some, None, sym, subst}
 use Rattle.std.specs.Prelude.{slice_get, get_or}
 use Rattle.ppd_ast.specs.Valid.{IsValid}
@@ -20,15 +22,15 @@ use Rattle.law_flow_own.proofs.Locals.EachStep.{AtMoment, tells_all, tells_start
 use Rattle.law_flow_own.proofs.Locals.Reading.{trace_is}
 
 module _ (program : Program) (policy : Policy) (budget : ℕ) (h : List ℕ) (p : ℕ) (y : Split) (v : IsValid program)
-    (at : slice_get (splits program (plan_of program policy) budget
-    (story program (plan_of program policy) budget h)) p ≡ Some y)
+    (at : slice_get (splits (setting_by program policy budget)
+    (story (setting_by program policy budget) h)) p ≡ Some y)
     (before : List Taken) (t : Taken) (after : List Taken)
-    (steps : get_or (story program (plan_of program policy) budget h).steps p [] ≡ before ++ t ∷ after) where
+    (steps : get_or (story (setting_by program policy budget) h).steps p [] ≡ before ++ t ∷ after) where
   abbrev plan : Plan
   plan = plan_of program policy
 
   abbrev s : Story
-  s = story program plan budget h
+  s = story (setting_of program plan budget) h
 
   abbrev start : Split
   start = begun_split program plan p (started program plan p budget)
@@ -39,16 +41,16 @@ module _ (program : Program) (policy : Policy) (budget : ℕ) (h : List ℕ) (p 
   tags : HasTags start.trace
   tags = has_begun (started program plan p budget).frames
 
-  pub tagged_at : HasTags (split_of program (plan_of program policy) budget
-      (story program (plan_of program policy) budget h) p before).trace
+  pub tagged_at : HasTags (split_of (setting_by program policy budget)
+      (story (setting_by program policy budget) h) p before).trace
   tagged_at = subst HasTags (sym (trace_is program plan s p start before))
       (has_all program plan s p start.trace before tags owned)
 
-  pub told_at : (split_of program (plan_of program policy) budget (story program (plan_of program policy) budget h) p
+  pub told_at : (split_of (setting_by program policy budget) (story (setting_by program policy budget) h) p
       before).trace.proc.status ≡ None
-      → AtMoment program policy v (story program (plan_of program policy) budget h) p y
+      → AtMoment program policy v (story (setting_by program policy budget) h) p y
       (all_whole program policy budget h p y v at) (there program policy budget h p y v at)
-      (split_of program (plan_of program policy) budget (story program (plan_of program policy) budget h) p before)
+      (split_of (setting_by program policy budget) (story (setting_by program policy budget) h) p before)
       (levels_at program policy budget h p y v at before)
   told_at runs =
       let whole = all_whole program policy budget h p y v at in

@@ -1,4 +1,5 @@
 -- The search finds the writers of the local reads of each event.
+use Rattle.ppd_model.specs.Setting.{setting_of}
 use Rattle.law_flow_own.proofs.Locals.AtSteps.{tagged_at, told_at}
 use Rattle.law_flow_own.proofs.Locals.InFrame.{InFrame, each_at}
 use Rattle.law_flow_own.proofs.Locals.Moments.{event_at, need_is, next_later, running}
@@ -148,15 +149,15 @@ module _ (program : Program) (policy : Policy) (v : IsValid program) (story : St
 pub all_reads_found : AllLocalReadsAreFound
 all_reads_found program policy budget h p k j n i y e a w fr c v at placed_at traced read local =
     let plan : Plan = plan_of program policy in
-    let s : Story = story program plan budget h in
+    let s : Story = story (setting_of program plan budget) h in
     let start : Split = begun_split program plan p (started program plan p budget) in
     let turn : Turns (split_step program plan s p) (λ (x : Split). nat_lt n (length x.trace.events)) start
     (get_or s.steps p []) =
     turns (split_step program plan s p) (λ (x : Split). nat_lt n (length x.trace.events)) start (get_or s.steps p [])
     (none_yet n)
-    (ap (λ (x : Split). nat_lt n (length x.trace.events)) (split_is program plan budget h p y at)
+    (ap (λ (x : Split). nat_lt n (length x.trace.events)) (split_is (setting_of program plan budget) h p y at)
     ∙ lt-ltb n (length y.trace.events) (slice_get_below y.trace.events n e traced)) in
-    let x : Split = split_of program plan budget s p turn.before in
+    let x : Split = split_of (setting_of program plan budget) s p turn.before in
     let t : Taken = turn.taken in
     let step = event_step n (length x.trace.events) (length (split_step program plan s p x t).trace.events)
     (is_event t.need) (below_not n (length x.trace.events) turn.fails)
@@ -180,7 +181,7 @@ all_reads_found program policy budget h p k j n i y e a w fr c v at placed_at tr
     read_at program policy v s p y whole there_is x t
     (levels_at program policy budget h p y v at turn.before) f mine next runs tagged later step.0 told.tells
     x.trace.proc.todo refl in
-    let items : HasWholeItems (splits program plan budget s) y p = items_whole program plan budget h p y v at in
+    let items : HasWholeItems (splits (setting_of program plan budget) s) y p = items_whole (setting_of program plan budget) h p y v at in
     let r = items.events n (slice_get_below y.trace.events n e traced) in
     let mine_at = r.placed.once k j placed_at in
     let its_at = r.placed.once found.interval found.item (subst (λ m. part_at y found.interval found.item
@@ -192,7 +193,7 @@ all_reads_found program policy budget h p k j n i y e a w fr c v at placed_at tr
     found.says i a w fr c (ap (λ (z : TracedEvent). slice_get (zip z.event.reads z.writers) i) (sym same)
     ∙ read) local in
     ap₂ (λ z q. (local_origin program plan (seen_of y) p z q fr c).found) (mine_at.0 ∙ sym its_at.0) (mine_at.1 ∙ sym its_at.1)
-    ∙ says_is (splits program plan budget s) y p
+    ∙ says_is (splits (setting_of program plan budget) s) y p
     (local_origin program plan (seen_of y) p found.interval found.item fr c).found w items says
 
 -- so are those outside loops

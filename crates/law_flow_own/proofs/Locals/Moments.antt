@@ -1,4 +1,6 @@
 -- A step of a process in a schedule, with the levels before it.
+use Rattle.law_steps.specs.Policies.{setting_by}
+use Rattle.ppd_model.specs.Setting.{setting_of}
 use Rattle.std.proofs.Common.{◌≡◌, ℕ, Bool, true, false, List, [], ◌∷◌, ◌++◌, Option, Some, None, refl, ap, sym, subst, ◌∙◌, length, true≢false}
 use Rattle.std.specs.Prelude.{fold, slice_get, get_or}
 use Rattle.ppd_ast.specs.Valid.{IsValid}
@@ -33,29 +35,29 @@ own_need program plan story p x (u ∷ us) t after h =
     own_need program plan story p (split_step program plan story p x u) us t after h.1
 
 module _ (program : Program) (policy : Policy) (budget : ℕ) (h : List ℕ) (p : ℕ) (y : Split) (v : IsValid program)
-    (at : slice_get (splits program (plan_of program policy) budget
-    (story program (plan_of program policy) budget h)) p ≡ Some y)
+    (at : slice_get (splits (setting_by program policy budget)
+    (story (setting_by program policy budget) h)) p ≡ Some y)
     (before : List Taken) (t : Taken) (after : List Taken)
-    (steps : get_or (story program (plan_of program policy) budget h).steps p [] ≡ before ++ t ∷ after) where
+    (steps : get_or (story (setting_by program policy budget) h).steps p [] ≡ before ++ t ∷ after) where
   abbrev plan : Plan
   plan = plan_of program policy
 
   abbrev s : Story
-  s = story program plan budget h
+  s = story (setting_of program plan budget) h
 
   -- before the step, and after it
   abbrev pub now : Split
-  now = split_of program plan budget s p before
+  now = split_of (setting_of program plan budget) s p before
 
   abbrev pub next : Split
-  next = split_step program plan s p (split_of program plan budget s p before) t
+  next = split_step program plan s p (split_of (setting_of program plan budget) s p before) t
 
   abbrev pub ls : List Level
   ls = levels_at program policy budget h p y v at before
 
   pub need_is : t.need ≡ need_of program plan now.trace.proc
   need_is = own_need program plan s p (begun_split program plan p (started program plan p budget)) before t after
-      (subst (AreOwn program plan (started program plan p budget)) steps (own_steps_told program plan budget h p))
+      (subst (AreOwn program plan (started program plan p budget)) steps (own_steps_told (setting_of program plan budget) h p))
 
   pub next_later : IsLater next y
   next_later =

@@ -1,4 +1,5 @@
 -- An interval that runs has no values, and one that begins has the frame of its step.
+use Rattle.ppd_model.specs.Setting.{setting_of}
 use Rattle.std.proofs.Common.{◌≡◌, ℕ, zero, suc, ◌+◌, Bool, true, false, List, [], ◌∷◌, ◌++◌, Option, Some, None, refl, ap, sym, subst, ◌∙◌, length, inl, inr, true≢false, if◌then◌else◌}
 use Rattle.std.specs.Prelude.{fold, option_map, slice_get, is_some}
 use Rattle.std.proofs.lemmas.Bool.{cases_eq}
@@ -92,7 +93,7 @@ module _ (program : Program) (plan : Plan) (story : Story) (p : ℕ) where
   all_steps x [] h = h
   all_steps x (t ∷ ts) h = all_steps (split_step program plan story p x t) ts (one_step x t h)
 
-  pub are_empty : (budget : ℕ) (ts : List Taken) → AreEmpty (split_of program plan budget story p ts).spans
+  pub are_empty : (budget : ℕ) (ts : List Taken) → AreEmpty (split_of (setting_of program plan budget) story p ts).spans
   are_empty budget ts = all_steps (begun_split program plan p (started program plan p budget)) ts none
     where
       none : AreEmpty (begun_split program plan p (started program plan p budget)).spans

@@ -1,4 +1,6 @@
 -- A closed interval of a function ends with the event that returned its value.
+use Rattle.law_steps.specs.Policies.{setting_by}
+use Rattle.ppd_model.specs.Setting.{setting_of}
 use Rattle.law_flow_own.proofs.Locals.Closes.{ClosesAt, closes_at}
 use Rattle.law_flow_own.proofs.Locals.Ends.{closed_at, closed_in}
 use Rattle.law_flow_own.proofs.Locals.Moments.{event_at, ls, need_is, next, next_later, now, running}
@@ -80,14 +82,14 @@ start_closed program plan p s (suc m) = refl
 
 module _ (program : Program) (policy : Policy) (budget : ℕ) (h : List ℕ) (p m : ℕ) (y : Split) (i : Span)
     (v : IsValid program)
-    (at : slice_get (splits program (plan_of program policy) budget
-    (story program (plan_of program policy) budget h)) p ≡ Some y)
+    (at : slice_get (splits (setting_by program policy budget)
+    (story (setting_by program policy budget) h)) p ≡ Some y)
     (there : slice_get y.spans m ≡ Some i) (is_so : is_some i.closed ≡ true) where
   abbrev plan : Plan
   plan = plan_of program policy
 
   abbrev s : Story
-  s = story program plan budget h
+  s = story (setting_of program plan budget) h
 
   pub leaving : Turns (split_step program plan s p) (λ (x : Split). closed_at m x.spans)
       (begun_split program plan p (started program plan p budget)) (get_or s.steps p [])
@@ -95,7 +97,7 @@ module _ (program : Program) (policy : Policy) (budget : ℕ) (h : List ℕ) (p 
       turns (split_step program plan s p) (λ (x : Split). closed_at m x.spans)
       (begun_split program plan p (started program plan p budget)) (get_or s.steps p [])
       (start_closed program plan p (started program plan p budget) m)
-      (ap (λ (x : Split). closed_at m x.spans) (split_is program plan budget h p y at) ∙ ap closed_in there ∙ is_so)
+      (ap (λ (x : Split). closed_at m x.spans) (split_is (setting_of program plan budget) h p y at) ∙ ap closed_in there ∙ is_so)
 
   pub closing_step : ClosesAt program plan p
       (now program policy budget h p y v at leaving.before leaving.taken leaving.after leaving.steps_are)
@@ -155,18 +157,18 @@ left_other pl me tags n other = refl
 -- a function's interval that is left has the tag of its return
 pub left_by_return : (program : Program) (policy : Policy) (budget : ℕ) (h : List ℕ) (p m : ℕ) (y : Split) (i : Span)
     (v : IsValid program)
-    (at : slice_get (splits program (plan_of program policy) budget
-    (story program (plan_of program policy) budget h)) p ≡ Some y)
+    (at : slice_get (splits (setting_by program policy budget)
+    (story (setting_by program policy budget) h)) p ≡ Some y)
     (there : slice_get y.spans m ≡ Some i) (is_so : is_some i.closed ≡ true)
     → is_loop (block_kind (plan_of program policy) i.block) ≡ false
-    → i.left ≡ Some (me_in p (split_of program (plan_of program policy) budget
-    (story program (plan_of program policy) budget h) p
+    → i.left ≡ Some (me_in p (split_of (setting_by program policy budget)
+    (story (setting_by program policy budget) h) p
     (leaving program policy budget h p m y i v at there is_so).before).trace) ∷ []
 left_by_return program policy budget h p m y i v at there is_so no_loop =
     let plan : Plan = plan_of program policy in
-    let s : Story = story program plan budget h in
+    let s : Story = story (setting_of program plan budget) h in
     let turn = leaving program policy budget h p m y i v at there is_so in
-    let x : Split = split_of program plan budget s p turn.before in
+    let x : Split = split_of (setting_of program plan budget) s p turn.before in
     let t : Taken = turn.taken in
     let c = closing_step program policy budget h p m y i v at there is_so in
     let f : IsFollowed program policy v s p y (all_whole program policy budget h p y v at) x (c.level ∷ c.others) =
@@ -185,16 +187,16 @@ left_by_return program policy budget h p m y i v at there is_so no_loop =
 pub returns_found : ReturnsAreFound
 returns_found program policy budget h p m y i w v at there is_so no_loop w_is =
     let plan : Plan = plan_of program policy in
-    let s : Story = story program plan budget h in
+    let s : Story = story (setting_of program plan budget) h in
     let turn = leaving program policy budget h p m y i v at there is_so in
-    let x : Split = split_of program plan budget s p turn.before in
+    let x : Split = split_of (setting_of program plan budget) s p turn.before in
     let t : Taken = turn.taken in
     let c = closing_step program policy budget h p m y i v at there is_so in
     let left : i.left ≡ Some (me_in p x.trace) ∷ [] =
     left_by_return program policy budget h p m y i v at there is_so no_loop in
     let tag : w ≡ Some (me_in p x.trace) = some (sym w_is ∙ ap (λ ts. slice_get ts 0) left) in
     let event = event_at program policy budget h p y v at turn.before t turn.after turn.steps_are c.event in
-    let whole : HasWholeItems (splits program plan budget s) y p = items_whole program plan budget h p y v at in
+    let whole : HasWholeItems (splits (setting_of program plan budget) s) y p = items_whole (setting_of program plan budget) h p y v at in
     let stands : part_at y m (length c.level.parts) ≡ Some (own (length x.trace.events)) =
     part_there y m (length c.level.parts) i (own (length x.trace.events)) there
     (ap (λ ps. slice_get ps (length c.level.parts)) c.parts_are
@@ -204,6 +206,6 @@ returns_found program policy budget h p m y i w v at there is_so no_loop w_is =
     ∙ length_push c.level.parts (own (length x.trace.events)) in
     let last : length (get_or (seen_of y).items m []) - 1 ≡ length c.level.parts = omega (arith, items) in
     ap (λ j. origin.Item p m j) last
-    ∙ sym (ref_at (splits program plan budget s) y p m (length c.level.parts)
+    ∙ sym (ref_at (splits (setting_of program plan budget) s) y p m (length c.level.parts)
     (length x.trace.events) _ whole event stands)
-    ∙ ap (λ w. option_map_or (ref (splits program plan budget s)) w origin.Initial) (sym tag)
+    ∙ ap (λ w. option_map_or (ref (splits (setting_of program plan budget) s)) w origin.Initial) (sym tag)

@@ -1,4 +1,6 @@
 -- The search finds the writers of what each loop left.
+use Rattle.law_steps.specs.Policies.{setting_by}
+use Rattle.ppd_model.specs.Setting.{setting_of}
 use Rattle.law_flow_own.proofs.Locals.AtSteps.{tagged_at, told_at}
 use Rattle.law_flow_own.proofs.Locals.EachStep.{AtMoment}
 use Rattle.law_flow_own.proofs.Locals.LocalReads.{says_is}
@@ -71,17 +73,17 @@ pub record IsLeftFrom (program : Program) (plan : Plan) (xs : List Split) (y : S
 
 pub left_from : (program : Program) (policy : Policy) (budget : ℕ) (h : List ℕ) (p k j m n q : ℕ) (y : Split) (i : Span)
     (value : ℤ) → IsValid program
-    → slice_get (splits program (plan_of program policy) budget (story program (plan_of program policy) budget h)) p
+    → slice_get (splits (setting_by program policy budget) (story (setting_by program policy budget) h)) p
     ≡ Some y
     → part_at y k j ≡ Some (nested m) → slice_get y.spans m ≡ Some i → is_some i.closed ≡ true
     → block_kind (plan_of program policy) i.block ≡ block.Loop q → slice_get i.values n ≡ Some value
     → IsLeftFrom program (plan_of program policy)
-    (splits program (plan_of program policy) budget (story program (plan_of program policy) budget h)) y p k j i
+    (splits (setting_by program policy budget) (story (setting_by program policy budget) h)) y p k j i
 left_from program policy budget h p k j m n q y i value v at part there_i is_so kind value_is =
     let plan : Plan = plan_of program policy in
-    let s : Story = story program plan budget h in
+    let s : Story = story (setting_of program plan budget) h in
     let turn = leaving program policy budget h p m y i v at there_i is_so in
-    let x : Split = split_of program plan budget s p turn.before in
+    let x : Split = split_of (setting_of program plan budget) s p turn.before in
     let t : Taken = turn.taken in
     let cl = closing_step program policy budget h p m y i v at there_i is_so in
     let whole : AreWhole y = all_whole program policy budget h p y v at in
@@ -116,7 +118,7 @@ left_from program policy budget h p k j m n q y i value v at part there_i is_so 
     let at_o : LevelAt y just.outer (numbers just.others) =
     level_from x y cl.level.interval (nested cl.level.interval ∷ []) just.outer just.others stands.levels.1 later in
     let tree : IsTree y.spans y.running =
-    subst (λ (z : Split). IsTree z.spans z.running) (split_is program plan budget h p y at)
+    subst (λ (z : Split). IsTree z.spans z.running) (split_is (setting_of program plan budget) h p y at)
     (has_tree program plan s p budget (get_or s.steps p [])) in
     let span = span_of (slice_get y.spans k) j m part in
     let parent = tree.parent k j m span.0 span.1 span.2 in
@@ -135,7 +137,7 @@ left_from program policy budget h p k j m n q y i value v at part there_i is_so 
     ap₂ (λ a b. frame_at program plan (seen_of y) a b) k_is j_is
     ∙ ap (λ xs. frame_in (leaf_at program plan xs))
     (first_ones y whole just.outer (numbers just.others) at_o) in
-    let items : HasWholeItems (splits program plan budget s) y p = items_whole program plan budget h p y v at in
+    let items : HasWholeItems (splits (setting_of program plan budget) s) y p = items_whole (setting_of program plan budget) h p y v at in
     record {
       frame_is = frame ∙ sym (subst (IsFramed program plan y i) just.levels_are (got.3.framed i there_l));
       tag = λ d. get_or (top_tags x.trace.activations) d None;
@@ -145,7 +147,7 @@ left_from program policy budget h p k j m n q y i value v at part there_i is_so 
           ap (λ z. (local_origin program plan (seen_of y) p k (j + 1) z c).found) frame
           ∙ ap₂ (λ a b. (local_origin program plan (seen_of y) p a (b + 1)
           (frame_in (leaf_of program plan y just.outer)) c).found) k_is j_is
-          ∙ says_is (splits program plan budget s) y p
+          ∙ says_is (splits (setting_of program plan budget) s) y p
           (local_origin program plan (seen_of y) p just.outer.interval (length just.outer.parts + 1)
           (frame_in (leaf_of program plan y just.outer)) c).found (get_or (top_tags x.trace.activations) c None) items
           (just.says e c (ap (λ b. slice_get (postlog_cells plan b) e) (sym cl.block_is) ∙ cell));
@@ -154,7 +156,7 @@ left_from program policy budget h p k j m n q y i value v at part there_i is_so 
 pub lefts_found : LoopsLeftAreFound
 lefts_found program policy budget h p k j m n q y i c value w v at part there_i is_so kind tag_at value_is =
     let plan : Plan = plan_of program policy in
-    let xs : List Split = splits program plan budget (story program plan budget h) in
+    let xs : List Split = splits (setting_of program plan budget) (story (setting_of program plan budget) h) in
     let l : IsLeftFrom program plan xs y p k j i =
     left_from program policy budget h p k j m n q y i value v at part there_i is_so kind value_is in
     let cells = zipped (postlog_cells plan i.block) l.tag n c w

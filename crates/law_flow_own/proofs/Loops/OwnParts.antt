@@ -1,4 +1,6 @@
 -- Of each item what is found within the process is as the model has it.
+use Rattle.law_steps.specs.Policies.{setting_by}
+use Rattle.ppd_model.specs.Setting.{setting_of}
 use Rattle.law_flow_own.proofs.Control.Whole.{controls_found}
 use Rattle.law_flow_own.proofs.Locals.LocalReads.{all_reads_found}
 use Rattle.law_flow_own.proofs.Locals.OpenSpans.{are_empty}
@@ -35,12 +37,12 @@ use Rattle.std.specs.Prelude.{get_or, is_some, slice_get}
 -- a function's interval that is left has the tag of its return
 function_left : (program : Program) (policy : Policy) (budget : ℕ) (h : List ℕ) (p m : ℕ) (y : Split) (i : Span)
     → IsValid program
-    → slice_get (splits program (plan_of program policy) budget (story program (plan_of program policy) budget h)) p
+    → slice_get (splits (setting_by program policy budget) (story (setting_by program policy budget) h)) p
     ≡ Some y
     → slice_get y.spans m ≡ Some i → is_some i.closed ≡ true → is_loop (block_kind (plan_of program policy) i.block) ≡ false
     → (w : Tag) × (i.left ≡ w ∷ [])
 function_left program policy budget h p m y i v at there is_so no_loop = (
-  Some (me_in p (split_of program (plan_of program policy) budget (story program (plan_of program policy) budget h) p
+  Some (me_in p (split_of (setting_by program policy budget) (story (setting_by program policy budget) h) p
       (leaving program policy budget h p m y i v at there is_so).before).trace),
   left_by_return program policy budget h p m y i v at there is_so no_loop,
 )
@@ -71,18 +73,18 @@ module _ (program : Program) (plan : Plan) (xs : List Split) (y : Split) (p k j 
       } ∷ es) (h 0 c refl) (left_same frame tag cs vs (λ n d at. h (suc n) d at))
 
 module _ (program : Program) (policy : Policy) (budget : ℕ) (h : List ℕ) (p k j : ℕ) (y : Split) (v : IsValid program)
-    (at : slice_get (splits program (plan_of program policy) budget (story program (plan_of program policy) budget h)) p
+    (at : slice_get (splits (setting_by program policy budget) (story (setting_by program policy budget) h)) p
     ≡ Some y) (m : ℕ) (i : Span) (part : part_at y k j ≡ Some (nested m)) (there : slice_get y.spans m ≡ Some i) where
   abbrev plan : Plan
   plan = plan_of program policy
 
   abbrev xs : List Split
-  xs = splits program plan budget (story program plan budget h)
+  xs = splits (setting_of program plan budget) (story (setting_of program plan budget) h)
 
   empty : is_some i.closed ≡ false → i.values ≡ []
   empty = subst (λ (z : Split). (a : ℕ) (b : Span) → slice_get z.spans a ≡ Some b → is_some b.closed ≡ false → b.values ≡ [])
-      (split_is program plan budget h p y at)
-      (are_empty program plan (story program plan budget h) p budget (get_or (story program plan budget h).steps p [])) m i
+      (split_is (setting_of program plan budget) h p y at)
+      (are_empty program plan (story (setting_of program plan budget) h) p budget (get_or (story (setting_of program plan budget) h).steps p [])) m i
       there
 
   -- with a value it was left

@@ -1,4 +1,6 @@
 -- At each moment at which a process runs, the items tell which activation goes on.
+use Rattle.law_steps.specs.Policies.{setting_by}
+use Rattle.ppd_model.specs.Setting.{Setting, setting_of}
 use Rattle.std.proofs.Common.{◌≡◌, ℕ, ◌+◌, ◌<◌, true, List, [], ◌∷◌, ◌++◌, Some, ap, sym, subst, ◌∙◌, arith, length}
 use Rattle.std.specs.Prelude.{fold, is_some, slice_get, get_or}
 use Rattle.std.proofs.lemmas.List.{length-map}
@@ -35,26 +37,26 @@ use Rattle.law_flow_own.proofs.Places.Opening.{not_nil}
 use Rattle.law_flow_own.proofs.Places.Whole.{AreWhole}
 
 -- a process with intervals is one of the program's
-pub process_below : (program : Program) (plan : Plan) (budget : ℕ) (h : List ℕ) (p : ℕ) (y : Split)
-    → slice_get (splits program plan budget (story program plan budget h)) p ≡ Some y
-    → program.functions + p < length program.bodies
-process_below program plan budget h p y at =
-    let s : Story = story program plan budget h in
-    let t : Telling = told program plan budget h in
-    let below : p < length (splits program plan budget s) = slice_get_within (splits program plan budget s) p y at in
-    let many : length (splits program plan budget s) ≡ length t.moments =
-    splits_length program plan budget s 0 s.steps ∙ length-map t.moments steps_of in
-    omega (arith, below, many, moments_length program plan budget h, (objects_stay program plan budget h).processes)
+pub process_below : (setting : Setting) (h : List ℕ) (p : ℕ) (y : Split)
+    → slice_get (splits setting (story setting h)) p ≡ Some y
+    → setting.program.functions + p < length setting.program.bodies
+process_below setting h p y at =
+    let s : Story = story setting h in
+    let t : Telling = told setting h in
+    let below : p < length (splits setting s) = slice_get_within (splits setting s) p y at in
+    let many : length (splits setting s) ≡ length t.moments =
+    splits_length setting s 0 s.steps ∙ length-map t.moments steps_of in
+    omega (arith, below, many, moments_length setting h, (objects_stay setting h).processes)
 
 -- a process in its intervals is so by its own steps
-pub split_is : (program : Program) (plan : Plan) (budget : ℕ) (h : List ℕ) (p : ℕ) (y : Split)
-    → slice_get (splits program plan budget (story program plan budget h)) p ≡ Some y
-    → split_of program plan budget (story program plan budget h) p (get_or (story program plan budget h).steps p []) ≡ y
-split_is program plan budget h p y at =
-    let s : Story = story program plan budget h in
+pub split_is : (setting : Setting) (h : List ℕ) (p : ℕ) (y : Split)
+    → slice_get (splits setting (story setting h)) p ≡ Some y
+    → split_of setting (story setting h) p (get_or (story setting h).steps p []) ≡ y
+split_is setting h p y at =
+    let s : Story = story setting h in
     let z : 0 + p ≡ p = omega arith in
-    ap (λ k. split_of program plan budget s k (get_or s.steps p [])) (sym z)
-    ∙ split_found program plan budget s 0 s.steps p y at
+    ap (λ k. split_of setting s k (get_or s.steps p [])) (sym z)
+    ∙ split_found setting s 0 s.steps p y at
 
 frame_any : (program : Program) (policy : Policy) (p : ℕ) (y : Split) (s : Proc) (ls : List Level) → IsValid program
     → IsInOrder program (plan_of program policy) p s → IsState program (plan_of program policy) s
@@ -71,13 +73,13 @@ frame_any program policy p y s (l ∷ ls) v order state is_process at =
 
 -- a process at a moment of a schedule: its levels, and that what comes of it is later
 module _ (program : Program) (policy : Policy) (budget : ℕ) (h : List ℕ) (p : ℕ) (y : Split) (v : IsValid program)
-    (at : slice_get (splits program (plan_of program policy) budget
-    (story program (plan_of program policy) budget h)) p ≡ Some y) where
+    (at : slice_get (splits (setting_by program policy budget)
+    (story (setting_by program policy budget) h)) p ≡ Some y) where
   abbrev plan : Plan
   plan = plan_of program policy
 
   abbrev s : Story
-  s = story program plan budget h
+  s = story (setting_of program plan budget) h
 
   abbrev pub start : Split
   start = begun_split program plan p (started program plan p budget)
@@ -91,10 +93,10 @@ module _ (program : Program) (policy : Policy) (budget : ℕ) (h : List ℕ) (p 
   } ∷ [])
 
   pub all_whole : AreWhole y
-  all_whole = (items_whole program plan budget h p y v at).whole
+  all_whole = (items_whole (setting_of program plan budget) h p y v at).whole
 
   pub there : program.functions + p < length program.bodies
-  there = process_below program plan budget h p y at
+  there = process_below (setting_of program plan budget) h p y at
 
   pub begins : IsFollowed program policy v s p y all_whole start (record {
     interval = 0;
@@ -105,11 +107,11 @@ module _ (program : Program) (policy : Policy) (budget : ℕ) (h : List ℕ) (p 
   begins = followed_start program policy v s p y all_whole budget there
 
   module _ (before after : List Taken) (steps : get_or s.steps p [] ≡ before ++ after) where
-    pub comes_to : fold (split_step program plan s p) (split_of program plan budget s p before) after ≡ y
+    pub comes_to : fold (split_step program plan s p) (split_of (setting_of program plan budget) s p before) after ≡ y
     comes_to = sym (fold-append (split_step program plan s p) start before after)
-        ∙ ap (split_of program plan budget s p) (sym steps) ∙ split_is program plan budget h p y at
+        ∙ ap (split_of (setting_of program plan budget) s p) (sym steps) ∙ split_is (setting_of program plan budget) h p y at
 
-    pub stands_at : StandsIn (split_of program plan budget s p before) (levels_at before)
+    pub stands_at : StandsIn (split_of (setting_of program plan budget) s p before) (levels_at before)
     stands_at = steps_stand program plan s p start (record {
       interval = 0;
       block =
@@ -117,15 +119,15 @@ module _ (program : Program) (policy : Policy) (budget : ℕ) (h : List ℕ) (p 
       parts = [];
     } ∷ []) before begins.stands
 
-    pub later_at : IsLater (split_of program plan budget s p before) y
-    later_at = subst (IsLater (split_of program plan budget s p before)) comes_to
-        (steps_later program plan s p (split_of program plan budget s p before) (levels_at before) after stands_at)
+    pub later_at : IsLater (split_of (setting_of program plan budget) s p before) y
+    later_at = subst (IsLater (split_of (setting_of program plan budget) s p before)) comes_to
+        (steps_later program plan s p (split_of (setting_of program plan budget) s p before) (levels_at before) after stands_at)
 
     pub own_before : AreOwn program plan (started program plan p budget) before
     own_before = own-before program plan (started program plan p budget) before after
-        (subst (AreOwn program plan (started program plan p budget)) steps (own_steps_told program plan budget h p))
+        (subst (AreOwn program plan (started program plan p budget)) steps (own_steps_told (setting_of program plan budget) h p))
 
-    pub followed_at : IsFollowed program policy v s p y all_whole (split_of program plan budget s p before)
+    pub followed_at : IsFollowed program policy v s p y all_whole (split_of (setting_of program plan budget) s p before)
         (levels_at before)
     followed_at = follow program policy v s p y all_whole start (record {
       interval = 0;
@@ -144,9 +146,9 @@ leaf_tells program policy budget h p y before after v at steps runs =
       later = later_at program policy budget h p y v at before after steps;
       open_is = told.open_is;
       begun = told.begun;
-      frame_is = frame_any program policy p y (split_of program (plan_of program policy) budget
-          (story program (plan_of program policy) budget h) p before).trace.proc
+      frame_is = frame_any program policy p y (split_of (setting_by program policy budget)
+          (story (setting_by program policy budget) h) p before).trace.proc
           (levels_at program policy budget h p y v at before) v f.order f.state
-          (process_there program policy v (story program (plan_of program policy) budget h) p y
+          (process_there program policy v (story (setting_by program policy budget) h) p y
           (all_whole program policy budget h p y v at) (there program policy budget h p y v at)) told.open_is;
     }

@@ -1,4 +1,5 @@
 -- What the search for control finds in the items of a process is what the trace has.
+use Rattle.law_steps.specs.Policies.{setting_by}
 use Rattle.std.specs.Prelude.{◌≡◌, ℕ, ◌-◌, false, List, slice_get, Some}
 use Rattle.std.specs.Option.{option_map_or}
 use Rattle.ppd_ast.specs.declared.plan.BlockKind.TheVariants as block
@@ -34,8 +35,8 @@ pub record HasFoundControl (program : Program) (plan : Plan) (xs : List Split) (
 abbrev pub ControlsAreFound : Type 0
 ControlsAreFound =
     (program : Program) (policy : Policy) (budget : ℕ) (h : List ℕ) (p : ℕ) (x : Split) → IsValid program
-    → slice_get (splits program (plan_of program policy) budget (story program (plan_of program policy) budget h)) p
+    → slice_get (splits (setting_by program policy budget) (story (setting_by program policy budget) h)) p
     ≡ Some x
     → (k j : ℕ)
     → HasFoundControl program (plan_of program policy)
-    (splits program (plan_of program policy) budget (story program (plan_of program policy) budget h)) x p k j
+    (splits (setting_by program policy budget) (story (setting_by program policy budget) h)) x p k j

@@ -1,4 +1,5 @@
 -- What the search finds for the local reads of an event, everywhere.
+use Rattle.law_steps.specs.Policies.{setting_by}
 use Rattle.std.specs.Prelude.{◌≡◌, ℕ, List, slice_get, zip, Some}
 use Rattle.ppd_model.specs.declared.flow.Origin.TheVariants as origin
 use Rattle.std.specs.Option.{option_map_or}
@@ -24,11 +25,11 @@ AllLocalReadsAreFound =
     (program : Program) (policy : Policy) (budget : ℕ) (h : List ℕ) (p k j n i : ℕ) (y : Split) (e : TracedEvent)
     (a : Access) (w : Tag) (frame c : ℕ)
     → IsValid program
-    → slice_get (splits program (plan_of program policy) budget (story program (plan_of program policy) budget h)) p
+    → slice_get (splits (setting_by program policy budget) (story (setting_by program policy budget) h)) p
     ≡ Some y
     → part_at y k j ≡ Some (own n) → slice_get y.trace.events n ≡ Some e
     → slice_get (zip e.event.reads e.writers) i ≡ Some (a, w) → a.spot ≡ Local frame c
     → (local_origin program (plan_of program policy) (seen_of y) p k j frame c).found
     ≡ option_map_or
-    (ref (splits program (plan_of program policy) budget (story program (plan_of program policy) budget h))) w
+    (ref (splits (setting_by program policy budget) (story (setting_by program policy budget) h))) w
     origin.Initial

@@ -1,4 +1,5 @@
 -- What a function's interval returned comes from its last item.
+use Rattle.law_steps.specs.Policies.{setting_by}
 use Rattle.std.specs.Prelude.{◌≡◌, ℕ, true, false, List, slice_get, Some, is_some}
 use Rattle.ppd_model.specs.declared.flow.Origin.TheVariants as origin
 use Rattle.std.specs.Option.{option_map_or}
@@ -19,12 +20,12 @@ abbrev pub ReturnsAreFound : Type 0
 ReturnsAreFound =
     (program : Program) (policy : Policy) (budget : ℕ) (h : List ℕ) (p m : ℕ) (y : Split) (i : Span) (w : Tag)
     → IsValid program
-    → slice_get (splits program (plan_of program policy) budget (story program (plan_of program policy) budget h)) p
+    → slice_get (splits (setting_by program policy budget) (story (setting_by program policy budget) h)) p
     ≡ Some y
     → slice_get y.spans m ≡ Some i → is_some i.closed ≡ true
     → is_loop (block_kind (plan_of program policy) i.block) ≡ false
     → slice_get i.left 0 ≡ Some w
     → (last_item (seen_of y) p m).found
     ≡ option_map_or
-    (ref (splits program (plan_of program policy) budget (story program (plan_of program policy) budget h))) w
+    (ref (splits (setting_by program policy budget) (story (setting_by program policy budget) h))) w
     origin.Initial

@@ -1,4 +1,5 @@
 -- All that is found within a process is as the model has it.
+use Rattle.law_steps.specs.Policies.{setting_by}
 use Rattle.std.specs.Prelude.{◌≡◌, ℕ, List, slice_get, Some}
 use Rattle.ppd_ast.specs.Valid.{IsValid}
 use Rattle.ppd_ast.specs.declared.plan.Policy.{Policy}
@@ -13,7 +14,7 @@ use Rattle.law_flow_shared.specs.Edges.Assembled.{HasOwnParts}
 abbrev pub AllOwnPartsAreFound : Type 0
 AllOwnPartsAreFound =
     (program : Program) (policy : Policy) (budget : ℕ) (h : List ℕ) (p k j : ℕ) (x : Split) → IsValid program
-    → slice_get (splits program (plan_of program policy) budget (story program (plan_of program policy) budget h)) p
+    → slice_get (splits (setting_by program policy budget) (story (setting_by program policy budget) h)) p
     ≡ Some x
     → HasOwnParts program (plan_of program policy)
-    (splits program (plan_of program policy) budget (story program (plan_of program policy) budget h)) x p k j
+    (splits (setting_by program policy budget) (story (setting_by program policy budget) h)) x p k j

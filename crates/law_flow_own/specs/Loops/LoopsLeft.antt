@@ -1,4 +1,5 @@
 -- What the search finds for what a loop left.
+use Rattle.law_steps.specs.Policies.{setting_by}
 use Rattle.std.specs.Prelude.{◌≡◌, ℕ, ◌+◌, ℤ, true, List, slice_get, zip, Some, is_some}
 use Rattle.ppd_model.specs.declared.flow.Origin.TheVariants as origin
 use Rattle.std.specs.Option.{option_map_or}
@@ -24,7 +25,7 @@ LoopsLeftAreFound =
     (program : Program) (policy : Policy) (budget : ℕ) (h : List ℕ) (p k j m n q : ℕ) (y : Split) (i : Span)
     (c : ℕ) (value : ℤ) (w : Tag)
     → IsValid program
-    → slice_get (splits program (plan_of program policy) budget (story program (plan_of program policy) budget h)) p
+    → slice_get (splits (setting_by program policy budget) (story (setting_by program policy budget) h)) p
     ≡ Some y
     → part_at y k j ≡ Some (nested m) → slice_get y.spans m ≡ Some i → is_some i.closed ≡ true
     → block_kind (plan_of program policy) i.block ≡ block.Loop q
@@ -33,5 +34,5 @@ LoopsLeftAreFound =
     → (local_origin program (plan_of program policy) (seen_of y) p k (j + 1)
     (frame_at program (plan_of program policy) (seen_of y) k j) c).found
     ≡ option_map_or
-    (ref (splits program (plan_of program policy) budget (story program (plan_of program policy) budget h))) w
+    (ref (splits (setting_by program policy budget) (story (setting_by program policy budget) h))) w
     origin.Initial

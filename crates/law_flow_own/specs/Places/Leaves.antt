@@ -1,4 +1,5 @@
 -- Which activation goes on at a place of an interval, as the items before the place tell it.
+use Rattle.law_steps.specs.Policies.{setting_by}
 use Rattle.std.specs.Prelude.{◌≡◌, ℕ, List, [], ◌∷◌, ◌++◌, map, slice_get, Option, Some, None, get_or}
 use Rattle.std.specs.List.{flat_map}
 use Rattle.ppd_ast.specs.Valid.{IsValid}
@@ -133,10 +134,10 @@ abbrev pub LeafTells : Type 0
 LeafTells =
     (program : Program) (policy : Policy) (budget : ℕ) (h : List ℕ) (p : ℕ) (y : Split) (before after : List Taken)
     → IsValid program
-    → slice_get (splits program (plan_of program policy) budget (story program (plan_of program policy) budget h)) p
+    → slice_get (splits (setting_by program policy budget) (story (setting_by program policy budget) h)) p
     ≡ Some y
-    → get_or (story program (plan_of program policy) budget h).steps p [] ≡ before ++ after
-    → (split_of program (plan_of program policy) budget
-    (story program (plan_of program policy) budget h) p before).trace.proc.status ≡ None
+    → get_or (story (setting_by program policy budget) h).steps p [] ≡ before ++ after
+    → (split_of (setting_by program policy budget)
+    (story (setting_by program policy budget) h) p before).trace.proc.status ≡ None
     → IsTold program (plan_of program policy) p
-    (split_of program (plan_of program policy) budget (story program (plan_of program policy) budget h) p before) y
+    (split_of (setting_by program policy budget) (story (setting_by program policy budget) h) p before) y

@@ -1,10 +1,9 @@
 -- The replays for the last value of a cell are of intervals that are open where it was written.
+use Rattle.ppd_model.specs.Setting.{Setting}
 use Rattle.std.proofs.Common.{◌≡◌, ℕ, ◌≤◌, ℤ, Bool, List, [], ◌∷◌, ◌++◌, Option, Some, None, Ok, refl, ap, sym, ◌∙◌, subst, arith, true≢false}
 use Rattle.std.specs.Prelude.{sum_by}
 use Rattle.std.proofs.lemmas.List.{append-nil}
 use Rattle.ppd_ast.specs.Valid.{IsValid}
-use Rattle.ppd_ast.specs.declared.plan.Plan.{Plan}
-use Rattle.ppd_ast.specs.declared.program.Program.{Program}
 use Rattle.ppd_entry.specs.declared.entry.Logs.{Logs}
 use Rattle.ppd_model.specs.declared.flow.Origin.{Origin}
 use Rattle.ppd_model.specs.declared.graph.EdgeId.{EdgeId}
@@ -26,17 +25,17 @@ use Rattle.law_flow_shared.proofs.Costs.Own.Near.{all_steps_of}
 use Rattle.law_flow_shared.proofs.Costs.Walks.Counts.{greatest_in}
 use Rattle.law_flow_shared.proofs.Costs.Walks.Written.{IsNearWrite, near_write}
 
-module _ (program : Program) (plan : Plan) (budget : ℕ) (h : List ℕ) (v : IsValid program) where
+module _ (setting : Setting) (h : List ℕ) (v : IsValid setting.program) where
   abbrev xs : List Split
-  xs = splits program plan budget (story program plan budget h)
+  xs = splits setting (story setting h)
 
   abbrev logs : Logs
-  logs = closed_logs program plan budget h
+  logs = closed_logs setting h
 
   abbrev seens : List Seen
-  seens = all_seen program plan budget h
+  seens = all_seen setting h
 
-  write_little : (c : ℕ) (a : EdgeId) (from : Origin) → IsNearWrite program plan budget h v c a from
+  write_little : (c : ℕ) (a : EdgeId) (from : Origin) → IsNearWrite setting h v c a from
       → steps_of_all xs (written_in logs seens c a).replays ≤ sum_by (λ (i : Span). i.steps) (open_at_origin xs from)
   write_little c a from nw =
       let near : ℕ → Split → ℕ → Span → Bool = λ q y m i. is_open_at y (part_at y nw.interval nw.item) i in
@@ -53,12 +52,12 @@ module _ (program : Program) (plan : Plan) (budget : ℕ) (h : List ℕ) (v : Is
       (subst (λ l. steps_of_all xs (of_process a.process nw.replays) ≤ sum_by (λ (i : Span). i.steps) l) (sym (opens ∙ sym (append-nil _)))
       (omega (arith, is, little)))
 
-  start_little : (c : ℕ) (o : Option EdgeId) (u : ℤ × Origin) → ((a : EdgeId) → o ≡ Some a → greatest_writing program logs c ≡ Some a) → (written_or_start program logs seens c o).found ≡ Ok u
-      → steps_of_all xs (written_or_start program logs seens c o).replays ≤ sum_by (λ (i : Span). i.steps) (open_at_origin xs u.1)
+  start_little : (c : ℕ) (o : Option EdgeId) (u : ℤ × Origin) → ((a : EdgeId) → o ≡ Some a → greatest_writing setting.program logs c ≡ Some a) → (written_or_start setting.program logs seens c o).found ≡ Ok u
+      → steps_of_all xs (written_or_start setting.program logs seens c o).replays ≤ sum_by (λ (i : Span). i.steps) (open_at_origin xs u.1)
   start_little c None u g e = omega arith
-  start_little c (Some a) u g e = write_little c a u.1 (near_write program plan budget h v c a u.0 u.1 (greatest_in (is_before_in program logs) a (writing logs c) (g a refl)) e)
+  start_little c (Some a) u g e = write_little c a u.1 (near_write setting h v c a u.0 u.1 (greatest_in (is_before_in setting.program logs) a (writing logs c) (g a refl)) e)
 
 pub last_cheap : LastCostsLittle
-last_cheap program plan budget h w c v r free lt =
-    start_little program plan budget h v c (greatest_writing program (closed_logs program plan budget h) c) (last program plan budget (story program plan budget h) c) (λ a e. e)
-    (last_found program plan budget h w v r free c lt)
+last_cheap setting h w c v r free lt =
+    start_little setting h v c (greatest_writing setting.program (closed_logs setting h) c) (last setting (story setting h) c) (λ a e. e)
+    (last_found setting h w v r free c lt)

@@ -1,7 +1,6 @@
 -- What the bounds on the replays of an item's edges speak of.
+use Rattle.ppd_model.specs.Setting.{Setting}
 use Rattle.std.proofs.Common.{ℕ, List}
-use Rattle.ppd_ast.specs.declared.plan.Plan.{Plan}
-use Rattle.ppd_ast.specs.declared.program.Program.{Program}
 use Rattle.ppd_entry.specs.declared.entry.Logs.{Logs}
 use Rattle.ppd_model.specs.Intervals.{Split, splits}
 use Rattle.ppd_model.specs.Logs.{closed_logs}
@@ -19,11 +18,11 @@ pub record Words : Type 0 where
   pub N : ℕ
   pub steps : List (ℕ × ℕ) → ℕ
 
-abbrev pub words_of : Program → Plan → ℕ → List ℕ → ℕ → ℕ → ℕ → Words
-words_of program plan budget h p k j = record {
-  xs = splits program plan budget (story program plan budget h);
-  logs = closed_logs program plan budget h;
-  seens = all_seen program plan budget h;
-  N = near_steps program plan budget (story program plan budget h) p k j;
-  steps = λ ms. steps_of_all (splits program plan budget (story program plan budget h)) ms;
+abbrev pub words_of : Setting → List ℕ → ℕ → ℕ → ℕ → Words
+words_of setting h p k j = record {
+  xs = splits setting (story setting h);
+  logs = closed_logs setting h;
+  seens = all_seen setting h;
+  N = near_steps setting (story setting h) p k j;
+  steps = λ ms. steps_of_all (splits setting (story setting h)) ms;
 }

@@ -1,8 +1,7 @@
 -- What the search for the edges of an item, or for a last value, replays has few own steps.
+use Rattle.ppd_model.specs.Setting.{Setting}
 use Rattle.std.specs.Prelude.{◌≡◌, ℕ, ◌+◌, ◌*◌, ◌<◌, ◌≤◌, List, [], length, slice_get, sum_by, Option, Some, None}
 use Rattle.ppd_ast.specs.Valid.{IsValid}
-use Rattle.ppd_ast.specs.declared.plan.Plan.{Plan}
-use Rattle.ppd_ast.specs.declared.program.Program.{Program}
 use Rattle.ppd_model.specs.declared.flow.FlowEdge.{FlowEdge}
 use Rattle.ppd_model.specs.FlowbackEdges.{edges}
 use Rattle.ppd_model.specs.Intervals.{Split, splits}
@@ -31,22 +30,22 @@ steps_of_all xs ms = sum_by (λ m. steps_in (slice_get xs m.0) m.1) ms
 -- replayed to find the n edges of the item has at most 2 (n + 1) times the own steps of the intervals near to it
 abbrev pub EdgesCostLittle : Type 0
 EdgesCostLittle =
-    (program : Program) (plan : Plan) (budget : ℕ) (h : List ℕ) (w : World) (p k j : ℕ) (x : Split) (es : List FlowEdge)
-    → IsValid program → run program plan budget h ≡ Some w → races program plan budget h ≡ []
-    → slice_get (splits program plan budget (story program plan budget h)) p ≡ Some x
-    → HasOwnParts program plan (splits program plan budget (story program plan budget h)) x p k j
-    → edges program plan budget (story program plan budget h) p k j ≡ Some es
-    → steps_of_all (splits program plan budget (story program plan budget h))
-    (found_edges program plan (closed_logs program plan budget h) (all_seen program plan budget h) p k j).replays
-    ≤ 2 * (length es + 1) * near_steps program plan budget (story program plan budget h) p k j
+    (setting : Setting) (h : List ℕ) (w : World) (p k j : ℕ) (x : Split) (es : List FlowEdge)
+    → IsValid setting.program → run setting h ≡ Some w → races setting h ≡ []
+    → slice_get (splits setting (story setting h)) p ≡ Some x
+    → HasOwnParts setting.program setting.plan (splits setting (story setting h)) x p k j
+    → edges setting (story setting h) p k j ≡ Some es
+    → steps_of_all (splits setting (story setting h))
+    (found_edges setting.program setting.plan (closed_logs setting h) (all_seen setting h) p k j).replays
+    ≤ 2 * (length es + 1) * near_steps setting (story setting h) p k j
 
 -- and what is replayed to find the last value of a cell has no more than those intervals that are open where it was
 -- written, and nothing is replayed for a start value
 abbrev pub LastCostsLittle : Type 0
 LastCostsLittle =
-    (program : Program) (plan : Plan) (budget : ℕ) (h : List ℕ) (w : World) (c : ℕ)
-    → IsValid program → run program plan budget h ≡ Some w → races program plan budget h ≡ []
-    → c < length program.starts
-    → steps_of_all (splits program plan budget (story program plan budget h))
-    (found_last program (closed_logs program plan budget h) (all_seen program plan budget h) c).replays
-    ≤ last_steps program plan budget (story program plan budget h) c
+    (setting : Setting) (h : List ℕ) (w : World) (c : ℕ)
+    → IsValid setting.program → run setting h ≡ Some w → races setting h ≡ []
+    → c < length setting.program.starts
+    → steps_of_all (splits setting (story setting h))
+    (found_last setting.program (closed_logs setting h) (all_seen setting h) c).replays
+    ≤ last_steps setting (story setting h) c

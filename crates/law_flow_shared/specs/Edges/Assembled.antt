@@ -1,4 +1,5 @@
 -- All edges of an item are found, where those within the process are.
+use Rattle.ppd_model.specs.Setting.{Setting}
 use Rattle.std.specs.Prelude.{◌≡◌, ℕ, List, [], slice_get, zip, option_map, Some, Ok}
 use Rattle.ppd_model.specs.declared.flow.Origin.TheVariants as origin
 use Rattle.std.specs.Option.{option_map_or}
@@ -42,9 +43,9 @@ pub record HasOwnParts (program : Program) (plan : Plan) (xs : List Split) (x : 
 -- item
 abbrev pub EdgesAreFound : Type 0
 EdgesAreFound =
-    (program : Program) (plan : Plan) (budget : ℕ) (h : List ℕ) (w : World) → IsValid program
-    → run program plan budget h ≡ Some w → races program plan budget h ≡ []
-    → (p k j : ℕ) (x : Split) → slice_get (splits program plan budget (story program plan budget h)) p ≡ Some x
-    → HasOwnParts program plan (splits program plan budget (story program plan budget h)) x p k j
-    → (found_edges program plan (closed_logs program plan budget h) (all_seen program plan budget h) p k j).found
-    ≡ option_map (λ es. Ok es) (edges program plan budget (story program plan budget h) p k j)
+    (setting : Setting) (h : List ℕ) (w : World) → IsValid setting.program
+    → run setting h ≡ Some w → races setting h ≡ []
+    → (p k j : ℕ) (x : Split) → slice_get (splits setting (story setting h)) p ≡ Some x
+    → HasOwnParts setting.program setting.plan (splits setting (story setting h)) x p k j
+    → (found_edges setting.program setting.plan (closed_logs setting h) (all_seen setting h) p k j).found
+    ≡ option_map (λ es. Ok es) (edges setting (story setting h) p k j)

@@ -1,8 +1,7 @@
 -- What the walk back over an internal edge replays is near to the event where it begins.
+use Rattle.ppd_model.specs.Setting.{Setting}
 use Rattle.std.specs.Prelude.{◌≡◌, ℕ, ◌≤◌, true, List, ◌∷◌, slice_get, Some, ◌⊎◌}
 use Rattle.ppd_ast.specs.Valid.{IsValid}
-use Rattle.ppd_ast.specs.declared.plan.Plan.{Plan}
-use Rattle.ppd_ast.specs.declared.program.Program.{Program}
 use Rattle.ppd_model.specs.declared.trace.TracedEvent.{TracedEvent}
 use Rattle.ppd_model.specs.FlowbackEdges.{part_at}
 use Rattle.ppd_model.specs.Intervals.{own, Span, Split, splits}
@@ -22,8 +21,8 @@ pub record IsOpenAt (x : Split) (e m : ℕ) : Type 0 where
 -- is item j of interval k, is one of those round it or is open in the event's edge
 abbrev pub WalksStayNear : Type 0
 WalksStayNear =
-    (program : Program) (plan : Plan) (budget : ℕ) (h : List ℕ) (p k j n c : ℕ) (x : Split) (e : TracedEvent)
-    → IsValid program → slice_get (splits program plan budget (story program plan budget h)) p ≡ Some x
+    (setting : Setting) (h : List ℕ) (p k j n c : ℕ) (x : Split) (e : TracedEvent)
+    → IsValid setting.program → slice_get (splits setting (story setting h)) p ≡ Some x
     → part_at x k j ≡ Some (own n) → slice_get x.trace.events n ≡ Some e
     → (m : ℕ) → is_in m (walk (seen_of x) c k j).replays ≡ true
     → (is_in m (surroundings x k) ≡ true) ⊎ IsOpenAt x (edge_of_event x n) m
@@ -32,9 +31,9 @@ WalksStayNear =
 -- intervals near to the event have
 abbrev pub WalksCostLittle : Type 0
 WalksCostLittle =
-    (program : Program) (plan : Plan) (budget : ℕ) (h : List ℕ) (p k j n c : ℕ) (x : Split) (e : TracedEvent)
-    → IsValid program → slice_get (splits program plan budget (story program plan budget h)) p ≡ Some x
+    (setting : Setting) (h : List ℕ) (p k j n c : ℕ) (x : Split) (e : TracedEvent)
+    → IsValid setting.program → slice_get (splits setting (story setting h)) p ≡ Some x
     → part_at x k j ≡ Some (own n) → slice_get x.trace.events n ≡ Some e
     → AreDistinct (k ∷ (walk (seen_of x) c k j).replays)
     × (cost x.spans (k ∷ (walk (seen_of x) c k j).replays)
-    ≤ near_steps program plan budget (story program plan budget h) p k j)
+    ≤ near_steps setting (story setting h) p k j)

@@ -1,10 +1,9 @@
 -- In the record of a schedule nothing happens before itself: what happens before a synchronization was done at a
 -- step at which that one was not.
+use Rattle.ppd_model.specs.Setting.{Setting}
 use Rattle.std.proofs.Common.{◌≡◌, ℕ, zero, suc, ◌+◌, ◌<◌, ◌≤◌, List, [], ◌∷◌, ◌++◌, length, map, get_or, take, drop, Option, Some, refl, ap, sym, ◌∙◌, subst, arith, inl, inr, take-append-drop}
 use Rattle.std.proofs.lemmas.Bool.{cases_eq, cases_lt}
 use Rattle.std.specs.Prelude.{IsTrue, option_to_list, filter_map}
-use Rattle.ppd_ast.specs.declared.plan.Plan.{Plan}
-use Rattle.ppd_ast.specs.declared.program.Program.{Program}
 use Rattle.ppd_model.specs.declared.graph.NodeId.{NodeId}
 use Rattle.ppd_model.specs.HappenedBefore.{Before, direct, through, is_direct, node}
 use Rattle.ppd_model.specs.Prefixes.{told_to}
@@ -19,38 +18,38 @@ use Rattle.ppd_model.proofs.Prefixes.{go_by_prefixes}
 use Rattle.ppd_model.proofs.Stories.{steps-change}
 use Rattle.law_logs.proofs.Graph.Direct.{direct_there, none_begun, not_itself, one_more, others}
 
-module _ (program : Program) (plan : Plan) (budget : ℕ) (h : List ℕ) (w : World) (runs : run program plan budget h ≡ Some w) where
+module _ (setting : Setting) (h : List ℕ) (w : World) (runs : run setting h ≡ Some w) where
   abbrev all : List (List Sync)
-  all = sync_record program plan budget h
+  all = sync_record setting h
 
   -- how many synchronizations process q did in the first i steps
   abbrev done : ℕ → ℕ → ℕ
-  done i q = length (get_or (sync_record program plan budget (take i h)) q [])
+  done i q = length (get_or (sync_record setting (take i h)) q [])
 
   abbrev next_sync : ℕ → Option Sync
-  next_sync i = sync_of (moment_of program plan (told_to program plan budget h i) (get_or h i 0)).taken
+  next_sync i = sync_of (moment_of setting.program setting.plan (told_to setting h i) (get_or h i 0)).taken
 
-  record_next : (i : ℕ) → i < length h → sync_record program plan budget (take (suc i) h) ≡ change (λ ss. ss ++ option_to_list (next_sync i)) (get_or h i 0) (sync_record program plan budget (take i h))
+  record_next : (i : ℕ) → i < length h → sync_record setting (take (suc i) h) ≡ change (λ ss. ss ++ option_to_list (next_sync i)) (get_or h i 0) (sync_record setting (take i h))
   record_next i lt =
-      let m : Moment = moment_of program plan (told_to program plan budget h i) (get_or h i 0) in
-      ap (λ t. map (filter_map sync_of) (map steps_of t.moments)) (go_by_prefixes program plan budget h w runs i lt).tells
-      ∙ ap (λ xs. map (filter_map sync_of) xs) (steps-change m (get_or h i 0) (told_to program plan budget h i).moments)
-      ∙ record-change m.taken (get_or h i 0) (map steps_of (told_to program plan budget h i).moments)
+      let m : Moment = moment_of setting.program setting.plan (told_to setting h i) (get_or h i 0) in
+      ap (λ t. map (filter_map sync_of) (map steps_of t.moments)) (go_by_prefixes setting h w runs i lt).tells
+      ∙ ap (λ xs. map (filter_map sync_of) xs) (steps-change m (get_or h i 0) (told_to setting h i).moments)
+      ∙ record-change m.taken (get_or h i 0) (map steps_of (told_to setting h i).moments)
 
   grows : (i q : ℕ) → i < length h → (done i q ≤ done (suc i) q) × (done (suc i) q ≤ done i q + 1)
   grows i q lt =
-      let r = one_more (next_sync i) (get_or h i 0) q (sync_record program plan budget (take i h)) in
-      let same : done (suc i) q ≡ length (get_or (change (λ ss. ss ++ option_to_list (next_sync i)) (get_or h i 0) (sync_record program plan budget (take i h))) q []) =
+      let r = one_more (next_sync i) (get_or h i 0) q (sync_record setting (take i h)) in
+      let same : done (suc i) q ≡ length (get_or (change (λ ss. ss ++ option_to_list (next_sync i)) (get_or h i 0) (sync_record setting (take i h))) q []) =
       ap (λ rows. length (get_or rows q [])) (record_next i lt) in
       let a = r.0 in
       let b = r.1 in
       (omega (arith, a, same), omega (arith, b, same))
 
   stands : (i q : ℕ) → i < length h → (q ≡ get_or h i 0 → ⊥) → done (suc i) q ≡ done i q
-  stands i q lt d = ap (λ rows. length (get_or rows q [])) (record_next i lt) ∙ others (next_sync i) (get_or h i 0) q (sync_record program plan budget (take i h)) d
+  stands i q lt d = ap (λ rows. length (get_or rows q [])) (record_next i lt) ∙ others (next_sync i) (get_or h i 0) q (sync_record setting (take i h)) d
 
   begins : (q : ℕ) → done 0 q ≡ 0
-  begins q = none_begun (started_world program plan budget).procs q
+  begins q = none_begun (started_world setting).procs q
 
   rises : (i m q : ℕ) → i ≤ m → m ≤ length h → done i q ≤ done m q
   rises i zero q le lt = let e : i ≡ 0 = omega (arith, le) in subst (λ n. done i q ≤ done n q) e (omega arith)
@@ -62,18 +61,18 @@ module _ (program : Program) (plan : Plan) (budget : ℕ) (h : List ℕ) (w : Wo
         omega (arith, rest, here)
   ]
 
-  whole_is : sync_record program plan budget (take (length h) h) ≡ all
-  whole_is = ap (λ g. sync_record program plan budget g) (taken_all h)
+  whole_is : sync_record setting (take (length h) h) ≡ all
+  whole_is = ap (λ g. sync_record setting g) (taken_all h)
     where
       taken_all : (g : List ℕ) → take (length g) g ≡ g
       taken_all [] = refl
       taken_all (x ∷ xs) = ap (λ ys. x ∷ ys) (taken_all xs)
 
-  closed_at : (i : ℕ) (a b : NodeId) → Before program all a b → b.sync < done i b.process → a.sync < done i a.process
+  closed_at : (i : ℕ) (a b : NodeId) → Before setting.program all a b → b.sync < done i b.process → a.sync < done i a.process
   closed_at i a b before lt =
       let e : take i h ++ drop i h ≡ h = take-append-drop i h in
-      records_closed program plan budget (take i h) (drop i h) w (ap (λ g. run program plan budget g) e ∙ runs) a b
-      (subst (λ g. Before program (sync_record program plan budget g) a b) (sym e) before) lt
+      records_closed setting (take i h) (drop i h) w (ap (λ g. run setting g) e ∙ runs) a b
+      (subst (λ g. Before setting.program (sync_record setting g) a b) (sym e) before) lt
 
   -- the step by which a synchronization is done
   record Step (b : NodeId) : Type 0 where
@@ -99,9 +98,9 @@ module _ (program : Program) (plan : Plan) (budget : ℕ) (h : List ℕ) (w : Wo
   same_node : (a b : NodeId) → a.process ≡ b.process → a.sync ≡ b.sync → a ≡ b
   same_node a b e f = ap (λ p. node p a.sync) e ∙ ap (λ i. node b.process i) f
 
-  apart_direct : (a b : NodeId) → IsTrue (is_direct program all a b) → Apart a b
+  apart_direct : (a b : NodeId) → IsTrue (is_direct setting.program all a b) → Apart a b
   apart_direct a b d =
-      let there : b.sync < done (length h) b.process = subst (λ rows. b.sync < length (get_or rows b.process [])) (sym whole_is) (direct_there program all a b d) in
+      let there : b.sync < done (length h) b.process = subst (λ rows. b.sync < length (get_or rows b.process [])) (sym whole_is) (direct_there setting.program all a b d) in
       let s : Step b = step_of (length h) b (omega arith) there in
       let i : ℕ = s.index in
       let lt : i < length h = s.within in
@@ -116,7 +115,7 @@ module _ (program : Program) (plan : Plan) (budget : ℕ) (h : List ℕ) (w : Wo
           | inl e ↦
               let g = (grows i b.process lt).1 in
               let ti : a.sync < done (suc i) b.process = subst (λ p. a.sync < done (suc i) p) e too in
-              let other : a.sync ≡ b.sync → ⊥ = λ f. not_itself program all b (subst (λ x. IsTrue (is_direct program all x b)) (same_node a b e f) d) in
+              let other : a.sync ≡ b.sync → ⊥ = λ f. not_itself setting.program all b (subst (λ x. IsTrue (is_direct setting.program all x b)) (same_node a b e f) d) in
               subst (λ p. a.sync < done i p) (sym e) (less a.sync b.sync (done i b.process) (done (suc i) b.process) other g bs bt ti)
           | inr ne ↦ elim (cases_eq a.process (get_or h i 0)) [
             | inr still ↦ let same = stands i a.process lt still in omega (arith, same, too)
@@ -141,9 +140,9 @@ module _ (program : Program) (plan : Plan) (budget : ℕ) (h : List ℕ) (w : Wo
         absurd (omega (arith, f, s, le))
   ]
 
-  apart : (a b : NodeId) → Before program all a b → Apart a b
+  apart : (a b : NodeId) → Before setting.program all a b → Apart a b
   apart a b (direct d) = apart_direct a b d
   apart a b (through {b = m} f g) = between a m b (apart a m f) (apart m b g)
 
-  pub never_before_itself : (a : NodeId) → Before program all a a → ⊥
+  pub never_before_itself : (a : NodeId) → Before setting.program all a a → ⊥
   never_before_itself a before = let x = apart a a before in let f = x.first in let s = x.second in omega (arith, f, s)

@@ -1,10 +1,9 @@
 -- Of the synchronizations of a schedule none is missing.
+use Rattle.ppd_model.specs.Setting.{Setting}
 use Rattle.std.proofs.Common.{◌≡◌, ℕ, zero, suc, ◌<◌, ◌≤◌, max, List, [], ◌∷◌, Some, None, true, refl, sym, subst, arith, inl, inr, length, map}
 use Rattle.std.specs.Prelude.{slice_get}
 use Rattle.std.proofs.lemmas.Bool.{cases_eq}
-use Rattle.ppd_ast.specs.declared.plan.Plan.{Plan}
 use Rattle.ppd_ast.specs.declared.program.Chan.{Chan}
-use Rattle.ppd_ast.specs.declared.program.Program.{Program}
 use Rattle.ppd_ast.specs.declared.program.Sem.{Sem}
 use Rattle.ppd_ast.specs.declared.status.SyncKind.{SyncKind}
 use Rattle.ppd_ast.specs.declared.status.SyncKind.TheVariants.{P, V, Send, Recv, Done}
@@ -34,18 +33,18 @@ count_first count f [] o h = refl
 count_first count f (x ∷ xs) zero h = h x
 count_first count f (x ∷ xs) (suc o) h = count_first count f xs o h
 
-module _ (program : Program) (plan : Plan) (budget : ℕ) (h : List ℕ) (w : World) (runs : run program plan budget h ≡ Some w) where
+module _ (setting : Setting) (h : List ℕ) (w : World) (runs : run setting h ≡ Some w) where
   abbrev syncs : List (List Sync)
-  syncs = sync_record program plan budget h
+  syncs = sync_record setting h
 
   abbrev last : World
-  last = (told program plan budget h).world
+  last = (told setting h).world
 
   abbrev first : Counting
-  first = count_of (started_world program plan budget)
+  first = count_of (started_world setting)
 
-  even : IsBalanced program last
-  even = subst (λ v. IsBalanced program v) (sym (stories_are_of_runs program plan budget h w runs)) (balanced program plan budget h w runs)
+  even : IsBalanced setting.program last
+  even = subst (λ v. IsBalanced setting.program v) (sym (stories_are_of_runs setting h w runs)) (balanced setting h w runs)
 
   abbrev top : SyncKind → ℕ → ℕ
   top kind o = greatest 0 (numbers_of kind o (all_rows syncs))
@@ -54,16 +53,16 @@ module _ (program : Program) (plan : Plan) (budget : ℕ) (h : List ℕ) (w : Wo
   numbered kind o = numbered_in (all_rows syncs) kind o
 
   top_within : (kind : SyncKind) (o : ℕ) → top kind o ≤ count_of last kind o
-  top_within kind o = greatest_within kind o (count_of last kind o) 0 (all_rows syncs) (omega arith) (λ n t. (within program plan budget h (sync kind o n) t).1)
+  top_within kind o = greatest_within kind o (count_of last kind o) 0 (all_rows syncs) (omega arith) (λ n t. (within setting h (sync kind o n) t).1)
 
   has_all : (kind : SyncKind) (o n : ℕ) → first kind o < n → n ≤ count_of last kind o → (numbered kind o).is_there n ≡ true
-  has_all kind o n lt le = number_stands kind o n (all_rows syncs) (there program plan budget h kind o n lt le)
+  has_all kind o n lt le = number_stands kind o n (all_rows syncs) (there setting h kind o n lt le)
 
   -- the greatest is the last count, where there are any after the first count
   max_is : (kind : SyncKind) (o : ℕ) → max (first kind o) (top kind o) ≡ count_of last kind o
   max_is kind o =
       let le = top_within kind o in
-      let begun = (counted program plan budget h).begun kind o in
+      let begun = (counted setting h).begun kind o in
       elim (cases_eq (first kind o) (count_of last kind o)) [
         | inl e ↦ omega (arith, le, e)
         | inr d ↦
@@ -78,45 +77,45 @@ module _ (program : Program) (plan : Plan) (budget : ℕ) (h : List ℕ) (w : Wo
   all_from_none kind o e n lt le = let m = top_within kind o in has_all kind o n (omega (arith, e, lt)) (omega (arith, le, m))
 
   none_taken : (o : ℕ) → first P o ≡ 0
-  none_taken o = count_first (λ (x : Counts). x.taken) (λ (s : Sem). record { given = s.start; taken = 0 }) program.sems o (λ x. refl)
+  none_taken o = count_first (λ (x : Counts). x.taken) (λ (s : Sem). record { given = s.start; taken = 0 }) setting.program.sems o (λ x. refl)
 
   none_sent : (o : ℕ) → first Send o ≡ 0
-  none_sent o = count_first (λ (x : Channel). length x.sent) (λ (c : Chan). record { capacity = c.capacity; sent = []; received = 0; completed = 0 }) program.chans o (λ x. refl)
+  none_sent o = count_first (λ (x : Channel). length x.sent) (λ (c : Chan). record { capacity = c.capacity; sent = []; received = 0; completed = 0 }) setting.program.chans o (λ x. refl)
 
   none_received : (o : ℕ) → first Recv o ≡ 0
-  none_received o = count_first (λ (x : Channel). x.received) (λ (c : Chan). record { capacity = c.capacity; sent = []; received = 0; completed = 0 }) program.chans o (λ x. refl)
+  none_received o = count_first (λ (x : Channel). x.received) (λ (c : Chan). record { capacity = c.capacity; sent = []; received = 0; completed = 0 }) setting.program.chans o (λ x. refl)
 
   none_completed : (o : ℕ) → first Done o ≡ 0
-  none_completed o = count_first (λ (x : Channel). x.completed) (λ (c : Chan). record { capacity = c.capacity; sent = []; received = 0; completed = 0 }) program.chans o (λ x. refl)
+  none_completed o = count_first (λ (x : Channel). x.completed) (λ (c : Chan). record { capacity = c.capacity; sent = []; received = 0; completed = 0 }) setting.program.chans o (λ x. refl)
 
-  sem_whole : (o : ℕ) → IsSemWhole (start_of program o) (numbered P o) (numbered V o)
+  sem_whole : (o : ℕ) → IsSemWhole (start_of setting.program o) (numbered P o) (numbered V o)
   sem_whole o =
-      let start = starts_first program plan budget h o in
+      let start = starts_first setting h o in
       let given = max_is V o in
       let taken = top_is P o (none_taken o) in
-      let below = sem_below program.sems last.sems even.sems o in
+      let below = sem_below setting.program.sems last.sems even.sems o in
       record {
         all_taken = all_from_none P o (none_taken o);
         all_given = λ n lt le. has_all V o n (omega (arith, start, lt)) (omega (arith, start, given, le));
         within = omega (arith, start, given, taken, below);
       }
 
-  chan_whole : (o : ℕ) → IsChanWhole (capacity_of program o) (numbered Send o) (numbered Recv o) (numbered Done o)
+  chan_whole : (o : ℕ) → IsChanWhole (capacity_of setting.program o) (numbered Send o) (numbered Recv o) (numbered Done o)
   chan_whole o =
       let s = top_is Send o (none_sent o) in
       let r = top_is Recv o (none_received o) in
       let d = top_is Done o (none_completed o) in
-      let received = received_below program.chans last.chans even.chans o in
-      let completed = completed_below program.chans last.chans even.chans o in
+      let received = received_below setting.program.chans last.chans even.chans o in
+      let completed = completed_below setting.program.chans last.chans even.chans o in
       record {
         all_sent = all_from_none Send o (none_sent o);
         all_received = all_from_none Recv o (none_received o);
         all_completed = all_from_none Done o (none_completed o);
         within = omega (arith, s, r, received);
-        handed = λ e. let offered = offered_below program.chans last.chans even.chans o e in (omega (arith, d, r, completed), omega (arith, s, d, offered));
-        placed = λ c e. let sent = sent_below program.chans last.chans even.chans o c e in omega (arith, s, r, sent);
+        handed = λ e. let offered = offered_below setting.program.chans last.chans even.chans o e in (omega (arith, d, r, completed), omega (arith, s, d, offered));
+        placed = λ c e. let sent = sent_below setting.program.chans last.chans even.chans o c e in omega (arith, s, r, sent);
       }
 
   -- in one list of all of them none is missing
-  pub none_lacks : missing program (all_rows syncs) ≡ None
-  none_lacks = none_missing program numbered sem_whole chan_whole
+  pub none_lacks : missing setting.program (all_rows syncs) ≡ None
+  none_lacks = none_missing setting.program numbered sem_whole chan_whole

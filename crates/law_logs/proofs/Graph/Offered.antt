@@ -1,4 +1,5 @@
 -- An offer is to a channel of capacity 0, and so is each completion of a schedule.
+use Rattle.ppd_model.specs.Setting.{Setting}
 use Rattle.std.proofs.Common.{◌≡◌, ℕ, zero, suc, ◌+◌, ℤ, Bool, true, false, nat_lt, List, [], ◌∷◌, ◌++◌, length, Option, Some, None, Ok, Err, refl, ap, sym, ◌∙◌, subst, if◌then◌else◌}
 use Rattle.std.specs.List.{cons_option}
 use Rattle.std.specs.Prelude.{slice_get, ⊤, get_or, filter_map}
@@ -155,17 +156,17 @@ offer_before program plan s steps before earlier x y after c v own are is offer 
     let all : steps ≡ earlier ++ x ∷ y ∷ after = are ∙ ap (λ ys. ys ++ y ∷ after) is ∙ append_assoc earlier (x ∷ []) (y ∷ after) in
     own_offer program plan s earlier x (y ∷ after) c v (subst (λ ys. AreOwn program plan s ys) all own) offer
 
-module _ (program : Program) (plan : Plan) (budget : ℕ) (h : List ℕ) where
-  completes_at_none : (p o k : ℕ) → IsStepOf (get_or (story program plan budget h).steps p []) (sync Done o k) → capacity_of program o ≡ 0
+module _ (setting : Setting) (h : List ℕ) where
+  completes_at_none : (p o k : ℕ) → IsStepOf (get_or (story setting h).steps p []) (sync Done o k) → capacity_of setting.program o ≡ 0
   completes_at_none p o k r =
       let d = completes r.step.need r.step.number o k r.is in
-      let offered = completions_offered program plan budget h p r.before r.step r.after d.0 d.1 r.steps_are d.2 in
-      subst (λ c. capacity_of program c ≡ 0) d.3
-      (offer_before program plan (started program plan p budget) (get_or (story program plan budget h).steps p []) r.before offered.0 offered.1 r.step r.after d.0 offered.3.value
-      (own_steps_told program plan budget h p) r.steps_are offered.2 offered.3.offer)
+      let offered = completions_offered setting h p r.before r.step r.after d.0 d.1 r.steps_are d.2 in
+      subst (λ c. capacity_of setting.program c ≡ 0) d.3
+      (offer_before setting.program setting.plan (started setting.program setting.plan p setting.budget) (get_or (story setting h).steps p []) r.before offered.0 offered.1 r.step r.after d.0 offered.3.value
+      (own_steps_told setting h p) r.steps_are offered.2 offered.3.offer)
 
   -- a completion in the record of a schedule is on a channel of capacity 0
-  pub completed_at_none : (a : NodeId) (o k : ℕ) → sync_at (sync_record program plan budget h) a ≡ Some (sync Done o k) → capacity_of program o ≡ 0
+  pub completed_at_none : (a : NodeId) (o k : ℕ) → sync_at (sync_record setting h) a ≡ Some (sync Done o k) → capacity_of setting.program o ≡ 0
   completed_at_none a o k e =
       completes_at_none a.process o k
-      (step_of (get_or (story program plan budget h).steps a.process []) a.sync (sync Done o k) (ap (λ ss. slice_get ss a.sync) (sym (record_at (story program plan budget h).steps a.process)) ∙ e))
+      (step_of (get_or (story setting h).steps a.process []) a.sync (sync Done o k) (ap (λ ss. slice_get ss a.sync) (sym (record_at (story setting h).steps a.process)) ∙ e))

@@ -19,13 +19,13 @@ use Rattle.law_logs.proofs.Graph.Lacking.{none_lacks}
 use Rattle.law_logs.proofs.Graph.Standing.{all_are, no_object, no_twice, records}
 
 pub ordered : LogsOfRunsAreOrdered
-ordered program plan budget h w runs = record {
+ordered setting h w runs = record {
   numbered = record {
-    objects = no_object program plan budget h;
-    once = no_twice program plan budget h;
-    complete = ap (missing program) (all_are program plan budget h) ∙ none_lacks program plan budget h w runs;
+    objects = no_object setting h;
+    once = no_twice setting h;
+    complete = ap (missing setting.program) (all_are setting h) ∙ none_lacks setting h w runs;
   };
-  acyclic = none_is_before_itself program (record_in (closed_logs program plan budget h)) (λ a before. never_before_itself program plan budget h w runs a (subst (λ r. Before program r a a) (records program plan budget h) before));
+  acyclic = none_is_before_itself setting.program (record_in (closed_logs setting h)) (λ a before. never_before_itself setting h w runs a (subst (λ r. Before setting.program r a a) (records setting h) before));
 }
 
 -- ---- no refusal
@@ -42,4 +42,4 @@ not_refused program of o (Cycle nodes) other r = none_before_itself program (rec
 not_refused program of o Memory other r = other refl
 
 pub refused : GraphsOfRunsAreNotRefused
-refused program plan budget h w runs e other r = not_refused program (closed_logs program plan budget h) (ordered program plan budget h w runs) e other r
+refused setting h w runs e other r = not_refused setting.program (closed_logs setting h) (ordered setting h w runs) e other r

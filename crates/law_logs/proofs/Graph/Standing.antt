@@ -1,9 +1,8 @@
 -- The synchronizations in the logs of a schedule: each has its object, and no number stands twice.
+use Rattle.ppd_model.specs.Setting.{Setting}
 use Rattle.std.proofs.Common.{◌≡◌, ℕ, zero, suc, ◌<◌, ◌≤◌, List, [], ◌∷◌, Some, None, true, false, refl, ap, sym, subst, ◌∙◌, arith, length, map, lt-ltb, eq-eqb}
 use Rattle.std.specs.Prelude.{IsTrue, nat_eq, nat_lt, slice_get}
 use Rattle.std.proofs.lemmas.Bool.{and_from, lt-leb}
-use Rattle.ppd_ast.specs.declared.plan.Plan.{Plan}
-use Rattle.ppd_ast.specs.declared.program.Program.{Program}
 use Rattle.ppd_ast.specs.declared.program.Sem.{Sem}
 use Rattle.ppd_ast.specs.declared.status.SyncKind.{SyncKind}
 use Rattle.ppd_ast.specs.declared.status.SyncKind.TheVariants.{P, V, Send, Recv, Done}
@@ -42,24 +41,24 @@ given_first [] o = refl
 given_first (s ∷ ss) zero = refl
 given_first (s ∷ ss) (suc o) = given_first ss o
 
-module _ (program : Program) (plan : Plan) (budget : ℕ) (h : List ℕ) where
+module _ (setting : Setting) (h : List ℕ) where
   abbrev syncs : List (List Sync)
-  syncs = sync_record program plan budget h
+  syncs = sync_record setting h
 
   abbrev logs : Logs
-  logs = closed_logs program plan budget h
+  logs = closed_logs setting h
 
   abbrev last : World
-  last = (told program plan budget h).world
+  last = (told setting h).world
 
   abbrev first : Counting
-  first = count_of (started_world program plan budget)
+  first = count_of (started_world setting)
 
   pub counted : IsCounted first (count_of last) syncs
-  counted = are_counted program plan budget h
+  counted = are_counted setting h
 
   pub records : record_in logs ≡ syncs
-  records = (record_syncs program plan budget h).closed
+  records = (record_syncs setting h).closed
 
   pub all_are : map sync_placed (placed logs) ≡ all_rows syncs
   all_are = flat logs ∙ ap all_rows records
@@ -80,28 +79,28 @@ module _ (program : Program) (plan : Plan) (budget : ℕ) (h : List ℕ) where
   some_counted : (kind : SyncKind) (o n : ℕ) → IsTrue (stands (sync kind o n) (all_rows syncs)) → 0 < count_of last kind o
   some_counted kind o n t = let r = within (sync kind o n) t in let a = r.0 in let b = r.1 in omega (arith, a, b)
 
-  object : (kind : SyncKind) (o n : ℕ) → IsTrue (stands (sync kind o n) (all_rows syncs)) → has_object program kind o ≡ true
-  object P o n t = let e = (objects_stay program plan budget h).sems in let lt = count_there (λ (x : Counts). x.taken) last.sems o (some_counted P o n t) in lt-ltb o (length program.sems) (omega (arith, e, lt))
-  object V o n t = let e = (objects_stay program plan budget h).sems in let lt = count_there (λ (x : Counts). x.given) last.sems o (some_counted V o n t) in lt-ltb o (length program.sems) (omega (arith, e, lt))
-  object Send o n t = let e = (objects_stay program plan budget h).chans in let lt = count_there (λ (x : Channel). length x.sent) last.chans o (some_counted Send o n t) in lt-ltb o (length program.chans) (omega (arith, e, lt))
-  object Recv o n t = let e = (objects_stay program plan budget h).chans in let lt = count_there (λ (x : Channel). x.received) last.chans o (some_counted Recv o n t) in lt-ltb o (length program.chans) (omega (arith, e, lt))
+  object : (kind : SyncKind) (o n : ℕ) → IsTrue (stands (sync kind o n) (all_rows syncs)) → has_object setting.program kind o ≡ true
+  object P o n t = let e = (objects_stay setting h).sems in let lt = count_there (λ (x : Counts). x.taken) last.sems o (some_counted P o n t) in lt-ltb o (length setting.program.sems) (omega (arith, e, lt))
+  object V o n t = let e = (objects_stay setting h).sems in let lt = count_there (λ (x : Counts). x.given) last.sems o (some_counted V o n t) in lt-ltb o (length setting.program.sems) (omega (arith, e, lt))
+  object Send o n t = let e = (objects_stay setting h).chans in let lt = count_there (λ (x : Channel). length x.sent) last.chans o (some_counted Send o n t) in lt-ltb o (length setting.program.chans) (omega (arith, e, lt))
+  object Recv o n t = let e = (objects_stay setting h).chans in let lt = count_there (λ (x : Channel). x.received) last.chans o (some_counted Recv o n t) in lt-ltb o (length setting.program.chans) (omega (arith, e, lt))
   object Done o n t =
-      let e = (objects_stay program plan budget h).chans in
+      let e = (objects_stay setting h).chans in
       let lt = count_there (λ (x : Channel). x.completed) last.chans o (some_counted Done o n t) in
       let r = stands_at (sync Done o n) t in
-      and_from (nat_lt o (length program.chans)) (nat_eq (capacity_of program o) 0) (lt-ltb o (length program.chans) (omega (arith, e, lt)))
-      (eq-eqb (capacity_of program o) 0 (completed_at_none program plan budget h r.0 o n r.1))
+      and_from (nat_lt o (length setting.program.chans)) (nat_eq (capacity_of setting.program o) 0) (lt-ltb o (length setting.program.chans) (omega (arith, e, lt)))
+      (eq-eqb (capacity_of setting.program o) 0 (completed_at_none setting h r.0 o n r.1))
 
-  pub no_object : without_object program (placed logs) ≡ None
-  no_object = none_without program (placed logs) (λ s t. object s.kind s.object s.number (subst (λ xs. IsTrue (stands s xs)) all_are t))
+  pub no_object : without_object setting.program (placed logs) ≡ None
+  no_object = none_without setting.program (placed logs) (λ s t. object s.kind s.object s.number (subst (λ xs. IsTrue (stands s xs)) all_are t))
 
   -- ---- each number once
 
-  pub starts_first : (o : ℕ) → first V o ≡ start_of program o
-  starts_first o = given_first program.sems o
+  pub starts_first : (o : ℕ) → first V o ≡ start_of setting.program o
+  starts_first o = given_first setting.program.sems o
 
-  later : (kind : SyncKind) (o n : ℕ) → IsTrue (stands (sync kind o n) (all_rows syncs)) → is_from_start program (sync kind o n) ≡ false
-  later V o n t = let lt = (within (sync V o n) t).0 in let e = starts_first o in lt-leb n (start_of program o) (omega (arith, lt, e))
+  later : (kind : SyncKind) (o n : ℕ) → IsTrue (stands (sync kind o n) (all_rows syncs)) → is_from_start setting.program (sync kind o n) ≡ false
+  later V o n t = let lt = (within (sync V o n) t).0 in let e = starts_first o in lt-leb n (start_of setting.program o) (omega (arith, lt, e))
   later P o n t = refl
   later Send o n t = refl
   later Recv o n t = refl
@@ -110,7 +109,7 @@ module _ (program : Program) (plan : Plan) (budget : ℕ) (h : List ℕ) where
   each_once : EachOnce (all_rows syncs)
   each_once = once_rows syncs (λ p i q j s e f. let same = counted.once (node p i) (node q j) s e f in (ap (λ (a : NodeId). a.process) same, ap (λ (a : NodeId). a.sync) same))
 
-  pub no_twice : twice_after program [] (placed logs) ≡ None
+  pub no_twice : twice_after setting.program [] (placed logs) ≡ None
   no_twice =
-      none_twice program (placed logs) (subst EachOnce (sym all_are) each_once)
+      none_twice setting.program (placed logs) (subst EachOnce (sym all_are) each_once)
       (λ s t. later s.kind s.object s.number (subst (λ xs. IsTrue (stands s xs)) all_are t))

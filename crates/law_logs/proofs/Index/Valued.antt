@@ -1,4 +1,5 @@
 -- Each unit that starts in a schedule has as many values as the plan has cells for it.
+use Rattle.ppd_model.specs.Setting.{setting_of}
 use Rattle.std.specs.Option.{option_map_or}
 use Rattle.std.proofs.Common.{◌≡◌, ℕ, zero, suc, List, [], ◌∷◌, ◌++◌, length, map, get_or, Some, ap, ◌∙◌, pos}
 use Rattle.std.proofs.lemmas.List.{length-map}
@@ -52,5 +53,5 @@ module _ (program : Program) (plan : Plan) where
   valued_at (ms ∷ rest) zero all = all.0
   valued_at (ms ∷ rest) (suc p) all = valued_at rest p all.1
 
-  pub all_valued : (budget : ℕ) (h : List ℕ) (p : ℕ) → AreValued plan (get_or (told program plan budget h).moments p [])
-  all_valued budget h p = valued_at (told program plan budget h).moments p (valued_fold (begins program plan budget) h (none_valued (started_world program plan budget).procs))
+  pub all_valued : (budget : ℕ) (h : List ℕ) (p : ℕ) → AreValued plan (get_or (told (setting_of program plan budget) h).moments p [])
+  all_valued budget h p = valued_at (told (setting_of program plan budget) h).moments p (valued_fold (begins (setting_of program plan budget)) h (none_valued (started_world (setting_of program plan budget)).procs))

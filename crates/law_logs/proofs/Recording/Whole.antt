@@ -1,4 +1,5 @@
 -- The logs of a whole run are lawful.
+use Rattle.ppd_model.specs.Setting.{setting_of}
 use Rattle.std.proofs.Common.{◌≡◌, ℕ, suc, ◌+◌, ◌-◌, ◌*◌, ◌<◌, ◌≤◌, ◌^◌, true, false, Bool, List, [], ◌∷◌, ◌++◌, refl, ap, sym, ◌∙◌, subst, length, map, arith, length-append, inl, inr, true≢false, if◌then◌else◌}
 use Rattle.std.specs.Prelude.{is_none, nat_eq, nat_le}
 use Rattle.std.specs.Int.{is_in_range}
@@ -105,11 +106,11 @@ module _ (program : Program) (plan : Plan) (v : IsValid program) (w : IsValidPla
   all_few [] h = tt
   all_few (x ∷ xs) h = (h.0.short, all_few xs h.1)
 
-  count_of : (h : List ℕ) → length (map closed_log (loggings program plan budget h)) ≡ length program.bodies - program.functions
+  count_of : (h : List ℕ) → length (map closed_log (loggings (setting_of program plan budget) h)) ≡ length program.bodies - program.functions
   count_of h =
-      let s = one_state program plan budget h in
-      length-map (loggings program plan budget h) closed_log ∙ sym (length-map (loggings program plan budget h) (λ (l : Logging). l.proc)) ∙ ap length (s.logged ∙ sym s.worlds)
-      ∙ (objects_stay program plan budget h).processes
+      let s = one_state (setting_of program plan budget) h in
+      length-map (loggings (setting_of program plan budget) h) closed_log ∙ sym (length-map (loggings (setting_of program plan budget) h) (λ (l : Logging). l.proc)) ∙ ap length (s.logged ∙ sym s.worlds)
+      ∙ (objects_stay (setting_of program plan budget) h).processes
 
 pub logs_lawful : RunLogsAreLawful
 logs_lawful source program header h r range run =
@@ -117,10 +118,10 @@ logs_lawful source program header h r range run =
     let plan : Plan = plan_of program header.policy in
     let w : IsValidPlan program plan = plan_valid program header.policy v range.policy in
     let k : HasConstantsOf64Bits program = constants_fit source program r in
-    let all : All (IsRight program plan v w k header.budget range.most) (map closed_log (loggings program plan header.budget h)) =
-    all_right program plan v w k header.budget range.most (loggings program plan header.budget h)
+    let all : All (IsRight program plan v w k header.budget range.most) (map closed_log (loggings (setting_of program plan header.budget) h)) =
+    all_right program plan v w k header.budget range.most (loggings (setting_of program plan header.budget) h)
     (run_fine program plan v w (whole program header.policy w) k header.budget range.most h run.last run.runs) in
-    let lists : List (List Entry) = map closed_log (loggings program plan header.budget h) in
+    let lists : List (List Entry) = map closed_log (loggings (setting_of program plan header.budget) h) in
     let count : length lists ≡ length program.bodies - program.functions = count_of program plan v w k header.budget range.most h in
     let few : length program.bodies ≤ program.functions + MOST_PROCESSES = v.limits.processes in
     let long : length source ≤ 2 ^ 18 = r.parsed.lexed.short in

@@ -1,7 +1,6 @@
 -- The logs of a schedule have a graph: none of the causes for which it is refused holds of them.
+use Rattle.ppd_model.specs.Setting.{Setting}
 use Rattle.std.specs.Prelude.{◌≡◌, ℕ, List, Some}
-use Rattle.ppd_ast.specs.declared.plan.Plan.{Plan}
-use Rattle.ppd_ast.specs.declared.program.Program.{Program}
 use Rattle.ppd_model.specs.Logs.{closed_logs}
 use Rattle.ppd_model.specs.Schedule.{run}
 use Rattle.ppd_model.specs.World.{World}
@@ -13,11 +12,11 @@ use Rattle.ppd_graph.specs.Refusals.{AreOrdered, IsRefused}
 -- logs has its object, no number stands twice, none is missing, and nothing happens before itself
 abbrev pub LogsOfRunsAreOrdered : Type 0
 LogsOfRunsAreOrdered =
-    (program : Program) (plan : Plan) (budget : ℕ) (h : List ℕ) (w : World) → run program plan budget h ≡ Some w
-    → AreOrdered program (closed_logs program plan budget h)
+    (setting : Setting) (h : List ℕ) (w : World) → run setting h ≡ Some w
+    → AreOrdered setting.program (closed_logs setting h)
 
 -- so no cause holds but want of memory
 abbrev pub GraphsOfRunsAreNotRefused : Type 0
 GraphsOfRunsAreNotRefused =
-    (program : Program) (plan : Plan) (budget : ℕ) (h : List ℕ) (w : World) → run program plan budget h ≡ Some w
-    → (e : BadSync) → (e ≡ Memory → ⊥) → IsRefused program (closed_logs program plan budget h) e → ⊥
+    (setting : Setting) (h : List ℕ) (w : World) → run setting h ≡ Some w
+    → (e : BadSync) → (e ≡ Memory → ⊥) → IsRefused setting.program (closed_logs setting h) e → ⊥

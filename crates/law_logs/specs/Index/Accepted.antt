@@ -1,4 +1,5 @@
 -- The logs of a whole schedule have an index: no entry of them is refused.
+use Rattle.law_steps.specs.Policies.{setting_by}
 use Rattle.std.specs.Prelude.{◌≡◌, ℕ, List, None}
 use Rattle.ppd_ast.specs.Valid.{IsValid}
 use Rattle.ppd_ast.specs.declared.plan.Policy.{Policy}
@@ -13,6 +14,6 @@ use Rattle.ppd_model.specs.Schedule.{IsWhole}
 abbrev pub LogsOfRunsAreIndexed : Type 0
 LogsOfRunsAreIndexed =
     (program : Program) (policy : Policy) (budget : ℕ) (h : List ℕ) → IsValid program
-    → IsWhole program (plan_of program policy) budget h
-    → first_in_lists program (plan_of program policy) 0 (closed_logs program (plan_of program policy) budget h).lists
+    → IsWhole (setting_by program policy budget) h
+    → first_in_lists program (plan_of program policy) 0 (closed_logs (setting_by program policy budget) h).lists
     ≡ None

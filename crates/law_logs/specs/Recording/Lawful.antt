@@ -3,10 +3,10 @@ use Rattle.std.specs.Prelude.{ℕ, ◌≤◌, List}
 use Rattle.ppd_ast.specs.ValidPlan.{IsValidPolicy}
 use Rattle.ppd_ast.specs.declared.limits.TheConstants.{MOST_BUDGET}
 use Rattle.ppd_ast.specs.declared.program.Program.{Program}
-use Rattle.ppd_blocks.specs.Blocks.{plan_of}
 use Rattle.ppd_check.specs.Read.{IsRead}
 use Rattle.ppd_codec.specs.Recordings.{AreLawful}
 use Rattle.ppd_codec.specs.declared.recording.Header.{Header}
+use Rattle.law_steps.specs.Policies.{setting_by}
 use Rattle.ppd_model.specs.Logs.{closed_logs}
 use Rattle.ppd_model.specs.Schedule.{IsWhole}
 
@@ -21,5 +21,5 @@ pub record IsWithinRange (header : Header) : Type 0 where
 abbrev pub RunLogsAreLawful : Type 0
 RunLogsAreLawful =
     (source : List ℕ) (program : Program) (header : Header) (h : List ℕ) → IsRead source program → IsWithinRange header
-    → IsWhole program (plan_of program header.policy) header.budget h
-    → AreLawful source header (closed_logs program (plan_of program header.policy) header.budget h)
+    → IsWhole (setting_by program header.policy header.budget) h
+    → AreLawful source header (closed_logs (setting_by program header.policy header.budget) h)

@@ -1,11 +1,11 @@
 -- Which values a run has: each has 64 bits.
+use Rattle.ppd_model.specs.Setting.{Setting}
 use Rattle.std.specs.Prelude.{ℕ, ℤ, List, FitsSigned, ⊤}
 use Rattle.std.specs.Int.{w64}
 use Rattle.std.specs.List.{AllByRecursion}
 use Rattle.ppd_ast.specs.declared.program.Expr.{Expr}
 use Rattle.ppd_ast.specs.declared.program.Expr.TheVariants as expr
 use Rattle.ppd_ast.specs.declared.program.Program.{Program}
-use Rattle.ppd_ast.specs.declared.plan.Plan.{Plan}
 use Rattle.ppd_model.specs.Story.{told}
 use Rattle.ppd_model.specs.World.{World}
 use Rattle.ppd_sem.specs.declared.proc.Proc.{Proc}
@@ -40,5 +40,5 @@ pub record HasValuesOf64Bits (w : World) : Type 0 where
 -- so it is after each schedule: a result that has more is an overflow
 abbrev pub ValuesHave64Bits : Type 0
 ValuesHave64Bits =
-    (program : Program) (plan : Plan) (budget : ℕ) (h : List ℕ) → HasConstantsOf64Bits program
-    → HasValuesOf64Bits (told program plan budget h).world
+    (setting : Setting) (h : List ℕ) → HasConstantsOf64Bits setting.program
+    → HasValuesOf64Bits (told setting h).world

@@ -1,4 +1,5 @@
 -- Each opening of a run is at a block of the plan, in a state of the run.
+use Rattle.law_steps.specs.Policies.{setting_by}
 use Rattle.std.proofs.Common.{◌≡◌, ℕ, zero, suc, ◌+◌, ◌<◌, ℤ, true, List, [], ◌∷◌, Option, Some, None, refl, ap, sym, subst, ◌∙◌, arith, length, true≢false, append-nil}
 use Rattle.std.specs.Prelude.{is_some}
 use Rattle.std.proofs.lemmas.Bool.{le-leb}
@@ -105,7 +106,7 @@ zero_of (Some b) e = refl
 pub opening_at : (program : Program) (policy : Policy) (budget p : ℕ) (ms : List Moment) (k : ℕ) → IsValid program
     → program.functions + p < length program.bodies
     → IsRun program (plan_of program policy) (started program (plan_of program policy) p budget) ms
-    → AreAtBlock program (plan_of program policy) (opening_of program (plan_of program policy) budget p ms k)
+    → AreAtBlock program (plan_of program policy) (opening_of (setting_by program policy budget) p ms k)
 opening_at program policy budget p ms zero v lt run =
     let f : ℕ = program.functions + p in
     let b = slice_get_there program.bodies f lt in

@@ -1,4 +1,5 @@
 -- At each opening the process has the budget with which it started.
+use Rattle.ppd_model.specs.Setting.{setting_of}
 use Rattle.std.proofs.Common.{◌≡◌, ℕ, zero, suc, ◌+◌, ◌<◌, List, [], ◌∷◌, Option, Some, None, ap, sym, ◌∙◌, length}
 use Rattle.ppd_ast.specs.declared.plan.Plan.{Plan}
 use Rattle.ppd_ast.specs.declared.program.Program.{Program}
@@ -41,7 +42,7 @@ module _ (program : Program) (plan : Plan) (v : IsValid program) where
       (act_state program plan v s m.taken.answer h) y f) x e
 
   pub opening_of_purse : (budget p : ℕ) (ms : List Moment) (k : ℕ) → program.functions + p < length program.bodies
-      → (x : Opening) → opening_of program plan budget p ms k ≡ Some x → x.proc.budget ≡ budget
+      → (x : Opening) → opening_of (setting_of program plan budget) p ms k ≡ Some x → x.proc.budget ≡ budget
   opening_of_purse budget p ms zero lt x e = sym (ap budget_in e)
   opening_of_purse budget p ms (suc k) lt x e =
       opening_purse (started program plan p budget) ms k (started_state program plan v p budget lt) x e

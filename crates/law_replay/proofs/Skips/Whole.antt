@@ -1,4 +1,6 @@
 -- Each interval of a process that has ended is gone past by its postlog.
+use Rattle.law_steps.specs.Policies.{setting_by}
+use Rattle.ppd_model.specs.Setting.{setting_of}
 use Rattle.std.proofs.Common.{◌≡◌, ℕ, suc, ◌+◌, ◌<◌, List, [], ◌∷◌, ◌++◌, length, Option, Some, None, refl, ap, sym, subst, ◌∙◌, arith, append_assoc}
 use Rattle.std.specs.Prelude.{⊤, fold, option_map, slice_get, take, get_or}
 use Rattle.std.proofs.lemmas.List.{length-append}
@@ -35,11 +37,11 @@ module _ (program : Program) (policy : Policy) (v : IsValid program) (budget : �
   plan = plan_of program policy
 
   abbrev whole : Story
-  whole = story program plan budget h
+  whole = story (setting_of program plan budget) h
 
   -- the state before each step
   abbrev at : ℕ → Proc
-  at n = state_after program plan budget whole p n
+  at n = state_after (setting_of program plan budget) whole p n
 
   abbrev Right : ℕ → Split → Type 0
   Right n x = IsRight program policy v p there at n x.spans x.running x.trace.proc
@@ -90,33 +92,33 @@ module _ (program : Program) (policy : Policy) (v : IsValid program) (budget : �
   }
 
   pub gone_past_all : AreGonePast program policy v p there at
-      (split_of program plan budget whole p (get_or whole.steps p [])).spans
+      (split_of (setting_of program plan budget) whole p (get_or whole.steps p [])).spans
   gone_past_all =
       all_steps (get_or whole.steps p []) (begun_split program plan p (started program plan p budget)) 0 begins refl
-      (own_steps_told program plan budget h p) (follow [] (get_or whole.steps p []) 0 refl refl)
+      (own_steps_told (setting_of program plan budget) h p) (follow [] (get_or whole.steps p []) 0 refl refl)
 
 pub skips_go_past : SkipsGoPast
 skips_go_past program policy budget h p k n i v e c =
-    by (slice_get (splits program (plan_of program policy) budget
-    (story program (plan_of program policy) budget h)) p) refl e
+    by (slice_get (splits (setting_by program policy budget)
+    (story (setting_by program policy budget) h)) p) refl e
   where
     by : (o : Option Split)
-        → slice_get (splits program (plan_of program policy) budget
-        (story program (plan_of program policy) budget h)) p ≡ o
+        → slice_get (splits (setting_by program policy budget)
+        (story (setting_by program policy budget) h)) p ≡ o
         → slice_get (spans_in o) (suc k) ≡ Some i
         → IsGonePast program (plan_of program policy) i.block i.values
-        (state_after program (plan_of program policy) budget (story program (plan_of program policy) budget h) p
+        (state_after (setting_by program policy budget) (story (setting_by program policy budget) h) p
         i.opened)
-        (state_after program (plan_of program policy) budget (story program (plan_of program policy) budget h) p
+        (state_after (setting_by program policy budget) (story (setting_by program policy budget) h) p
         (n + 1))
     by None at e = absurd (none-some i e)
     by (Some x) at e =
-        let s : Story = story program (plan_of program policy) budget h in
+        let s : Story = story (setting_by program policy budget) h in
         let there : program.functions + p < length program.bodies =
-        process_there program (plan_of program policy) budget h p x at in
+        process_there (setting_by program policy budget) h p x at in
         let zero_is : 0 + p ≡ p = omega arith in
-        let is : split_of program (plan_of program policy) budget s p (get_or s.steps p []) ≡ x =
-        ap (λ q. split_of program (plan_of program policy) budget s q (get_or s.steps p [])) (sym zero_is)
-        ∙ split_found program (plan_of program policy) budget s 0 s.steps p x at in
+        let is : split_of (setting_by program policy budget) s p (get_or s.steps p []) ≡ x =
+        ap (λ q. split_of (setting_by program policy budget) s q (get_or s.steps p [])) (sym zero_is)
+        ∙ split_found (setting_by program policy budget) s 0 s.steps p x at in
         gone_past_all program policy v budget h p there k n (marks i)
         (ap (λ (y : Split). option_map marks (slice_get y.spans (suc k))) is ∙ ap (option_map marks) e) c

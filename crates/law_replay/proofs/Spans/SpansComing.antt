@@ -1,4 +1,5 @@
 -- The intervals of the story of a whole schedule have the items and the steps that are to come.
+use Rattle.ppd_model.specs.Setting.{Setting, setting_of}
 use Rattle.std.proofs.Common.{◌≡◌, ℕ, zero, suc, ◌+◌, ◌<◌, List, [], ◌∷◌, length, Option, Some, None, refl, ap, sym, ◌∙◌, subst, arith}
 use Rattle.std.proofs.lemmas.List.{length-map}
 use Rattle.std.proofs.lemmas.Option.{none-some, slice_get_past, slice_get_within}
@@ -120,47 +121,47 @@ is_live : (program : Program) (plan : Plan) (ms : List Moment) (s : Proc) → Is
 is_live program plan [] s run = tt
 is_live program plan (m ∷ ms) s run = ((λ e. subst (λ k. IsGiven k m.taken.answer) e run.1), is_live program plan ms (act program plan s m.taken.answer) run.3)
 
-module _ (program : Program) (plan : Plan) (budget : ℕ) (story' : Story) (p : ℕ) (ms : List Moment) where
+module _ (setting : Setting) (story' : Story) (p : ℕ) (ms : List Moment) where
   abbrev ended_split : Split
-  ended_split = split_of program plan budget story' p (steps_of ms)
+  ended_split = split_of setting story' p (steps_of ms)
 
-  as_span : (k : ℕ) (op : Option Opening) (o : Option Span) → Begins program plan story' p ended_split k op o → AreAlike (λ o i. IsSpanOf program plan k o ended_split i) op o
+  as_span : (k : ℕ) (op : Option Opening) (o : Option Span) → Begins setting.program setting.plan story' p ended_split k op o → AreAlike (λ o i. IsSpanOf setting.program setting.plan k o ended_split i) op o
   as_span k None None h = tt
   as_span k None (Some i) h = absurd (none-some i (sym h))
   as_span k (Some op) None h = absurd (none-some h.now h.there)
   as_span k (Some op) (Some i) h =
       let same : h.now ≡ i = some_is (sym h.there) in
-      subst (λ (j : Span). IsSpanOf program plan k op ended_split j) same (record { block = h.block; items = h.items; steps = h.all_steps })
+      subst (λ (j : Span). IsSpanOf setting.program setting.plan k op ended_split j) same (record { block = h.block; items = h.items; steps = h.all_steps })
     where
       some_is : {A : Type 0} {x y : A} → Some x ≡ Some y → x ≡ y
       some_is {x = x} e = ap (λ o. elim o [ None ↦ x | Some z ↦ z ]) e
 
-  begins_at : IsNested program plan (started program plan p budget) ms 1 → IsLive ms → (k : ℕ) → Begins program plan story' p ended_split k (opening_of program plan budget p ms k) (slice_get ended_split.spans k)
+  begins_at : IsNested setting.program setting.plan (started setting.program setting.plan p setting.budget) ms 1 → IsLive ms → (k : ℕ) → Begins setting.program setting.plan story' p ended_split k (opening_of setting p ms k) (slice_get ended_split.spans k)
   begins_at h live zero =
       let one : 0 < 1 = omega arith in
-      let g = (comes program plan story' p ms (begun_split program plan p (started program plan p budget)) 1 h live).own 0 _ 1 0 refl refl (record { falls = (one, tt); runs = refl; there = refl }) in
+      let g = (comes setting.program setting.plan story' p ms (begun_split setting.program setting.plan p (started setting.program setting.plan p setting.budget)) 1 h live).own 0 _ 1 0 refl refl (record { falls = (one, tt); runs = refl; there = refl }) in
       record { now = g.now; there = g.there; block = g.same_block; items = g.items; all_steps = g.all_steps }
   begins_at h live (suc q) =
       let one : 0 < 1 = omega arith in
       let same : 1 + q ≡ suc q = omega arith in
-      subst (λ k. Begins program plan story' p ended_split k (opening program plan (started program plan p budget) ms q) (slice_get ended_split.spans k)) same
-      ((comes program plan story' p ms (begun_split program plan p (started program plan p budget)) 1 h live).begins q 1 refl refl (one, tt))
+      subst (λ k. Begins setting.program setting.plan story' p ended_split k (opening setting.program setting.plan (started setting.program setting.plan p setting.budget) ms q) (slice_get ended_split.spans k)) same
+      ((comes setting.program setting.plan story' p ms (begun_split setting.program setting.plan p (started setting.program setting.plan p setting.budget)) 1 h live).begins q 1 refl refl (one, tt))
 
 pub spans_are_coming : SpansAreComing
 spans_are_coming program policy budget h p k x v whole at =
     let plan : Plan = plan_of program policy in
-    let s : Story = story program plan budget h in
-    let t : Telling = told program plan budget h in
+    let s : Story = story (setting_of program plan budget) h in
+    let t : Telling = told (setting_of program plan budget) h in
     let ms : List Moment = get_or t.moments p [] in
-    let below : p < length (splits program plan budget s) = slice_get_within (splits program plan budget s) p x at in
-    let many : length (splits program plan budget s) ≡ length t.moments = splits_length program plan budget s 0 s.steps ∙ length-map t.moments steps_of in
-    let there : program.functions + p < length program.bodies = omega (arith, below, many, moments_length program plan budget h, (objects_stay program plan budget h).processes) in
-    let run : IsRun program plan (started program plan p budget) ms = schedules_run program plan budget h p v whole there in
+    let below : p < length (splits (setting_of program plan budget) s) = slice_get_within (splits (setting_of program plan budget) s) p x at in
+    let many : length (splits (setting_of program plan budget) s) ≡ length t.moments = splits_length (setting_of program plan budget) s 0 s.steps ∙ length-map t.moments steps_of in
+    let there : program.functions + p < length program.bodies = omega (arith, below, many, moments_length (setting_of program plan budget) h, (objects_stay (setting_of program plan budget) h).processes) in
+    let run : IsRun program plan (started program plan p budget) ms = schedules_run (setting_of program plan budget) h p v whole there in
     let one : length (stack program plan p (started program plan p budget)) ≡ 1 = ap length (steps_move.alone program plan p budget v) in
     let nests : IsNested program plan (started program plan p budget) ms 1 = nested program plan v p ms (started program plan p budget) 1 (steps_move.starts program plan p budget v there) refl run one in
     let z : 0 + p ≡ p = omega arith in
-    let is : split_of program plan budget s p (steps_of ms) ≡ x =
-    ap (λ xs. split_of program plan budget s p xs) (sym (own_steps_are program plan budget h p)) ∙ ap (λ q. split_of program plan budget s q (get_or s.steps p [])) (sym z) ∙ split_found program plan budget s 0 s.steps p x at in
-    subst (λ (w : Split). AreAlike (λ o i. IsSpanOf program plan k o w i) (opening_of program plan budget p ms k) (slice_get w.spans k)) is
-    (as_span program plan budget s p ms k (opening_of program plan budget p ms k) (slice_get (split_of program plan budget s p (steps_of ms)).spans k)
-    (begins_at program plan budget s p ms nests (is_live program plan ms (started program plan p budget) run) k))
+    let is : split_of (setting_of program plan budget) s p (steps_of ms) ≡ x =
+    ap (λ xs. split_of (setting_of program plan budget) s p xs) (sym (own_steps_are (setting_of program plan budget) h p)) ∙ ap (λ q. split_of (setting_of program plan budget) s q (get_or s.steps p [])) (sym z) ∙ split_found (setting_of program plan budget) s 0 s.steps p x at in
+    subst (λ (w : Split). AreAlike (λ o i. IsSpanOf program plan k o w i) (opening_of (setting_of program plan budget) p ms k) (slice_get w.spans k)) is
+    (as_span (setting_of program plan budget) s p ms k (opening_of (setting_of program plan budget) p ms k) (slice_get (split_of (setting_of program plan budget) s p (steps_of ms)).spans k)
+    (begins_at (setting_of program plan budget) s p ms nests (is_live program plan ms (started program plan p budget) run) k))

@@ -1,4 +1,6 @@
 -- What answers as the replay of an interval's log gives the interval.
+use Rattle.law_steps.specs.Policies.{setting_by}
+use Rattle.ppd_model.specs.Setting.{setting_of}
 use Rattle.std.proofs.Common.{◌≡◌, ℕ, Bool, true, false, List, [], Option, Some, None, Result, Ok, Err, refl, ap, sym, ◌∙◌, subst, true≢false}
 use Rattle.std.specs.Prelude.{slice_get}
 use Rattle.std.proofs.lemmas.Option.{none-some, same_Some}
@@ -40,10 +42,10 @@ module _ (program : Program) (policy : Policy) (budget : ℕ) (h : List ℕ) (p 
   plan = plan_of program policy
 
   module _ (a : IsAnswerOf (replay program plan log budget) before after answer) where
-    by_interval : (x : Split) → slice_get (splits program plan budget (story program plan budget h)) p ≡ Some x
+    by_interval : (x : Split) → slice_get (splits (setting_of program plan budget) (story (setting_of program plan budget) h)) p ≡ Some x
         → (o : Option Span) → slice_get x.spans k ≡ o
         → Some (replay program plan log budget) ≡ modelled_of x o
-        → GivesIntervalAt program plan budget h p k before after answer
+        → GivesIntervalAt (setting_of program plan budget) h p k before after answer
     by_interval x e None f s = absurd (none-some (replay program plan log budget) (sym s))
     by_interval x e (Some i) f s = record {
       process = x;
@@ -55,9 +57,9 @@ module _ (program : Program) (policy : Policy) (budget : ℕ) (h : List ℕ) (p 
           (same_Some (replay program plan log budget) (replayed x i) s) a);
     }
 
-    by_process : (o : Option Split) → slice_get (splits program plan budget (story program plan budget h)) p ≡ o
+    by_process : (o : Option Split) → slice_get (splits (setting_of program plan budget) (story (setting_of program plan budget) h)) p ≡ o
         → Some (replay program plan log budget) ≡ modelled_in k o
-        → GivesIntervalAt program plan budget h p k before after answer
+        → GivesIntervalAt (setting_of program plan budget) h p k before after answer
     by_process None e s = absurd (none-some (replay program plan log budget) (sym s))
     by_process (Some x) e s = by_interval x e (slice_get x.spans k) refl s
 
@@ -65,6 +67,6 @@ module _ (program : Program) (policy : Policy) (budget : ℕ) (h : List ℕ) (p 
 pub emulations_by : ReplaysGiveIntervals → EmulationsGiveIntervals
 emulations_by theorem program policy budget h p k log before after answer v whole free is a =
     by_process program policy budget h p k log before after answer a
-    (slice_get (splits program (plan_of program policy) budget
-    (story program (plan_of program policy) budget h)) p) refl
-    (sym (ap (replay_of program (plan_of program policy) budget) is) ∙ theorem program policy budget h p k v whole free)
+    (slice_get (splits (setting_by program policy budget)
+    (story (setting_by program policy budget) h)) p) refl
+    (sym (ap (replay_of (setting_by program policy budget)) is) ∙ theorem program policy budget h p k v whole free)

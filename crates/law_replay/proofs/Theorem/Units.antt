@@ -1,4 +1,5 @@
 -- The unit with which an interval begins: the values that it sets answer the reads that follow.
+use Rattle.ppd_model.specs.Setting.{setting_of}
 use Rattle.std.specs.Option.{option_map_or}
 use Rattle.std.proofs.Common.{◌≡◌, ℕ, zero, suc, ◌+◌, ℤ, List, [], ◌∷◌, Option, Some, None, refl, ap, ap₂, sym, subst, ◌∙◌, true≢false}
 use Rattle.std.specs.Prelude.{is_some, slice_get, zip}
@@ -82,7 +83,7 @@ module _ (program : Program) (plan : Plan) where
 
   -- so are those of each interval of a process
   pub interval_reads : (budget p k : ℕ) (ms : List Moment) → AreRead plan (begun_in_force program plan p) ms
-      → (x : Opening) → opening_of program plan budget p ms k ≡ Some x → IsReadFrom plan x
+      → (x : Opening) → opening_of (setting_of program plan budget) p ms k ≡ Some x → IsReadFrom plan x
   interval_reads budget p (suc k) ms reads x e =
       opening_reads (started program plan p budget) ms (begun_in_force program plan p) k reads x e
   interval_reads budget p zero ms reads x e = λ u values is.

@@ -1,4 +1,6 @@
 -- The theorem of replays: an interval replayed from its own log alone gives its items, in its own steps.
+use Rattle.law_steps.specs.Policies.{setting_by}
+use Rattle.ppd_model.specs.Setting.{setting_of}
 use Rattle.std.proofs.Common.{◌≡◌, ℕ, ◌+◌, ◌<◌, List, [], get_or, Option, Some, None, Ok, refl, ap, ap₂, sym, ◌∙◌, length}
 use Rattle.std.specs.Prelude.{slice_get}
 use Rattle.ppd_ast.specs.declared.plan.Plan.{Plan}
@@ -27,21 +29,21 @@ use Rattle.law_replay.proofs.Theorem.Units.{interval_reads}
 use Rattle.law_replay.specs.Theorem.Laws.{ReplaysGiveIntervals, modelled_in, modelled_of, replay_at, replay_of}
 
 module _ (spans : SpansAreComing) (program : Program) (policy : Policy) (budget : ℕ) (h : List ℕ) (p k : ℕ)
-    (v : IsValid program) (whole : IsWhole program (plan_of program policy) budget h)
-    (free : races program (plan_of program policy) budget h ≡ []) where
+    (v : IsValid program) (whole : IsWhole (setting_by program policy budget) h)
+    (free : races (setting_by program policy budget) h ≡ []) where
   abbrev plan : Plan
   plan = plan_of program policy
 
   abbrev moments : List Moment
-  moments = get_or (told program plan budget h).moments p []
+  moments = get_or (told (setting_of program plan budget) h).moments p []
 
   module _ (there : program.functions + p < length program.bodies) where
     run : IsRun program plan (started program plan p budget) moments
-    run = schedules_run program plan budget h p v whole there
+    run = schedules_run (setting_of program plan budget) h p v whole there
 
     -- one interval
     interval : (o : Opening) (l : IntervalLog) (x : Split) (i : Span)
-        → opening_of program plan budget p moments k ≡ Some o → IsLogOf program plan k o l
+        → opening_of (setting_of program plan budget) p moments k ≡ Some o → IsLogOf program plan k o l
         → IsSpanOf program plan k o x i
         → replay program plan l budget ≡ record { steps = i.steps; answer = Ok (record { items = items_of x i }) }
     interval o l x i e log span =
@@ -55,9 +57,9 @@ module _ (spans : SpansAreComing) (program : Program) (policy : Policy) (budget 
 
     -- it is there in the log just where it is in the story
     both_alike : (x : Split) (o : Option Opening) (l : Option IntervalLog) (i : Option Span)
-        → opening_of program plan budget p moments k ≡ o → AreAlike (IsLogOf program plan k) o l
+        → opening_of (setting_of program plan budget) p moments k ≡ o → AreAlike (IsLogOf program plan k) o l
         → AreAlike (λ o i. IsSpanOf program plan k o x i) o i
-        → replay_of program plan budget l ≡ modelled_of x i
+        → replay_of (setting_of program plan budget) l ≡ modelled_of x i
     both_alike x None None None e log span = refl
     both_alike x None None (Some i) e log span = absurd span
     both_alike x None (Some l) i e log span = absurd log
@@ -65,14 +67,14 @@ module _ (spans : SpansAreComing) (program : Program) (policy : Policy) (budget 
     both_alike x (Some o) (Some l) None e log span = absurd span
     both_alike x (Some o) (Some l) (Some i) e log span = ap Some (interval o l x i e log span)
 
-  by_process : (o : Option Split) → slice_get (splits program plan budget (story program plan budget h)) p ≡ o
-      → replay_at program plan budget h p k ≡ modelled_in k o
-  by_process None e = ap (λ entries. replay_of program plan budget (interval_log plan entries k))
-      (without_log program plan budget h p e)
+  by_process : (o : Option Split) → slice_get (splits (setting_of program plan budget) (story (setting_of program plan budget) h)) p ≡ o
+      → replay_at (setting_of program plan budget) h p k ≡ modelled_in k o
+  by_process None e = ap (λ entries. replay_of (setting_of program plan budget) (interval_log plan entries k))
+      (without_log (setting_of program plan budget) h p e)
   by_process (Some x) e =
-      let there : program.functions + p < length program.bodies = process_there program plan budget h p x e in
-      both_alike there x (opening_of program plan budget p moments k)
-      (interval_log plan (get_or (closed_logs program plan budget h).lists p []) k) (slice_get x.spans k) refl
+      let there : program.functions + p < length program.bodies = process_there (setting_of program plan budget) h p x e in
+      both_alike there x (opening_of (setting_of program plan budget) p moments k)
+      (interval_log plan (get_or (closed_logs (setting_of program plan budget) h).lists p []) k) (slice_get x.spans k) refl
       (logs_are_coming program policy budget h p k v whole there)
       (spans program policy budget h p k x v whole e)
 
@@ -80,5 +82,5 @@ module _ (spans : SpansAreComing) (program : Program) (policy : Policy) (budget 
 pub replays_by : SpansAreComing → ReplaysGiveIntervals
 replays_by spans program policy budget h p k v whole free =
     by_process spans program policy budget h p k v whole free
-    (slice_get (splits program (plan_of program policy) budget
-    (story program (plan_of program policy) budget h)) p) refl
+    (slice_get (splits (setting_by program policy budget)
+    (story (setting_by program policy budget) h)) p) refl

@@ -1,4 +1,6 @@
 -- Where each interval of a process begins, and what its log and its span then are.
+use Rattle.law_steps.specs.Policies.{setting_by}
+use Rattle.ppd_model.specs.Setting.{Setting}
 use Rattle.std.specs.Prelude.{◌≡◌, ℕ, zero, suc, ◌+◌, ◌<◌, ⊤, length, List, [], ◌∷◌, map, get_or, slice_get, Option, Some, None, unwrap_or}
 use Rattle.ppd_ast.specs.declared.plan.BlockKind.TheVariants as block
 use Rattle.ppd_ast.specs.declared.plan.Plan.{Plan}
@@ -42,17 +44,17 @@ opening program plan s (m ∷ ms) n =
     (opening program plan (act program plan s m.taken.answer) ms)
 
 -- interval k of process p begins: the first with the process, each other by its opening
-abbrev pub opening_of : Program → Plan → ℕ → ℕ → List Moment → ℕ → Option Opening
-opening_of program plan budget p moments zero =
-    let body = program.functions + p in
-    let u = unit_of plan (start.Entry body) in
+abbrev pub opening_of : Setting → ℕ → List Moment → ℕ → Option Opening
+opening_of setting p moments zero =
+    let body = setting.program.functions + p in
+    let u = unit_of setting.plan (start.Entry body) in
     Some (record {
-      mark = record { block = unwrap_or (block_of plan (block.Process body)) 0; values = [] };
-      units = unit_pieces (Some u) (values_of_unit plan program.starts u);
-      proc = started program plan p budget;
+      mark = record { block = unwrap_or (block_of setting.plan (block.Process body)) 0; values = [] };
+      units = unit_pieces (Some u) (values_of_unit setting.plan setting.program.starts u);
+      proc = started setting.program setting.plan p setting.budget;
       rest = moments;
     })
-opening_of program plan budget p moments (suc k) = opening program plan (started program plan p budget) moments k
+opening_of setting p moments (suc k) = opening setting.program setting.plan (started setting.program setting.plan p setting.budget) moments k
 
 -- what is to come in it
 abbrev pub coming_in : Program → Plan → ℕ → Opening → Coming
@@ -79,26 +81,26 @@ AreAlike R (Some a) (Some b) = R a b
 AreAlike R a b = ⊥
 
 -- interval k of process p begins in a schedule
-abbrev pub opening_at : Program → Plan → ℕ → List ℕ → ℕ → ℕ → Option Opening
-opening_at program plan budget h p k =
-    opening_of program plan budget p (get_or (told program plan budget h).moments p []) k
+abbrev pub opening_at : Setting → List ℕ → ℕ → ℕ → Option Opening
+opening_at setting h p k =
+    opening_of setting p (get_or (told setting h).moments p []) k
 
 -- the logs: for a valid program and the plan of any policy, in a whole schedule the log of each interval is that of
 -- its opening
 abbrev pub LogsAreComing : Type 0
 LogsAreComing =
     (program : Program) (policy : Policy) (budget : ℕ) (h : List ℕ) (p k : ℕ)
-    → IsValid program → IsWhole program (plan_of program policy) budget h
+    → IsValid program → IsWhole (setting_by program policy budget) h
     → program.functions + p < length program.bodies
-    → AreAlike (IsLogOf program (plan_of program policy) k) (opening_at program (plan_of program policy) budget h p k)
+    → AreAlike (IsLogOf program (plan_of program policy) k) (opening_at (setting_by program policy budget) h p k)
     (interval_log (plan_of program policy)
-    (get_or (closed_logs program (plan_of program policy) budget h).lists p []) k)
+    (get_or (closed_logs (setting_by program policy budget) h).lists p []) k)
 
 -- the story: its intervals have the items and the steps
 abbrev pub SpansAreComing : Type 0
 SpansAreComing =
     (program : Program) (policy : Policy) (budget : ℕ) (h : List ℕ) (p k : ℕ) (x : Split)
-    → IsValid program → IsWhole program (plan_of program policy) budget h
-    → slice_get (splits program (plan_of program policy) budget (story program (plan_of program policy) budget h)) p ≡ Some x
+    → IsValid program → IsWhole (setting_by program policy budget) h
+    → slice_get (splits (setting_by program policy budget) (story (setting_by program policy budget) h)) p ≡ Some x
     → AreAlike (λ o i. IsSpanOf program (plan_of program policy) k o x i)
-    (opening_at program (plan_of program policy) budget h p k) (slice_get x.spans k)
+    (opening_at (setting_by program policy budget) h p k) (slice_get x.spans k)

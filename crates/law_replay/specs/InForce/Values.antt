@@ -1,4 +1,5 @@
 -- The shared values in force for a process: its own writes since its unit began, before that unit's values.
+use Rattle.law_steps.specs.Policies.{setting_by}
 use Rattle.std.specs.Option.{option_map_or}
 use Rattle.std.specs.Prelude.{◌≡◌, ℕ, ◌+◌, ℤ, List, [], ◌∷◌, fold, zip, slice_get, Option, Some, None, ⊤, get_or}
 use Rattle.ppd_ast.specs.declared.plan.Plan.{Plan}
@@ -52,6 +53,6 @@ AreRead plan xs (m ∷ ms) = IsRead xs m m.taken.need × AreRead plan (in_force_
 abbrev pub ReadsAreInForce : Type 0
 ReadsAreInForce =
     (program : Program) (policy : Policy) (budget : ℕ) (h : List ℕ) (w : World) (p : ℕ)
-    → IsValid program → run program (plan_of program policy) budget h ≡ Some w → races program (plan_of program policy) budget h ≡ []
+    → IsValid program → run (setting_by program policy budget) h ≡ Some w → races (setting_by program policy budget) h ≡ []
     → AreRead (plan_of program policy) (begun_in_force program (plan_of program policy) p)
-    (get_or (told program (plan_of program policy) budget h).moments p [])
+    (get_or (told (setting_by program policy budget) h).moments p [])

@@ -1,6 +1,7 @@
 -- The theorem of replays: an interval replayed from its own log alone gives its items, in its own steps.
+use Rattle.law_steps.specs.Policies.{setting_by}
+use Rattle.ppd_model.specs.Setting.{Setting}
 use Rattle.std.specs.Prelude.{◌≡◌, ℕ, ◌+◌, List, [], get_or, slice_get, Option, Some, None, Result, Ok, Err, ⊤}
-use Rattle.ppd_ast.specs.declared.plan.Plan.{Plan}
 use Rattle.ppd_ast.specs.declared.plan.Policy.{Policy}
 use Rattle.ppd_ast.specs.declared.program.Program.{Program}
 use Rattle.ppd_ast.specs.Valid.{IsValid}
@@ -17,14 +18,14 @@ use Rattle.ppd_emul_model.specs.declared.trace.EmulError.TheVariants.{Memory}
 use Rattle.ppd_emul_model.specs.Replay.{Replayed, replay}
 
 -- the replay of an interval that is there
-abbrev pub replay_of : Program → Plan → ℕ → Option IntervalLog → Option Replayed
-replay_of program plan budget None = None
-replay_of program plan budget (Some l) = Some (replay program plan l budget)
+abbrev pub replay_of : Setting → Option IntervalLog → Option Replayed
+replay_of setting None = None
+replay_of setting (Some l) = Some (replay setting.program setting.plan l setting.budget)
 
 -- the replay of interval k of process p, from its log in a whole schedule
-abbrev pub replay_at : Program → Plan → ℕ → List ℕ → ℕ → ℕ → Option Replayed
-replay_at program plan budget h p k =
-    replay_of program plan budget (interval_log plan (get_or (closed_logs program plan budget h).lists p []) k)
+abbrev pub replay_at : Setting → List ℕ → ℕ → ℕ → Option Replayed
+replay_at setting h p k =
+    replay_of setting (interval_log setting.plan (get_or (closed_logs setting h).lists p []) k)
 
 -- an interval's own steps and its items in the story, if it is there
 abbrev pub modelled_of : Split → Option Span → Option Replayed
@@ -37,18 +38,18 @@ modelled_in k None = None
 modelled_in k (Some x) = modelled_of x (slice_get x.spans k)
 
 -- the same for interval k of process p in a schedule
-abbrev pub model_at : Program → Plan → ℕ → List ℕ → ℕ → ℕ → Option Replayed
-model_at program plan budget h p k =
-    modelled_in k (slice_get (splits program plan budget (story program plan budget h)) p)
+abbrev pub model_at : Setting → List ℕ → ℕ → ℕ → Option Replayed
+model_at setting h p k =
+    modelled_in k (slice_get (splits setting (story setting h)) p)
 
 -- in a whole schedule without a race each interval is replayed to its items, in as many steps as it has of its own,
 -- and the logs have just the intervals of the story
 abbrev pub ReplaysGiveIntervals : Type 0
 ReplaysGiveIntervals =
     (program : Program) (policy : Policy) (budget : ℕ) (h : List ℕ) (p k : ℕ)
-    → IsValid program → IsWhole program (plan_of program policy) budget h
-    → races program (plan_of program policy) budget h ≡ []
-    → replay_at program (plan_of program policy) budget h p k ≡ model_at program (plan_of program policy) budget h p k
+    → IsValid program → IsWhole (setting_by program policy budget) h
+    → races (setting_by program policy budget) h ≡ []
+    → replay_at (setting_by program policy budget) h p k ≡ model_at (setting_by program policy budget) h p k
 
 -- ---- emulation
 
@@ -64,10 +65,10 @@ GivesInterval x i before after (Err Memory) = ⊤
 GivesInterval x i before after (Err error) = ⊥
 
 -- interval k of process p is there in the story of the schedule, and the answer gives it
-pub record GivesIntervalAt (program : Program) (plan : Plan) (budget : ℕ) (h : List ℕ) (p k : ℕ) (before after : ℕ)
+pub record GivesIntervalAt (setting : Setting) (h : List ℕ) (p k : ℕ) (before after : ℕ)
     (answer : Result BlockTrace EmulError) : Type 0 where
   pub process : Split
-  pub process_is : slice_get (splits program plan budget (story program plan budget h)) p ≡ Some process
+  pub process_is : slice_get (splits setting (story setting h)) p ≡ Some process
   pub interval : Span
   pub interval_is : slice_get process.spans k ≡ Some interval
   pub gives : GivesInterval process interval before after answer
@@ -78,17 +79,17 @@ abbrev pub EmulationsGiveIntervals : Type 0
 EmulationsGiveIntervals =
     (program : Program) (policy : Policy) (budget : ℕ) (h : List ℕ) (p k : ℕ) (log : IntervalLog) (before after : ℕ)
     (answer : Result BlockTrace EmulError)
-    → IsValid program → IsWhole program (plan_of program policy) budget h
-    → races program (plan_of program policy) budget h ≡ []
+    → IsValid program → IsWhole (setting_by program policy budget) h
+    → races (setting_by program policy budget) h ≡ []
     → interval_log (plan_of program policy)
-    (get_or (closed_logs program (plan_of program policy) budget h).lists p []) k ≡ Some log
+    (get_or (closed_logs (setting_by program policy budget) h).lists p []) k ≡ Some log
     → IsAnswerOf (replay program (plan_of program policy) log budget) before after answer
-    → GivesIntervalAt program (plan_of program policy) budget h p k before after answer
+    → GivesIntervalAt (setting_by program policy budget) h p k before after answer
 
 -- the same as a clause of one answer: it gives the interval of each such schedule of which the log is the interval's
-abbrev pub GivesIntervals : Program → Plan → ℕ → IntervalLog → (before after : ℕ) → Result BlockTrace EmulError → Type 0
-GivesIntervals program plan budget log before after answer =
+abbrev pub GivesIntervals : Setting → IntervalLog → (before after : ℕ) → Result BlockTrace EmulError → Type 0
+GivesIntervals setting log before after answer =
     (policy : Policy) (h : List ℕ) (p k : ℕ)
-    → plan ≡ plan_of program policy → IsWhole program plan budget h → races program plan budget h ≡ []
-    → interval_log plan (get_or (closed_logs program plan budget h).lists p []) k ≡ Some log
-    → GivesIntervalAt program plan budget h p k before after answer
+    → setting.plan ≡ plan_of setting.program policy → IsWhole setting h → races setting h ≡ []
+    → interval_log setting.plan (get_or (closed_logs setting h).lists p []) k ≡ Some log
+    → GivesIntervalAt setting h p k before after answer

@@ -1,4 +1,5 @@
 -- The moments of a process of a whole schedule are its steps, and at their end it has stopped or waits.
+use Rattle.ppd_model.specs.Setting.{setting_of}
 use Rattle.std.proofs.Common.{◌≡◌, ℕ, zero, suc, ◌+◌, ◌<◌, true, false, List, [], ◌∷◌, ◌++◌, length, map, get_or, Option, Some, None, refl, ap, sym, ◌∙◌, subst, arith, true≢false}
 use Rattle.std.proofs.lemmas.List.{length-map}
 use Rattle.std.proofs.lemmas.Option.{none-some}
@@ -111,17 +112,17 @@ none_taken [] = tt
 none_taken (s ∷ ss) = (tt, none_taken ss)
 
 module _ (program : Program) (plan : Plan) (v : IsValid program) (budget : ℕ) where
-  next_taken : (t : Telling) (p : ℕ) → Good program plan budget t → enabled program plan t.world p ≡ true → IsTaken (moment_of program plan t p)
+  next_taken : (t : Telling) (p : ℕ) → Good (setting_of program plan budget) t → enabled program plan t.world p ≡ true → IsTaken (moment_of program plan t p)
   next_taken t p good e = (
     given t.world (need program plan t.world p) e,
     counted (kind_of_sync (need program plan t.world p)) (number_of t.world (need program plan t.world p)) (next_numbered program plan v t p good.sizes) (unnumbered t.world (need program plan t.world p)),
   )
 
-  all_taken : (t : Telling) (h : List ℕ) (last : World) → run_from program plan t.world h ≡ Some last → Good program plan budget t → AllTaken t.moments → AllTaken (fold (tell program plan) t h).moments
+  all_taken : (t : Telling) (h : List ℕ) (last : World) → run_from program plan t.world h ≡ Some last → Good (setting_of program plan budget) t → AllTaken t.moments → AllTaken (fold (tell program plan) t h).moments
   all_taken t [] last runs good all = all
   all_taken t (p ∷ h) last runs good all =
       let g = goes program plan t.world last p h runs in
-      all_taken (tell program plan t p) h last g.rest (good_next program plan budget t p good)
+      all_taken (tell program plan t p) h last g.rest (good_next (setting_of program plan budget) t p good)
       (taken-change (moment_of program plan t p) p t.moments all (next_taken t p good g.enables))
 
 -- ---- the process at their end
@@ -140,43 +141,43 @@ module _ (program : Program) (plan : Plan) where
   until_end (x ∷ xs) s h = until_end xs (act program plan s x.answer) (never_runs_out.stays program plan s x.answer h)
 
   module _ (budget : ℕ) where
-    state_at : (q : ℕ) (steps : List (List Taken)) (p : ℕ) → p < length steps → slice_get (states_from program plan budget q steps) p ≡ Some (state_of program plan budget (q + p) (get_or steps p []))
+    state_at : (q : ℕ) (steps : List (List Taken)) (p : ℕ) → p < length steps → slice_get (states_from (setting_of program plan budget) q steps) p ≡ Some (state_of (setting_of program plan budget) (q + p) (get_or steps p []))
     state_at q [] p lt = absurd (omega (arith, lt))
-    state_at q (xs ∷ rest) zero lt = let e : q ≡ q + 0 = omega arith in ap (λ z. Some (state_of program plan budget z xs)) e
+    state_at q (xs ∷ rest) zero lt = let e : q ≡ q + 0 = omega arith in ap (λ z. Some (state_of (setting_of program plan budget) z xs)) e
     state_at q (xs ∷ rest) (suc p) lt =
         let e : q + 1 + p ≡ q + suc p = omega arith in
-        state_at (q + 1) rest p (omega (arith, lt)) ∙ ap (λ z. Some (state_of program plan budget z (get_or rest p []))) e
+        state_at (q + 1) rest p (omega (arith, lt)) ∙ ap (λ z. Some (state_of (setting_of program plan budget) z (get_or rest p []))) e
 
     -- process p after its moments
     abbrev last_of : List ℕ → ℕ → Proc
-    last_of h p = fold (act_on program plan) (started program plan p budget) (steps_of (get_or (told program plan budget h).moments p []))
+    last_of h p = fold (act_on program plan) (started program plan p budget) (steps_of (get_or (told (setting_of program plan budget) h).moments p []))
 
-    pub process_is : (h : List ℕ) (p : ℕ) → program.functions + p < length program.bodies → slice_get (told program plan budget h).world.procs p ≡ Some (last_of h p)
+    pub process_is : (h : List ℕ) (p : ℕ) → program.functions + p < length program.bodies → slice_get (told (setting_of program plan budget) h).world.procs p ≡ Some (last_of h p)
     process_is h p there =
-        let t : Telling = told program plan budget h in
-        let many : length t.world.procs ≡ length program.bodies - program.functions = (objects_stay program plan budget h).processes in
-        let each : length (map steps_of t.moments) ≡ length t.world.procs = length-map t.moments steps_of ∙ moments_length program plan budget h in
+        let t : Telling = told (setting_of program plan budget) h in
+        let many : length t.world.procs ≡ length program.bodies - program.functions = (objects_stay (setting_of program plan budget) h).processes in
+        let each : length (map steps_of t.moments) ≡ length t.world.procs = length-map t.moments steps_of ∙ moments_length (setting_of program plan budget) h in
         let zero_is : 0 + p ≡ p = omega arith in
-        ap (λ ss. slice_get ss p) (states_told program plan budget h)
+        ap (λ ss. slice_get ss p) (states_told (setting_of program plan budget) h)
         ∙ state_at 0 (map steps_of t.moments) p (omega (arith, each, many, there))
-        ∙ ap (λ z. Some (state_of program plan budget z (get_or (map steps_of t.moments) p []))) zero_is
-        ∙ ap (λ xs. Some (state_of program plan budget p xs)) (own_steps_are program plan budget h p)
+        ∙ ap (λ z. Some (state_of (setting_of program plan budget) z (get_or (map steps_of t.moments) p []))) zero_is
+        ∙ ap (λ xs. Some (state_of (setting_of program plan budget) p xs)) (own_steps_are (setting_of program plan budget) h p)
 
-    rests : (h : List ℕ) (p : ℕ) → IsValid program → IsWhole program plan budget h → program.functions + p < length program.bodies → Rests (last_of h p)
+    rests : (h : List ℕ) (p : ℕ) → IsValid program → IsWhole (setting_of program plan budget) h → program.functions + p < length program.bodies → Rests (last_of h p)
     rests h p v whole there running =
         let s : Proc = last_of h p in
-        let w : World = (told program plan budget h).world in
-        let same : w ≡ whole.last = stories_are_of_runs program plan budget h whole.last whole.runs in
+        let w : World = (told (setting_of program plan budget) h).world in
+        let same : w ≡ whole.last = stories_are_of_runs (setting_of program plan budget) h whole.last whole.runs in
         let needs : need program plan w p ≡ need_of program plan s = ap (need_at program plan) (process_is h p there) in
         let stuck : can w (need_of program plan s) ≡ false = ap (can w) (sym needs) ∙ subst (λ x. enabled program plan x p ≡ false) (sym same) (whole.over.nobody p) in
         waits w (need_of program plan s) stuck
-        (never_runs_out.needs program plan s (until_end (steps_of (get_or (told program plan budget h).moments p [])) (started program plan p budget) (never_runs_out.starts program plan p budget v there)) running)
+        (never_runs_out.needs program plan s (until_end (steps_of (get_or (told (setting_of program plan budget) h).moments p [])) (started program plan p budget) (never_runs_out.starts program plan p budget v there)) running)
 
 pub schedules_run : SchedulesAreRuns
-schedules_run program plan budget h p v whole there =
-    let ms : List Moment = get_or (told program plan budget h).moments p [] in
-    is_run program plan ms (started program plan p budget)
-    (subst (AreOwn program plan (started program plan p budget)) (own_steps_are program plan budget h p) (own_steps_told program plan budget h p))
-    (taken_at (told program plan budget h).moments p
-    (all_taken program plan v budget (begins program plan budget) h whole.last whole.runs (good_start program plan budget) (none_taken (started_world program plan budget).procs)))
-    (rests program plan budget h p v whole there)
+schedules_run setting h p v whole there =
+    let ms : List Moment = get_or (told setting h).moments p [] in
+    is_run setting.program setting.plan ms (started setting.program setting.plan p setting.budget)
+    (subst (AreOwn setting.program setting.plan (started setting.program setting.plan p setting.budget)) (own_steps_are setting h p) (own_steps_told setting h p))
+    (taken_at (told setting h).moments p
+    (all_taken setting.program setting.plan v setting.budget (begins setting) h whole.last whole.runs (good_start setting) (none_taken (started_world setting).procs)))
+    (rests setting.program setting.plan setting.budget h p v whole there)

@@ -1,4 +1,5 @@
 -- Worked runs: from which statements what each event reads, and its control, came.
+use Rattle.ppd_model.specs.Setting.{setting_of}
 use Rattle.std.proofs.Common.{◌≡◌, ℕ, List, [], ◌∷◌, Bool, true, false, map, Option, Some, None, refl}
 use Rattle.ppd_model.specs.Story.{story}
 use Rattle.std.specs.Prelude.{get_or, option_map, pos, replicate}
@@ -72,7 +73,7 @@ came trace p = map (λ e. (e.event.stmt, map (source trace) e.writers, source tr
 
 -- so each of the edges Data 0 and Data 3 into the `return` 3, Data 2, Data 4 and Control 1 into the call 2 and Data 3
 -- into the print 5 is of some event
-pub recursion_came : came (full_trace recursion plan 100000 (story recursion plan 100000 (replicate 14 0))) 0
+pub recursion_came : came (full_trace (setting_of recursion plan 100000) (story (setting_of recursion plan 100000) (replicate 14 0))) 0
     ≡ (4, [], None) ∷ (0, [], Some 4) ∷ (1, Some 4 ∷ [], Some 4) ∷ (2, Some 4 ∷ [], Some 1)
     ∷ (0, [], Some 2) ∷ (1, Some 2 ∷ [], Some 2) ∷ (2, Some 2 ∷ [], Some 1)
     ∷ (0, [], Some 2) ∷ (1, Some 2 ∷ [], Some 2) ∷ (3, Some 0 ∷ [], Some 2)
@@ -81,7 +82,7 @@ unfolding terms
 recursion_came = refl
 
 -- the print reads what the callee wrote
-pub callee_came : came (full_trace callee_write plan 100000 (story callee_write plan 100000 (replicate 7 0))) 0
+pub callee_came : came (full_trace (setting_of callee_write plan 100000) (story (setting_of callee_write plan 100000) (replicate 7 0))) 0
     ≡ (2, [], None) ∷ (3, [], None) ∷ (0, [], Some 3) ∷ (1, [], Some 3) ∷ (4, Some 0 ∷ [], None) ∷ (5, [], None) ∷ []
 unfolding terms
 callee_came = refl

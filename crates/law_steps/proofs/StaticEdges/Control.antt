@@ -1,4 +1,5 @@
 -- Control comes over the static edges.
+use Rattle.ppd_model.specs.Setting.{Setting}
 use Rattle.law_steps.proofs.StaticEdges.Events.{is_event_of, traced_by_steps}
 use Rattle.law_steps.proofs.StaticEdges.Lists.{here, in_right, there}
 use Rattle.law_steps.proofs.StaticEdges.States.{HasHead, event_head, head_stmt, head_there, runs_all}
@@ -8,7 +9,6 @@ use Rattle.ppd_ast.proofs.Vocabulary.{kind_of_stmt}
 use Rattle.ppd_ast.specs.Lookups.{kind_of}
 use Rattle.ppd_ast.specs.Numbered.{is_call, is_while, is_while as is_loop}
 use Rattle.ppd_ast.specs.Valid.{IsValid}
-use Rattle.ppd_ast.specs.declared.plan.Plan.{Plan}
 use Rattle.ppd_ast.specs.declared.program.Kind.{Kind}
 use Rattle.ppd_ast.specs.declared.program.Kind.TheVariants.{Call, While}
 use Rattle.ppd_ast.specs.declared.program.Program.{Program}
@@ -95,78 +95,78 @@ tests_of program s (t ∷ ts) h =
 
 -- ---- the parents of a trace
 
-module _ (program : Program) (plan : Plan) (budget : ℕ) (h : List ℕ) (p : ℕ) (valid : IsValid program) where
+module _ (setting : Setting) (h : List ℕ) (p : ℕ) (valid : IsValid setting.program) where
   abbrev told_story : Story
-  told_story = story program plan budget h
+  told_story = story setting h
 
   abbrev start : Tracing
-  start = begun_tracing (started program plan p budget)
+  start = begun_tracing (started setting.program setting.plan p setting.budget)
 
   -- the latest test is an event of the statement
   test_is : (k s : ℕ) (before : List Taken) (taken : Taken) (after : List Taken) (event : EventId) (passed : Bool) → get_or told_story.steps p [] ≡ before ++ taken ∷ after
-      → IsLatestTest program plan told_story p k s start before event passed → IsEventOf (full_trace program plan budget (story program plan budget h)) event s × (is_choice (kind_of program s) ≡ true)
+      → IsLatestTest setting.program setting.plan told_story p k s start before event passed → IsEventOf (full_trace setting (story setting h)) event s × (is_choice (kind_of setting.program s) ≡ true)
   test_is k s before taken after event passed steps l =
-      let u : Tracing = traced_by_steps program plan budget h p l.before in
-      let both = and_parts (is_event l.taken.need) (nat_eq (k + 1) (length u.proc.frames) && is_test_at program s u.proc.todo) l.tests in
-      let at = and_parts (nat_eq (k + 1) (length u.proc.frames)) (is_test_at program s u.proc.todo) both.1 in
-      let tests : Tests program s u.proc.todo = tests_of program s u.proc.todo at.1 in
+      let u : Tracing = traced_by_steps setting h p l.before in
+      let both = and_parts (is_event l.taken.need) (nat_eq (k + 1) (length u.proc.frames) && is_test_at setting.program s u.proc.todo) l.tests in
+      let at = and_parts (nat_eq (k + 1) (length u.proc.frames)) (is_test_at setting.program s u.proc.todo) both.1 in
+      let tests : Tests setting.program s u.proc.todo = tests_of setting.program s u.proc.todo at.1 in
       let all : get_or told_story.steps p [] ≡ l.before ++ l.taken ∷ (l.after ++ taken ∷ after) = steps ∙ ap (λ xs. xs ++ taken ∷ after) l.steps_are ∙ append_assoc l.before (l.taken ∷ l.after) (taken ∷ after) in
-      let stmt : (event_of program plan u.proc l.taken u.proc.todo).stmt ≡ s = ap (λ todo. (event_of program plan u.proc l.taken todo).stmt) tests.is ∙ tests.stmt_is in (
-        subst (λ i. IsEventOf (full_trace program plan budget (story program plan budget h)) i s) (sym l.event_is) (is_event_of program plan budget h p l.before l.taken (l.after ++ taken ∷ after) s all both.0 stmt),
+      let stmt : (event_of setting.program setting.plan u.proc l.taken u.proc.todo).stmt ≡ s = ap (λ todo. (event_of setting.program setting.plan u.proc l.taken todo).stmt) tests.is ∙ tests.stmt_is in (
+        subst (λ i. IsEventOf (full_trace setting (story setting h)) i s) (sym l.event_is) (is_event_of setting h p l.before l.taken (l.after ++ taken ∷ after) s all both.0 stmt),
         tests.choice,
       )
 
   -- a parent that is a test
   by_test : (t k s : ℕ) (before : List Taken) (taken : Taken) (after : List Taken) (event : EventId) (passed : Bool) (parent : Option EventId) → get_or told_story.steps p [] ≡ before ++ taken ∷ after
-      → IsLatestTest program plan told_story p k s start before event passed → parent ≡ Some event → Contains (edges_of program t) (Control s)
-      → ComesOverControl program (full_trace program plan budget (story program plan budget h)) parent t
+      → IsLatestTest setting.program setting.plan told_story p k s start before event passed → parent ≡ Some event → Contains (edges_of setting.program t) (Control s)
+      → ComesOverControl setting.program (full_trace setting (story setting h)) parent t
   by_test t k s before taken after event passed parent steps l is edge =
       let test = test_is k s before taken after event passed steps l in
-      subst (λ o. ComesOverControl program (full_trace program plan budget (story program plan budget h)) o t) (sym is)
-      (record { from = s; is_of = test.0; edge = subst (λ e. Contains (edges_of program t) e) (sym (choice_edge program s test.1)) edge })
+      subst (λ o. ComesOverControl setting.program (full_trace setting (story setting h)) o t) (sym is)
+      (record { from = s; is_of = test.0; edge = subst (λ e. Contains (edges_of setting.program t) e) (sym (choice_edge setting.program s test.1)) edge })
 
   -- a parent that is a call, or none
   by_call : (t k : ℕ) (before : List Taken) (taken : Taken) (after : List Taken) (parent : Option EventId) → get_or told_story.steps p [] ≡ before ++ taken ∷ after
-      → IsBegunBy program plan told_story p k start before parent ⊎ IsActiveFromStart program plan k start before parent → Contains (edges_of program t) ControlEntry
-      → ComesOverControl program (full_trace program plan budget (story program plan budget h)) parent t
+      → IsBegunBy setting.program setting.plan told_story p k start before parent ⊎ IsActiveFromStart setting.program setting.plan k start before parent → Contains (edges_of setting.program t) ControlEntry
+      → ComesOverControl setting.program (full_trace setting (story setting h)) parent t
   by_call t k before taken after parent steps h2 edge = elim h2 [
     | inl c ↦
-        let u : Tracing = traced_by_steps program plan budget h p c.before in
-        let s : ℕ = (event_of program plan u.proc c.taken u.proc.todo).stmt in
+        let u : Tracing = traced_by_steps setting h p c.before in
+        let s : ℕ = (event_of setting.program setting.plan u.proc c.taken u.proc.todo).stmt in
         let all : get_or told_story.steps p [] ≡ c.before ++ c.taken ∷ (c.after ++ taken ∷ after) = steps ∙ ap (λ xs. xs ++ taken ∷ after) c.steps_are ∙ append_assoc c.before (c.taken ∷ c.after) (taken ∷ after) in
-        subst (λ o. ComesOverControl program (full_trace program plan budget (story program plan budget h)) o t) (sym c.call_is)
+        subst (λ o. ComesOverControl setting.program (full_trace setting (story setting h)) o t) (sym c.call_is)
         (record {
           from = s;
-          is_of = is_event_of program plan budget h p c.before c.taken (c.after ++ taken ∷ after) s all c.finishes refl;
-          edge = subst (λ e. Contains (edges_of program t) e) (sym (call_edge program s c.calls)) edge;
+          is_of = is_event_of setting h p c.before c.taken (c.after ++ taken ∷ after) s all c.finishes refl;
+          edge = subst (λ e. Contains (edges_of setting.program t) e) (sym (call_edge setting.program s c.calls)) edge;
         })
-    | inr f ↦ subst (λ o. ComesOverControl program (full_trace program plan budget (story program plan budget h)) o t) (sym f.call_is) edge
+    | inr f ↦ subst (λ o. ComesOverControl setting.program (full_trace setting (story setting h)) o t) (sym f.call_is) edge
   ]
 
   -- the statement of an event is there
   event_there : (before : List Taken) (taken : Taken) (after : List Taken) (s : ℕ) → get_or told_story.steps p [] ≡ before ++ taken ∷ after → is_event taken.need ≡ true
-      → (event_of program plan (traced_by_steps program plan budget h p before).proc taken (traced_by_steps program plan budget h p before).proc.todo).stmt ≡ s → s < length program.stmts
+      → (event_of setting.program setting.plan (traced_by_steps setting h p before).proc taken (traced_by_steps setting h p before).proc.todo).stmt ≡ s → s < length setting.program.stmts
   event_there before taken after s steps finishes is =
-      let u : Tracing = traced_by_steps program plan budget h p before in
-      let mine : AreOwn program plan start.proc (before ++ taken ∷ after) = subst (λ xs. AreOwn program plan start.proc xs) steps (own_steps_told program plan budget h p) in
-      let own : taken.need ≡ need_of program plan u.proc = (own_from program plan told_story p start before (taken ∷ after) mine).0 in
-      let head : HasHead u.proc = event_head program plan u.proc (ap is_event (sym own) ∙ finishes) in
-      subst (λ n. n < length program.stmts) (sym (head_stmt program plan u.proc taken head) ∙ is) (head_there program u.proc head (runs_all program plan told_story p budget before valid))
+      let u : Tracing = traced_by_steps setting h p before in
+      let mine : AreOwn setting.program setting.plan start.proc (before ++ taken ∷ after) = subst (λ xs. AreOwn setting.program setting.plan start.proc xs) steps (own_steps_told setting h p) in
+      let own : taken.need ≡ need_of setting.program setting.plan u.proc = (own_from setting.program setting.plan told_story p start before (taken ∷ after) mine).0 in
+      let head : HasHead u.proc = event_head setting.program setting.plan u.proc (ap is_event (sym own) ∙ finishes) in
+      subst (λ n. n < length setting.program.stmts) (sym (head_stmt setting.program setting.plan u.proc taken head) ∙ is) (head_there setting.program u.proc head (runs_all setting.program setting.plan told_story p setting.budget before valid))
 
 pub control_comes : ControlComesOverEdges
-control_comes program plan budget h p n e valid is =
-    let st : Story = story program plan budget h in
-    let w = valid_parents program plan budget h p n e valid is in
+control_comes setting h p n e valid is =
+    let st : Story = story setting h in
+    let w = valid_parents setting h p n e valid is in
     let t : ℕ = e.event.stmt in
-    let stmt_is : (event_of program plan (traced_by_steps program plan budget h p w.event.before).proc w.event.taken (traced_by_steps program plan budget h p w.event.before).proc.todo).stmt ≡ t = sym (ap (λ x. x.stmt) w.event.event_is) in
+    let stmt_is : (event_of setting.program setting.plan (traced_by_steps setting h p w.event.before).proc w.event.taken (traced_by_steps setting h p w.event.before).proc.todo).stmt ≡ t = sym (ap (λ x. x.stmt) w.event.event_is) in
     elim w.parent [
-      | inl g ↦ by_test program plan budget h p valid t w.activation t w.event.before w.event.taken w.event.after g.event true e.parent w.event.steps_are g.latest g.parent_is (itself program t (slice_get program.stmts t) refl g.loops)
+      | inl g ↦ by_test setting h p valid t w.activation t w.event.before w.event.taken w.event.after g.event true e.parent w.event.steps_are g.latest g.parent_is (itself setting.program t (slice_get setting.program.stmts t) refl g.loops)
       | inr r ↦ elim r [
         | inl s ↦
-            by_test program plan budget h p valid t w.activation s.outer w.event.before w.event.taken w.event.after s.event s.passed e.parent w.event.steps_are s.latest s.parent_is (outer_of program t s.outer (slice_get program.stmts t) refl s.outer_is)
+            by_test setting h p valid t w.activation s.outer w.event.before w.event.taken w.event.after s.event s.passed e.parent w.event.steps_are s.latest s.parent_is (outer_of setting.program t s.outer (slice_get setting.program.stmts t) refl s.outer_is)
         | inr top ↦
-            let x = slice_get_there program.stmts t (event_there program plan budget h p valid w.event.before w.event.taken w.event.after t w.event.steps_are w.event.finishes stmt_is) in
-            by_call program plan budget h p valid t w.activation w.event.before w.event.taken w.event.after e.parent w.event.steps_are top.call
-            (entry_of program t x.0 x.1 (ap (option_and_then (λ (x : Stmt). x.parent)) (sym x.1) ∙ top.top))
+            let x = slice_get_there setting.program.stmts t (event_there setting h p valid w.event.before w.event.taken w.event.after t w.event.steps_are w.event.finishes stmt_is) in
+            by_call setting h p valid t w.activation w.event.before w.event.taken w.event.after e.parent w.event.steps_are top.call
+            (entry_of setting.program t x.0 x.1 (ap (option_and_then (λ (x : Stmt). x.parent)) (sym x.1) ∙ top.top))
       ]
     ]

@@ -1,4 +1,5 @@
 -- Each step that finishes or traps a statement is an event of the trace, under the name that it has.
+use Rattle.ppd_model.specs.Setting.{Setting}
 use Rattle.law_steps.specs.Sound.{IsEventOf, event_at}
 use Rattle.ppd_ast.specs.declared.plan.Plan.{Plan}
 use Rattle.ppd_ast.specs.declared.program.Program.{Program}
@@ -90,48 +91,48 @@ module _ (program : Program) (plan : Plan) (story : Story) (p : ℕ) where
     | inr s ↦ inr (record { before = x ∷ s.before; taken = s.taken; after = s.after; steps_are = ap (λ ys. x ∷ ys) s.steps_are; finishes = s.finishes; event_is = s.event_is })
   ]
 
-module _ (program : Program) (plan : Plan) (budget : ℕ) (h : List ℕ) (p : ℕ) where
+module _ (setting : Setting) (h : List ℕ) (p : ℕ) where
   abbrev told_story : Story
-  told_story = story program plan budget h
+  told_story = story setting h
 
   -- process p, traced by these of its steps
   abbrev pub traced_by_steps : List Taken → Tracing
-  traced_by_steps steps = fold (trace_step program plan told_story p) (begun_tracing (started program plan p budget)) steps
+  traced_by_steps steps = fold (trace_step setting.program setting.plan told_story p) (begun_tracing (started setting.program setting.plan p setting.budget)) steps
 
-  pub events_of : get_or (full_trace program plan budget (story program plan budget h)).events p [] ≡ (traced_by_steps (get_or told_story.steps p [])).events
+  pub events_of : get_or (full_trace setting (story setting h)).events p [] ≡ (traced_by_steps (get_or told_story.steps p [])).events
   events_of =
-      events_at program plan budget told_story 0 p told_story.steps ∙ ap (λ m. (tracing_of program plan budget told_story m (get_or told_story.steps p [])).events) (let z : 0 + p ≡ p = omega arith in z)
+      events_at setting told_story 0 p told_story.steps ∙ ap (λ m. (tracing_of setting told_story m (get_or told_story.steps p [])).events) (let z : 0 + p ≡ p = omega arith in z)
 
   -- the event of a step is in the trace, by its name
   pub is_event_of : (before : List Taken) (x : Taken) (after : List Taken) (s : ℕ) → get_or told_story.steps p [] ≡ before ++ x ∷ after → is_event x.need ≡ true
-      → (event_of program plan (traced_by_steps before).proc x (traced_by_steps before).proc.todo).stmt ≡ s
-      → IsEventOf (full_trace program plan budget (story program plan budget h)) (me_in p (traced_by_steps before)) s
+      → (event_of setting.program setting.plan (traced_by_steps before).proc x (traced_by_steps before).proc.todo).stmt ≡ s
+      → IsEventOf (full_trace setting (story setting h)) (me_in p (traced_by_steps before)) s
   is_event_of before x after s steps e is = record {
-    event = traced program plan told_story p (traced_by_steps before) x;
+    event = traced setting.program setting.plan told_story p (traced_by_steps before) x;
     there =
         ap (λ es. slice_get es (length (traced_by_steps before).events)) events_of
         ∙ ap (λ xs. slice_get (traced_by_steps xs).events (length (traced_by_steps before).events)) steps
-        ∙ there program plan told_story p (begun_tracing (started program plan p budget)) before x after e;
+        ∙ there setting.program setting.plan told_story p (begun_tracing (started setting.program setting.plan p setting.budget)) before x after e;
     stmt_is = is;
   }
 
   -- each event of the trace is of a step
-  pub event_step : (n : ℕ) (e : TracedEvent) → event_at (full_trace program plan budget (story program plan budget h)) p n ≡ Some e → IsStepOf program plan told_story p (begun_tracing (started program plan p budget)) (get_or told_story.steps p []) e
-  event_step n e is = elim (step_of program plan told_story p (begun_tracing (started program plan p budget)) (get_or told_story.steps p []) n e (ap (λ es. slice_get es n) (sym events_of) ∙ is)) [
+  pub event_step : (n : ℕ) (e : TracedEvent) → event_at (full_trace setting (story setting h)) p n ≡ Some e → IsStepOf setting.program setting.plan told_story p (begun_tracing (started setting.program setting.plan p setting.budget)) (get_or told_story.steps p []) e
+  event_step n e is = elim (step_of setting.program setting.plan told_story p (begun_tracing (started setting.program setting.plan p setting.budget)) (get_or told_story.steps p []) n e (ap (λ es. slice_get es n) (sym events_of) ∙ is)) [
     | inl none ↦ absurd (cc)
     | inr s ↦ s
   ]
 
   -- what is in the trace of its first steps is in the trace
   pub in_trace : (before after : List Taken) (id : EventId) (e : TracedEvent) (s : ℕ) → get_or told_story.steps p [] ≡ before ++ after → id.process ≡ p → slice_get (traced_by_steps before).events id.number ≡ Some e → e.event.stmt ≡ s
-      → IsEventOf (full_trace program plan budget (story program plan budget h)) id s
+      → IsEventOf (full_trace setting (story setting h)) id s
   in_trace before after id e s steps own there is = record {
     event = e;
     there =
-        ap (λ q. event_at (full_trace program plan budget (story program plan budget h)) q id.number) own
+        ap (λ q. event_at (full_trace setting (story setting h)) q id.number) own
         ∙ ap (λ es. slice_get es id.number) events_of
         ∙ ap (λ xs. slice_get (traced_by_steps xs).events id.number) steps
-        ∙ ap (λ (t : Tracing). slice_get t.events id.number) (fold-append (trace_step program plan told_story p) (begun_tracing (started program plan p budget)) before after)
-        ∙ kept program plan told_story p (traced_by_steps before) after id.number e there;
+        ∙ ap (λ (t : Tracing). slice_get t.events id.number) (fold-append (trace_step setting.program setting.plan told_story p) (begun_tracing (started setting.program setting.plan p setting.budget)) before after)
+        ∙ kept setting.program setting.plan told_story p (traced_by_steps before) after id.number e there;
     stmt_is = is;
   }

@@ -68,4 +68,4 @@ past_all program plan l (m ∷ ms) u e =
     (past_more None (Some u) (Some (unit_after u m.taken)) l.entries (entries_of program plan l m) e (past_step program plan l m u))
 
 pub last_of_log : IsLastOfLog
-last_of_log program plan budget p moments = past_all program plan (begun_log program plan budget p) moments (unit_of plan (AtEntry (program.functions + p))) refl
+last_of_log setting p moments = past_all setting.program setting.plan (begun_log setting p) moments (unit_of setting.plan (AtEntry (setting.program.functions + p))) refl

@@ -1,4 +1,5 @@
 -- Each shared read of a run lies in the cells of the unit in force.
+use Rattle.ppd_model.specs.Setting.{setting_of}
 use Rattle.std.proofs.Common.{◌≡◌, ℕ, ◌<◌, ◌≤◌, true, List, [], ◌∷◌, ◌++◌, refl, ap, sym, subst, ◌∙◌, inl, inr, arith, length}
 use Rattle.std.specs.Prelude.{IsSome, IsTrue, fold, slice_get, unwrap_or, ◌+◌, option_to_list}
 use Rattle.std.specs.List.{flat_map, range_with_len}
@@ -117,5 +118,5 @@ module _ (program : Program) (policy : Policy) (v : IsValid program) where
 pub reads_lie : ReadsLieInCells
 reads_lie program policy budget h p before taken after c v steps is =
     let used : Plan = plan_of program policy in
-    let own : AreOwn program used (started program used p budget) (before ++ taken ∷ after) = subst (AreOwn program used (started program used p budget)) steps (own_steps_told program used budget h p) in
+    let own : AreOwn program used (started program used p budget) (before ++ taken ∷ after) = subst (AreOwn program used (started program used p budget)) steps (own_steps_told (setting_of program used budget) h p) in
     reads_after program policy v (unit_of used (Entry (program.functions + p))) c (started program used p budget) before taken after own is (begun program policy v p budget)

@@ -1,4 +1,5 @@
 -- The steps of a process in a run: each is what its state needs, and at the end it has stopped or waits.
+use Rattle.ppd_model.specs.Setting.{Setting}
 use Rattle.std.specs.Prelude.{◌≡◌, ℕ, ◌+◌, ◌<◌, Bool, true, false, List, [], ◌∷◌, length, ℤ, Option, Some, None, is_some, ⊤, get_or}
 use Rattle.ppd_ast.specs.Valid.{IsValid}
 use Rattle.ppd_ast.specs.declared.plan.Plan.{Plan}
@@ -35,5 +36,5 @@ IsRun program plan s (m ∷ ms) =
 -- so it is with each process of a whole schedule
 abbrev pub SchedulesAreRuns : Type 0
 SchedulesAreRuns =
-    (program : Program) (plan : Plan) (budget : ℕ) (h : List ℕ) (p : ℕ) → IsValid program → IsWhole program plan budget h → program.functions + p < length program.bodies
-    → IsRun program plan (started program plan p budget) (get_or (told program plan budget h).moments p [])
+    (setting : Setting) (h : List ℕ) (p : ℕ) → IsValid setting.program → IsWhole setting h → setting.program.functions + p < length setting.program.bodies
+    → IsRun setting.program setting.plan (started setting.program setting.plan p setting.budget) (get_or (told setting h).moments p [])

@@ -1,4 +1,5 @@
 -- shared int x; chan c[1]; process a { send(c, 7); send(c, 8); x = 2; } process b { int v; print(x); v = recv(c); v = recv(c); }
+use Rattle.ppd_model.specs.Setting.{setting_of}
 use Rattle.std.proofs.Common.{refl}
 use Rattle.std.specs.Prelude.{pos, [], ◌∷◌, Some, None}
 use Rattle.ppd_ast.specs.Term.{terms}
@@ -8,18 +9,18 @@ use Rattle.rows_programs.proofs.Runs.BoundedChannel.{program, plan, schedule}
 use Rattle.rows_programs.proofs.Runs.Tables.{access, event}
 use Rattle.rows_programs.proofs.Replays.Showing.{IsReplayed, IsNoInterval}
 
-pub a_0 : IsReplayed program plan 100000 schedule 0 0 4 (Own (event 0 [] [] (Some (pos 7)) (Some 1) None) ∷ Own (event 1 [] [] (Some (pos 8)) (Some 2) None) ∷ Own (event 2 [] (access (Shared 0) (pos 2) ∷ []) None None None) ∷ Own (event 3 [] [] None None None) ∷ [])
+pub a_0 : IsReplayed (setting_of program plan 100000) schedule 0 0 4 (Own (event 0 [] [] (Some (pos 7)) (Some 1) None) ∷ Own (event 1 [] [] (Some (pos 8)) (Some 2) None) ∷ Own (event 2 [] (access (Shared 0) (pos 2) ∷ []) None None None) ∷ Own (event 3 [] [] None None None) ∷ [])
 unfolding terms
 a_0 = record { replayed = refl; modelled = refl }
 
-pub no_a_1 : IsNoInterval program plan 100000 schedule 0 1
+pub no_a_1 : IsNoInterval (setting_of program plan 100000) schedule 0 1
 unfolding terms
 no_a_1 = record { replayed = refl; modelled = refl }
 
-pub b_0 : IsReplayed program plan 100000 schedule 1 0 6 (Own (event 4 [] (access (Local 0 0) (pos 0) ∷ []) None None None) ∷ Own (event 5 (access (Shared 0) (pos 0) ∷ []) [] (Some (pos 0)) None None) ∷ Own (event 6 [] (access (Local 0 0) (pos 7) ∷ []) None (Some 1) None) ∷ Own (event 7 [] (access (Local 0 0) (pos 8) ∷ []) None (Some 2) None) ∷ Own (event 8 [] [] None None None) ∷ [])
+pub b_0 : IsReplayed (setting_of program plan 100000) schedule 1 0 6 (Own (event 4 [] (access (Local 0 0) (pos 0) ∷ []) None None None) ∷ Own (event 5 (access (Shared 0) (pos 0) ∷ []) [] (Some (pos 0)) None None) ∷ Own (event 6 [] (access (Local 0 0) (pos 7) ∷ []) None (Some 1) None) ∷ Own (event 7 [] (access (Local 0 0) (pos 8) ∷ []) None (Some 2) None) ∷ Own (event 8 [] [] None None None) ∷ [])
 unfolding terms
 b_0 = record { replayed = refl; modelled = refl }
 
-pub no_b_1 : IsNoInterval program plan 100000 schedule 1 1
+pub no_b_1 : IsNoInterval (setting_of program plan 100000) schedule 1 1
 unfolding terms
 no_b_1 = record { replayed = refl; modelled = refl }

@@ -1,4 +1,5 @@
 -- process a { int i; while (1) { i = i + 1; } } with a budget of 5
+use Rattle.ppd_model.specs.Setting.{setting_of}
 use Rattle.std.proofs.Common.{refl}
 use Rattle.std.specs.Prelude.{pos, [], ◌∷◌, Some, None}
 use Rattle.ppd_ast.specs.Term.{terms}
@@ -8,10 +9,10 @@ use Rattle.rows_programs.proofs.Runs.BudgetStop.{program, plan, schedule}
 use Rattle.rows_programs.proofs.Runs.Tables.{access, event}
 use Rattle.rows_programs.proofs.Replays.Showing.{IsReplayed, IsNoInterval}
 
-pub a_0 : IsReplayed program plan 5 schedule 0 0 5 (Own (event 0 [] (access (Local 0 0) (pos 0) ∷ []) None None None) ∷ Own (event 1 [] [] (Some (pos 1)) None None) ∷ Own (event 2 (access (Local 0 0) (pos 0) ∷ []) (access (Local 0 0) (pos 1) ∷ []) None None None) ∷ Own (event 1 [] [] (Some (pos 1)) None None) ∷ Own (event 2 (access (Local 0 0) (pos 1) ∷ []) (access (Local 0 0) (pos 2) ∷ []) None None None) ∷ [])
+pub a_0 : IsReplayed (setting_of program plan 5) schedule 0 0 5 (Own (event 0 [] (access (Local 0 0) (pos 0) ∷ []) None None None) ∷ Own (event 1 [] [] (Some (pos 1)) None None) ∷ Own (event 2 (access (Local 0 0) (pos 0) ∷ []) (access (Local 0 0) (pos 1) ∷ []) None None None) ∷ Own (event 1 [] [] (Some (pos 1)) None None) ∷ Own (event 2 (access (Local 0 0) (pos 1) ∷ []) (access (Local 0 0) (pos 2) ∷ []) None None None) ∷ [])
 unfolding terms
 a_0 = record { replayed = refl; modelled = refl }
 
-pub no_a_1 : IsNoInterval program plan 5 schedule 0 1
+pub no_a_1 : IsNoInterval (setting_of program plan 5) schedule 0 1
 unfolding terms
 no_a_1 = record { replayed = refl; modelled = refl }

@@ -1,4 +1,5 @@
 -- shared int x; void f() { x = 4; } process a { x = 1; f(); print(x); }
+use Rattle.ppd_model.specs.Setting.{setting_of}
 use Rattle.std.proofs.Common.{refl}
 use Rattle.std.specs.Prelude.{pos, true, [], ◌∷◌, Some, None}
 use Rattle.ppd_ast.specs.Term.{terms}
@@ -8,14 +9,14 @@ use Rattle.rows_programs.proofs.Runs.CalleeWrite.{program, plan, schedule}
 use Rattle.rows_programs.proofs.Runs.Tables.{access, event}
 use Rattle.rows_programs.proofs.Replays.Showing.{IsReplayed, IsNoInterval}
 
-pub a_0 : IsReplayed program plan 100000 schedule 0 0 5 (Own (event 2 [] (access (Shared 0) (pos 1) ∷ []) None None None) ∷ Own (event 3 [] [] None None None) ∷ Nested 1 0 [] true ∷ Own (event 4 (access (Shared 0) (pos 4) ∷ []) [] (Some (pos 4)) None None) ∷ Own (event 5 [] [] None None None) ∷ [])
+pub a_0 : IsReplayed (setting_of program plan 100000) schedule 0 0 5 (Own (event 2 [] (access (Shared 0) (pos 1) ∷ []) None None None) ∷ Own (event 3 [] [] None None None) ∷ Nested 1 0 [] true ∷ Own (event 4 (access (Shared 0) (pos 4) ∷ []) [] (Some (pos 4)) None None) ∷ Own (event 5 [] [] None None None) ∷ [])
 unfolding terms
 a_0 = record { replayed = refl; modelled = refl }
 
-pub a_1 : IsReplayed program plan 100000 schedule 0 1 2 (Own (event 0 [] (access (Shared 0) (pos 4) ∷ []) None None None) ∷ Own (event 1 [] [] None None None) ∷ [])
+pub a_1 : IsReplayed (setting_of program plan 100000) schedule 0 1 2 (Own (event 0 [] (access (Shared 0) (pos 4) ∷ []) None None None) ∷ Own (event 1 [] [] None None None) ∷ [])
 unfolding terms
 a_1 = record { replayed = refl; modelled = refl }
 
-pub no_a_2 : IsNoInterval program plan 100000 schedule 0 2
+pub no_a_2 : IsNoInterval (setting_of program plan 100000) schedule 0 2
 unfolding terms
 no_a_2 = record { replayed = refl; modelled = refl }

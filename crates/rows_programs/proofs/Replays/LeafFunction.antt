@@ -1,4 +1,5 @@
 -- shared int x; void f(int k) { x = k; } process a { f(9); print(x); }
+use Rattle.ppd_model.specs.Setting.{setting_of}
 use Rattle.std.proofs.Common.{refl}
 use Rattle.std.specs.Prelude.{pos, true, [], ◌∷◌, Some, None}
 use Rattle.ppd_ast.specs.Term.{terms}
@@ -8,22 +9,22 @@ use Rattle.rows_programs.proofs.Runs.LeafFunction.{program, leaf_plan, schedule,
 use Rattle.rows_programs.proofs.Runs.Tables.{access, event}
 use Rattle.rows_programs.proofs.Replays.Showing.{IsReplayed, IsNoInterval}
 
-pub a_0_leaf : IsReplayed program leaf_plan 100000 schedule 0 0 6 (Own (event 2 [] (access (Local 1 0) (pos 9) ∷ []) None None None) ∷ Own (event 0 (access (Local 1 0) (pos 9) ∷ []) (access (Shared 0) (pos 9) ∷ []) None None None) ∷ Own (event 1 [] [] None None None) ∷ Own (event 3 (access (Shared 0) (pos 9) ∷ []) [] (Some (pos 9)) None None) ∷ Own (event 4 [] [] None None None) ∷ [])
+pub a_0_leaf : IsReplayed (setting_of program leaf_plan 100000) schedule 0 0 6 (Own (event 2 [] (access (Local 1 0) (pos 9) ∷ []) None None None) ∷ Own (event 0 (access (Local 1 0) (pos 9) ∷ []) (access (Shared 0) (pos 9) ∷ []) None None None) ∷ Own (event 1 [] [] None None None) ∷ Own (event 3 (access (Shared 0) (pos 9) ∷ []) [] (Some (pos 9)) None None) ∷ Own (event 4 [] [] None None None) ∷ [])
 unfolding terms
 a_0_leaf = record { replayed = refl; modelled = refl }
 
-pub no_a_1_leaf : IsNoInterval program leaf_plan 100000 schedule 0 1
+pub no_a_1_leaf : IsNoInterval (setting_of program leaf_plan 100000) schedule 0 1
 unfolding terms
 no_a_1_leaf = record { replayed = refl; modelled = refl }
 
-pub a_0 : IsReplayed program plan 100000 schedule 0 0 4 (Own (event 2 [] (access (Local 1 0) (pos 9) ∷ []) None None None) ∷ Nested 1 0 [] true ∷ Own (event 3 (access (Shared 0) (pos 9) ∷ []) [] (Some (pos 9)) None None) ∷ Own (event 4 [] [] None None None) ∷ [])
+pub a_0 : IsReplayed (setting_of program plan 100000) schedule 0 0 4 (Own (event 2 [] (access (Local 1 0) (pos 9) ∷ []) None None None) ∷ Nested 1 0 [] true ∷ Own (event 3 (access (Shared 0) (pos 9) ∷ []) [] (Some (pos 9)) None None) ∷ Own (event 4 [] [] None None None) ∷ [])
 unfolding terms
 a_0 = record { replayed = refl; modelled = refl }
 
-pub a_1 : IsReplayed program plan 100000 schedule 0 1 2 (Own (event 0 (access (Local 0 0) (pos 9) ∷ []) (access (Shared 0) (pos 9) ∷ []) None None None) ∷ Own (event 1 [] [] None None None) ∷ [])
+pub a_1 : IsReplayed (setting_of program plan 100000) schedule 0 1 2 (Own (event 0 (access (Local 0 0) (pos 9) ∷ []) (access (Shared 0) (pos 9) ∷ []) None None None) ∷ Own (event 1 [] [] None None None) ∷ [])
 unfolding terms
 a_1 = record { replayed = refl; modelled = refl }
 
-pub no_a_2 : IsNoInterval program plan 100000 schedule 0 2
+pub no_a_2 : IsNoInterval (setting_of program plan 100000) schedule 0 2
 unfolding terms
 no_a_2 = record { replayed = refl; modelled = refl }

@@ -1,7 +1,6 @@
 -- What the rows state: an interval of a process, replayed from its log and as the model has it.
+use Rattle.ppd_model.specs.Setting.{Setting}
 use Rattle.std.specs.Prelude.{◌≡◌, ℕ, List, [], map, get_or, slice_get, Option, Some, None, Ok}
-use Rattle.ppd_ast.specs.declared.plan.Plan.{Plan}
-use Rattle.ppd_ast.specs.declared.program.Program.{Program}
 use Rattle.ppd_entry.specs.declared.entry.Entry.{Entry}
 use Rattle.ppd_entry.specs.IntervalLogs.{IntervalLog, LoggedInterval, indexed, interval_log, log_by}
 use Rattle.ppd_model.specs.declared.flow.Item.{Item}
@@ -11,18 +10,18 @@ use Rattle.ppd_model.specs.Intervals.{Split, Span, splits, items_of}
 use Rattle.ppd_emul_model.specs.Replay.{Replayed, replay}
 
 -- the replay of each interval of these entries
-abbrev pub replays_of : Program → Plan → ℕ → List Entry → List Replayed
-replays_of program plan budget entries = map (λ (i : LoggedInterval). replay program plan (log_by plan i) budget) (indexed entries)
+abbrev pub replays_of : Setting → List Entry → List Replayed
+replays_of setting entries = map (λ (i : LoggedInterval). replay setting.program setting.plan (log_by setting.plan i) setting.budget) (indexed entries)
 
 -- the replay of an interval that is there
-abbrev pub replay_of : Program → Plan → ℕ → Option IntervalLog → Option Replayed
-replay_of program plan budget None = None
-replay_of program plan budget (Some l) = Some (replay program plan l budget)
+abbrev pub replay_of : Setting → Option IntervalLog → Option Replayed
+replay_of setting None = None
+replay_of setting (Some l) = Some (replay setting.program setting.plan l setting.budget)
 
 -- the replay of interval k of process p in a schedule
-abbrev pub replay_at : Program → Plan → ℕ → List ℕ → ℕ → ℕ → Option Replayed
-replay_at program plan budget h p k =
-    replay_of program plan budget (interval_log plan (get_or (closed_logs program plan budget h).lists p []) k)
+abbrev pub replay_at : Setting → List ℕ → ℕ → ℕ → Option Replayed
+replay_at setting h p k =
+    replay_of setting (interval_log setting.plan (get_or (closed_logs setting h).lists p []) k)
 
 -- a replay with these steps and items
 abbrev pub gives : ℕ → List Item → Replayed
@@ -39,15 +38,15 @@ modelled_in k None = None
 modelled_in k (Some x) = modelled_of x (slice_get x.spans k)
 
 -- the same for interval k of process p in a schedule
-abbrev pub model_at : Program → Plan → ℕ → List ℕ → ℕ → ℕ → Option Replayed
-model_at program plan budget h p k = modelled_in k (slice_get (splits program plan budget (story program plan budget h)) p)
+abbrev pub model_at : Setting → List ℕ → ℕ → ℕ → Option Replayed
+model_at setting h p k = modelled_in k (slice_get (splits setting (story setting h)) p)
 
 -- the replay gives these items and takes so many steps, and they are the interval's own of the model
-pub record IsReplayed (program : Program) (plan : Plan) (budget : ℕ) (h : List ℕ) (p k steps : ℕ) (items : List Item) : Type 0 where
-  pub replayed : replay_at program plan budget h p k ≡ Some (gives steps items)
-  pub modelled : model_at program plan budget h p k ≡ Some (gives steps items)
+pub record IsReplayed (setting : Setting) (h : List ℕ) (p k steps : ℕ) (items : List Item) : Type 0 where
+  pub replayed : replay_at setting h p k ≡ Some (gives steps items)
+  pub modelled : model_at setting h p k ≡ Some (gives steps items)
 
 -- the process has no such interval, neither in its log nor in the model
-pub record IsNoInterval (program : Program) (plan : Plan) (budget : ℕ) (h : List ℕ) (p k : ℕ) : Type 0 where
-  pub replayed : replay_at program plan budget h p k ≡ None
-  pub modelled : model_at program plan budget h p k ≡ None
+pub record IsNoInterval (setting : Setting) (h : List ℕ) (p k : ℕ) : Type 0 where
+  pub replayed : replay_at setting h p k ≡ None
+  pub modelled : model_at setting h p k ≡ None

@@ -1,4 +1,5 @@
 -- shared int x; sem s; process a { if (x) { V(s); } } process b { x = 1; }, recorded with b first: no for the record
+use Rattle.ppd_model.specs.Setting.{setting_of}
 use Rattle.ppd_rerun_model.specs.Guided.{guided}
 use Rattle.ppd_model.specs.RecordedSets.{record_in}
 use Rattle.std.proofs.Common.{◌≡◌, refl, ap, arith}
@@ -44,9 +45,9 @@ plan = record {
 }
 
 abbrev pub logs : Logs
-logs = closed_logs program plan 100000 (1 ∷ 1 ∷ 0 ∷ 0 ∷ 0 ∷ 0 ∷ [])
+logs = closed_logs (setting_of program plan 100000) (1 ∷ 1 ∷ 0 ∷ 0 ∷ 0 ∷ 0 ∷ [])
 
-pub guided_is : guided program plan 100000 (record_in logs) ≡ 0 ∷ 0 ∷ 0 ∷ 1 ∷ 1 ∷ []
+pub guided_is : guided (setting_of program plan 100000) (record_in logs) ≡ 0 ∷ 0 ∷ 0 ∷ 1 ∷ 1 ∷ []
 unfolding terms
 guided_is = refl
 
@@ -54,10 +55,10 @@ guided_is = refl
 abbrev first_count : List (List Sync) → ℕ
 first_count syncs = length (get_or syncs 0 [])
 
-other : HasRecordOf program plan 100000 logs (guided program plan 100000 (record_in logs)) → ⊥
+other : HasRecordOf (setting_of program plan 100000) logs (guided (setting_of program plan 100000) (record_in logs)) → ⊥
 unfolding terms
 other f = clash 0 1 (ap first_count f.record_is) refl
 
-pub verdict_is : IsVerdict program plan 100000 logs (verdict.No (Record 5))
+pub verdict_is : IsVerdict (setting_of program plan 100000) logs (verdict.No (Record 5))
 unfolding terms
 verdict_is = (refl, other)

@@ -1,4 +1,5 @@
 -- shared int x; process a { x = x + 1; } process b { x = x + 1; }: no for b's interval, whoever ran first
+use Rattle.ppd_model.specs.Setting.{setting_of}
 use Rattle.ppd_rerun_model.specs.Guided.{guided}
 use Rattle.ppd_model.specs.RecordedSets.{record_in}
 use Rattle.std.proofs.Common.{◌≡◌, refl, ap, arith}
@@ -51,7 +52,7 @@ plan = record {
 }
 
 abbrev pub logs : List ℕ → Logs
-logs h = closed_logs program plan 100000 h
+logs h = closed_logs (setting_of program plan 100000) h
 
 abbrev pub in_turns : List ℕ
 in_turns = 0 ∷ 1 ∷ 0 ∷ 1 ∷ 0 ∷ 1 ∷ []
@@ -62,7 +63,7 @@ first_a = 0 ∷ 0 ∷ 0 ∷ 1 ∷ 1 ∷ 1 ∷ []
 abbrev pub first_b : List ℕ
 first_b = 1 ∷ 1 ∷ 1 ∷ 0 ∷ 0 ∷ 0 ∷ []
 
-pub guided_is : guided program plan 100000 (record_in (logs in_turns)) ≡ first_a
+pub guided_is : guided (setting_of program plan 100000) (record_in (logs in_turns)) ≡ first_a
 unfolding terms
 guided_is = refl
 
@@ -80,28 +81,28 @@ abbrev read_of : Result BlockTrace EmulError → ℕ
 read_of (Ok trace) = first_read trace.items
 read_of (Err e) = 0
 
-nobody : (p : ℕ) → enabled program plan (told program plan 100000 first_a).world p ≡ false
+nobody : (p : ℕ) → enabled program plan (told (setting_of program plan 100000) first_a).world p ≡ false
 unfolding terms
 nobody zero = refl
 nobody (suc zero) = refl
 nobody (suc (suc p)) = refl
 
-whole : IsWhole program plan 100000 first_a
+whole : IsWhole (setting_of program plan 100000) first_a
 unfolding terms
-whole = record { last = (told program plan 100000 first_a).world; runs = refl; over = record { nobody = nobody } }
+whole = record { last = (told (setting_of program plan 100000) first_a).world; runs = refl; over = record { nobody = nobody } }
 
 -- recorded in turns
-other_turns : IsSame program plan 100000 (logs in_turns) first_a 1 0 → ⊥
+other_turns : IsSame (setting_of program plan 100000) (logs in_turns) first_a 1 0 → ⊥
 unfolding terms
 other_turns e = clash 0 1 (ap read_of e) refl
 
-same_turns : (q m : ℕ) → q < 1 → IsSame program plan 100000 (logs in_turns) first_a q m
+same_turns : (q m : ℕ) → q < 1 → IsSame (setting_of program plan 100000) (logs in_turns) first_a q m
 unfolding terms
 same_turns zero zero lt = refl
 same_turns zero (suc m) lt = tt
 same_turns (suc q) m lt = absurd (omega (arith, lt))
 
-pub verdict_turns : IsVerdict program plan 100000 (logs in_turns) (verdict.No (Interval 1 0))
+pub verdict_turns : IsVerdict (setting_of program plan 100000) (logs in_turns) (verdict.No (Interval 1 0))
 unfolding terms
 verdict_turns = (
   record { whole = whole; record_is = refl },
@@ -111,17 +112,17 @@ verdict_turns = (
 )
 
 -- recorded with b first
-other_b : IsSame program plan 100000 (logs first_b) first_a 1 0 → ⊥
+other_b : IsSame (setting_of program plan 100000) (logs first_b) first_a 1 0 → ⊥
 unfolding terms
 other_b e = clash 0 1 (ap read_of e) refl
 
-same_b : (q m : ℕ) → q < 1 → IsSame program plan 100000 (logs first_b) first_a q m
+same_b : (q m : ℕ) → q < 1 → IsSame (setting_of program plan 100000) (logs first_b) first_a q m
 unfolding terms
 same_b zero zero lt = refl
 same_b zero (suc m) lt = tt
 same_b (suc q) m lt = absurd (omega (arith, lt))
 
-pub verdict_b : IsVerdict program plan 100000 (logs first_b) (verdict.No (Interval 1 0))
+pub verdict_b : IsVerdict (setting_of program plan 100000) (logs first_b) (verdict.No (Interval 1 0))
 unfolding terms
 verdict_b = (
   record { whole = whole; record_is = refl },

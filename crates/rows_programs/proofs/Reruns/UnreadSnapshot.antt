@@ -1,4 +1,5 @@
 -- shared int x, y; sem s = 1; process p { P(s); if (y) { print(x); } } process q { x = 5; }, recorded with q first: yes
+use Rattle.ppd_model.specs.Setting.{setting_of}
 use Rattle.ppd_rerun_model.specs.Guided.{guided}
 use Rattle.ppd_model.specs.RecordedSets.{record_in}
 use Rattle.std.proofs.Common.{◌≡◌, refl}
@@ -46,30 +47,30 @@ plan = record {
 }
 
 abbrev pub logs : Logs
-logs = closed_logs program plan 100000 (1 ∷ 1 ∷ 0 ∷ 0 ∷ 0 ∷ 0 ∷ [])
+logs = closed_logs (setting_of program plan 100000) (1 ∷ 1 ∷ 0 ∷ 0 ∷ 0 ∷ 0 ∷ [])
 
 abbrev pub again : List ℕ
 again = 0 ∷ 0 ∷ 0 ∷ 0 ∷ 1 ∷ 1 ∷ []
 
-pub guided_is : guided program plan 100000 (record_in logs) ≡ again
+pub guided_is : guided (setting_of program plan 100000) (record_in logs) ≡ again
 unfolding terms
 guided_is = refl
 
-nobody : (p : ℕ) → enabled program plan (told program plan 100000 again).world p ≡ false
+nobody : (p : ℕ) → enabled program plan (told (setting_of program plan 100000) again).world p ≡ false
 unfolding terms
 nobody zero = refl
 nobody (suc zero) = refl
 nobody (suc (suc p)) = refl
 
-whole : IsWhole program plan 100000 again
+whole : IsWhole (setting_of program plan 100000) again
 unfolding terms
-whole = record { last = (told program plan 100000 again).world; runs = refl; over = record { nobody = nobody } }
+whole = record { last = (told (setting_of program plan 100000) again).world; runs = refl; over = record { nobody = nobody } }
 
-follows : HasRecordOf program plan 100000 logs again
+follows : HasRecordOf (setting_of program plan 100000) logs again
 unfolding terms
 follows = record { whole = whole; record_is = refl }
 
-same : (p k : ℕ) → IsSame program plan 100000 logs again p k
+same : (p k : ℕ) → IsSame (setting_of program plan 100000) logs again p k
 unfolding terms
 same zero zero = refl
 same zero (suc k) = tt
@@ -77,6 +78,6 @@ same (suc zero) zero = refl
 same (suc zero) (suc k) = tt
 same (suc (suc p)) k = tt
 
-pub verdict_is : IsVerdict program plan 100000 logs (verdict.Yes again)
+pub verdict_is : IsVerdict (setting_of program plan 100000) logs (verdict.Yes again)
 unfolding terms
 verdict_is = (refl, follows, same)

@@ -1,4 +1,5 @@
 -- shared int a[2]; process p { a[0] = 1; } process q { a[1] = 2; }
+use Rattle.ppd_model.specs.Setting.{setting_of}
 use Rattle.std.proofs.Common.{◌≡◌, refl}
 use Rattle.std.specs.Prelude.{ℕ, zero, suc, pos, true, false, List, [], ◌∷◌, Some, None}
 use Rattle.ppd_ast.specs.Term.{terms}
@@ -56,19 +57,19 @@ abbrev pub schedule : List ℕ
 schedule = 0 ∷ 0 ∷ 1 ∷ 1 ∷ []
 
 abbrev pub the_story : Story
-the_story = story program plan 100000 schedule
+the_story = story (setting_of program plan 100000) schedule
 
-nobody : (p : ℕ) → enabled program plan (told program plan 100000 schedule).world p ≡ false
+nobody : (p : ℕ) → enabled program plan (told (setting_of program plan 100000) schedule).world p ≡ false
 unfolding terms
 nobody zero = refl
 nobody (suc zero) = refl
 nobody (suc (suc p)) = refl
 
-pub whole : IsWhole program plan 100000 schedule
+pub whole : IsWhole (setting_of program plan 100000) schedule
 unfolding terms
-whole = record { last = (told program plan 100000 schedule).world; runs = refl; over = record { nobody = nobody } }
+whole = record { last = (told (setting_of program plan 100000) schedule).world; runs = refl; over = record { nobody = nobody } }
 
-pub ends : (close program plan 100000 schedule).ends ≡ ended status.Ended 1 2 [] ∷ ended status.Ended 3 2 [] ∷ []
+pub ends : (close (setting_of program plan 100000) schedule).ends ≡ ended status.Ended 1 2 [] ∷ ended status.Ended 3 2 [] ∷ []
 unfolding terms
 ends = refl
 
@@ -82,11 +83,11 @@ events_q =
     traced (event 2 [] (access (Shared 1) (pos 2) ∷ []) None None None) [] None None
     ∷ traced (quiet 3) [] None None ∷ []
 
-pub trace : full_trace program plan 100000 (story program plan 100000 schedule) ≡ record { events = events_p ∷ events_q ∷ [] }
+pub trace : full_trace (setting_of program plan 100000) (story (setting_of program plan 100000) schedule) ≡ record { events = events_p ∷ events_q ∷ [] }
 unfolding terms
 trace = refl
 
-pub synchronizations : sync_record program plan 100000 schedule ≡ [] ∷ [] ∷ []
+pub synchronizations : sync_record (setting_of program plan 100000) schedule ≡ [] ∷ [] ∷ []
 unfolding terms
 synchronizations = refl
 
@@ -98,69 +99,69 @@ pub accesses_q : accesses the_story 1 ≡ touched 0 1 true ∷ []
 unfolding terms
 accesses_q = refl
 
-pub race_list : races program plan 100000 schedule ≡ []
+pub race_list : races (setting_of program plan 100000) schedule ≡ []
 unfolding terms
 race_list = refl
 
-pub log : (closed_logs program plan 100000 schedule).lists ≡
+pub log : (closed_logs (setting_of program plan 100000) schedule).lists ≡
     (entry.Prelog 0 [] ∷ entry.Unit 0 [] ∷ entry.Postlog 0 [] ∷ entry.End status.Ended 1 [] (0 ∷ []) ∷ [])
     ∷ (entry.Prelog 1 [] ∷ entry.Unit 1 [] ∷ entry.Postlog 1 [] ∷ entry.End status.Ended 1 [] (1 ∷ []) ∷ []) ∷ []
 unfolding terms
 log = refl
 
-pub extents_p : extents program plan 100000 the_story 0 ≡
+pub extents_p : extents (setting_of program plan 100000) the_story 0 ≡
     extent 0 [] 0 (Some 1) 2 ∷ []
 unfolding terms
 extents_p = refl
 
-pub extents_q : extents program plan 100000 the_story 1 ≡
+pub extents_q : extents (setting_of program plan 100000) the_story 1 ≡
     extent 1 [] 0 (Some 1) 2 ∷ []
 unfolding terms
 extents_q = refl
 
-pub open_p_0 : items program plan 100000 the_story 0 0 ≡
+pub open_p_0 : items (setting_of program plan 100000) the_story 0 0 ≡
     Some (Own (event 0 [] (access (Shared 0) (pos 1) ∷ []) None None None)
     ∷ Own (quiet 1) ∷ [])
 unfolding terms
 open_p_0 = refl
 
-pub open_q_0 : items program plan 100000 the_story 1 0 ≡
+pub open_q_0 : items (setting_of program plan 100000) the_story 1 0 ≡
     Some (Own (event 2 [] (access (Shared 1) (pos 2) ∷ []) None None None)
     ∷ Own (quiet 3) ∷ [])
 unfolding terms
 open_q_0 = refl
 
-pub whys_p_0 : whys program plan 100000 the_story 0 0 3 ≡
+pub whys_p_0 : whys (setting_of program plan 100000) the_story 0 0 3 ≡
     Some (control_from Entry ∷ [])
     ∷ Some (control_from Entry ∷ [])
     ∷ None ∷ []
 unfolding terms
 whys_p_0 = refl
 
-pub whys_q_0 : whys program plan 100000 the_story 1 0 3 ≡
+pub whys_q_0 : whys (setting_of program plan 100000) the_story 1 0 3 ≡
     Some (control_from Entry ∷ [])
     ∷ Some (control_from Entry ∷ [])
     ∷ None ∷ []
 unfolding terms
 whys_q_0 = refl
 
-pub nears_p_0 : nears program plan 100000 the_story 0 0 2 ≡ 2 ∷ 2 ∷ []
+pub nears_p_0 : nears (setting_of program plan 100000) the_story 0 0 2 ≡ 2 ∷ 2 ∷ []
 unfolding terms
 nears_p_0 = refl
 
-pub nears_q_0 : nears program plan 100000 the_story 1 0 2 ≡ 2 ∷ 2 ∷ []
+pub nears_q_0 : nears (setting_of program plan 100000) the_story 1 0 2 ≡ 2 ∷ 2 ∷ []
 unfolding terms
 nears_q_0 = refl
 
-pub final_a_0 : last program plan 100000 the_story 0 ≡ (pos 1, ItemAt 0 0 0)
+pub final_a_0 : last (setting_of program plan 100000) the_story 0 ≡ (pos 1, ItemAt 0 0 0)
 unfolding terms
 final_a_0 = refl
 
-pub final_a_1 : last program plan 100000 the_story 1 ≡ (pos 2, ItemAt 1 0 0)
+pub final_a_1 : last (setting_of program plan 100000) the_story 1 ≡ (pos 2, ItemAt 1 0 0)
 unfolding terms
 final_a_1 = refl
 
 -- every schedule ends so, with these races
-pub every : (h : List ℕ) → IsWhole program plan 100000 h → outcome program plan 100000 h ≡ (ended status.Ended 1 2 [] ∷ ended status.Ended 3 2 [] ∷ [], [])
+pub every : (h : List ℕ) → IsWhole (setting_of program plan 100000) h → outcome (setting_of program plan 100000) h ≡ (ended status.Ended 1 2 [] ∷ ended status.Ended 3 2 [] ∷ [], [])
 unfolding terms
-every h whole = every_whole program plan 100000 5 6 (outcome program plan 100000) _ refl refl h whole
+every h whole = every_whole program plan 100000 5 6 (outcome (setting_of program plan 100000)) _ refl refl h whole

@@ -1,4 +1,5 @@
 -- shared int x; chan c[1]; process a { send(c, 7); send(c, 8); x = 2; } process b { int v; print(x); v = recv(c); v = recv(c); }
+use Rattle.ppd_model.specs.Setting.{setting_of}
 use Rattle.std.proofs.Common.{◌≡◌, refl}
 use Rattle.std.specs.Prelude.{ℕ, zero, suc, pos, true, false, List, [], ◌∷◌, Some, None}
 use Rattle.ppd_ast.specs.Term.{terms}
@@ -62,19 +63,19 @@ abbrev pub schedule : List ℕ
 schedule = 0 ∷ 1 ∷ 1 ∷ 1 ∷ 1 ∷ 0 ∷ 0 ∷ 0 ∷ 1 ∷ 1 ∷ []
 
 abbrev pub the_story : Story
-the_story = story program plan 100000 schedule
+the_story = story (setting_of program plan 100000) schedule
 
-nobody : (p : ℕ) → enabled program plan (told program plan 100000 schedule).world p ≡ false
+nobody : (p : ℕ) → enabled program plan (told (setting_of program plan 100000) schedule).world p ≡ false
 unfolding terms
 nobody zero = refl
 nobody (suc zero) = refl
 nobody (suc (suc p)) = refl
 
-pub whole : IsWhole program plan 100000 schedule
+pub whole : IsWhole (setting_of program plan 100000) schedule
 unfolding terms
-whole = record { last = (told program plan 100000 schedule).world; runs = refl; over = record { nobody = nobody } }
+whole = record { last = (told (setting_of program plan 100000) schedule).world; runs = refl; over = record { nobody = nobody } }
 
-pub ends : (close program plan 100000 schedule).ends ≡ ended status.Ended 3 4 [] ∷ ended status.Ended 8 6 (pos 0 ∷ []) ∷ []
+pub ends : (close (setting_of program plan 100000) schedule).ends ≡ ended status.Ended 3 4 [] ∷ ended status.Ended 8 6 (pos 0 ∷ []) ∷ []
 unfolding terms
 ends = refl
 
@@ -93,11 +94,11 @@ events_b =
     ∷ traced (event 7 [] (access (Local 0 0) (pos 8) ∷ []) None (Some 2) None) [] None (Some (id 0 1))
     ∷ traced (quiet 8) [] None None ∷ []
 
-pub trace : full_trace program plan 100000 (story program plan 100000 schedule) ≡ record { events = events_a ∷ events_b ∷ [] }
+pub trace : full_trace (setting_of program plan 100000) (story (setting_of program plan 100000) schedule) ≡ record { events = events_a ∷ events_b ∷ [] }
 unfolding terms
 trace = refl
 
-pub synchronizations : sync_record program plan 100000 schedule ≡ (synced sync.Send 0 1 ∷ synced sync.Send 0 2 ∷ []) ∷ (synced sync.Recv 0 1 ∷ synced sync.Recv 0 2 ∷ []) ∷ []
+pub synchronizations : sync_record (setting_of program plan 100000) schedule ≡ (synced sync.Send 0 1 ∷ synced sync.Send 0 2 ∷ []) ∷ (synced sync.Recv 0 1 ∷ synced sync.Recv 0 2 ∷ []) ∷ []
 unfolding terms
 synchronizations = refl
 
@@ -109,27 +110,27 @@ pub accesses_b : accesses the_story 1 ≡ touched 0 0 false ∷ []
 unfolding terms
 accesses_b = refl
 
-pub race_list : races program plan 100000 schedule ≡ []
+pub race_list : races (setting_of program plan 100000) schedule ≡ []
 unfolding terms
 race_list = refl
 
-pub log : (closed_logs program plan 100000 schedule).lists ≡
+pub log : (closed_logs (setting_of program plan 100000) schedule).lists ≡
     (entry.Prelog 0 [] ∷ entry.Unit 0 [] ∷ entry.Sync sync.Send 0 1 (pos 7) [] [] ∷ entry.Unit 1 [] ∷ entry.Sync sync.Send 0 2 (pos 8) [] [] ∷ entry.Unit 2 [] ∷ entry.Postlog 0 [] ∷ entry.End status.Ended 1 [] (0 ∷ []) ∷ [])
     ∷ (entry.Prelog 1 [] ∷ entry.Unit 3 (pos 0 ∷ []) ∷ entry.Sync sync.Recv 0 1 (pos 7) (0 ∷ []) [] ∷ entry.Unit 4 [] ∷ entry.Sync sync.Recv 0 2 (pos 8) [] [] ∷ entry.Unit 5 [] ∷ entry.Postlog 1 [] ∷ entry.End status.Ended 0 [] [] ∷ []) ∷ []
 unfolding terms
 log = refl
 
-pub extents_a : extents program plan 100000 the_story 0 ≡
+pub extents_a : extents (setting_of program plan 100000) the_story 0 ≡
     extent 0 [] 0 (Some 3) 4 ∷ []
 unfolding terms
 extents_a = refl
 
-pub extents_b : extents program plan 100000 the_story 1 ≡
+pub extents_b : extents (setting_of program plan 100000) the_story 1 ≡
     extent 1 [] 0 (Some 5) 6 ∷ []
 unfolding terms
 extents_b = refl
 
-pub open_a_0 : items program plan 100000 the_story 0 0 ≡
+pub open_a_0 : items (setting_of program plan 100000) the_story 0 0 ≡
     Some (Own (event 0 [] [] (Some (pos 7)) (Some 1) None)
     ∷ Own (event 1 [] [] (Some (pos 8)) (Some 2) None)
     ∷ Own (event 2 [] (access (Shared 0) (pos 2) ∷ []) None None None)
@@ -137,7 +138,7 @@ pub open_a_0 : items program plan 100000 the_story 0 0 ≡
 unfolding terms
 open_a_0 = refl
 
-pub open_b_0 : items program plan 100000 the_story 1 0 ≡
+pub open_b_0 : items (setting_of program plan 100000) the_story 1 0 ≡
     Some (Own (event 4 [] (access (Local 0 0) (pos 0) ∷ []) None None None)
     ∷ Own (event 5 (access (Shared 0) (pos 0) ∷ []) [] (Some (pos 0)) None None)
     ∷ Own (event 6 [] (access (Local 0 0) (pos 7) ∷ []) None (Some 1) None)
@@ -147,7 +148,7 @@ unfolding terms
 open_b_0 = refl
 
 -- send 2 waits for receive 1, which orders the read before the write
-pub whys_a_0 : whys program plan 100000 the_story 0 0 5 ≡
+pub whys_a_0 : whys (setting_of program plan 100000) the_story 0 0 5 ≡
     Some (control_from Entry ∷ [])
     ∷ Some (sync_from (ItemAt 1 0 2) ∷ control_from Entry ∷ [])
     ∷ Some (control_from Entry ∷ [])
@@ -156,7 +157,7 @@ pub whys_a_0 : whys program plan 100000 the_story 0 0 5 ≡
 unfolding terms
 whys_a_0 = refl
 
-pub whys_b_0 : whys program plan 100000 the_story 1 0 6 ≡
+pub whys_b_0 : whys (setting_of program plan 100000) the_story 1 0 6 ≡
     Some (control_from Entry ∷ [])
     ∷ Some (read_from (Shared 0) (pos 0) Initial ∷ control_from Entry ∷ [])
     ∷ Some (sync_from (ItemAt 0 0 0) ∷ control_from Entry ∷ [])
@@ -166,19 +167,19 @@ pub whys_b_0 : whys program plan 100000 the_story 1 0 6 ≡
 unfolding terms
 whys_b_0 = refl
 
-pub nears_a_0 : nears program plan 100000 the_story 0 0 4 ≡ 4 ∷ 10 ∷ 4 ∷ 4 ∷ []
+pub nears_a_0 : nears (setting_of program plan 100000) the_story 0 0 4 ≡ 4 ∷ 10 ∷ 4 ∷ 4 ∷ []
 unfolding terms
 nears_a_0 = refl
 
-pub nears_b_0 : nears program plan 100000 the_story 1 0 5 ≡ 6 ∷ 6 ∷ 10 ∷ 10 ∷ 6 ∷ []
+pub nears_b_0 : nears (setting_of program plan 100000) the_story 1 0 5 ≡ 6 ∷ 6 ∷ 10 ∷ 10 ∷ 6 ∷ []
 unfolding terms
 nears_b_0 = refl
 
-pub final_x : last program plan 100000 the_story 0 ≡ (pos 2, ItemAt 0 0 2)
+pub final_x : last (setting_of program plan 100000) the_story 0 ≡ (pos 2, ItemAt 0 0 2)
 unfolding terms
 final_x = refl
 
 -- every schedule ends so, with these races
-pub every : (h : List ℕ) → IsWhole program plan 100000 h → outcome program plan 100000 h ≡ (ended status.Ended 3 4 [] ∷ ended status.Ended 8 6 (pos 0 ∷ []) ∷ [], [])
+pub every : (h : List ℕ) → IsWhole (setting_of program plan 100000) h → outcome (setting_of program plan 100000) h ≡ (ended status.Ended 3 4 [] ∷ ended status.Ended 8 6 (pos 0 ∷ []) ∷ [], [])
 unfolding terms
-every h whole = every_whole program plan 100000 11 24 (outcome program plan 100000) _ refl refl h whole
+every h whole = every_whole program plan 100000 11 24 (outcome (setting_of program plan 100000)) _ refl refl h whole

@@ -1,4 +1,5 @@
 -- process a { int i; while (1) { i = i + 1; } } with a budget of 5
+use Rattle.ppd_model.specs.Setting.{setting_of}
 use Rattle.std.proofs.Common.{◌≡◌, refl}
 use Rattle.std.specs.Prelude.{ℕ, zero, suc, pos, true, false, List, [], ◌∷◌, Some, None}
 use Rattle.ppd_ast.specs.Term.{terms}
@@ -55,18 +56,18 @@ abbrev pub schedule : List ℕ
 schedule = 0 ∷ 0 ∷ 0 ∷ 0 ∷ 0 ∷ 0 ∷ []
 
 abbrev pub the_story : Story
-the_story = story program plan 5 schedule
+the_story = story (setting_of program plan 5) schedule
 
-nobody : (p : ℕ) → enabled program plan (told program plan 5 schedule).world p ≡ false
+nobody : (p : ℕ) → enabled program plan (told (setting_of program plan 5) schedule).world p ≡ false
 unfolding terms
 nobody zero = refl
 nobody (suc p) = refl
 
-pub whole : IsWhole program plan 5 schedule
+pub whole : IsWhole (setting_of program plan 5) schedule
 unfolding terms
-whole = record { last = (told program plan 5 schedule).world; runs = refl; over = record { nobody = nobody } }
+whole = record { last = (told (setting_of program plan 5) schedule).world; runs = refl; over = record { nobody = nobody } }
 
-pub ends : (close program plan 5 schedule).ends ≡ ended status.Budget 1 5 [] ∷ []
+pub ends : (close (setting_of program plan 5) schedule).ends ≡ ended status.Budget 1 5 [] ∷ []
 unfolding terms
 ends = refl
 
@@ -78,11 +79,11 @@ events_a =
     ∷ traced (event 1 [] [] (Some (pos 1)) None None) [] (Some (id 0 1)) None
     ∷ traced (event 2 (access (Local 0 0) (pos 1) ∷ []) (access (Local 0 0) (pos 2) ∷ []) None None None) (Some (id 0 2) ∷ []) (Some (id 0 3)) None ∷ []
 
-pub trace : full_trace program plan 5 (story program plan 5 schedule) ≡ record { events = events_a ∷ [] }
+pub trace : full_trace (setting_of program plan 5) (story (setting_of program plan 5) schedule) ≡ record { events = events_a ∷ [] }
 unfolding terms
 trace = refl
 
-pub synchronizations : sync_record program plan 5 schedule ≡ [] ∷ []
+pub synchronizations : sync_record (setting_of program plan 5) schedule ≡ [] ∷ []
 unfolding terms
 synchronizations = refl
 
@@ -90,21 +91,21 @@ pub accesses_a : accesses the_story 0 ≡ []
 unfolding terms
 accesses_a = refl
 
-pub race_list : races program plan 5 schedule ≡ []
+pub race_list : races (setting_of program plan 5) schedule ≡ []
 unfolding terms
 race_list = refl
 
-pub log : (closed_logs program plan 5 schedule).lists ≡
+pub log : (closed_logs (setting_of program plan 5) schedule).lists ≡
     (entry.Prelog 0 [] ∷ entry.Unit 0 [] ∷ entry.End status.Budget 5 [] [] ∷ []) ∷ []
 unfolding terms
 log = refl
 
-pub extents_a : extents program plan 5 the_story 0 ≡
+pub extents_a : extents (setting_of program plan 5) the_story 0 ≡
     extent 0 [] 0 None 5 ∷ []
 unfolding terms
 extents_a = refl
 
-pub open_a_0 : items program plan 5 the_story 0 0 ≡
+pub open_a_0 : items (setting_of program plan 5) the_story 0 0 ≡
     Some (Own (event 0 [] (access (Local 0 0) (pos 0) ∷ []) None None None)
     ∷ Own (event 1 [] [] (Some (pos 1)) None None)
     ∷ Own (event 2 (access (Local 0 0) (pos 0) ∷ []) (access (Local 0 0) (pos 1) ∷ []) None None None)
@@ -113,7 +114,7 @@ pub open_a_0 : items program plan 5 the_story 0 0 ≡
 unfolding terms
 open_a_0 = refl
 
-pub whys_a_0 : whys program plan 5 the_story 0 0 6 ≡
+pub whys_a_0 : whys (setting_of program plan 5) the_story 0 0 6 ≡
     Some (control_from Entry ∷ [])
     ∷ Some (control_from Entry ∷ [])
     ∷ Some (read_from (Local 0 0) (pos 0) (ItemAt 0 0 0) ∷ control_from (ItemAt 0 0 1) ∷ [])
@@ -123,6 +124,6 @@ pub whys_a_0 : whys program plan 5 the_story 0 0 6 ≡
 unfolding terms
 whys_a_0 = refl
 
-pub nears_a_0 : nears program plan 5 the_story 0 0 5 ≡ 5 ∷ 5 ∷ 5 ∷ 5 ∷ 5 ∷ []
+pub nears_a_0 : nears (setting_of program plan 5) the_story 0 0 5 ≡ 5 ∷ 5 ∷ 5 ∷ 5 ∷ 5 ∷ []
 unfolding terms
 nears_a_0 = refl

@@ -1,4 +1,5 @@
 -- shared int x; void f() { x = 4; } process a { x = 1; f(); print(x); }
+use Rattle.ppd_model.specs.Setting.{setting_of}
 use Rattle.std.proofs.Common.{◌≡◌, refl}
 use Rattle.std.specs.Prelude.{ℕ, zero, suc, pos, true, false, List, [], ◌∷◌, Some, None}
 use Rattle.ppd_ast.specs.Term.{terms}
@@ -57,18 +58,18 @@ abbrev pub schedule : List ℕ
 schedule = 0 ∷ 0 ∷ 0 ∷ 0 ∷ 0 ∷ 0 ∷ 0 ∷ []
 
 abbrev pub the_story : Story
-the_story = story program plan 100000 schedule
+the_story = story (setting_of program plan 100000) schedule
 
-nobody : (p : ℕ) → enabled program plan (told program plan 100000 schedule).world p ≡ false
+nobody : (p : ℕ) → enabled program plan (told (setting_of program plan 100000) schedule).world p ≡ false
 unfolding terms
 nobody zero = refl
 nobody (suc p) = refl
 
-pub whole : IsWhole program plan 100000 schedule
+pub whole : IsWhole (setting_of program plan 100000) schedule
 unfolding terms
-whole = record { last = (told program plan 100000 schedule).world; runs = refl; over = record { nobody = nobody } }
+whole = record { last = (told (setting_of program plan 100000) schedule).world; runs = refl; over = record { nobody = nobody } }
 
-pub ends : (close program plan 100000 schedule).ends ≡ ended status.Ended 5 7 (pos 4 ∷ []) ∷ []
+pub ends : (close (setting_of program plan 100000) schedule).ends ≡ ended status.Ended 5 7 (pos 4 ∷ []) ∷ []
 unfolding terms
 ends = refl
 
@@ -81,11 +82,11 @@ events_a =
     ∷ traced (event 4 (access (Shared 0) (pos 4) ∷ []) [] (Some (pos 4)) None None) (Some (id 0 2) ∷ []) None None
     ∷ traced (quiet 5) [] None None ∷ []
 
-pub trace : full_trace program plan 100000 (story program plan 100000 schedule) ≡ record { events = events_a ∷ [] }
+pub trace : full_trace (setting_of program plan 100000) (story (setting_of program plan 100000) schedule) ≡ record { events = events_a ∷ [] }
 unfolding terms
 trace = refl
 
-pub synchronizations : sync_record program plan 100000 schedule ≡ [] ∷ []
+pub synchronizations : sync_record (setting_of program plan 100000) schedule ≡ [] ∷ []
 unfolding terms
 synchronizations = refl
 
@@ -93,22 +94,22 @@ pub accesses_a : accesses the_story 0 ≡ touched 0 0 true ∷ touched 0 0 true 
 unfolding terms
 accesses_a = refl
 
-pub race_list : races program plan 100000 schedule ≡ []
+pub race_list : races (setting_of program plan 100000) schedule ≡ []
 unfolding terms
 race_list = refl
 
-pub log : (closed_logs program plan 100000 schedule).lists ≡
+pub log : (closed_logs (setting_of program plan 100000) schedule).lists ≡
     (entry.Prelog 1 [] ∷ entry.Unit 1 [] ∷ entry.Prelog 0 [] ∷ entry.Unit 0 [] ∷ entry.Postlog 0 [] ∷ entry.Unit 2 (pos 4 ∷ []) ∷ entry.Postlog 1 [] ∷ entry.End status.Ended 2 (0 ∷ []) (0 ∷ []) ∷ []) ∷ []
 unfolding terms
 log = refl
 
-pub extents_a : extents program plan 100000 the_story 0 ≡
+pub extents_a : extents (setting_of program plan 100000) the_story 0 ≡
     extent 1 [] 0 (Some 6) 5
     ∷ extent 0 (0 ∷ []) 1 (Some 3) 2 ∷ []
 unfolding terms
 extents_a = refl
 
-pub open_a_0 : items program plan 100000 the_story 0 0 ≡
+pub open_a_0 : items (setting_of program plan 100000) the_story 0 0 ≡
     Some (Own (event 2 [] (access (Shared 0) (pos 1) ∷ []) None None None)
     ∷ Own (quiet 3)
     ∷ Nested 1 0 [] true
@@ -117,13 +118,13 @@ pub open_a_0 : items program plan 100000 the_story 0 0 ≡
 unfolding terms
 open_a_0 = refl
 
-pub open_a_1 : items program plan 100000 the_story 0 1 ≡
+pub open_a_1 : items (setting_of program plan 100000) the_story 0 1 ≡
     Some (Own (event 0 [] (access (Shared 0) (pos 4) ∷ []) None None None)
     ∷ Own (quiet 1) ∷ [])
 unfolding terms
 open_a_1 = refl
 
-pub whys_a_0 : whys program plan 100000 the_story 0 0 6 ≡
+pub whys_a_0 : whys (setting_of program plan 100000) the_story 0 0 6 ≡
     Some (control_from Entry ∷ [])
     ∷ Some (control_from Entry ∷ [])
     ∷ Some (control_from (ItemAt 0 0 1) ∷ [])
@@ -133,21 +134,21 @@ pub whys_a_0 : whys program plan 100000 the_story 0 0 6 ≡
 unfolding terms
 whys_a_0 = refl
 
-pub whys_a_1 : whys program plan 100000 the_story 0 1 3 ≡
+pub whys_a_1 : whys (setting_of program plan 100000) the_story 0 1 3 ≡
     Some (control_from (ItemAt 0 0 1) ∷ [])
     ∷ Some (control_from (ItemAt 0 0 1) ∷ [])
     ∷ None ∷ []
 unfolding terms
 whys_a_1 = refl
 
-pub nears_a_0 : nears program plan 100000 the_story 0 0 5 ≡ 7 ∷ 7 ∷ 7 ∷ 7 ∷ 7 ∷ []
+pub nears_a_0 : nears (setting_of program plan 100000) the_story 0 0 5 ≡ 7 ∷ 7 ∷ 7 ∷ 7 ∷ 7 ∷ []
 unfolding terms
 nears_a_0 = refl
 
-pub nears_a_1 : nears program plan 100000 the_story 0 1 2 ≡ 7 ∷ 7 ∷ []
+pub nears_a_1 : nears (setting_of program plan 100000) the_story 0 1 2 ≡ 7 ∷ 7 ∷ []
 unfolding terms
 nears_a_1 = refl
 
-pub final_x : last program plan 100000 the_story 0 ≡ (pos 4, ItemAt 0 1 0)
+pub final_x : last (setting_of program plan 100000) the_story 0 ≡ (pos 4, ItemAt 0 1 0)
 unfolding terms
 final_x = refl

@@ -1,4 +1,5 @@
 -- shared int x; sem m = 2; process a { P(m); x = x + 1; V(m); } process b { P(m); x = x + 1; V(m); }
+use Rattle.ppd_model.specs.Setting.{setting_of}
 use Rattle.std.proofs.Common.{◌≡◌, refl}
 use Rattle.std.specs.Prelude.{ℕ, zero, suc, pos, true, false, List, [], ◌∷◌, Some, None}
 use Rattle.ppd_ast.specs.Term.{terms}
@@ -63,19 +64,19 @@ abbrev pub first_a : List ℕ
 first_a = 0 ∷ 0 ∷ 0 ∷ 0 ∷ 0 ∷ 1 ∷ 1 ∷ 1 ∷ 1 ∷ 1 ∷ []
 
 abbrev pub story_first_a : Story
-story_first_a = story program plan 100000 first_a
+story_first_a = story (setting_of program plan 100000) first_a
 
-nobody_first_a : (p : ℕ) → enabled program plan (told program plan 100000 first_a).world p ≡ false
+nobody_first_a : (p : ℕ) → enabled program plan (told (setting_of program plan 100000) first_a).world p ≡ false
 unfolding terms
 nobody_first_a zero = refl
 nobody_first_a (suc zero) = refl
 nobody_first_a (suc (suc p)) = refl
 
-pub whole_first_a : IsWhole program plan 100000 first_a
+pub whole_first_a : IsWhole (setting_of program plan 100000) first_a
 unfolding terms
-whole_first_a = record { last = (told program plan 100000 first_a).world; runs = refl; over = record { nobody = nobody_first_a } }
+whole_first_a = record { last = (told (setting_of program plan 100000) first_a).world; runs = refl; over = record { nobody = nobody_first_a } }
 
-pub ends_first_a : (close program plan 100000 first_a).ends ≡ ended status.Ended 3 5 [] ∷ ended status.Ended 7 5 [] ∷ []
+pub ends_first_a : (close (setting_of program plan 100000) first_a).ends ≡ ended status.Ended 3 5 [] ∷ ended status.Ended 7 5 [] ∷ []
 unfolding terms
 ends_first_a = refl
 
@@ -93,11 +94,11 @@ events_b_first_a =
     ∷ traced (event 6 [] [] None (Some 4) None) [] None None
     ∷ traced (quiet 7) [] None None ∷ []
 
-pub trace_first_a : full_trace program plan 100000 (story program plan 100000 first_a) ≡ record { events = events_a_first_a ∷ events_b_first_a ∷ [] }
+pub trace_first_a : full_trace (setting_of program plan 100000) (story (setting_of program plan 100000) first_a) ≡ record { events = events_a_first_a ∷ events_b_first_a ∷ [] }
 unfolding terms
 trace_first_a = refl
 
-pub synchronizations_first_a : sync_record program plan 100000 first_a ≡ (synced sync.P 0 1 ∷ synced sync.V 0 3 ∷ []) ∷ (synced sync.P 0 2 ∷ synced sync.V 0 4 ∷ []) ∷ []
+pub synchronizations_first_a : sync_record (setting_of program plan 100000) first_a ≡ (synced sync.P 0 1 ∷ synced sync.V 0 3 ∷ []) ∷ (synced sync.P 0 2 ∷ synced sync.V 0 4 ∷ []) ∷ []
 unfolding terms
 synchronizations_first_a = refl
 
@@ -109,27 +110,27 @@ pub accesses_b_first_a : accesses story_first_a 1 ≡ touched 1 0 false ∷ touc
 unfolding terms
 accesses_b_first_a = refl
 
-pub races_first_a : races program plan 100000 first_a ≡ race 0 1 1 1 0 ReadWrite ∷ race 0 1 1 1 0 WriteRead ∷ race 0 1 1 1 0 WriteWrite ∷ []
+pub races_first_a : races (setting_of program plan 100000) first_a ≡ race 0 1 1 1 0 ReadWrite ∷ race 0 1 1 1 0 WriteRead ∷ race 0 1 1 1 0 WriteWrite ∷ []
 unfolding terms
 races_first_a = refl
 
-pub logs_first_a : (closed_logs program plan 100000 first_a).lists ≡
+pub logs_first_a : (closed_logs (setting_of program plan 100000) first_a).lists ≡
     (entry.Prelog 0 [] ∷ entry.Unit 0 [] ∷ entry.Sync sync.P 0 1 (pos 0) [] [] ∷ entry.Unit 1 (pos 0 ∷ []) ∷ entry.Sync sync.V 0 3 (pos 0) (0 ∷ []) (0 ∷ []) ∷ entry.Unit 2 [] ∷ entry.Postlog 0 [] ∷ entry.End status.Ended 0 [] [] ∷ [])
     ∷ (entry.Prelog 1 [] ∷ entry.Unit 3 [] ∷ entry.Sync sync.P 0 2 (pos 0) [] [] ∷ entry.Unit 4 (pos 1 ∷ []) ∷ entry.Sync sync.V 0 4 (pos 0) (0 ∷ []) (0 ∷ []) ∷ entry.Unit 5 [] ∷ entry.Postlog 1 [] ∷ entry.End status.Ended 0 [] [] ∷ []) ∷ []
 unfolding terms
 logs_first_a = refl
 
-pub extents_a_first_a : extents program plan 100000 story_first_a 0 ≡
+pub extents_a_first_a : extents (setting_of program plan 100000) story_first_a 0 ≡
     extent 0 [] 0 (Some 4) 5 ∷ []
 unfolding terms
 extents_a_first_a = refl
 
-pub extents_b_first_a : extents program plan 100000 story_first_a 1 ≡
+pub extents_b_first_a : extents (setting_of program plan 100000) story_first_a 1 ≡
     extent 1 [] 0 (Some 4) 5 ∷ []
 unfolding terms
 extents_b_first_a = refl
 
-pub open_a_0_first_a : items program plan 100000 story_first_a 0 0 ≡
+pub open_a_0_first_a : items (setting_of program plan 100000) story_first_a 0 0 ≡
     Some (Own (event 0 [] [] None (Some 1) None)
     ∷ Own (event 1 (access (Shared 0) (pos 0) ∷ []) (access (Shared 0) (pos 1) ∷ []) None None None)
     ∷ Own (event 2 [] [] None (Some 3) None)
@@ -137,7 +138,7 @@ pub open_a_0_first_a : items program plan 100000 story_first_a 0 0 ≡
 unfolding terms
 open_a_0_first_a = refl
 
-pub open_b_0_first_a : items program plan 100000 story_first_a 1 0 ≡
+pub open_b_0_first_a : items (setting_of program plan 100000) story_first_a 1 0 ≡
     Some (Own (event 4 [] [] None (Some 2) None)
     ∷ Own (event 5 (access (Shared 0) (pos 1) ∷ []) (access (Shared 0) (pos 2) ∷ []) None None None)
     ∷ Own (event 6 [] [] None (Some 4) None)
@@ -146,7 +147,7 @@ unfolding terms
 open_b_0_first_a = refl
 
 -- P 1 and P 2 have no V
-pub whys_a_0_first_a : whys program plan 100000 story_first_a 0 0 5 ≡
+pub whys_a_0_first_a : whys (setting_of program plan 100000) story_first_a 0 0 5 ≡
     Some (sync_from Initial ∷ control_from Entry ∷ [])
     ∷ Some (read_from (Shared 0) (pos 0) Initial ∷ control_from Entry ∷ [])
     ∷ Some (control_from Entry ∷ [])
@@ -155,7 +156,7 @@ pub whys_a_0_first_a : whys program plan 100000 story_first_a 0 0 5 ≡
 unfolding terms
 whys_a_0_first_a = refl
 
-pub whys_b_0_first_a : whys program plan 100000 story_first_a 1 0 5 ≡
+pub whys_b_0_first_a : whys (setting_of program plan 100000) story_first_a 1 0 5 ≡
     Some (sync_from Initial ∷ control_from Entry ∷ [])
     ∷ Some (read_from (Shared 0) (pos 1) (ItemAt 0 0 1) ∷ control_from Entry ∷ [])
     ∷ Some (control_from Entry ∷ [])
@@ -164,15 +165,15 @@ pub whys_b_0_first_a : whys program plan 100000 story_first_a 1 0 5 ≡
 unfolding terms
 whys_b_0_first_a = refl
 
-pub nears_a_0_first_a : nears program plan 100000 story_first_a 0 0 4 ≡ 5 ∷ 5 ∷ 5 ∷ 5 ∷ []
+pub nears_a_0_first_a : nears (setting_of program plan 100000) story_first_a 0 0 4 ≡ 5 ∷ 5 ∷ 5 ∷ 5 ∷ []
 unfolding terms
 nears_a_0_first_a = refl
 
-pub nears_b_0_first_a : nears program plan 100000 story_first_a 1 0 4 ≡ 5 ∷ 10 ∷ 5 ∷ 5 ∷ []
+pub nears_b_0_first_a : nears (setting_of program plan 100000) story_first_a 1 0 4 ≡ 5 ∷ 10 ∷ 5 ∷ 5 ∷ []
 unfolding terms
 nears_b_0_first_a = refl
 
-pub final_x_first_a : last program plan 100000 story_first_a 0 ≡ (pos 2, ItemAt 1 0 1)
+pub final_x_first_a : last (setting_of program plan 100000) story_first_a 0 ≡ (pos 2, ItemAt 1 0 1)
 unfolding terms
 final_x_first_a = refl
 
@@ -180,19 +181,19 @@ abbrev pub first_b : List ℕ
 first_b = 1 ∷ 1 ∷ 1 ∷ 1 ∷ 1 ∷ 0 ∷ 0 ∷ 0 ∷ 0 ∷ 0 ∷ []
 
 abbrev pub story_first_b : Story
-story_first_b = story program plan 100000 first_b
+story_first_b = story (setting_of program plan 100000) first_b
 
-nobody_first_b : (p : ℕ) → enabled program plan (told program plan 100000 first_b).world p ≡ false
+nobody_first_b : (p : ℕ) → enabled program plan (told (setting_of program plan 100000) first_b).world p ≡ false
 unfolding terms
 nobody_first_b zero = refl
 nobody_first_b (suc zero) = refl
 nobody_first_b (suc (suc p)) = refl
 
-pub whole_first_b : IsWhole program plan 100000 first_b
+pub whole_first_b : IsWhole (setting_of program plan 100000) first_b
 unfolding terms
-whole_first_b = record { last = (told program plan 100000 first_b).world; runs = refl; over = record { nobody = nobody_first_b } }
+whole_first_b = record { last = (told (setting_of program plan 100000) first_b).world; runs = refl; over = record { nobody = nobody_first_b } }
 
-pub ends_first_b : (close program plan 100000 first_b).ends ≡ ended status.Ended 3 5 [] ∷ ended status.Ended 7 5 [] ∷ []
+pub ends_first_b : (close (setting_of program plan 100000) first_b).ends ≡ ended status.Ended 3 5 [] ∷ ended status.Ended 7 5 [] ∷ []
 unfolding terms
 ends_first_b = refl
 
@@ -210,11 +211,11 @@ events_b_first_b =
     ∷ traced (event 6 [] [] None (Some 3) None) [] None None
     ∷ traced (quiet 7) [] None None ∷ []
 
-pub trace_first_b : full_trace program plan 100000 (story program plan 100000 first_b) ≡ record { events = events_a_first_b ∷ events_b_first_b ∷ [] }
+pub trace_first_b : full_trace (setting_of program plan 100000) (story (setting_of program plan 100000) first_b) ≡ record { events = events_a_first_b ∷ events_b_first_b ∷ [] }
 unfolding terms
 trace_first_b = refl
 
-pub synchronizations_first_b : sync_record program plan 100000 first_b ≡ (synced sync.P 0 2 ∷ synced sync.V 0 4 ∷ []) ∷ (synced sync.P 0 1 ∷ synced sync.V 0 3 ∷ []) ∷ []
+pub synchronizations_first_b : sync_record (setting_of program plan 100000) first_b ≡ (synced sync.P 0 2 ∷ synced sync.V 0 4 ∷ []) ∷ (synced sync.P 0 1 ∷ synced sync.V 0 3 ∷ []) ∷ []
 unfolding terms
 synchronizations_first_b = refl
 
@@ -226,27 +227,27 @@ pub accesses_b_first_b : accesses story_first_b 1 ≡ touched 1 0 false ∷ touc
 unfolding terms
 accesses_b_first_b = refl
 
-pub races_first_b : races program plan 100000 first_b ≡ race 0 1 1 1 0 ReadWrite ∷ race 0 1 1 1 0 WriteRead ∷ race 0 1 1 1 0 WriteWrite ∷ []
+pub races_first_b : races (setting_of program plan 100000) first_b ≡ race 0 1 1 1 0 ReadWrite ∷ race 0 1 1 1 0 WriteRead ∷ race 0 1 1 1 0 WriteWrite ∷ []
 unfolding terms
 races_first_b = refl
 
-pub logs_first_b : (closed_logs program plan 100000 first_b).lists ≡
+pub logs_first_b : (closed_logs (setting_of program plan 100000) first_b).lists ≡
     (entry.Prelog 0 [] ∷ entry.Unit 0 [] ∷ entry.Sync sync.P 0 2 (pos 0) [] [] ∷ entry.Unit 1 (pos 1 ∷ []) ∷ entry.Sync sync.V 0 4 (pos 0) (0 ∷ []) (0 ∷ []) ∷ entry.Unit 2 [] ∷ entry.Postlog 0 [] ∷ entry.End status.Ended 0 [] [] ∷ [])
     ∷ (entry.Prelog 1 [] ∷ entry.Unit 3 [] ∷ entry.Sync sync.P 0 1 (pos 0) [] [] ∷ entry.Unit 4 (pos 0 ∷ []) ∷ entry.Sync sync.V 0 3 (pos 0) (0 ∷ []) (0 ∷ []) ∷ entry.Unit 5 [] ∷ entry.Postlog 1 [] ∷ entry.End status.Ended 0 [] [] ∷ []) ∷ []
 unfolding terms
 logs_first_b = refl
 
-pub extents_a_first_b : extents program plan 100000 story_first_b 0 ≡
+pub extents_a_first_b : extents (setting_of program plan 100000) story_first_b 0 ≡
     extent 0 [] 0 (Some 4) 5 ∷ []
 unfolding terms
 extents_a_first_b = refl
 
-pub extents_b_first_b : extents program plan 100000 story_first_b 1 ≡
+pub extents_b_first_b : extents (setting_of program plan 100000) story_first_b 1 ≡
     extent 1 [] 0 (Some 4) 5 ∷ []
 unfolding terms
 extents_b_first_b = refl
 
-pub open_a_0_first_b : items program plan 100000 story_first_b 0 0 ≡
+pub open_a_0_first_b : items (setting_of program plan 100000) story_first_b 0 0 ≡
     Some (Own (event 0 [] [] None (Some 2) None)
     ∷ Own (event 1 (access (Shared 0) (pos 1) ∷ []) (access (Shared 0) (pos 2) ∷ []) None None None)
     ∷ Own (event 2 [] [] None (Some 4) None)
@@ -254,7 +255,7 @@ pub open_a_0_first_b : items program plan 100000 story_first_b 0 0 ≡
 unfolding terms
 open_a_0_first_b = refl
 
-pub open_b_0_first_b : items program plan 100000 story_first_b 1 0 ≡
+pub open_b_0_first_b : items (setting_of program plan 100000) story_first_b 1 0 ≡
     Some (Own (event 4 [] [] None (Some 1) None)
     ∷ Own (event 5 (access (Shared 0) (pos 0) ∷ []) (access (Shared 0) (pos 1) ∷ []) None None None)
     ∷ Own (event 6 [] [] None (Some 3) None)
@@ -262,7 +263,7 @@ pub open_b_0_first_b : items program plan 100000 story_first_b 1 0 ≡
 unfolding terms
 open_b_0_first_b = refl
 
-pub whys_a_0_first_b : whys program plan 100000 story_first_b 0 0 5 ≡
+pub whys_a_0_first_b : whys (setting_of program plan 100000) story_first_b 0 0 5 ≡
     Some (sync_from Initial ∷ control_from Entry ∷ [])
     ∷ Some (read_from (Shared 0) (pos 1) (ItemAt 1 0 1) ∷ control_from Entry ∷ [])
     ∷ Some (control_from Entry ∷ [])
@@ -271,7 +272,7 @@ pub whys_a_0_first_b : whys program plan 100000 story_first_b 0 0 5 ≡
 unfolding terms
 whys_a_0_first_b = refl
 
-pub whys_b_0_first_b : whys program plan 100000 story_first_b 1 0 5 ≡
+pub whys_b_0_first_b : whys (setting_of program plan 100000) story_first_b 1 0 5 ≡
     Some (sync_from Initial ∷ control_from Entry ∷ [])
     ∷ Some (read_from (Shared 0) (pos 0) Initial ∷ control_from Entry ∷ [])
     ∷ Some (control_from Entry ∷ [])
@@ -280,15 +281,15 @@ pub whys_b_0_first_b : whys program plan 100000 story_first_b 1 0 5 ≡
 unfolding terms
 whys_b_0_first_b = refl
 
-pub nears_a_0_first_b : nears program plan 100000 story_first_b 0 0 4 ≡ 5 ∷ 10 ∷ 5 ∷ 5 ∷ []
+pub nears_a_0_first_b : nears (setting_of program plan 100000) story_first_b 0 0 4 ≡ 5 ∷ 10 ∷ 5 ∷ 5 ∷ []
 unfolding terms
 nears_a_0_first_b = refl
 
-pub nears_b_0_first_b : nears program plan 100000 story_first_b 1 0 4 ≡ 5 ∷ 5 ∷ 5 ∷ 5 ∷ []
+pub nears_b_0_first_b : nears (setting_of program plan 100000) story_first_b 1 0 4 ≡ 5 ∷ 5 ∷ 5 ∷ 5 ∷ []
 unfolding terms
 nears_b_0_first_b = refl
 
-pub final_x_first_b : last program plan 100000 story_first_b 0 ≡ (pos 2, ItemAt 0 0 1)
+pub final_x_first_b : last (setting_of program plan 100000) story_first_b 0 ≡ (pos 2, ItemAt 0 0 1)
 unfolding terms
 final_x_first_b = refl
 
@@ -296,19 +297,19 @@ abbrev pub in_turns : List ℕ
 in_turns = 0 ∷ 1 ∷ 0 ∷ 1 ∷ 0 ∷ 1 ∷ 0 ∷ 1 ∷ 0 ∷ 1 ∷ []
 
 abbrev pub story_in_turns : Story
-story_in_turns = story program plan 100000 in_turns
+story_in_turns = story (setting_of program plan 100000) in_turns
 
-nobody_in_turns : (p : ℕ) → enabled program plan (told program plan 100000 in_turns).world p ≡ false
+nobody_in_turns : (p : ℕ) → enabled program plan (told (setting_of program plan 100000) in_turns).world p ≡ false
 unfolding terms
 nobody_in_turns zero = refl
 nobody_in_turns (suc zero) = refl
 nobody_in_turns (suc (suc p)) = refl
 
-pub whole_in_turns : IsWhole program plan 100000 in_turns
+pub whole_in_turns : IsWhole (setting_of program plan 100000) in_turns
 unfolding terms
-whole_in_turns = record { last = (told program plan 100000 in_turns).world; runs = refl; over = record { nobody = nobody_in_turns } }
+whole_in_turns = record { last = (told (setting_of program plan 100000) in_turns).world; runs = refl; over = record { nobody = nobody_in_turns } }
 
-pub ends_in_turns : (close program plan 100000 in_turns).ends ≡ ended status.Ended 3 5 [] ∷ ended status.Ended 7 5 [] ∷ []
+pub ends_in_turns : (close (setting_of program plan 100000) in_turns).ends ≡ ended status.Ended 3 5 [] ∷ ended status.Ended 7 5 [] ∷ []
 unfolding terms
 ends_in_turns = refl
 
@@ -326,11 +327,11 @@ events_b_in_turns =
     ∷ traced (event 6 [] [] None (Some 4) None) [] None None
     ∷ traced (quiet 7) [] None None ∷ []
 
-pub trace_in_turns : full_trace program plan 100000 (story program plan 100000 in_turns) ≡ record { events = events_a_in_turns ∷ events_b_in_turns ∷ [] }
+pub trace_in_turns : full_trace (setting_of program plan 100000) (story (setting_of program plan 100000) in_turns) ≡ record { events = events_a_in_turns ∷ events_b_in_turns ∷ [] }
 unfolding terms
 trace_in_turns = refl
 
-pub synchronizations_in_turns : sync_record program plan 100000 in_turns ≡ (synced sync.P 0 1 ∷ synced sync.V 0 3 ∷ []) ∷ (synced sync.P 0 2 ∷ synced sync.V 0 4 ∷ []) ∷ []
+pub synchronizations_in_turns : sync_record (setting_of program plan 100000) in_turns ≡ (synced sync.P 0 1 ∷ synced sync.V 0 3 ∷ []) ∷ (synced sync.P 0 2 ∷ synced sync.V 0 4 ∷ []) ∷ []
 unfolding terms
 synchronizations_in_turns = refl
 
@@ -342,27 +343,27 @@ pub accesses_b_in_turns : accesses story_in_turns 1 ≡ touched 1 0 false ∷ to
 unfolding terms
 accesses_b_in_turns = refl
 
-pub races_in_turns : races program plan 100000 in_turns ≡ race 0 1 1 1 0 ReadWrite ∷ race 0 1 1 1 0 WriteRead ∷ race 0 1 1 1 0 WriteWrite ∷ []
+pub races_in_turns : races (setting_of program plan 100000) in_turns ≡ race 0 1 1 1 0 ReadWrite ∷ race 0 1 1 1 0 WriteRead ∷ race 0 1 1 1 0 WriteWrite ∷ []
 unfolding terms
 races_in_turns = refl
 
-pub logs_in_turns : (closed_logs program plan 100000 in_turns).lists ≡
+pub logs_in_turns : (closed_logs (setting_of program plan 100000) in_turns).lists ≡
     (entry.Prelog 0 [] ∷ entry.Unit 0 [] ∷ entry.Sync sync.P 0 1 (pos 0) [] [] ∷ entry.Unit 1 (pos 0 ∷ []) ∷ entry.Sync sync.V 0 3 (pos 0) (0 ∷ []) (0 ∷ []) ∷ entry.Unit 2 [] ∷ entry.Postlog 0 [] ∷ entry.End status.Ended 0 [] [] ∷ [])
     ∷ (entry.Prelog 1 [] ∷ entry.Unit 3 [] ∷ entry.Sync sync.P 0 2 (pos 0) [] [] ∷ entry.Unit 4 (pos 0 ∷ []) ∷ entry.Sync sync.V 0 4 (pos 0) (0 ∷ []) (0 ∷ []) ∷ entry.Unit 5 [] ∷ entry.Postlog 1 [] ∷ entry.End status.Ended 0 [] [] ∷ []) ∷ []
 unfolding terms
 logs_in_turns = refl
 
-pub extents_a_in_turns : extents program plan 100000 story_in_turns 0 ≡
+pub extents_a_in_turns : extents (setting_of program plan 100000) story_in_turns 0 ≡
     extent 0 [] 0 (Some 4) 5 ∷ []
 unfolding terms
 extents_a_in_turns = refl
 
-pub extents_b_in_turns : extents program plan 100000 story_in_turns 1 ≡
+pub extents_b_in_turns : extents (setting_of program plan 100000) story_in_turns 1 ≡
     extent 1 [] 0 (Some 4) 5 ∷ []
 unfolding terms
 extents_b_in_turns = refl
 
-pub open_a_0_in_turns : items program plan 100000 story_in_turns 0 0 ≡
+pub open_a_0_in_turns : items (setting_of program plan 100000) story_in_turns 0 0 ≡
     Some (Own (event 0 [] [] None (Some 1) None)
     ∷ Own (event 1 (access (Shared 0) (pos 0) ∷ []) (access (Shared 0) (pos 1) ∷ []) None None None)
     ∷ Own (event 2 [] [] None (Some 3) None)
@@ -370,7 +371,7 @@ pub open_a_0_in_turns : items program plan 100000 story_in_turns 0 0 ≡
 unfolding terms
 open_a_0_in_turns = refl
 
-pub open_b_0_in_turns : items program plan 100000 story_in_turns 1 0 ≡
+pub open_b_0_in_turns : items (setting_of program plan 100000) story_in_turns 1 0 ≡
     Some (Own (event 4 [] [] None (Some 2) None)
     ∷ Own (event 5 (access (Shared 0) (pos 0) ∷ []) (access (Shared 0) (pos 1) ∷ []) None None None)
     ∷ Own (event 6 [] [] None (Some 4) None)
@@ -378,7 +379,7 @@ pub open_b_0_in_turns : items program plan 100000 story_in_turns 1 0 ≡
 unfolding terms
 open_b_0_in_turns = refl
 
-pub whys_a_0_in_turns : whys program plan 100000 story_in_turns 0 0 5 ≡
+pub whys_a_0_in_turns : whys (setting_of program plan 100000) story_in_turns 0 0 5 ≡
     Some (sync_from Initial ∷ control_from Entry ∷ [])
     ∷ Some (read_from (Shared 0) (pos 0) Initial ∷ control_from Entry ∷ [])
     ∷ Some (control_from Entry ∷ [])
@@ -387,7 +388,7 @@ pub whys_a_0_in_turns : whys program plan 100000 story_in_turns 0 0 5 ≡
 unfolding terms
 whys_a_0_in_turns = refl
 
-pub whys_b_0_in_turns : whys program plan 100000 story_in_turns 1 0 5 ≡
+pub whys_b_0_in_turns : whys (setting_of program plan 100000) story_in_turns 1 0 5 ≡
     Some (sync_from Initial ∷ control_from Entry ∷ [])
     ∷ Some (read_from (Shared 0) (pos 0) Initial ∷ control_from Entry ∷ [])
     ∷ Some (control_from Entry ∷ [])
@@ -396,19 +397,19 @@ pub whys_b_0_in_turns : whys program plan 100000 story_in_turns 1 0 5 ≡
 unfolding terms
 whys_b_0_in_turns = refl
 
-pub nears_a_0_in_turns : nears program plan 100000 story_in_turns 0 0 4 ≡ 5 ∷ 5 ∷ 5 ∷ 5 ∷ []
+pub nears_a_0_in_turns : nears (setting_of program plan 100000) story_in_turns 0 0 4 ≡ 5 ∷ 5 ∷ 5 ∷ 5 ∷ []
 unfolding terms
 nears_a_0_in_turns = refl
 
-pub nears_b_0_in_turns : nears program plan 100000 story_in_turns 1 0 4 ≡ 5 ∷ 5 ∷ 5 ∷ 5 ∷ []
+pub nears_b_0_in_turns : nears (setting_of program plan 100000) story_in_turns 1 0 4 ≡ 5 ∷ 5 ∷ 5 ∷ 5 ∷ []
 unfolding terms
 nears_b_0_in_turns = refl
 
-pub final_x_in_turns : last program plan 100000 story_in_turns 0 ≡ (pos 1, ItemAt 1 0 1)
+pub final_x_in_turns : last (setting_of program plan 100000) story_in_turns 0 ≡ (pos 1, ItemAt 1 0 1)
 unfolding terms
 final_x_in_turns = refl
 
 -- every schedule ends so, with these races
-pub every : (h : List ℕ) → IsWhole program plan 100000 h → outcome program plan 100000 h ≡ (ended status.Ended 3 5 [] ∷ ended status.Ended 7 5 [] ∷ [], race 0 1 1 1 0 ReadWrite ∷ race 0 1 1 1 0 WriteRead ∷ race 0 1 1 1 0 WriteWrite ∷ [])
+pub every : (h : List ℕ) → IsWhole (setting_of program plan 100000) h → outcome (setting_of program plan 100000) h ≡ (ended status.Ended 3 5 [] ∷ ended status.Ended 7 5 [] ∷ [], race 0 1 1 1 0 ReadWrite ∷ race 0 1 1 1 0 WriteRead ∷ race 0 1 1 1 0 WriteWrite ∷ [])
 unfolding terms
-every h whole = every_whole program plan 100000 11 252 (outcome program plan 100000) _ refl refl h whole
+every h whole = every_whole program plan 100000 11 252 (outcome (setting_of program plan 100000)) _ refl refl h whole

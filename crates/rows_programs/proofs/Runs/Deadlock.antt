@@ -1,4 +1,5 @@
 -- sem s = 1, t = 1; process a { P(s); P(t); } process b { P(t); P(s); }
+use Rattle.ppd_model.specs.Setting.{setting_of}
 use Rattle.std.proofs.Common.{◌≡◌, refl}
 use Rattle.std.specs.Prelude.{ℕ, zero, suc, pos, true, false, List, [], ◌∷◌, Some, None}
 use Rattle.ppd_ast.specs.Term.{terms}
@@ -54,19 +55,19 @@ abbrev pub schedule : List ℕ
 schedule = 0 ∷ 1 ∷ []
 
 abbrev pub the_story : Story
-the_story = story program plan 100000 schedule
+the_story = story (setting_of program plan 100000) schedule
 
-nobody : (p : ℕ) → enabled program plan (told program plan 100000 schedule).world p ≡ false
+nobody : (p : ℕ) → enabled program plan (told (setting_of program plan 100000) schedule).world p ≡ false
 unfolding terms
 nobody zero = refl
 nobody (suc zero) = refl
 nobody (suc (suc p)) = refl
 
-pub whole : IsWhole program plan 100000 schedule
+pub whole : IsWhole (setting_of program plan 100000) schedule
 unfolding terms
-whole = record { last = (told program plan 100000 schedule).world; runs = refl; over = record { nobody = nobody } }
+whole = record { last = (told (setting_of program plan 100000) schedule).world; runs = refl; over = record { nobody = nobody } }
 
-pub ends : (close program plan 100000 schedule).ends ≡ ended status.Blocked 1 1 [] ∷ ended status.Blocked 4 1 [] ∷ []
+pub ends : (close (setting_of program plan 100000) schedule).ends ≡ ended status.Blocked 1 1 [] ∷ ended status.Blocked 4 1 [] ∷ []
 unfolding terms
 ends = refl
 
@@ -78,11 +79,11 @@ abbrev pub events_b : List TracedEvent
 events_b =
     traced (event 3 [] [] None (Some 1) None) [] None None ∷ []
 
-pub trace : full_trace program plan 100000 (story program plan 100000 schedule) ≡ record { events = events_a ∷ events_b ∷ [] }
+pub trace : full_trace (setting_of program plan 100000) (story (setting_of program plan 100000) schedule) ≡ record { events = events_a ∷ events_b ∷ [] }
 unfolding terms
 trace = refl
 
-pub synchronizations : sync_record program plan 100000 schedule ≡ (synced sync.P 0 1 ∷ []) ∷ (synced sync.P 1 1 ∷ []) ∷ []
+pub synchronizations : sync_record (setting_of program plan 100000) schedule ≡ (synced sync.P 0 1 ∷ []) ∷ (synced sync.P 1 1 ∷ []) ∷ []
 unfolding terms
 synchronizations = refl
 
@@ -94,66 +95,66 @@ pub accesses_b : accesses the_story 1 ≡ []
 unfolding terms
 accesses_b = refl
 
-pub race_list : races program plan 100000 schedule ≡ []
+pub race_list : races (setting_of program plan 100000) schedule ≡ []
 unfolding terms
 race_list = refl
 
-pub log : (closed_logs program plan 100000 schedule).lists ≡
+pub log : (closed_logs (setting_of program plan 100000) schedule).lists ≡
     (entry.Prelog 0 [] ∷ entry.Unit 0 [] ∷ entry.Sync sync.P 0 1 (pos 0) [] [] ∷ entry.Unit 1 [] ∷ entry.End status.Blocked 0 [] [] ∷ [])
     ∷ (entry.Prelog 1 [] ∷ entry.Unit 3 [] ∷ entry.Sync sync.P 1 1 (pos 0) [] [] ∷ entry.Unit 4 [] ∷ entry.End status.Blocked 0 [] [] ∷ []) ∷ []
 unfolding terms
 log = refl
 
-pub extents_a : extents program plan 100000 the_story 0 ≡
+pub extents_a : extents (setting_of program plan 100000) the_story 0 ≡
     extent 0 [] 0 None 1 ∷ []
 unfolding terms
 extents_a = refl
 
-pub extents_b : extents program plan 100000 the_story 1 ≡
+pub extents_b : extents (setting_of program plan 100000) the_story 1 ≡
     extent 1 [] 0 None 1 ∷ []
 unfolding terms
 extents_b = refl
 
-pub open_a_0 : items program plan 100000 the_story 0 0 ≡
+pub open_a_0 : items (setting_of program plan 100000) the_story 0 0 ≡
     Some (Own (event 0 [] [] None (Some 1) None) ∷ [])
 unfolding terms
 open_a_0 = refl
 
-pub open_b_0 : items program plan 100000 the_story 1 0 ≡
+pub open_b_0 : items (setting_of program plan 100000) the_story 1 0 ≡
     Some (Own (event 3 [] [] None (Some 1) None) ∷ [])
 unfolding terms
 open_b_0 = refl
 
-pub whys_a_0 : whys program plan 100000 the_story 0 0 2 ≡
+pub whys_a_0 : whys (setting_of program plan 100000) the_story 0 0 2 ≡
     Some (sync_from Initial ∷ control_from Entry ∷ [])
     ∷ None ∷ []
 unfolding terms
 whys_a_0 = refl
 
-pub whys_b_0 : whys program plan 100000 the_story 1 0 2 ≡
+pub whys_b_0 : whys (setting_of program plan 100000) the_story 1 0 2 ≡
     Some (sync_from Initial ∷ control_from Entry ∷ [])
     ∷ None ∷ []
 unfolding terms
 whys_b_0 = refl
 
-pub nears_a_0 : nears program plan 100000 the_story 0 0 1 ≡ 1 ∷ []
+pub nears_a_0 : nears (setting_of program plan 100000) the_story 0 0 1 ≡ 1 ∷ []
 unfolding terms
 nears_a_0 = refl
 
-pub nears_b_0 : nears program plan 100000 the_story 1 0 1 ≡ 1 ∷ []
+pub nears_b_0 : nears (setting_of program plan 100000) the_story 1 0 1 ≡ 1 ∷ []
 unfolding terms
 nears_b_0 = refl
 
 -- before the run is closed
-pub kept : (kept_logs program plan 100000 schedule).lists ≡ (entry.Prelog 0 [] ∷ entry.Unit 0 [] ∷ entry.Sync sync.P 0 1 (pos 0) [] [] ∷ entry.Unit 1 [] ∷ []) ∷ (entry.Prelog 1 [] ∷ entry.Unit 3 [] ∷ entry.Sync sync.P 1 1 (pos 0) [] [] ∷ entry.Unit 4 [] ∷ []) ∷ []
+pub kept : (kept_logs (setting_of program plan 100000) schedule).lists ≡ (entry.Prelog 0 [] ∷ entry.Unit 0 [] ∷ entry.Sync sync.P 0 1 (pos 0) [] [] ∷ entry.Unit 1 [] ∷ []) ∷ (entry.Prelog 1 [] ∷ entry.Unit 3 [] ∷ entry.Sync sync.P 1 1 (pos 0) [] [] ∷ entry.Unit 4 [] ∷ []) ∷ []
 unfolding terms
 kept = refl
 
 -- after 0 1 process 0 is not enabled, and after 0 alone process 1 is
-pub not_enabled : run program plan 100000 (0 ∷ 1 ∷ 0 ∷ []) ≡ None
+pub not_enabled : run (setting_of program plan 100000) (0 ∷ 1 ∷ 0 ∷ []) ≡ None
 unfolding terms
 not_enabled = refl
 
-pub not_whole : enabled program plan (told program plan 100000 (0 ∷ [])).world 1 ≡ true
+pub not_whole : enabled program plan (told (setting_of program plan 100000) (0 ∷ [])).world 1 ≡ true
 unfolding terms
 not_whole = refl

@@ -1,4 +1,5 @@
 -- What holds in every whole schedule of two processes, by going all the ways that the world of two can go.
+use Rattle.ppd_model.specs.Setting.{Setting, setting_of}
 use Rattle.std.proofs.Common.{◌≡◌, ℕ, zero, suc, ◌-◌, Bool, true, false, List, [], ◌∷◌, ◌++◌, length, map, Option, Some, None, refl, ap, sym, subst, ◌∙◌, arith, inl, inr, ◌⊎◌}
 use Rattle.std.specs.Prelude.{option_map, replicate, slice_get}
 use Rattle.std.proofs.lemmas.Option.{none-some}
@@ -17,8 +18,8 @@ use Rattle.ppd_model.proofs.Bounded.{Goes, goes, started_count}
 use Rattle.ppd_model.proofs.Changes.{length-change, some}
 
 -- how the processes of a whole schedule end, and its races
-abbrev pub outcome : Program → Plan → ℕ → List ℕ → List ProcEnd × List Race
-outcome program plan budget h = ((close program plan budget h).ends, races program plan budget h)
+abbrev pub outcome : Setting → List ℕ → List ProcEnd × List Race
+outcome setting h = ((close setting h).ends, races setting h)
 
 -- ---- the ways that a world goes
 
@@ -136,8 +137,8 @@ of_all f v h (suc m) (x ∷ xs) e (inl (inr is)) =
 
 -- where each way of two processes is over within n steps and has this value, every whole schedule has it
 pub every_whole : {B : Type 0} (program : Program) (plan : Plan) (budget n m : ℕ) (f : List ℕ → B) (v : B) → length program.bodies - program.functions ≡ 2
-    → map (option_map f) (ways program plan n (started_world program plan budget) []) ≡ replicate m (Some v) → (h : List ℕ) → IsWhole program plan budget h → f h ≡ v
+    → map (option_map f) (ways program plan n (started_world (setting_of program plan budget)) []) ≡ replicate m (Some v) → (h : List ℕ) → IsWhole (setting_of program plan budget) h → f h ≡ v
 every_whole program plan budget n m f v two all h whole =
-    let count : length (started_world program plan budget).procs ≡ 2 = started_count program plan budget 0 (length program.bodies - program.functions) ∙ two in
-    of_all f v h m (ways program plan n (started_world program plan budget) []) all
-    (found program plan n (started_world program plan budget) whole.last [] h count whole.runs whole.over)
+    let count : length (started_world (setting_of program plan budget)).procs ≡ 2 = started_count (setting_of program plan budget) 0 (length program.bodies - program.functions) ∙ two in
+    of_all f v h m (ways program plan n (started_world (setting_of program plan budget)) []) all
+    (found program plan n (started_world (setting_of program plan budget)) whole.last [] h count whole.runs whole.over)

@@ -1,4 +1,5 @@
 -- shared int x; void f(int k) { x = k; } process a { f(9); print(x); }
+use Rattle.ppd_model.specs.Setting.{setting_of}
 use Rattle.std.proofs.Common.{◌≡◌, refl}
 use Rattle.std.specs.Prelude.{ℕ, zero, suc, pos, true, false, List, [], ◌∷◌, Some, None}
 use Rattle.ppd_ast.specs.Term.{terms}
@@ -64,18 +65,18 @@ abbrev pub schedule : List ℕ
 schedule = 0 ∷ 0 ∷ 0 ∷ 0 ∷ 0 ∷ 0 ∷ []
 
 abbrev pub leaf_story : Story
-leaf_story = story program leaf_plan 100000 schedule
+leaf_story = story (setting_of program leaf_plan 100000) schedule
 
-nobody_leaf : (p : ℕ) → enabled program leaf_plan (told program leaf_plan 100000 schedule).world p ≡ false
+nobody_leaf : (p : ℕ) → enabled program leaf_plan (told (setting_of program leaf_plan 100000) schedule).world p ≡ false
 unfolding terms
 nobody_leaf zero = refl
 nobody_leaf (suc p) = refl
 
-pub whole_leaf : IsWhole program leaf_plan 100000 schedule
+pub whole_leaf : IsWhole (setting_of program leaf_plan 100000) schedule
 unfolding terms
-whole_leaf = record { last = (told program leaf_plan 100000 schedule).world; runs = refl; over = record { nobody = nobody_leaf } }
+whole_leaf = record { last = (told (setting_of program leaf_plan 100000) schedule).world; runs = refl; over = record { nobody = nobody_leaf } }
 
-pub ends_leaf : (close program leaf_plan 100000 schedule).ends ≡ ended status.Ended 4 6 (pos 9 ∷ []) ∷ []
+pub ends_leaf : (close (setting_of program leaf_plan 100000) schedule).ends ≡ ended status.Ended 4 6 (pos 9 ∷ []) ∷ []
 unfolding terms
 ends_leaf = refl
 
@@ -87,11 +88,11 @@ events_a_leaf =
     ∷ traced (event 3 (access (Shared 0) (pos 9) ∷ []) [] (Some (pos 9)) None None) (Some (id 0 1) ∷ []) None None
     ∷ traced (quiet 4) [] None None ∷ []
 
-pub trace_leaf : full_trace program leaf_plan 100000 (story program leaf_plan 100000 schedule) ≡ record { events = events_a_leaf ∷ [] }
+pub trace_leaf : full_trace (setting_of program leaf_plan 100000) (story (setting_of program leaf_plan 100000) schedule) ≡ record { events = events_a_leaf ∷ [] }
 unfolding terms
 trace_leaf = refl
 
-pub synchronizations_leaf : sync_record program leaf_plan 100000 schedule ≡ [] ∷ []
+pub synchronizations_leaf : sync_record (setting_of program leaf_plan 100000) schedule ≡ [] ∷ []
 unfolding terms
 synchronizations_leaf = refl
 
@@ -99,21 +100,21 @@ pub accesses_a_leaf : accesses leaf_story 0 ≡ touched 0 0 true ∷ touched 0 0
 unfolding terms
 accesses_a_leaf = refl
 
-pub races_leaf : races program leaf_plan 100000 schedule ≡ []
+pub races_leaf : races (setting_of program leaf_plan 100000) schedule ≡ []
 unfolding terms
 races_leaf = refl
 
-pub logs_leaf : (closed_logs program leaf_plan 100000 schedule).lists ≡
+pub logs_leaf : (closed_logs (setting_of program leaf_plan 100000) schedule).lists ≡
     (entry.Prelog 0 [] ∷ entry.Unit 1 [] ∷ entry.Unit 0 [] ∷ entry.Unit 2 (pos 9 ∷ []) ∷ entry.Postlog 0 [] ∷ entry.End status.Ended 2 (0 ∷ []) (0 ∷ []) ∷ []) ∷ []
 unfolding terms
 logs_leaf = refl
 
-pub extents_a_leaf : extents program leaf_plan 100000 leaf_story 0 ≡
+pub extents_a_leaf : extents (setting_of program leaf_plan 100000) leaf_story 0 ≡
     extent 0 [] 0 (Some 5) 6 ∷ []
 unfolding terms
 extents_a_leaf = refl
 
-pub open_a_0_leaf : items program leaf_plan 100000 leaf_story 0 0 ≡
+pub open_a_0_leaf : items (setting_of program leaf_plan 100000) leaf_story 0 0 ≡
     Some (Own (event 2 [] (access (Local 1 0) (pos 9) ∷ []) None None None)
     ∷ Own (event 0 (access (Local 1 0) (pos 9) ∷ []) (access (Shared 0) (pos 9) ∷ []) None None None)
     ∷ Own (quiet 1)
@@ -122,7 +123,7 @@ pub open_a_0_leaf : items program leaf_plan 100000 leaf_story 0 0 ≡
 unfolding terms
 open_a_0_leaf = refl
 
-pub whys_a_0_leaf : whys program leaf_plan 100000 leaf_story 0 0 6 ≡
+pub whys_a_0_leaf : whys (setting_of program leaf_plan 100000) leaf_story 0 0 6 ≡
     Some (control_from Entry ∷ [])
     ∷ Some (read_from (Local 1 0) (pos 9) (ItemAt 0 0 0) ∷ control_from (ItemAt 0 0 0) ∷ [])
     ∷ Some (control_from (ItemAt 0 0 0) ∷ [])
@@ -132,27 +133,27 @@ pub whys_a_0_leaf : whys program leaf_plan 100000 leaf_story 0 0 6 ≡
 unfolding terms
 whys_a_0_leaf = refl
 
-pub nears_a_0_leaf : nears program leaf_plan 100000 leaf_story 0 0 5 ≡ 6 ∷ 6 ∷ 6 ∷ 6 ∷ 6 ∷ []
+pub nears_a_0_leaf : nears (setting_of program leaf_plan 100000) leaf_story 0 0 5 ≡ 6 ∷ 6 ∷ 6 ∷ 6 ∷ 6 ∷ []
 unfolding terms
 nears_a_0_leaf = refl
 
-pub final_x_leaf : last program leaf_plan 100000 leaf_story 0 ≡ (pos 9, ItemAt 0 0 1)
+pub final_x_leaf : last (setting_of program leaf_plan 100000) leaf_story 0 ≡ (pos 9, ItemAt 0 0 1)
 unfolding terms
 final_x_leaf = refl
 
 abbrev pub the_story : Story
-the_story = story program plan 100000 schedule
+the_story = story (setting_of program plan 100000) schedule
 
-nobody : (p : ℕ) → enabled program plan (told program plan 100000 schedule).world p ≡ false
+nobody : (p : ℕ) → enabled program plan (told (setting_of program plan 100000) schedule).world p ≡ false
 unfolding terms
 nobody zero = refl
 nobody (suc p) = refl
 
-pub whole : IsWhole program plan 100000 schedule
+pub whole : IsWhole (setting_of program plan 100000) schedule
 unfolding terms
-whole = record { last = (told program plan 100000 schedule).world; runs = refl; over = record { nobody = nobody } }
+whole = record { last = (told (setting_of program plan 100000) schedule).world; runs = refl; over = record { nobody = nobody } }
 
-pub ends : (close program plan 100000 schedule).ends ≡ ended status.Ended 4 6 (pos 9 ∷ []) ∷ []
+pub ends : (close (setting_of program plan 100000) schedule).ends ≡ ended status.Ended 4 6 (pos 9 ∷ []) ∷ []
 unfolding terms
 ends = refl
 
@@ -164,11 +165,11 @@ events_a =
     ∷ traced (event 3 (access (Shared 0) (pos 9) ∷ []) [] (Some (pos 9)) None None) (Some (id 0 1) ∷ []) None None
     ∷ traced (quiet 4) [] None None ∷ []
 
-pub trace : full_trace program plan 100000 (story program plan 100000 schedule) ≡ record { events = events_a ∷ [] }
+pub trace : full_trace (setting_of program plan 100000) (story (setting_of program plan 100000) schedule) ≡ record { events = events_a ∷ [] }
 unfolding terms
 trace = refl
 
-pub synchronizations : sync_record program plan 100000 schedule ≡ [] ∷ []
+pub synchronizations : sync_record (setting_of program plan 100000) schedule ≡ [] ∷ []
 unfolding terms
 synchronizations = refl
 
@@ -176,22 +177,22 @@ pub accesses_a : accesses the_story 0 ≡ touched 0 0 true ∷ touched 0 0 false
 unfolding terms
 accesses_a = refl
 
-pub race_list : races program plan 100000 schedule ≡ []
+pub race_list : races (setting_of program plan 100000) schedule ≡ []
 unfolding terms
 race_list = refl
 
-pub log : (closed_logs program plan 100000 schedule).lists ≡
+pub log : (closed_logs (setting_of program plan 100000) schedule).lists ≡
     (entry.Prelog 1 [] ∷ entry.Unit 1 [] ∷ entry.Prelog 0 (pos 9 ∷ []) ∷ entry.Unit 0 [] ∷ entry.Postlog 0 [] ∷ entry.Unit 2 (pos 9 ∷ []) ∷ entry.Postlog 1 [] ∷ entry.End status.Ended 2 (0 ∷ []) (0 ∷ []) ∷ []) ∷ []
 unfolding terms
 log = refl
 
-pub extents_a : extents program plan 100000 the_story 0 ≡
+pub extents_a : extents (setting_of program plan 100000) the_story 0 ≡
     extent 1 [] 0 (Some 5) 4
     ∷ extent 0 (0 ∷ []) 0 (Some 2) 2 ∷ []
 unfolding terms
 extents_a = refl
 
-pub open_a_0 : items program plan 100000 the_story 0 0 ≡
+pub open_a_0 : items (setting_of program plan 100000) the_story 0 0 ≡
     Some (Own (event 2 [] (access (Local 1 0) (pos 9) ∷ []) None None None)
     ∷ Nested 1 0 [] true
     ∷ Own (event 3 (access (Shared 0) (pos 9) ∷ []) [] (Some (pos 9)) None None)
@@ -199,13 +200,13 @@ pub open_a_0 : items program plan 100000 the_story 0 0 ≡
 unfolding terms
 open_a_0 = refl
 
-pub open_a_1 : items program plan 100000 the_story 0 1 ≡
+pub open_a_1 : items (setting_of program plan 100000) the_story 0 1 ≡
     Some (Own (event 0 (access (Local 0 0) (pos 9) ∷ []) (access (Shared 0) (pos 9) ∷ []) None None None)
     ∷ Own (quiet 1) ∷ [])
 unfolding terms
 open_a_1 = refl
 
-pub whys_a_0 : whys program plan 100000 the_story 0 0 5 ≡
+pub whys_a_0 : whys (setting_of program plan 100000) the_story 0 0 5 ≡
     Some (control_from Entry ∷ [])
     ∷ Some (control_from (ItemAt 0 0 0) ∷ [])
     ∷ Some (read_from (Shared 0) (pos 9) (ItemAt 0 1 0) ∷ control_from Entry ∷ [])
@@ -214,21 +215,21 @@ pub whys_a_0 : whys program plan 100000 the_story 0 0 5 ≡
 unfolding terms
 whys_a_0 = refl
 
-pub whys_a_1 : whys program plan 100000 the_story 0 1 3 ≡
+pub whys_a_1 : whys (setting_of program plan 100000) the_story 0 1 3 ≡
     Some (read_from (Local 0 0) (pos 9) (ItemAt 0 0 0) ∷ control_from (ItemAt 0 0 0) ∷ [])
     ∷ Some (control_from (ItemAt 0 0 0) ∷ [])
     ∷ None ∷ []
 unfolding terms
 whys_a_1 = refl
 
-pub nears_a_0 : nears program plan 100000 the_story 0 0 4 ≡ 6 ∷ 6 ∷ 6 ∷ 6 ∷ []
+pub nears_a_0 : nears (setting_of program plan 100000) the_story 0 0 4 ≡ 6 ∷ 6 ∷ 6 ∷ 6 ∷ []
 unfolding terms
 nears_a_0 = refl
 
-pub nears_a_1 : nears program plan 100000 the_story 0 1 2 ≡ 6 ∷ 6 ∷ []
+pub nears_a_1 : nears (setting_of program plan 100000) the_story 0 1 2 ≡ 6 ∷ 6 ∷ []
 unfolding terms
 nears_a_1 = refl
 
-pub final_x : last program plan 100000 the_story 0 ≡ (pos 9, ItemAt 0 1 0)
+pub final_x : last (setting_of program plan 100000) the_story 0 ≡ (pos 9, ItemAt 0 1 0)
 unfolding terms
 final_x = refl

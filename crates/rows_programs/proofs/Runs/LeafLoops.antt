@@ -1,4 +1,5 @@
 -- shared int x; sem s; void f(int k) { int i; while (i < k) { i = i + 1; } x = i; } process a { f(1); V(s); f(0); print(x); }
+use Rattle.ppd_model.specs.Setting.{setting_of}
 use Rattle.std.proofs.Common.{◌≡◌, refl}
 use Rattle.std.specs.Prelude.{ℕ, zero, suc, pos, true, false, List, [], ◌∷◌, Some, None}
 use Rattle.ppd_ast.specs.Term.{terms}
@@ -64,18 +65,18 @@ abbrev pub schedule : List ℕ
 schedule = 0 ∷ 0 ∷ 0 ∷ 0 ∷ 0 ∷ 0 ∷ 0 ∷ 0 ∷ 0 ∷ 0 ∷ 0 ∷ 0 ∷ 0 ∷ 0 ∷ 0 ∷ 0 ∷ 0 ∷ 0 ∷ []
 
 abbrev pub the_story : Story
-the_story = story program plan 100000 schedule
+the_story = story (setting_of program plan 100000) schedule
 
-nobody : (p : ℕ) → enabled program plan (told program plan 100000 schedule).world p ≡ false
+nobody : (p : ℕ) → enabled program plan (told (setting_of program plan 100000) schedule).world p ≡ false
 unfolding terms
 nobody zero = refl
 nobody (suc p) = refl
 
-pub whole : IsWhole program plan 100000 schedule
+pub whole : IsWhole (setting_of program plan 100000) schedule
 unfolding terms
-whole = record { last = (told program plan 100000 schedule).world; runs = refl; over = record { nobody = nobody } }
+whole = record { last = (told (setting_of program plan 100000) schedule).world; runs = refl; over = record { nobody = nobody } }
 
-pub ends : (close program plan 100000 schedule).ends ≡ ended status.Ended 9 18 (pos 0 ∷ []) ∷ []
+pub ends : (close (setting_of program plan 100000) schedule).ends ≡ ended status.Ended 9 18 (pos 0 ∷ []) ∷ []
 unfolding terms
 ends = refl
 
@@ -97,11 +98,11 @@ events_a =
     ∷ traced (event 8 (access (Shared 0) (pos 0) ∷ []) [] (Some (pos 0)) None None) (Some (id 0 11) ∷ []) None None
     ∷ traced (quiet 9) [] None None ∷ []
 
-pub trace : full_trace program plan 100000 (story program plan 100000 schedule) ≡ record { events = events_a ∷ [] }
+pub trace : full_trace (setting_of program plan 100000) (story (setting_of program plan 100000) schedule) ≡ record { events = events_a ∷ [] }
 unfolding terms
 trace = refl
 
-pub synchronizations : sync_record program plan 100000 schedule ≡ (synced sync.V 0 1 ∷ []) ∷ []
+pub synchronizations : sync_record (setting_of program plan 100000) schedule ≡ (synced sync.V 0 1 ∷ []) ∷ []
 unfolding terms
 synchronizations = refl
 
@@ -109,23 +110,23 @@ pub accesses_a : accesses the_story 0 ≡ touched 0 0 true ∷ touched 1 0 true 
 unfolding terms
 accesses_a = refl
 
-pub race_list : races program plan 100000 schedule ≡ []
+pub race_list : races (setting_of program plan 100000) schedule ≡ []
 unfolding terms
 race_list = refl
 
-pub log : (closed_logs program plan 100000 schedule).lists ≡
+pub log : (closed_logs (setting_of program plan 100000) schedule).lists ≡
     (entry.Prelog 1 [] ∷ entry.Unit 3 [] ∷ entry.Unit 0 [] ∷ entry.Prelog 0 (pos 1 ∷ pos 0 ∷ []) ∷ entry.Unit 1 [] ∷ entry.Postlog 0 (pos 1 ∷ []) ∷ entry.Unit 2 [] ∷ entry.Unit 4 [] ∷ entry.Sync sync.V 0 1 (pos 0) [] (0 ∷ []) ∷ entry.Unit 5 [] ∷ entry.Unit 0 [] ∷ entry.Prelog 0 (pos 0 ∷ pos 0 ∷ []) ∷ entry.Unit 1 [] ∷ entry.Postlog 0 (pos 0 ∷ []) ∷ entry.Unit 2 [] ∷ entry.Unit 6 (pos 0 ∷ []) ∷ entry.Postlog 1 [] ∷ entry.End status.Ended 2 (0 ∷ []) (0 ∷ []) ∷ []) ∷ []
 unfolding terms
 log = refl
 
-pub extents_a : extents program plan 100000 the_story 0 ≡
+pub extents_a : extents (setting_of program plan 100000) the_story 0 ≡
     extent 1 [] 0 (Some 17) 14
     ∷ extent 0 (0 ∷ []) 2 (Some 5) 3
     ∷ extent 0 (0 ∷ []) 11 (Some 12) 1 ∷ []
 unfolding terms
 extents_a = refl
 
-pub open_a_0 : items program plan 100000 the_story 0 0 ≡
+pub open_a_0 : items (setting_of program plan 100000) the_story 0 0 ≡
     Some (Own (event 5 [] (access (Local 1 0) (pos 1) ∷ []) None None None)
     ∷ Own (event 0 [] (access (Local 1 1) (pos 0) ∷ []) None None None)
     ∷ Nested 1 0 (pos 1 ∷ []) true
@@ -142,20 +143,20 @@ pub open_a_0 : items program plan 100000 the_story 0 0 ≡
 unfolding terms
 open_a_0 = refl
 
-pub open_a_1 : items program plan 100000 the_story 0 1 ≡
+pub open_a_1 : items (setting_of program plan 100000) the_story 0 1 ≡
     Some (Own (event 1 (access (Local 0 1) (pos 0) ∷ access (Local 0 0) (pos 1) ∷ []) [] (Some (pos 1)) None None)
     ∷ Own (event 2 (access (Local 0 1) (pos 0) ∷ []) (access (Local 0 1) (pos 1) ∷ []) None None None)
     ∷ Own (event 1 (access (Local 0 1) (pos 1) ∷ access (Local 0 0) (pos 1) ∷ []) [] (Some (pos 0)) None None) ∷ [])
 unfolding terms
 open_a_1 = refl
 
-pub open_a_2 : items program plan 100000 the_story 0 2 ≡
+pub open_a_2 : items (setting_of program plan 100000) the_story 0 2 ≡
     Some (Own (event 1 (access (Local 0 1) (pos 0) ∷ access (Local 0 0) (pos 0) ∷ []) [] (Some (pos 0)) None None) ∷ [])
 unfolding terms
 open_a_2 = refl
 
 -- the frame that a loop left is one that the process called
-pub whys_a_0 : whys program plan 100000 the_story 0 0 14 ≡
+pub whys_a_0 : whys (setting_of program plan 100000) the_story 0 0 14 ≡
     Some (control_from Entry ∷ [])
     ∷ Some (control_from (ItemAt 0 0 0) ∷ [])
     ∷ Some (left_from (Local 1 1) (pos 1) (ItemAt 0 1 1) ∷ control_from (ItemAt 0 0 0) ∷ [])
@@ -173,7 +174,7 @@ pub whys_a_0 : whys program plan 100000 the_story 0 0 14 ≡
 unfolding terms
 whys_a_0 = refl
 
-pub whys_a_1 : whys program plan 100000 the_story 0 1 4 ≡
+pub whys_a_1 : whys (setting_of program plan 100000) the_story 0 1 4 ≡
     Some (read_from (Local 0 1) (pos 0) (ItemAt 0 0 1) ∷ read_from (Local 0 0) (pos 1) (ItemAt 0 0 0) ∷ control_from (ItemAt 0 0 0) ∷ [])
     ∷ Some (read_from (Local 0 1) (pos 0) (ItemAt 0 0 1) ∷ control_from (ItemAt 0 1 0) ∷ [])
     ∷ Some (read_from (Local 0 1) (pos 1) (ItemAt 0 1 1) ∷ read_from (Local 0 0) (pos 1) (ItemAt 0 0 0) ∷ control_from (ItemAt 0 1 0) ∷ [])
@@ -181,24 +182,24 @@ pub whys_a_1 : whys program plan 100000 the_story 0 1 4 ≡
 unfolding terms
 whys_a_1 = refl
 
-pub whys_a_2 : whys program plan 100000 the_story 0 2 2 ≡
+pub whys_a_2 : whys (setting_of program plan 100000) the_story 0 2 2 ≡
     Some (read_from (Local 0 1) (pos 0) (ItemAt 0 0 7) ∷ read_from (Local 0 0) (pos 0) (ItemAt 0 0 6) ∷ control_from (ItemAt 0 0 6) ∷ [])
     ∷ None ∷ []
 unfolding terms
 whys_a_2 = refl
 
-pub nears_a_0 : nears program plan 100000 the_story 0 0 13 ≡ 18 ∷ 18 ∷ 18 ∷ 18 ∷ 18 ∷ 18 ∷ 18 ∷ 18 ∷ 18 ∷ 18 ∷ 18 ∷ 18 ∷ 18 ∷ []
+pub nears_a_0 : nears (setting_of program plan 100000) the_story 0 0 13 ≡ 18 ∷ 18 ∷ 18 ∷ 18 ∷ 18 ∷ 18 ∷ 18 ∷ 18 ∷ 18 ∷ 18 ∷ 18 ∷ 18 ∷ 18 ∷ []
 unfolding terms
 nears_a_0 = refl
 
-pub nears_a_1 : nears program plan 100000 the_story 0 1 3 ≡ 18 ∷ 18 ∷ 18 ∷ []
+pub nears_a_1 : nears (setting_of program plan 100000) the_story 0 1 3 ≡ 18 ∷ 18 ∷ 18 ∷ []
 unfolding terms
 nears_a_1 = refl
 
-pub nears_a_2 : nears program plan 100000 the_story 0 2 1 ≡ 18 ∷ []
+pub nears_a_2 : nears (setting_of program plan 100000) the_story 0 2 1 ≡ 18 ∷ []
 unfolding terms
 nears_a_2 = refl
 
-pub final_x : last program plan 100000 the_story 0 ≡ (pos 0, ItemAt 0 0 9)
+pub final_x : last (setting_of program plan 100000) the_story 0 ≡ (pos 0, ItemAt 0 0 9)
 unfolding terms
 final_x = refl

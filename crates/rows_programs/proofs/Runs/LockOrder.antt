@@ -1,4 +1,5 @@
 -- shared int x; sem m = 1; process a { P(m); x = x + 1; V(m); } process b { P(m); x = x + 1; V(m); }
+use Rattle.ppd_model.specs.Setting.{setting_of}
 use Rattle.std.proofs.Common.{◌≡◌, refl, ap, arith}
 use Rattle.std.specs.Prelude.{ℕ, zero, suc, pos, true, false, List, [], ◌∷◌, Some, None}
 use Rattle.ppd_ast.specs.Term.{terms}
@@ -64,19 +65,19 @@ abbrev pub first : List ℕ
 first = 0 ∷ 0 ∷ 0 ∷ 0 ∷ 0 ∷ 1 ∷ 1 ∷ 1 ∷ 1 ∷ 1 ∷ []
 
 abbrev pub story_first : Story
-story_first = story program plan 100000 first
+story_first = story (setting_of program plan 100000) first
 
-nobody_first : (p : ℕ) → enabled program plan (told program plan 100000 first).world p ≡ false
+nobody_first : (p : ℕ) → enabled program plan (told (setting_of program plan 100000) first).world p ≡ false
 unfolding terms
 nobody_first zero = refl
 nobody_first (suc zero) = refl
 nobody_first (suc (suc p)) = refl
 
-pub whole_first : IsWhole program plan 100000 first
+pub whole_first : IsWhole (setting_of program plan 100000) first
 unfolding terms
-whole_first = record { last = (told program plan 100000 first).world; runs = refl; over = record { nobody = nobody_first } }
+whole_first = record { last = (told (setting_of program plan 100000) first).world; runs = refl; over = record { nobody = nobody_first } }
 
-pub ends_first : (close program plan 100000 first).ends ≡ ended status.Ended 3 5 [] ∷ ended status.Ended 7 5 [] ∷ []
+pub ends_first : (close (setting_of program plan 100000) first).ends ≡ ended status.Ended 3 5 [] ∷ ended status.Ended 7 5 [] ∷ []
 unfolding terms
 ends_first = refl
 
@@ -94,11 +95,11 @@ events_b_first =
     ∷ traced (event 6 [] [] None (Some 3) None) [] None None
     ∷ traced (quiet 7) [] None None ∷ []
 
-pub trace_first : full_trace program plan 100000 (story program plan 100000 first) ≡ record { events = events_a_first ∷ events_b_first ∷ [] }
+pub trace_first : full_trace (setting_of program plan 100000) (story (setting_of program plan 100000) first) ≡ record { events = events_a_first ∷ events_b_first ∷ [] }
 unfolding terms
 trace_first = refl
 
-pub synchronizations_first : sync_record program plan 100000 first ≡ (synced sync.P 0 1 ∷ synced sync.V 0 2 ∷ []) ∷ (synced sync.P 0 2 ∷ synced sync.V 0 3 ∷ []) ∷ []
+pub synchronizations_first : sync_record (setting_of program plan 100000) first ≡ (synced sync.P 0 1 ∷ synced sync.V 0 2 ∷ []) ∷ (synced sync.P 0 2 ∷ synced sync.V 0 3 ∷ []) ∷ []
 unfolding terms
 synchronizations_first = refl
 
@@ -110,27 +111,27 @@ pub accesses_b_first : accesses story_first 1 ≡ touched 1 0 false ∷ touched 
 unfolding terms
 accesses_b_first = refl
 
-pub races_first : races program plan 100000 first ≡ []
+pub races_first : races (setting_of program plan 100000) first ≡ []
 unfolding terms
 races_first = refl
 
-pub logs_first : (closed_logs program plan 100000 first).lists ≡
+pub logs_first : (closed_logs (setting_of program plan 100000) first).lists ≡
     (entry.Prelog 0 [] ∷ entry.Unit 0 [] ∷ entry.Sync sync.P 0 1 (pos 0) [] [] ∷ entry.Unit 1 (pos 0 ∷ []) ∷ entry.Sync sync.V 0 2 (pos 0) (0 ∷ []) (0 ∷ []) ∷ entry.Unit 2 [] ∷ entry.Postlog 0 [] ∷ entry.End status.Ended 0 [] [] ∷ [])
     ∷ (entry.Prelog 1 [] ∷ entry.Unit 3 [] ∷ entry.Sync sync.P 0 2 (pos 0) [] [] ∷ entry.Unit 4 (pos 1 ∷ []) ∷ entry.Sync sync.V 0 3 (pos 0) (0 ∷ []) (0 ∷ []) ∷ entry.Unit 5 [] ∷ entry.Postlog 1 [] ∷ entry.End status.Ended 0 [] [] ∷ []) ∷ []
 unfolding terms
 logs_first = refl
 
-pub extents_a_first : extents program plan 100000 story_first 0 ≡
+pub extents_a_first : extents (setting_of program plan 100000) story_first 0 ≡
     extent 0 [] 0 (Some 4) 5 ∷ []
 unfolding terms
 extents_a_first = refl
 
-pub extents_b_first : extents program plan 100000 story_first 1 ≡
+pub extents_b_first : extents (setting_of program plan 100000) story_first 1 ≡
     extent 1 [] 0 (Some 4) 5 ∷ []
 unfolding terms
 extents_b_first = refl
 
-pub open_a_0_first : items program plan 100000 story_first 0 0 ≡
+pub open_a_0_first : items (setting_of program plan 100000) story_first 0 0 ≡
     Some (Own (event 0 [] [] None (Some 1) None)
     ∷ Own (event 1 (access (Shared 0) (pos 0) ∷ []) (access (Shared 0) (pos 1) ∷ []) None None None)
     ∷ Own (event 2 [] [] None (Some 2) None)
@@ -138,7 +139,7 @@ pub open_a_0_first : items program plan 100000 story_first 0 0 ≡
 unfolding terms
 open_a_0_first = refl
 
-pub open_b_0_first : items program plan 100000 story_first 1 0 ≡
+pub open_b_0_first : items (setting_of program plan 100000) story_first 1 0 ≡
     Some (Own (event 4 [] [] None (Some 2) None)
     ∷ Own (event 5 (access (Shared 0) (pos 1) ∷ []) (access (Shared 0) (pos 2) ∷ []) None None None)
     ∷ Own (event 6 [] [] None (Some 3) None)
@@ -146,7 +147,7 @@ pub open_b_0_first : items program plan 100000 story_first 1 0 ≡
 unfolding terms
 open_b_0_first = refl
 
-pub whys_a_0_first : whys program plan 100000 story_first 0 0 5 ≡
+pub whys_a_0_first : whys (setting_of program plan 100000) story_first 0 0 5 ≡
     Some (sync_from Initial ∷ control_from Entry ∷ [])
     ∷ Some (read_from (Shared 0) (pos 0) Initial ∷ control_from Entry ∷ [])
     ∷ Some (control_from Entry ∷ [])
@@ -155,7 +156,7 @@ pub whys_a_0_first : whys program plan 100000 story_first 0 0 5 ≡
 unfolding terms
 whys_a_0_first = refl
 
-pub whys_b_0_first : whys program plan 100000 story_first 1 0 5 ≡
+pub whys_b_0_first : whys (setting_of program plan 100000) story_first 1 0 5 ≡
     Some (sync_from (ItemAt 0 0 2) ∷ control_from Entry ∷ [])
     ∷ Some (read_from (Shared 0) (pos 1) (ItemAt 0 0 1) ∷ control_from Entry ∷ [])
     ∷ Some (control_from Entry ∷ [])
@@ -164,15 +165,15 @@ pub whys_b_0_first : whys program plan 100000 story_first 1 0 5 ≡
 unfolding terms
 whys_b_0_first = refl
 
-pub nears_a_0_first : nears program plan 100000 story_first 0 0 4 ≡ 5 ∷ 5 ∷ 5 ∷ 5 ∷ []
+pub nears_a_0_first : nears (setting_of program plan 100000) story_first 0 0 4 ≡ 5 ∷ 5 ∷ 5 ∷ 5 ∷ []
 unfolding terms
 nears_a_0_first = refl
 
-pub nears_b_0_first : nears program plan 100000 story_first 1 0 4 ≡ 10 ∷ 10 ∷ 5 ∷ 5 ∷ []
+pub nears_b_0_first : nears (setting_of program plan 100000) story_first 1 0 4 ≡ 10 ∷ 10 ∷ 5 ∷ 5 ∷ []
 unfolding terms
 nears_b_0_first = refl
 
-pub final_x_first : last program plan 100000 story_first 0 ≡ (pos 2, ItemAt 1 0 1)
+pub final_x_first : last (setting_of program plan 100000) story_first 0 ≡ (pos 2, ItemAt 1 0 1)
 unfolding terms
 final_x_first = refl
 
@@ -180,19 +181,19 @@ abbrev pub second : List ℕ
 second = 1 ∷ 1 ∷ 1 ∷ 1 ∷ 1 ∷ 0 ∷ 0 ∷ 0 ∷ 0 ∷ 0 ∷ []
 
 abbrev pub story_second : Story
-story_second = story program plan 100000 second
+story_second = story (setting_of program plan 100000) second
 
-nobody_second : (p : ℕ) → enabled program plan (told program plan 100000 second).world p ≡ false
+nobody_second : (p : ℕ) → enabled program plan (told (setting_of program plan 100000) second).world p ≡ false
 unfolding terms
 nobody_second zero = refl
 nobody_second (suc zero) = refl
 nobody_second (suc (suc p)) = refl
 
-pub whole_second : IsWhole program plan 100000 second
+pub whole_second : IsWhole (setting_of program plan 100000) second
 unfolding terms
-whole_second = record { last = (told program plan 100000 second).world; runs = refl; over = record { nobody = nobody_second } }
+whole_second = record { last = (told (setting_of program plan 100000) second).world; runs = refl; over = record { nobody = nobody_second } }
 
-pub ends_second : (close program plan 100000 second).ends ≡ ended status.Ended 3 5 [] ∷ ended status.Ended 7 5 [] ∷ []
+pub ends_second : (close (setting_of program plan 100000) second).ends ≡ ended status.Ended 3 5 [] ∷ ended status.Ended 7 5 [] ∷ []
 unfolding terms
 ends_second = refl
 
@@ -210,11 +211,11 @@ events_b_second =
     ∷ traced (event 6 [] [] None (Some 2) None) [] None None
     ∷ traced (quiet 7) [] None None ∷ []
 
-pub trace_second : full_trace program plan 100000 (story program plan 100000 second) ≡ record { events = events_a_second ∷ events_b_second ∷ [] }
+pub trace_second : full_trace (setting_of program plan 100000) (story (setting_of program plan 100000) second) ≡ record { events = events_a_second ∷ events_b_second ∷ [] }
 unfolding terms
 trace_second = refl
 
-pub synchronizations_second : sync_record program plan 100000 second ≡ (synced sync.P 0 2 ∷ synced sync.V 0 3 ∷ []) ∷ (synced sync.P 0 1 ∷ synced sync.V 0 2 ∷ []) ∷ []
+pub synchronizations_second : sync_record (setting_of program plan 100000) second ≡ (synced sync.P 0 2 ∷ synced sync.V 0 3 ∷ []) ∷ (synced sync.P 0 1 ∷ synced sync.V 0 2 ∷ []) ∷ []
 unfolding terms
 synchronizations_second = refl
 
@@ -226,27 +227,27 @@ pub accesses_b_second : accesses story_second 1 ≡ touched 1 0 false ∷ touche
 unfolding terms
 accesses_b_second = refl
 
-pub races_second : races program plan 100000 second ≡ []
+pub races_second : races (setting_of program plan 100000) second ≡ []
 unfolding terms
 races_second = refl
 
-pub logs_second : (closed_logs program plan 100000 second).lists ≡
+pub logs_second : (closed_logs (setting_of program plan 100000) second).lists ≡
     (entry.Prelog 0 [] ∷ entry.Unit 0 [] ∷ entry.Sync sync.P 0 2 (pos 0) [] [] ∷ entry.Unit 1 (pos 1 ∷ []) ∷ entry.Sync sync.V 0 3 (pos 0) (0 ∷ []) (0 ∷ []) ∷ entry.Unit 2 [] ∷ entry.Postlog 0 [] ∷ entry.End status.Ended 0 [] [] ∷ [])
     ∷ (entry.Prelog 1 [] ∷ entry.Unit 3 [] ∷ entry.Sync sync.P 0 1 (pos 0) [] [] ∷ entry.Unit 4 (pos 0 ∷ []) ∷ entry.Sync sync.V 0 2 (pos 0) (0 ∷ []) (0 ∷ []) ∷ entry.Unit 5 [] ∷ entry.Postlog 1 [] ∷ entry.End status.Ended 0 [] [] ∷ []) ∷ []
 unfolding terms
 logs_second = refl
 
-pub extents_a_second : extents program plan 100000 story_second 0 ≡
+pub extents_a_second : extents (setting_of program plan 100000) story_second 0 ≡
     extent 0 [] 0 (Some 4) 5 ∷ []
 unfolding terms
 extents_a_second = refl
 
-pub extents_b_second : extents program plan 100000 story_second 1 ≡
+pub extents_b_second : extents (setting_of program plan 100000) story_second 1 ≡
     extent 1 [] 0 (Some 4) 5 ∷ []
 unfolding terms
 extents_b_second = refl
 
-pub open_a_0_second : items program plan 100000 story_second 0 0 ≡
+pub open_a_0_second : items (setting_of program plan 100000) story_second 0 0 ≡
     Some (Own (event 0 [] [] None (Some 2) None)
     ∷ Own (event 1 (access (Shared 0) (pos 1) ∷ []) (access (Shared 0) (pos 2) ∷ []) None None None)
     ∷ Own (event 2 [] [] None (Some 3) None)
@@ -254,7 +255,7 @@ pub open_a_0_second : items program plan 100000 story_second 0 0 ≡
 unfolding terms
 open_a_0_second = refl
 
-pub open_b_0_second : items program plan 100000 story_second 1 0 ≡
+pub open_b_0_second : items (setting_of program plan 100000) story_second 1 0 ≡
     Some (Own (event 4 [] [] None (Some 1) None)
     ∷ Own (event 5 (access (Shared 0) (pos 0) ∷ []) (access (Shared 0) (pos 1) ∷ []) None None None)
     ∷ Own (event 6 [] [] None (Some 2) None)
@@ -262,7 +263,7 @@ pub open_b_0_second : items program plan 100000 story_second 1 0 ≡
 unfolding terms
 open_b_0_second = refl
 
-pub whys_a_0_second : whys program plan 100000 story_second 0 0 5 ≡
+pub whys_a_0_second : whys (setting_of program plan 100000) story_second 0 0 5 ≡
     Some (sync_from (ItemAt 1 0 2) ∷ control_from Entry ∷ [])
     ∷ Some (read_from (Shared 0) (pos 1) (ItemAt 1 0 1) ∷ control_from Entry ∷ [])
     ∷ Some (control_from Entry ∷ [])
@@ -271,7 +272,7 @@ pub whys_a_0_second : whys program plan 100000 story_second 0 0 5 ≡
 unfolding terms
 whys_a_0_second = refl
 
-pub whys_b_0_second : whys program plan 100000 story_second 1 0 5 ≡
+pub whys_b_0_second : whys (setting_of program plan 100000) story_second 1 0 5 ≡
     Some (sync_from Initial ∷ control_from Entry ∷ [])
     ∷ Some (read_from (Shared 0) (pos 0) Initial ∷ control_from Entry ∷ [])
     ∷ Some (control_from Entry ∷ [])
@@ -280,15 +281,15 @@ pub whys_b_0_second : whys program plan 100000 story_second 1 0 5 ≡
 unfolding terms
 whys_b_0_second = refl
 
-pub nears_a_0_second : nears program plan 100000 story_second 0 0 4 ≡ 10 ∷ 10 ∷ 5 ∷ 5 ∷ []
+pub nears_a_0_second : nears (setting_of program plan 100000) story_second 0 0 4 ≡ 10 ∷ 10 ∷ 5 ∷ 5 ∷ []
 unfolding terms
 nears_a_0_second = refl
 
-pub nears_b_0_second : nears program plan 100000 story_second 1 0 4 ≡ 5 ∷ 5 ∷ 5 ∷ 5 ∷ []
+pub nears_b_0_second : nears (setting_of program plan 100000) story_second 1 0 4 ≡ 5 ∷ 5 ∷ 5 ∷ 5 ∷ []
 unfolding terms
 nears_b_0_second = refl
 
-pub final_x_second : last program plan 100000 story_second 0 ≡ (pos 2, ItemAt 0 0 1)
+pub final_x_second : last (setting_of program plan 100000) story_second 0 ≡ (pos 2, ItemAt 0 0 1)
 unfolding terms
 final_x_second = refl
 
@@ -300,21 +301,21 @@ number_of_a : List (List Sync) → ℕ
 number_of_a [] = 0
 number_of_a (xs ∷ rest) = first_number xs
 
-number_first : number_of_a (sync_record program plan 100000 first) ≡ 1
+number_first : number_of_a (sync_record (setting_of program plan 100000) first) ≡ 1
 unfolding terms first_number number_of_a
 number_first = refl
 
-number_second : number_of_a (sync_record program plan 100000 second) ≡ 2
+number_second : number_of_a (sync_record (setting_of program plan 100000) second) ≡ 2
 unfolding terms first_number number_of_a
 number_second = refl
 
 -- the two do not agree
-pub apart : Agree program plan 100000 first second → ⊥
+pub apart : Agree (setting_of program plan 100000) first second → ⊥
 apart agree =
-    let same : number_of_a (sync_record program plan 100000 first) ≡ number_of_a (sync_record program plan 100000 second) = ap number_of_a agree.records in
+    let same : number_of_a (sync_record (setting_of program plan 100000) first) ≡ number_of_a (sync_record (setting_of program plan 100000) second) = ap number_of_a agree.records in
     omega (arith, same, number_first, number_second)
 
 -- every schedule ends so, with these races
-pub every : (h : List ℕ) → IsWhole program plan 100000 h → outcome program plan 100000 h ≡ (ended status.Ended 3 5 [] ∷ ended status.Ended 7 5 [] ∷ [], [])
+pub every : (h : List ℕ) → IsWhole (setting_of program plan 100000) h → outcome (setting_of program plan 100000) h ≡ (ended status.Ended 3 5 [] ∷ ended status.Ended 7 5 [] ∷ [], [])
 unfolding terms
-every h whole = every_whole program plan 100000 11 12 (outcome program plan 100000) _ refl refl h whole
+every h whole = every_whole program plan 100000 11 12 (outcome (setting_of program plan 100000)) _ refl refl h whole

@@ -1,4 +1,5 @@
 -- shared int x; void f(int k) { while (x < k) { x = x + 1; } } process a { f(2); print(x); }
+use Rattle.ppd_model.specs.Setting.{setting_of}
 use Rattle.std.proofs.Common.{◌≡◌, refl}
 use Rattle.std.specs.Prelude.{ℕ, zero, suc, pos, true, false, List, [], ◌∷◌, Some, None}
 use Rattle.ppd_ast.specs.Term.{terms}
@@ -59,18 +60,18 @@ abbrev pub schedule : List ℕ
 schedule = 0 ∷ 0 ∷ 0 ∷ 0 ∷ 0 ∷ 0 ∷ 0 ∷ 0 ∷ 0 ∷ 0 ∷ 0 ∷ 0 ∷ 0 ∷ 0 ∷ 0 ∷ 0 ∷ []
 
 abbrev pub the_story : Story
-the_story = story program plan 100000 schedule
+the_story = story (setting_of program plan 100000) schedule
 
-nobody : (p : ℕ) → enabled program plan (told program plan 100000 schedule).world p ≡ false
+nobody : (p : ℕ) → enabled program plan (told (setting_of program plan 100000) schedule).world p ≡ false
 unfolding terms
 nobody zero = refl
 nobody (suc p) = refl
 
-pub whole : IsWhole program plan 100000 schedule
+pub whole : IsWhole (setting_of program plan 100000) schedule
 unfolding terms
-whole = record { last = (told program plan 100000 schedule).world; runs = refl; over = record { nobody = nobody } }
+whole = record { last = (told (setting_of program plan 100000) schedule).world; runs = refl; over = record { nobody = nobody } }
 
-pub ends : (close program plan 100000 schedule).ends ≡ ended status.Ended 5 16 (pos 2 ∷ []) ∷ []
+pub ends : (close (setting_of program plan 100000) schedule).ends ≡ ended status.Ended 5 16 (pos 2 ∷ []) ∷ []
 unfolding terms
 ends = refl
 
@@ -86,11 +87,11 @@ events_a =
     ∷ traced (event 4 (access (Shared 0) (pos 2) ∷ []) [] (Some (pos 2)) None None) (Some (id 0 4) ∷ []) None None
     ∷ traced (quiet 5) [] None None ∷ []
 
-pub trace : full_trace program plan 100000 (story program plan 100000 schedule) ≡ record { events = events_a ∷ [] }
+pub trace : full_trace (setting_of program plan 100000) (story (setting_of program plan 100000) schedule) ≡ record { events = events_a ∷ [] }
 unfolding terms
 trace = refl
 
-pub synchronizations : sync_record program plan 100000 schedule ≡ [] ∷ []
+pub synchronizations : sync_record (setting_of program plan 100000) schedule ≡ [] ∷ []
 unfolding terms
 synchronizations = refl
 
@@ -98,22 +99,22 @@ pub accesses_a : accesses the_story 0 ≡ touched 0 0 false ∷ touched 0 0 fals
 unfolding terms
 accesses_a = refl
 
-pub race_list : races program plan 100000 schedule ≡ []
+pub race_list : races (setting_of program plan 100000) schedule ≡ []
 unfolding terms
 race_list = refl
 
-pub log : (closed_logs program plan 100000 schedule).lists ≡
+pub log : (closed_logs (setting_of program plan 100000) schedule).lists ≡
     (entry.Prelog 1 [] ∷ entry.Unit 3 [] ∷ entry.Unit 0 [] ∷ entry.Prelog 0 (pos 2 ∷ []) ∷ entry.Unit 1 (pos 0 ∷ []) ∷ entry.Postlog 0 [] ∷ entry.Unit 2 [] ∷ entry.Unit 4 (pos 2 ∷ []) ∷ entry.Postlog 1 [] ∷ entry.End status.Ended 2 (0 ∷ []) (0 ∷ []) ∷ []) ∷ []
 unfolding terms
 log = refl
 
-pub extents_a : extents program plan 100000 the_story 0 ≡
+pub extents_a : extents (setting_of program plan 100000) the_story 0 ≡
     extent 1 [] 0 (Some 15) 6
     ∷ extent 0 (0 ∷ []) 1 (Some 11) 10 ∷ []
 unfolding terms
 extents_a = refl
 
-pub open_a_0 : items program plan 100000 the_story 0 0 ≡
+pub open_a_0 : items (setting_of program plan 100000) the_story 0 0 ≡
     Some (Own (event 3 [] (access (Local 1 0) (pos 2) ∷ []) None None None)
     ∷ Nested 1 0 [] true
     ∷ Own (quiet 2)
@@ -122,7 +123,7 @@ pub open_a_0 : items program plan 100000 the_story 0 0 ≡
 unfolding terms
 open_a_0 = refl
 
-pub open_a_1 : items program plan 100000 the_story 0 1 ≡
+pub open_a_1 : items (setting_of program plan 100000) the_story 0 1 ≡
     Some (Own (event 0 (access (Shared 0) (pos 0) ∷ access (Local 0 0) (pos 2) ∷ []) [] (Some (pos 1)) None None)
     ∷ Own (event 1 (access (Shared 0) (pos 0) ∷ []) (access (Shared 0) (pos 1) ∷ []) None None None)
     ∷ Own (event 0 (access (Shared 0) (pos 1) ∷ access (Local 0 0) (pos 2) ∷ []) [] (Some (pos 1)) None None)
@@ -131,7 +132,7 @@ pub open_a_1 : items program plan 100000 the_story 0 1 ≡
 unfolding terms
 open_a_1 = refl
 
-pub whys_a_0 : whys program plan 100000 the_story 0 0 6 ≡
+pub whys_a_0 : whys (setting_of program plan 100000) the_story 0 0 6 ≡
     Some (control_from Entry ∷ [])
     ∷ Some (control_from (ItemAt 0 0 0) ∷ [])
     ∷ Some (control_from (ItemAt 0 0 0) ∷ [])
@@ -141,7 +142,7 @@ pub whys_a_0 : whys program plan 100000 the_story 0 0 6 ≡
 unfolding terms
 whys_a_0 = refl
 
-pub whys_a_1 : whys program plan 100000 the_story 0 1 6 ≡
+pub whys_a_1 : whys (setting_of program plan 100000) the_story 0 1 6 ≡
     Some (read_from (Shared 0) (pos 0) Initial ∷ read_from (Local 0 0) (pos 2) (ItemAt 0 0 0) ∷ control_from (ItemAt 0 0 0) ∷ [])
     ∷ Some (read_from (Shared 0) (pos 0) Initial ∷ control_from (ItemAt 0 1 0) ∷ [])
     ∷ Some (read_from (Shared 0) (pos 1) (ItemAt 0 1 1) ∷ read_from (Local 0 0) (pos 2) (ItemAt 0 0 0) ∷ control_from (ItemAt 0 1 0) ∷ [])
@@ -151,14 +152,14 @@ pub whys_a_1 : whys program plan 100000 the_story 0 1 6 ≡
 unfolding terms
 whys_a_1 = refl
 
-pub nears_a_0 : nears program plan 100000 the_story 0 0 5 ≡ 16 ∷ 16 ∷ 16 ∷ 16 ∷ 16 ∷ []
+pub nears_a_0 : nears (setting_of program plan 100000) the_story 0 0 5 ≡ 16 ∷ 16 ∷ 16 ∷ 16 ∷ 16 ∷ []
 unfolding terms
 nears_a_0 = refl
 
-pub nears_a_1 : nears program plan 100000 the_story 0 1 5 ≡ 16 ∷ 16 ∷ 16 ∷ 16 ∷ 16 ∷ []
+pub nears_a_1 : nears (setting_of program plan 100000) the_story 0 1 5 ≡ 16 ∷ 16 ∷ 16 ∷ 16 ∷ 16 ∷ []
 unfolding terms
 nears_a_1 = refl
 
-pub final_x : last program plan 100000 the_story 0 ≡ (pos 2, ItemAt 0 1 3)
+pub final_x : last (setting_of program plan 100000) the_story 0 ≡ (pos 2, ItemAt 0 1 3)
 unfolding terms
 final_x = refl

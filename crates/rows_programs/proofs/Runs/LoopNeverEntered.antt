@@ -1,4 +1,5 @@
 -- process a { int i = 3; while (i < 3) { i = i + 1; } print(i); } with loops as blocks
+use Rattle.ppd_model.specs.Setting.{setting_of}
 use Rattle.std.proofs.Common.{◌≡◌, refl}
 use Rattle.std.specs.Prelude.{ℕ, zero, suc, pos, true, false, List, [], ◌∷◌, Some, None}
 use Rattle.ppd_ast.specs.Term.{terms}
@@ -56,18 +57,18 @@ abbrev pub schedule : List ℕ
 schedule = 0 ∷ 0 ∷ 0 ∷ 0 ∷ 0 ∷ []
 
 abbrev pub the_story : Story
-the_story = story program plan 100000 schedule
+the_story = story (setting_of program plan 100000) schedule
 
-nobody : (p : ℕ) → enabled program plan (told program plan 100000 schedule).world p ≡ false
+nobody : (p : ℕ) → enabled program plan (told (setting_of program plan 100000) schedule).world p ≡ false
 unfolding terms
 nobody zero = refl
 nobody (suc p) = refl
 
-pub whole : IsWhole program plan 100000 schedule
+pub whole : IsWhole (setting_of program plan 100000) schedule
 unfolding terms
-whole = record { last = (told program plan 100000 schedule).world; runs = refl; over = record { nobody = nobody } }
+whole = record { last = (told (setting_of program plan 100000) schedule).world; runs = refl; over = record { nobody = nobody } }
 
-pub ends : (close program plan 100000 schedule).ends ≡ ended status.Ended 4 5 (pos 3 ∷ []) ∷ []
+pub ends : (close (setting_of program plan 100000) schedule).ends ≡ ended status.Ended 4 5 (pos 3 ∷ []) ∷ []
 unfolding terms
 ends = refl
 
@@ -78,11 +79,11 @@ events_a =
     ∷ traced (event 3 (access (Local 0 0) (pos 3) ∷ []) [] (Some (pos 3)) None None) (Some (id 0 0) ∷ []) None None
     ∷ traced (quiet 4) [] None None ∷ []
 
-pub trace : full_trace program plan 100000 (story program plan 100000 schedule) ≡ record { events = events_a ∷ [] }
+pub trace : full_trace (setting_of program plan 100000) (story (setting_of program plan 100000) schedule) ≡ record { events = events_a ∷ [] }
 unfolding terms
 trace = refl
 
-pub synchronizations : sync_record program plan 100000 schedule ≡ [] ∷ []
+pub synchronizations : sync_record (setting_of program plan 100000) schedule ≡ [] ∷ []
 unfolding terms
 synchronizations = refl
 
@@ -90,22 +91,22 @@ pub accesses_a : accesses the_story 0 ≡ []
 unfolding terms
 accesses_a = refl
 
-pub race_list : races program plan 100000 schedule ≡ []
+pub race_list : races (setting_of program plan 100000) schedule ≡ []
 unfolding terms
 race_list = refl
 
-pub log : (closed_logs program plan 100000 schedule).lists ≡
+pub log : (closed_logs (setting_of program plan 100000) schedule).lists ≡
     (entry.Prelog 0 [] ∷ entry.Unit 0 [] ∷ entry.Prelog 1 (pos 3 ∷ []) ∷ entry.Unit 1 [] ∷ entry.Postlog 1 (pos 3 ∷ []) ∷ entry.Unit 2 [] ∷ entry.Postlog 0 [] ∷ entry.End status.Ended 1 [] [] ∷ []) ∷ []
 unfolding terms
 log = refl
 
-pub extents_a : extents program plan 100000 the_story 0 ≡
+pub extents_a : extents (setting_of program plan 100000) the_story 0 ≡
     extent 0 [] 0 (Some 4) 4
     ∷ extent 1 (0 ∷ []) 1 (Some 2) 1 ∷ []
 unfolding terms
 extents_a = refl
 
-pub open_a_0 : items program plan 100000 the_story 0 0 ≡
+pub open_a_0 : items (setting_of program plan 100000) the_story 0 0 ≡
     Some (Own (event 0 [] (access (Local 0 0) (pos 3) ∷ []) None None None)
     ∷ Nested 1 1 (pos 3 ∷ []) true
     ∷ Own (event 3 (access (Local 0 0) (pos 3) ∷ []) [] (Some (pos 3)) None None)
@@ -113,12 +114,12 @@ pub open_a_0 : items program plan 100000 the_story 0 0 ≡
 unfolding terms
 open_a_0 = refl
 
-pub open_a_1 : items program plan 100000 the_story 0 1 ≡
+pub open_a_1 : items (setting_of program plan 100000) the_story 0 1 ≡
     Some (Own (event 1 (access (Local 0 0) (pos 3) ∷ []) [] (Some (pos 0)) None None) ∷ [])
 unfolding terms
 open_a_1 = refl
 
-pub whys_a_0 : whys program plan 100000 the_story 0 0 5 ≡
+pub whys_a_0 : whys (setting_of program plan 100000) the_story 0 0 5 ≡
     Some (control_from Entry ∷ [])
     ∷ Some (left_from (Local 0 0) (pos 3) (ItemAt 0 0 0) ∷ control_from Entry ∷ [])
     ∷ Some (read_from (Local 0 0) (pos 3) (ItemAt 0 0 0) ∷ control_from Entry ∷ [])
@@ -127,16 +128,16 @@ pub whys_a_0 : whys program plan 100000 the_story 0 0 5 ≡
 unfolding terms
 whys_a_0 = refl
 
-pub whys_a_1 : whys program plan 100000 the_story 0 1 2 ≡
+pub whys_a_1 : whys (setting_of program plan 100000) the_story 0 1 2 ≡
     Some (read_from (Local 0 0) (pos 3) (ItemAt 0 0 0) ∷ control_from Entry ∷ [])
     ∷ None ∷ []
 unfolding terms
 whys_a_1 = refl
 
-pub nears_a_0 : nears program plan 100000 the_story 0 0 4 ≡ 5 ∷ 5 ∷ 5 ∷ 5 ∷ []
+pub nears_a_0 : nears (setting_of program plan 100000) the_story 0 0 4 ≡ 5 ∷ 5 ∷ 5 ∷ 5 ∷ []
 unfolding terms
 nears_a_0 = refl
 
-pub nears_a_1 : nears program plan 100000 the_story 0 1 1 ≡ 5 ∷ []
+pub nears_a_1 : nears (setting_of program plan 100000) the_story 0 1 1 ≡ 5 ∷ []
 unfolding terms
 nears_a_1 = refl

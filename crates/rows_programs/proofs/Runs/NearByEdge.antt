@@ -1,4 +1,5 @@
 -- shared int x, y; sem s; void f() { x = 4; } process a { f(); V(s); y = 1; print(x); }
+use Rattle.ppd_model.specs.Setting.{setting_of}
 use Rattle.std.proofs.Common.{◌≡◌, refl}
 use Rattle.std.specs.Prelude.{ℕ, zero, suc, pos, true, false, List, [], ◌∷◌, Some, None}
 use Rattle.ppd_ast.specs.Term.{terms}
@@ -59,18 +60,18 @@ abbrev pub schedule : List ℕ
 schedule = 0 ∷ 0 ∷ 0 ∷ 0 ∷ 0 ∷ 0 ∷ 0 ∷ 0 ∷ []
 
 abbrev pub the_story : Story
-the_story = story program plan 100000 schedule
+the_story = story (setting_of program plan 100000) schedule
 
-nobody : (p : ℕ) → enabled program plan (told program plan 100000 schedule).world p ≡ false
+nobody : (p : ℕ) → enabled program plan (told (setting_of program plan 100000) schedule).world p ≡ false
 unfolding terms
 nobody zero = refl
 nobody (suc p) = refl
 
-pub whole : IsWhole program plan 100000 schedule
+pub whole : IsWhole (setting_of program plan 100000) schedule
 unfolding terms
-whole = record { last = (told program plan 100000 schedule).world; runs = refl; over = record { nobody = nobody } }
+whole = record { last = (told (setting_of program plan 100000) schedule).world; runs = refl; over = record { nobody = nobody } }
 
-pub ends : (close program plan 100000 schedule).ends ≡ ended status.Ended 6 8 (pos 4 ∷ []) ∷ []
+pub ends : (close (setting_of program plan 100000) schedule).ends ≡ ended status.Ended 6 8 (pos 4 ∷ []) ∷ []
 unfolding terms
 ends = refl
 
@@ -84,11 +85,11 @@ events_a =
     ∷ traced (event 5 (access (Shared 0) (pos 4) ∷ []) [] (Some (pos 4)) None None) (Some (id 0 1) ∷ []) None None
     ∷ traced (quiet 6) [] None None ∷ []
 
-pub trace : full_trace program plan 100000 (story program plan 100000 schedule) ≡ record { events = events_a ∷ [] }
+pub trace : full_trace (setting_of program plan 100000) (story (setting_of program plan 100000) schedule) ≡ record { events = events_a ∷ [] }
 unfolding terms
 trace = refl
 
-pub synchronizations : sync_record program plan 100000 schedule ≡ (synced sync.V 0 1 ∷ []) ∷ []
+pub synchronizations : sync_record (setting_of program plan 100000) schedule ≡ (synced sync.V 0 1 ∷ []) ∷ []
 unfolding terms
 synchronizations = refl
 
@@ -96,22 +97,22 @@ pub accesses_a : accesses the_story 0 ≡ touched 0 0 true ∷ touched 1 1 true 
 unfolding terms
 accesses_a = refl
 
-pub race_list : races program plan 100000 schedule ≡ []
+pub race_list : races (setting_of program plan 100000) schedule ≡ []
 unfolding terms
 race_list = refl
 
-pub log : (closed_logs program plan 100000 schedule).lists ≡
+pub log : (closed_logs (setting_of program plan 100000) schedule).lists ≡
     (entry.Prelog 1 [] ∷ entry.Unit 1 [] ∷ entry.Prelog 0 [] ∷ entry.Unit 0 [] ∷ entry.Postlog 0 [] ∷ entry.Unit 2 [] ∷ entry.Sync sync.V 0 1 (pos 0) [] (0 ∷ []) ∷ entry.Unit 3 (pos 4 ∷ []) ∷ entry.Postlog 1 [] ∷ entry.End status.Ended 3 (0 ∷ []) (1 ∷ []) ∷ []) ∷ []
 unfolding terms
 log = refl
 
-pub extents_a : extents program plan 100000 the_story 0 ≡
+pub extents_a : extents (setting_of program plan 100000) the_story 0 ≡
     extent 1 [] 0 (Some 7) 6
     ∷ extent 0 (0 ∷ []) 0 (Some 2) 2 ∷ []
 unfolding terms
 extents_a = refl
 
-pub open_a_0 : items program plan 100000 the_story 0 0 ≡
+pub open_a_0 : items (setting_of program plan 100000) the_story 0 0 ≡
     Some (Own (quiet 2)
     ∷ Nested 1 0 [] true
     ∷ Own (event 3 [] [] None (Some 1) None)
@@ -121,13 +122,13 @@ pub open_a_0 : items program plan 100000 the_story 0 0 ≡
 unfolding terms
 open_a_0 = refl
 
-pub open_a_1 : items program plan 100000 the_story 0 1 ≡
+pub open_a_1 : items (setting_of program plan 100000) the_story 0 1 ≡
     Some (Own (event 0 [] (access (Shared 0) (pos 4) ∷ []) None None None)
     ∷ Own (quiet 1) ∷ [])
 unfolding terms
 open_a_1 = refl
 
-pub whys_a_0 : whys program plan 100000 the_story 0 0 7 ≡
+pub whys_a_0 : whys (setting_of program plan 100000) the_story 0 0 7 ≡
     Some (control_from Entry ∷ [])
     ∷ Some (control_from (ItemAt 0 0 0) ∷ [])
     ∷ Some (control_from Entry ∷ [])
@@ -138,7 +139,7 @@ pub whys_a_0 : whys program plan 100000 the_story 0 0 7 ≡
 unfolding terms
 whys_a_0 = refl
 
-pub whys_a_1 : whys program plan 100000 the_story 0 1 3 ≡
+pub whys_a_1 : whys (setting_of program plan 100000) the_story 0 1 3 ≡
     Some (control_from (ItemAt 0 0 0) ∷ [])
     ∷ Some (control_from (ItemAt 0 0 0) ∷ [])
     ∷ None ∷ []
@@ -146,18 +147,18 @@ unfolding terms
 whys_a_1 = refl
 
 -- the call's interval is not near to what lies in the next edge, but to the item that reads from it
-pub nears_a_0 : nears program plan 100000 the_story 0 0 6 ≡ 8 ∷ 8 ∷ 8 ∷ 6 ∷ 8 ∷ 6 ∷ []
+pub nears_a_0 : nears (setting_of program plan 100000) the_story 0 0 6 ≡ 8 ∷ 8 ∷ 8 ∷ 6 ∷ 8 ∷ 6 ∷ []
 unfolding terms
 nears_a_0 = refl
 
-pub nears_a_1 : nears program plan 100000 the_story 0 1 2 ≡ 8 ∷ 8 ∷ []
+pub nears_a_1 : nears (setting_of program plan 100000) the_story 0 1 2 ≡ 8 ∷ 8 ∷ []
 unfolding terms
 nears_a_1 = refl
 
-pub final_x : last program plan 100000 the_story 0 ≡ (pos 4, ItemAt 0 1 0)
+pub final_x : last (setting_of program plan 100000) the_story 0 ≡ (pos 4, ItemAt 0 1 0)
 unfolding terms
 final_x = refl
 
-pub final_y : last program plan 100000 the_story 1 ≡ (pos 1, ItemAt 0 0 3)
+pub final_y : last (setting_of program plan 100000) the_story 1 ≡ (pos 1, ItemAt 0 0 3)
 unfolding terms
 final_y = refl

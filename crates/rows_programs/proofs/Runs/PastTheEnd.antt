@@ -1,4 +1,5 @@
 -- shared int a[2]; process p { int i; a[0] = 5; a[1] = 6; while (a[i] != 0) { i = i + 1; } print(i); }
+use Rattle.ppd_model.specs.Setting.{setting_of}
 use Rattle.std.proofs.Common.{◌≡◌, refl}
 use Rattle.std.specs.Prelude.{ℕ, zero, suc, pos, true, false, List, [], ◌∷◌, Some, None}
 use Rattle.ppd_ast.specs.Term.{terms}
@@ -60,18 +61,18 @@ abbrev pub schedule : List ℕ
 schedule = 0 ∷ 0 ∷ 0 ∷ 0 ∷ 0 ∷ 0 ∷ 0 ∷ 0 ∷ 0 ∷ 0 ∷ []
 
 abbrev pub the_story : Story
-the_story = story program plan 100000 schedule
+the_story = story (setting_of program plan 100000) schedule
 
-nobody : (p : ℕ) → enabled program plan (told program plan 100000 schedule).world p ≡ false
+nobody : (p : ℕ) → enabled program plan (told (setting_of program plan 100000) schedule).world p ≡ false
 unfolding terms
 nobody zero = refl
 nobody (suc p) = refl
 
-pub whole : IsWhole program plan 100000 schedule
+pub whole : IsWhole (setting_of program plan 100000) schedule
 unfolding terms
-whole = record { last = (told program plan 100000 schedule).world; runs = refl; over = record { nobody = nobody } }
+whole = record { last = (told (setting_of program plan 100000) schedule).world; runs = refl; over = record { nobody = nobody } }
 
-pub ends : (close program plan 100000 schedule).ends ≡ ended (status.Trap trap.Index) 3 10 [] ∷ []
+pub ends : (close (setting_of program plan 100000) schedule).ends ≡ ended (status.Trap trap.Index) 3 10 [] ∷ []
 unfolding terms
 ends = refl
 
@@ -86,11 +87,11 @@ events_p =
     ∷ traced (event 4 (access (Local 0 0) (pos 1) ∷ []) (access (Local 0 0) (pos 2) ∷ []) None None None) (Some (id 0 4) ∷ []) (Some (id 0 5)) None
     ∷ traced (event 3 (access (Local 0 0) (pos 2) ∷ []) [] None None (Some trap.Index)) (Some (id 0 6) ∷ []) (Some (id 0 5)) None ∷ []
 
-pub trace : full_trace program plan 100000 (story program plan 100000 schedule) ≡ record { events = events_p ∷ [] }
+pub trace : full_trace (setting_of program plan 100000) (story (setting_of program plan 100000) schedule) ≡ record { events = events_p ∷ [] }
 unfolding terms
 trace = refl
 
-pub synchronizations : sync_record program plan 100000 schedule ≡ [] ∷ []
+pub synchronizations : sync_record (setting_of program plan 100000) schedule ≡ [] ∷ []
 unfolding terms
 synchronizations = refl
 
@@ -98,21 +99,21 @@ pub accesses_p : accesses the_story 0 ≡ touched 0 0 true ∷ touched 0 1 true 
 unfolding terms
 accesses_p = refl
 
-pub race_list : races program plan 100000 schedule ≡ []
+pub race_list : races (setting_of program plan 100000) schedule ≡ []
 unfolding terms
 race_list = refl
 
-pub log : (closed_logs program plan 100000 schedule).lists ≡
+pub log : (closed_logs (setting_of program plan 100000) schedule).lists ≡
     (entry.Prelog 0 [] ∷ entry.Unit 0 (pos 0 ∷ pos 0 ∷ []) ∷ entry.End (status.Trap trap.Index) 9 (0 ∷ 1 ∷ []) (0 ∷ 1 ∷ []) ∷ []) ∷ []
 unfolding terms
 log = refl
 
-pub extents_p : extents program plan 100000 the_story 0 ≡
+pub extents_p : extents (setting_of program plan 100000) the_story 0 ≡
     extent 0 [] 0 None 10 ∷ []
 unfolding terms
 extents_p = refl
 
-pub open_p_0 : items program plan 100000 the_story 0 0 ≡
+pub open_p_0 : items (setting_of program plan 100000) the_story 0 0 ≡
     Some (Own (event 0 [] (access (Local 0 0) (pos 0) ∷ []) None None None)
     ∷ Own (event 1 [] (access (Shared 0) (pos 5) ∷ []) None None None)
     ∷ Own (event 2 [] (access (Shared 1) (pos 6) ∷ []) None None None)
@@ -124,7 +125,7 @@ pub open_p_0 : items program plan 100000 the_story 0 0 ≡
 unfolding terms
 open_p_0 = refl
 
-pub whys_p_0 : whys program plan 100000 the_story 0 0 9 ≡
+pub whys_p_0 : whys (setting_of program plan 100000) the_story 0 0 9 ≡
     Some (control_from Entry ∷ [])
     ∷ Some (control_from Entry ∷ [])
     ∷ Some (control_from Entry ∷ [])
@@ -137,14 +138,14 @@ pub whys_p_0 : whys program plan 100000 the_story 0 0 9 ≡
 unfolding terms
 whys_p_0 = refl
 
-pub nears_p_0 : nears program plan 100000 the_story 0 0 8 ≡ 10 ∷ 10 ∷ 10 ∷ 10 ∷ 10 ∷ 10 ∷ 10 ∷ 10 ∷ []
+pub nears_p_0 : nears (setting_of program plan 100000) the_story 0 0 8 ≡ 10 ∷ 10 ∷ 10 ∷ 10 ∷ 10 ∷ 10 ∷ 10 ∷ 10 ∷ []
 unfolding terms
 nears_p_0 = refl
 
-pub final_a_0 : last program plan 100000 the_story 0 ≡ (pos 5, ItemAt 0 0 1)
+pub final_a_0 : last (setting_of program plan 100000) the_story 0 ≡ (pos 5, ItemAt 0 0 1)
 unfolding terms
 final_a_0 = refl
 
-pub final_a_1 : last program plan 100000 the_story 1 ≡ (pos 6, ItemAt 0 0 2)
+pub final_a_1 : last (setting_of program plan 100000) the_story 1 ≡ (pos 6, ItemAt 0 0 2)
 unfolding terms
 final_a_1 = refl

@@ -1,4 +1,5 @@
 -- int f(int n) { int r; if (n > 0) { r = f(n - 1); } return r + 1; } process a { int v = f(2); print(v); }
+use Rattle.ppd_model.specs.Setting.{setting_of}
 use Rattle.std.proofs.Common.{◌≡◌, refl}
 use Rattle.std.specs.Prelude.{ℕ, zero, suc, pos, true, false, List, [], ◌∷◌, Some, None, replicate, slice_set}
 use Rattle.ppd_ast.specs.Term.{terms}
@@ -59,18 +60,18 @@ abbrev pub schedule : List ℕ
 schedule = 0 ∷ 0 ∷ 0 ∷ 0 ∷ 0 ∷ 0 ∷ 0 ∷ 0 ∷ 0 ∷ 0 ∷ 0 ∷ 0 ∷ 0 ∷ 0 ∷ []
 
 abbrev pub the_story : Story
-the_story = story program plan 100000 schedule
+the_story = story (setting_of program plan 100000) schedule
 
-nobody : (p : ℕ) → enabled program plan (told program plan 100000 schedule).world p ≡ false
+nobody : (p : ℕ) → enabled program plan (told (setting_of program plan 100000) schedule).world p ≡ false
 unfolding terms
 nobody zero = refl
 nobody (suc p) = refl
 
-pub whole : IsWhole program plan 100000 schedule
+pub whole : IsWhole (setting_of program plan 100000) schedule
 unfolding terms
-whole = record { last = (told program plan 100000 schedule).world; runs = refl; over = record { nobody = nobody } }
+whole = record { last = (told (setting_of program plan 100000) schedule).world; runs = refl; over = record { nobody = nobody } }
 
-pub ends : (close program plan 100000 schedule).ends ≡ ended status.Ended 6 14 (pos 3 ∷ []) ∷ []
+pub ends : (close (setting_of program plan 100000) schedule).ends ≡ ended status.Ended 6 14 (pos 3 ∷ []) ∷ []
 unfolding terms
 ends = refl
 
@@ -91,11 +92,11 @@ events_a =
     ∷ traced (event 5 (access (Local 0 0) (pos 3) ∷ []) [] (Some (pos 3)) None None) (Some (id 0 11) ∷ []) None None
     ∷ traced (quiet 6) [] None None ∷ []
 
-pub trace : full_trace program plan 100000 (story program plan 100000 schedule) ≡ record { events = events_a ∷ [] }
+pub trace : full_trace (setting_of program plan 100000) (story (setting_of program plan 100000) schedule) ≡ record { events = events_a ∷ [] }
 unfolding terms
 trace = refl
 
-pub synchronizations : sync_record program plan 100000 schedule ≡ [] ∷ []
+pub synchronizations : sync_record (setting_of program plan 100000) schedule ≡ [] ∷ []
 unfolding terms
 synchronizations = refl
 
@@ -103,16 +104,16 @@ pub accesses_a : accesses the_story 0 ≡ []
 unfolding terms
 accesses_a = refl
 
-pub race_list : races program plan 100000 schedule ≡ []
+pub race_list : races (setting_of program plan 100000) schedule ≡ []
 unfolding terms
 race_list = refl
 
-pub log : (closed_logs program plan 100000 schedule).lists ≡
+pub log : (closed_logs (setting_of program plan 100000) schedule).lists ≡
     (entry.Prelog 1 [] ∷ entry.Unit 2 [] ∷ entry.Prelog 0 (pos 2 ∷ []) ∷ entry.Unit 0 [] ∷ entry.Prelog 0 (pos 1 ∷ []) ∷ entry.Unit 0 [] ∷ entry.Prelog 0 (pos 0 ∷ []) ∷ entry.Unit 0 [] ∷ entry.Postlog 0 (pos 1 ∷ []) ∷ entry.Unit 1 [] ∷ entry.Postlog 0 (pos 2 ∷ []) ∷ entry.Unit 1 [] ∷ entry.Postlog 0 (pos 3 ∷ []) ∷ entry.Unit 3 [] ∷ entry.Postlog 1 [] ∷ entry.End status.Ended 1 [] [] ∷ []) ∷ []
 unfolding terms
 log = refl
 
-pub extents_a : extents program plan 100000 the_story 0 ≡
+pub extents_a : extents (setting_of program plan 100000) the_story 0 ≡
     extent 1 [] 0 (Some 13) 3
     ∷ extent 0 (0 ∷ []) 0 (Some 11) 4
     ∷ extent 0 (1 ∷ 0 ∷ []) 3 (Some 10) 4
@@ -120,7 +121,7 @@ pub extents_a : extents program plan 100000 the_story 0 ≡
 unfolding terms
 extents_a = refl
 
-pub open_a_0 : items program plan 100000 the_story 0 0 ≡
+pub open_a_0 : items (setting_of program plan 100000) the_story 0 0 ≡
     Some (Own (event 4 [] (access (Local 1 0) (pos 2) ∷ []) None None None)
     ∷ Nested 1 0 (pos 3 ∷ []) true
     ∷ Own (event 5 (access (Local 0 0) (pos 3) ∷ []) [] (Some (pos 3)) None None)
@@ -128,7 +129,7 @@ pub open_a_0 : items program plan 100000 the_story 0 0 ≡
 unfolding terms
 open_a_0 = refl
 
-pub open_a_1 : items program plan 100000 the_story 0 1 ≡
+pub open_a_1 : items (setting_of program plan 100000) the_story 0 1 ≡
     Some (Own (event 0 [] (access (Local 0 1) (pos 0) ∷ []) None None None)
     ∷ Own (event 1 (access (Local 0 0) (pos 2) ∷ []) [] (Some (pos 1)) None None)
     ∷ Own (event 2 (access (Local 0 0) (pos 2) ∷ []) (access (Local 1 0) (pos 1) ∷ []) None None None)
@@ -137,7 +138,7 @@ pub open_a_1 : items program plan 100000 the_story 0 1 ≡
 unfolding terms
 open_a_1 = refl
 
-pub open_a_2 : items program plan 100000 the_story 0 2 ≡
+pub open_a_2 : items (setting_of program plan 100000) the_story 0 2 ≡
     Some (Own (event 0 [] (access (Local 0 1) (pos 0) ∷ []) None None None)
     ∷ Own (event 1 (access (Local 0 0) (pos 1) ∷ []) [] (Some (pos 1)) None None)
     ∷ Own (event 2 (access (Local 0 0) (pos 1) ∷ []) (access (Local 1 0) (pos 0) ∷ []) None None None)
@@ -146,14 +147,14 @@ pub open_a_2 : items program plan 100000 the_story 0 2 ≡
 unfolding terms
 open_a_2 = refl
 
-pub open_a_3 : items program plan 100000 the_story 0 3 ≡
+pub open_a_3 : items (setting_of program plan 100000) the_story 0 3 ≡
     Some (Own (event 0 [] (access (Local 0 1) (pos 0) ∷ []) None None None)
     ∷ Own (event 1 (access (Local 0 0) (pos 0) ∷ []) [] (Some (pos 0)) None None)
     ∷ Own (event 3 (access (Local 0 1) (pos 0) ∷ []) [] (Some (pos 1)) None None) ∷ [])
 unfolding terms
 open_a_3 = refl
 
-pub whys_a_0 : whys program plan 100000 the_story 0 0 5 ≡
+pub whys_a_0 : whys (setting_of program plan 100000) the_story 0 0 5 ≡
     Some (control_from Entry ∷ [])
     ∷ Some (returned_from (pos 3) (ItemAt 0 1 4) ∷ control_from (ItemAt 0 0 0) ∷ [])
     ∷ Some (read_from (Local 0 0) (pos 3) (ItemAt 0 1 4) ∷ control_from Entry ∷ [])
@@ -162,7 +163,7 @@ pub whys_a_0 : whys program plan 100000 the_story 0 0 5 ≡
 unfolding terms
 whys_a_0 = refl
 
-pub whys_a_1 : whys program plan 100000 the_story 0 1 6 ≡
+pub whys_a_1 : whys (setting_of program plan 100000) the_story 0 1 6 ≡
     Some (control_from (ItemAt 0 0 0) ∷ [])
     ∷ Some (read_from (Local 0 0) (pos 2) (ItemAt 0 0 0) ∷ control_from (ItemAt 0 0 0) ∷ [])
     ∷ Some (read_from (Local 0 0) (pos 2) (ItemAt 0 0 0) ∷ control_from (ItemAt 0 1 1) ∷ [])
@@ -172,7 +173,7 @@ pub whys_a_1 : whys program plan 100000 the_story 0 1 6 ≡
 unfolding terms
 whys_a_1 = refl
 
-pub whys_a_2 : whys program plan 100000 the_story 0 2 6 ≡
+pub whys_a_2 : whys (setting_of program plan 100000) the_story 0 2 6 ≡
     Some (control_from (ItemAt 0 1 2) ∷ [])
     ∷ Some (read_from (Local 0 0) (pos 1) (ItemAt 0 1 2) ∷ control_from (ItemAt 0 1 2) ∷ [])
     ∷ Some (read_from (Local 0 0) (pos 1) (ItemAt 0 1 2) ∷ control_from (ItemAt 0 2 1) ∷ [])
@@ -182,7 +183,7 @@ pub whys_a_2 : whys program plan 100000 the_story 0 2 6 ≡
 unfolding terms
 whys_a_2 = refl
 
-pub whys_a_3 : whys program plan 100000 the_story 0 3 4 ≡
+pub whys_a_3 : whys (setting_of program plan 100000) the_story 0 3 4 ≡
     Some (control_from (ItemAt 0 2 2) ∷ [])
     ∷ Some (read_from (Local 0 0) (pos 0) (ItemAt 0 2 2) ∷ control_from (ItemAt 0 2 2) ∷ [])
     ∷ Some (read_from (Local 0 1) (pos 0) (ItemAt 0 3 0) ∷ control_from (ItemAt 0 2 2) ∷ [])
@@ -190,19 +191,19 @@ pub whys_a_3 : whys program plan 100000 the_story 0 3 4 ≡
 unfolding terms
 whys_a_3 = refl
 
-pub nears_a_0 : nears program plan 100000 the_story 0 0 4 ≡ 14 ∷ 14 ∷ 14 ∷ 14 ∷ []
+pub nears_a_0 : nears (setting_of program plan 100000) the_story 0 0 4 ≡ 14 ∷ 14 ∷ 14 ∷ 14 ∷ []
 unfolding terms
 nears_a_0 = refl
 
-pub nears_a_1 : nears program plan 100000 the_story 0 1 5 ≡ 14 ∷ 14 ∷ 14 ∷ 14 ∷ 14 ∷ []
+pub nears_a_1 : nears (setting_of program plan 100000) the_story 0 1 5 ≡ 14 ∷ 14 ∷ 14 ∷ 14 ∷ 14 ∷ []
 unfolding terms
 nears_a_1 = refl
 
-pub nears_a_2 : nears program plan 100000 the_story 0 2 5 ≡ 14 ∷ 14 ∷ 14 ∷ 14 ∷ 14 ∷ []
+pub nears_a_2 : nears (setting_of program plan 100000) the_story 0 2 5 ≡ 14 ∷ 14 ∷ 14 ∷ 14 ∷ 14 ∷ []
 unfolding terms
 nears_a_2 = refl
 
-pub nears_a_3 : nears program plan 100000 the_story 0 3 3 ≡ 14 ∷ 14 ∷ 14 ∷ []
+pub nears_a_3 : nears (setting_of program plan 100000) the_story 0 3 3 ≡ 14 ∷ 14 ∷ 14 ∷ []
 unfolding terms
 nears_a_3 = refl
 
@@ -210,11 +211,11 @@ nears_a_3 = refl
 abbrev pub deeper : ℕ → Program
 deeper n = record program { exprs = slice_set program.exprs 10 (expr.Const (pos n)) }
 
-pub ends_63 : (close (deeper 63) plan 100000 (replicate 258 0)).ends ≡ ended status.Ended 6 258 (pos 64 ∷ []) ∷ []
+pub ends_63 : (close (setting_of (deeper 63) plan 100000) (replicate 258 0)).ends ≡ ended status.Ended 6 258 (pos 64 ∷ []) ∷ []
 unfolding terms
 ends_63 = refl
 
 -- the 65th call is one too many
-pub ends_64 : (close (deeper 64) plan 100000 (replicate 193 0)).ends ≡ ended (status.Trap trap.Depth) 2 193 [] ∷ []
+pub ends_64 : (close (setting_of (deeper 64) plan 100000) (replicate 193 0)).ends ≡ ended (status.Trap trap.Depth) 2 193 [] ∷ []
 unfolding terms
 ends_64 = refl

@@ -1,4 +1,5 @@
 -- shared int x; chan c[0]; process a { send(c, 7); x = 2; } process b { int v; print(x); v = recv(c); }
+use Rattle.ppd_model.specs.Setting.{setting_of}
 use Rattle.std.proofs.Common.{◌≡◌, refl}
 use Rattle.std.specs.Prelude.{ℕ, zero, suc, pos, true, false, List, [], ◌∷◌, Some, None}
 use Rattle.ppd_ast.specs.Term.{terms}
@@ -59,24 +60,24 @@ abbrev pub schedule : List ℕ
 schedule = 0 ∷ 1 ∷ 1 ∷ 1 ∷ 1 ∷ 0 ∷ 0 ∷ 0 ∷ 1 ∷ []
 
 abbrev pub the_story : Story
-the_story = story program plan 100000 schedule
+the_story = story (setting_of program plan 100000) schedule
 
-nobody : (p : ℕ) → enabled program plan (told program plan 100000 schedule).world p ≡ false
+nobody : (p : ℕ) → enabled program plan (told (setting_of program plan 100000) schedule).world p ≡ false
 unfolding terms
 nobody zero = refl
 nobody (suc zero) = refl
 nobody (suc (suc p)) = refl
 
-pub whole : IsWhole program plan 100000 schedule
+pub whole : IsWhole (setting_of program plan 100000) schedule
 unfolding terms
-whole = record { last = (told program plan 100000 schedule).world; runs = refl; over = record { nobody = nobody } }
+whole = record { last = (told (setting_of program plan 100000) schedule).world; runs = refl; over = record { nobody = nobody } }
 
 -- the completion waits for the receive
-pub waits : enabled program plan (told program plan 100000 (0 ∷ [])).world 0 ≡ false
+pub waits : enabled program plan (told (setting_of program plan 100000) (0 ∷ [])).world 0 ≡ false
 unfolding terms
 waits = refl
 
-pub ends : (close program plan 100000 schedule).ends ≡ ended status.Ended 2 4 [] ∷ ended status.Ended 6 5 (pos 0 ∷ []) ∷ []
+pub ends : (close (setting_of program plan 100000) schedule).ends ≡ ended status.Ended 2 4 [] ∷ ended status.Ended 6 5 (pos 0 ∷ []) ∷ []
 unfolding terms
 ends = refl
 
@@ -94,11 +95,11 @@ events_b =
     ∷ traced (event 5 [] (access (Local 0 0) (pos 7) ∷ []) None (Some 1) None) [] None (Some (id 0 0))
     ∷ traced (quiet 6) [] None None ∷ []
 
-pub trace : full_trace program plan 100000 (story program plan 100000 schedule) ≡ record { events = events_a ∷ events_b ∷ [] }
+pub trace : full_trace (setting_of program plan 100000) (story (setting_of program plan 100000) schedule) ≡ record { events = events_a ∷ events_b ∷ [] }
 unfolding terms
 trace = refl
 
-pub synchronizations : sync_record program plan 100000 schedule ≡ (synced sync.Send 0 1 ∷ synced sync.Done 0 1 ∷ []) ∷ (synced sync.Recv 0 1 ∷ []) ∷ []
+pub synchronizations : sync_record (setting_of program plan 100000) schedule ≡ (synced sync.Send 0 1 ∷ synced sync.Done 0 1 ∷ []) ∷ (synced sync.Recv 0 1 ∷ []) ∷ []
 unfolding terms
 synchronizations = refl
 
@@ -110,18 +111,18 @@ pub accesses_b : accesses the_story 1 ≡ touched 0 0 false ∷ []
 unfolding terms
 accesses_b = refl
 
-pub race_list : races program plan 100000 schedule ≡ []
+pub race_list : races (setting_of program plan 100000) schedule ≡ []
 unfolding terms
 race_list = refl
 
 -- no unit starts after the offer
-pub log : (closed_logs program plan 100000 schedule).lists ≡
+pub log : (closed_logs (setting_of program plan 100000) schedule).lists ≡
     (entry.Prelog 0 [] ∷ entry.Unit 0 [] ∷ entry.Sync sync.Send 0 1 (pos 7) [] [] ∷ entry.Sync sync.Done 0 1 (pos 0) [] [] ∷ entry.Unit 1 [] ∷ entry.Postlog 0 [] ∷ entry.End status.Ended 1 [] (0 ∷ []) ∷ [])
     ∷ (entry.Prelog 1 [] ∷ entry.Unit 2 (pos 0 ∷ []) ∷ entry.Sync sync.Recv 0 1 (pos 7) (0 ∷ []) [] ∷ entry.Unit 3 [] ∷ entry.Postlog 1 [] ∷ entry.End status.Ended 0 [] [] ∷ []) ∷ []
 unfolding terms
 log = refl
 
-pub whys_a_0 : whys program plan 100000 the_story 0 0 5 ≡
+pub whys_a_0 : whys (setting_of program plan 100000) the_story 0 0 5 ≡
     Some (control_from Entry ∷ [])
     ∷ Some (sync_from (ItemAt 1 0 2) ∷ control_from Entry ∷ [])
     ∷ Some (control_from Entry ∷ [])
@@ -130,14 +131,14 @@ pub whys_a_0 : whys program plan 100000 the_story 0 0 5 ≡
 unfolding terms
 whys_a_0 = refl
 
-pub final_x : last program plan 100000 the_story 0 ≡ (pos 2, ItemAt 0 0 2)
+pub final_x : last (setting_of program plan 100000) the_story 0 ≡ (pos 2, ItemAt 0 0 2)
 unfolding terms
 final_x = refl
 
 -- every schedule ends so, with no race
-pub every : (h : List ℕ) → IsWhole program plan 100000 h → outcome program plan 100000 h ≡ (ended status.Ended 2 4 [] ∷ ended status.Ended 6 5 (pos 0 ∷ []) ∷ [], [])
+pub every : (h : List ℕ) → IsWhole (setting_of program plan 100000) h → outcome (setting_of program plan 100000) h ≡ (ended status.Ended 2 4 [] ∷ ended status.Ended 6 5 (pos 0 ∷ []) ∷ [], [])
 unfolding terms
-every h whole = every_whole program plan 100000 10 16 (outcome program plan 100000) _ refl refl h whole
+every h whole = every_whole program plan 100000 10 16 (outcome (setting_of program plan 100000)) _ refl refl h whole
 
 -- ---- with capacity 1
 
@@ -145,6 +146,6 @@ abbrev pub buffered : Program
 buffered = record program { chans = record { name = 99 ∷ []; capacity = 1 } ∷ [] }
 
 -- every schedule has the one race
-pub every_buffered : (h : List ℕ) → IsWhole buffered plan 100000 h → races buffered plan 100000 h ≡ race 0 1 1 0 0 WriteRead ∷ []
+pub every_buffered : (h : List ℕ) → IsWhole (setting_of buffered plan 100000) h → races (setting_of buffered plan 100000) h ≡ race 0 1 1 0 0 WriteRead ∷ []
 unfolding terms
-every_buffered h whole = every_whole buffered plan 100000 9 52 (races buffered plan 100000) _ refl refl h whole
+every_buffered h whole = every_whole buffered plan 100000 9 52 (races (setting_of buffered plan 100000)) _ refl refl h whole

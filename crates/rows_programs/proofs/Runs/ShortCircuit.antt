@@ -1,4 +1,5 @@
 -- shared int a[2]; process p { int i; a[0] = 5; a[1] = 6; while (i < 2 && a[i] != 0) { i = i + 1; } print(i); }
+use Rattle.ppd_model.specs.Setting.{setting_of}
 use Rattle.std.proofs.Common.{◌≡◌, refl}
 use Rattle.std.specs.Prelude.{ℕ, zero, suc, pos, true, false, List, [], ◌∷◌, Some, None}
 use Rattle.ppd_ast.specs.Term.{terms}
@@ -59,18 +60,18 @@ abbrev pub schedule : List ℕ
 schedule = 0 ∷ 0 ∷ 0 ∷ 0 ∷ 0 ∷ 0 ∷ 0 ∷ 0 ∷ 0 ∷ 0 ∷ 0 ∷ 0 ∷ []
 
 abbrev pub the_story : Story
-the_story = story program plan 100000 schedule
+the_story = story (setting_of program plan 100000) schedule
 
-nobody : (p : ℕ) → enabled program plan (told program plan 100000 schedule).world p ≡ false
+nobody : (p : ℕ) → enabled program plan (told (setting_of program plan 100000) schedule).world p ≡ false
 unfolding terms
 nobody zero = refl
 nobody (suc p) = refl
 
-pub whole : IsWhole program plan 100000 schedule
+pub whole : IsWhole (setting_of program plan 100000) schedule
 unfolding terms
-whole = record { last = (told program plan 100000 schedule).world; runs = refl; over = record { nobody = nobody } }
+whole = record { last = (told (setting_of program plan 100000) schedule).world; runs = refl; over = record { nobody = nobody } }
 
-pub ends : (close program plan 100000 schedule).ends ≡ ended status.Ended 6 12 (pos 2 ∷ []) ∷ []
+pub ends : (close (setting_of program plan 100000) schedule).ends ≡ ended status.Ended 6 12 (pos 2 ∷ []) ∷ []
 unfolding terms
 ends = refl
 
@@ -87,11 +88,11 @@ events_p =
     ∷ traced (event 5 (access (Local 0 0) (pos 2) ∷ []) [] (Some (pos 2)) None None) (Some (id 0 6) ∷ []) None None
     ∷ traced (quiet 6) [] None None ∷ []
 
-pub trace : full_trace program plan 100000 (story program plan 100000 schedule) ≡ record { events = events_p ∷ [] }
+pub trace : full_trace (setting_of program plan 100000) (story (setting_of program plan 100000) schedule) ≡ record { events = events_p ∷ [] }
 unfolding terms
 trace = refl
 
-pub synchronizations : sync_record program plan 100000 schedule ≡ [] ∷ []
+pub synchronizations : sync_record (setting_of program plan 100000) schedule ≡ [] ∷ []
 unfolding terms
 synchronizations = refl
 
@@ -99,21 +100,21 @@ pub accesses_p : accesses the_story 0 ≡ touched 0 0 true ∷ touched 0 1 true 
 unfolding terms
 accesses_p = refl
 
-pub race_list : races program plan 100000 schedule ≡ []
+pub race_list : races (setting_of program plan 100000) schedule ≡ []
 unfolding terms
 race_list = refl
 
-pub log : (closed_logs program plan 100000 schedule).lists ≡
+pub log : (closed_logs (setting_of program plan 100000) schedule).lists ≡
     (entry.Prelog 0 [] ∷ entry.Unit 0 (pos 0 ∷ pos 0 ∷ []) ∷ entry.Postlog 0 [] ∷ entry.End status.Ended 11 (0 ∷ 1 ∷ []) (0 ∷ 1 ∷ []) ∷ []) ∷ []
 unfolding terms
 log = refl
 
-pub extents_p : extents program plan 100000 the_story 0 ≡
+pub extents_p : extents (setting_of program plan 100000) the_story 0 ≡
     extent 0 [] 0 (Some 11) 12 ∷ []
 unfolding terms
 extents_p = refl
 
-pub open_p_0 : items program plan 100000 the_story 0 0 ≡
+pub open_p_0 : items (setting_of program plan 100000) the_story 0 0 ≡
     Some (Own (event 0 [] (access (Local 0 0) (pos 0) ∷ []) None None None)
     ∷ Own (event 1 [] (access (Shared 0) (pos 5) ∷ []) None None None)
     ∷ Own (event 2 [] (access (Shared 1) (pos 6) ∷ []) None None None)
@@ -127,7 +128,7 @@ pub open_p_0 : items program plan 100000 the_story 0 0 ≡
 unfolding terms
 open_p_0 = refl
 
-pub whys_p_0 : whys program plan 100000 the_story 0 0 11 ≡
+pub whys_p_0 : whys (setting_of program plan 100000) the_story 0 0 11 ≡
     Some (control_from Entry ∷ [])
     ∷ Some (control_from Entry ∷ [])
     ∷ Some (control_from Entry ∷ [])
@@ -142,14 +143,14 @@ pub whys_p_0 : whys program plan 100000 the_story 0 0 11 ≡
 unfolding terms
 whys_p_0 = refl
 
-pub nears_p_0 : nears program plan 100000 the_story 0 0 10 ≡ 12 ∷ 12 ∷ 12 ∷ 12 ∷ 12 ∷ 12 ∷ 12 ∷ 12 ∷ 12 ∷ 12 ∷ []
+pub nears_p_0 : nears (setting_of program plan 100000) the_story 0 0 10 ≡ 12 ∷ 12 ∷ 12 ∷ 12 ∷ 12 ∷ 12 ∷ 12 ∷ 12 ∷ 12 ∷ 12 ∷ []
 unfolding terms
 nears_p_0 = refl
 
-pub final_a_0 : last program plan 100000 the_story 0 ≡ (pos 5, ItemAt 0 0 1)
+pub final_a_0 : last (setting_of program plan 100000) the_story 0 ≡ (pos 5, ItemAt 0 0 1)
 unfolding terms
 final_a_0 = refl
 
-pub final_a_1 : last program plan 100000 the_story 1 ≡ (pos 6, ItemAt 0 0 2)
+pub final_a_1 : last (setting_of program plan 100000) the_story 1 ≡ (pos 6, ItemAt 0 0 2)
 unfolding terms
 final_a_1 = refl

@@ -1,8 +1,7 @@
 -- What the rows state of a record, of a process's intervals and of all the items of an interval.
+use Rattle.ppd_model.specs.Setting.{Setting}
 use Rattle.std.specs.Prelude.{ℕ, Bool, List, map, Option}
 use Rattle.std.specs.List.{range_with_len}
-use Rattle.ppd_ast.specs.declared.plan.Plan.{Plan}
-use Rattle.ppd_ast.specs.declared.program.Program.{Program}
 use Rattle.ppd_ast.specs.declared.status.SyncKind.{SyncKind}
 use Rattle.ppd_model.specs.declared.flow.FlowEdge.{FlowEdge}
 use Rattle.ppd_model.specs.declared.tracing.Story.{Story}
@@ -33,14 +32,14 @@ abbrev pub extent : ℕ → List ℕ → ℕ → Option ℕ → ℕ → Extent
 extent block round opened closed steps = record { block = block; round = round; opened = opened; closed = closed; steps = steps }
 
 -- all intervals of process p
-abbrev pub extents : Program → Plan → ℕ → Story → ℕ → List Extent
-extents program plan budget story p =
-    map (λ i. extent i.block i.round i.opened i.closed i.steps) (intervals program plan budget story p)
+abbrev pub extents : Setting → Story → ℕ → List Extent
+extents setting story p =
+    map (λ i. extent i.block i.round i.opened i.closed i.steps) (intervals setting story p)
 
 -- the edges of the first n items of interval k of process p, and None for each that is not there
-abbrev pub whys : Program → Plan → ℕ → Story → ℕ → ℕ → ℕ → List (Option (List FlowEdge))
-whys program plan budget story p k n = map (edges program plan budget story p k) (range_with_len 0 n)
+abbrev pub whys : Setting → Story → ℕ → ℕ → ℕ → List (Option (List FlowEdge))
+whys setting story p k n = map (edges setting story p k) (range_with_len 0 n)
 
 -- of each of the first n items, the own steps of the intervals near to it
-abbrev pub nears : Program → Plan → ℕ → Story → ℕ → ℕ → ℕ → List ℕ
-nears program plan budget story p k n = map (near_steps program plan budget story p k) (range_with_len 0 n)
+abbrev pub nears : Setting → Story → ℕ → ℕ → ℕ → List ℕ
+nears setting story p k n = map (near_steps setting story p k) (range_with_len 0 n)

@@ -1,4 +1,5 @@
 -- shared int x; process a { x = 2; print(x + 3); }
+use Rattle.ppd_model.specs.Setting.{setting_of}
 use Rattle.std.proofs.Common.{◌≡◌, refl}
 use Rattle.std.specs.Prelude.{ℕ, zero, suc, pos, true, false, List, [], ◌∷◌, Some, None}
 use Rattle.ppd_ast.specs.Term.{terms}
@@ -55,18 +56,18 @@ abbrev pub schedule : List ℕ
 schedule = 0 ∷ 0 ∷ 0 ∷ 0 ∷ []
 
 abbrev pub the_story : Story
-the_story = story program plan 100000 schedule
+the_story = story (setting_of program plan 100000) schedule
 
-nobody : (p : ℕ) → enabled program plan (told program plan 100000 schedule).world p ≡ false
+nobody : (p : ℕ) → enabled program plan (told (setting_of program plan 100000) schedule).world p ≡ false
 unfolding terms
 nobody zero = refl
 nobody (suc p) = refl
 
-pub whole : IsWhole program plan 100000 schedule
+pub whole : IsWhole (setting_of program plan 100000) schedule
 unfolding terms
-whole = record { last = (told program plan 100000 schedule).world; runs = refl; over = record { nobody = nobody } }
+whole = record { last = (told (setting_of program plan 100000) schedule).world; runs = refl; over = record { nobody = nobody } }
 
-pub ends : (close program plan 100000 schedule).ends ≡ ended status.Ended 2 4 (pos 5 ∷ []) ∷ []
+pub ends : (close (setting_of program plan 100000) schedule).ends ≡ ended status.Ended 2 4 (pos 5 ∷ []) ∷ []
 unfolding terms
 ends = refl
 
@@ -76,11 +77,11 @@ events_a =
     ∷ traced (event 1 (access (Shared 0) (pos 2) ∷ []) [] (Some (pos 5)) None None) (Some (id 0 0) ∷ []) None None
     ∷ traced (quiet 2) [] None None ∷ []
 
-pub trace : full_trace program plan 100000 (story program plan 100000 schedule) ≡ record { events = events_a ∷ [] }
+pub trace : full_trace (setting_of program plan 100000) (story (setting_of program plan 100000) schedule) ≡ record { events = events_a ∷ [] }
 unfolding terms
 trace = refl
 
-pub synchronizations : sync_record program plan 100000 schedule ≡ [] ∷ []
+pub synchronizations : sync_record (setting_of program plan 100000) schedule ≡ [] ∷ []
 unfolding terms
 synchronizations = refl
 
@@ -88,28 +89,28 @@ pub accesses_a : accesses the_story 0 ≡ touched 0 0 true ∷ touched 0 0 false
 unfolding terms
 accesses_a = refl
 
-pub race_list : races program plan 100000 schedule ≡ []
+pub race_list : races (setting_of program plan 100000) schedule ≡ []
 unfolding terms
 race_list = refl
 
-pub log : (closed_logs program plan 100000 schedule).lists ≡
+pub log : (closed_logs (setting_of program plan 100000) schedule).lists ≡
     (entry.Prelog 0 [] ∷ entry.Unit 0 (pos 0 ∷ []) ∷ entry.Postlog 0 [] ∷ entry.End status.Ended 3 (0 ∷ []) (0 ∷ []) ∷ []) ∷ []
 unfolding terms
 log = refl
 
-pub extents_a : extents program plan 100000 the_story 0 ≡
+pub extents_a : extents (setting_of program plan 100000) the_story 0 ≡
     extent 0 [] 0 (Some 3) 4 ∷ []
 unfolding terms
 extents_a = refl
 
-pub open_a_0 : items program plan 100000 the_story 0 0 ≡
+pub open_a_0 : items (setting_of program plan 100000) the_story 0 0 ≡
     Some (Own (event 0 [] (access (Shared 0) (pos 2) ∷ []) None None None)
     ∷ Own (event 1 (access (Shared 0) (pos 2) ∷ []) [] (Some (pos 5)) None None)
     ∷ Own (quiet 2) ∷ [])
 unfolding terms
 open_a_0 = refl
 
-pub whys_a_0 : whys program plan 100000 the_story 0 0 4 ≡
+pub whys_a_0 : whys (setting_of program plan 100000) the_story 0 0 4 ≡
     Some (control_from Entry ∷ [])
     ∷ Some (read_from (Shared 0) (pos 2) (ItemAt 0 0 0) ∷ control_from Entry ∷ [])
     ∷ Some (control_from Entry ∷ [])
@@ -117,10 +118,10 @@ pub whys_a_0 : whys program plan 100000 the_story 0 0 4 ≡
 unfolding terms
 whys_a_0 = refl
 
-pub nears_a_0 : nears program plan 100000 the_story 0 0 3 ≡ 4 ∷ 4 ∷ 4 ∷ []
+pub nears_a_0 : nears (setting_of program plan 100000) the_story 0 0 3 ≡ 4 ∷ 4 ∷ 4 ∷ []
 unfolding terms
 nears_a_0 = refl
 
-pub final_x : last program plan 100000 the_story 0 ≡ (pos 2, ItemAt 0 0 0)
+pub final_x : last (setting_of program plan 100000) the_story 0 ≡ (pos 2, ItemAt 0 0 0)
 unfolding terms
 final_x = refl

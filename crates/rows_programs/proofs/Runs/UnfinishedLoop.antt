@@ -1,4 +1,5 @@
 -- shared int x; int f(int n) { int i; while (i < n) { i = i + 1; x = 1 / (2 - i); } return i; } process a { int v = f(3); print(v); }
+use Rattle.ppd_model.specs.Setting.{setting_of}
 use Rattle.std.proofs.Common.{◌≡◌, refl}
 use Rattle.std.specs.Prelude.{ℕ, zero, suc, pos, true, false, List, [], ◌∷◌, Some, None}
 use Rattle.ppd_ast.specs.Term.{terms}
@@ -62,19 +63,19 @@ abbrev pub schedule : List ℕ
 schedule = 0 ∷ 0 ∷ 0 ∷ 0 ∷ 0 ∷ 0 ∷ 0 ∷ 0 ∷ 0 ∷ []
 
 abbrev pub the_story : Story
-the_story = story program plan 100000 schedule
+the_story = story (setting_of program plan 100000) schedule
 
-nobody : (p : ℕ) → enabled program plan (told program plan 100000 schedule).world p ≡ false
+nobody : (p : ℕ) → enabled program plan (told (setting_of program plan 100000) schedule).world p ≡ false
 unfolding terms
 nobody zero = refl
 nobody (suc p) = refl
 
-pub whole : IsWhole program plan 100000 schedule
+pub whole : IsWhole (setting_of program plan 100000) schedule
 unfolding terms
-whole = record { last = (told program plan 100000 schedule).world; runs = refl; over = record { nobody = nobody } }
+whole = record { last = (told (setting_of program plan 100000) schedule).world; runs = refl; over = record { nobody = nobody } }
 
 -- 1 / (2 - 2)
-pub ends : (close program plan 100000 schedule).ends ≡ ended (status.Trap trap.Zero) 3 9 [] ∷ []
+pub ends : (close (setting_of program plan 100000) schedule).ends ≡ ended (status.Trap trap.Zero) 3 9 [] ∷ []
 unfolding terms
 ends = refl
 
@@ -89,11 +90,11 @@ events_a =
     ∷ traced (event 2 (access (Local 0 1) (pos 1) ∷ []) (access (Local 0 1) (pos 2) ∷ []) None None None) (Some (id 0 3) ∷ []) (Some (id 0 5)) None
     ∷ traced (event 3 (access (Local 0 1) (pos 2) ∷ []) [] None None (Some trap.Zero)) (Some (id 0 6) ∷ []) (Some (id 0 5)) None ∷ []
 
-pub trace : full_trace program plan 100000 (story program plan 100000 schedule) ≡ record { events = events_a ∷ [] }
+pub trace : full_trace (setting_of program plan 100000) (story (setting_of program plan 100000) schedule) ≡ record { events = events_a ∷ [] }
 unfolding terms
 trace = refl
 
-pub synchronizations : sync_record program plan 100000 schedule ≡ [] ∷ []
+pub synchronizations : sync_record (setting_of program plan 100000) schedule ≡ [] ∷ []
 unfolding terms
 synchronizations = refl
 
@@ -101,35 +102,35 @@ pub accesses_a : accesses the_story 0 ≡ touched 0 0 true ∷ []
 unfolding terms
 accesses_a = refl
 
-pub race_list : races program plan 100000 schedule ≡ []
+pub race_list : races (setting_of program plan 100000) schedule ≡ []
 unfolding terms
 race_list = refl
 
-pub log : (closed_logs program plan 100000 schedule).lists ≡
+pub log : (closed_logs (setting_of program plan 100000) schedule).lists ≡
     (entry.Prelog 2 [] ∷ entry.Unit 3 [] ∷ entry.Prelog 0 (pos 3 ∷ []) ∷ entry.Unit 0 [] ∷ entry.Prelog 1 (pos 3 ∷ pos 0 ∷ []) ∷ entry.Unit 1 [] ∷ entry.End (status.Trap trap.Zero) 5 [] (0 ∷ []) ∷ []) ∷ []
 unfolding terms
 log = refl
 
-pub extents_a : extents program plan 100000 the_story 0 ≡
+pub extents_a : extents (setting_of program plan 100000) the_story 0 ≡
     extent 2 [] 0 None 1
     ∷ extent 0 (0 ∷ []) 0 None 2
     ∷ extent 1 (1 ∷ 0 ∷ []) 2 None 6 ∷ []
 unfolding terms
 extents_a = refl
 
-pub open_a_0 : items program plan 100000 the_story 0 0 ≡
+pub open_a_0 : items (setting_of program plan 100000) the_story 0 0 ≡
     Some (Own (event 5 [] (access (Local 1 0) (pos 3) ∷ []) None None None)
     ∷ Nested 1 0 [] false ∷ [])
 unfolding terms
 open_a_0 = refl
 
-pub open_a_1 : items program plan 100000 the_story 0 1 ≡
+pub open_a_1 : items (setting_of program plan 100000) the_story 0 1 ≡
     Some (Own (event 0 [] (access (Local 0 1) (pos 0) ∷ []) None None None)
     ∷ Nested 2 1 [] false ∷ [])
 unfolding terms
 open_a_1 = refl
 
-pub open_a_2 : items program plan 100000 the_story 0 2 ≡
+pub open_a_2 : items (setting_of program plan 100000) the_story 0 2 ≡
     Some (Own (event 1 (access (Local 0 1) (pos 0) ∷ access (Local 0 0) (pos 3) ∷ []) [] (Some (pos 1)) None None)
     ∷ Own (event 2 (access (Local 0 1) (pos 0) ∷ []) (access (Local 0 1) (pos 1) ∷ []) None None None)
     ∷ Own (event 3 (access (Local 0 1) (pos 1) ∷ []) (access (Shared 0) (pos 1) ∷ []) None None None)
@@ -140,21 +141,21 @@ unfolding terms
 open_a_2 = refl
 
 -- an interval that was not left has the control edge alone
-pub whys_a_0 : whys program plan 100000 the_story 0 0 3 ≡
+pub whys_a_0 : whys (setting_of program plan 100000) the_story 0 0 3 ≡
     Some (control_from Entry ∷ [])
     ∷ Some (control_from (ItemAt 0 0 0) ∷ [])
     ∷ None ∷ []
 unfolding terms
 whys_a_0 = refl
 
-pub whys_a_1 : whys program plan 100000 the_story 0 1 3 ≡
+pub whys_a_1 : whys (setting_of program plan 100000) the_story 0 1 3 ≡
     Some (control_from (ItemAt 0 0 0) ∷ [])
     ∷ Some (control_from (ItemAt 0 0 0) ∷ [])
     ∷ None ∷ []
 unfolding terms
 whys_a_1 = refl
 
-pub whys_a_2 : whys program plan 100000 the_story 0 2 7 ≡
+pub whys_a_2 : whys (setting_of program plan 100000) the_story 0 2 7 ≡
     Some (read_from (Local 0 1) (pos 0) (ItemAt 0 1 0) ∷ read_from (Local 0 0) (pos 3) (ItemAt 0 0 0) ∷ control_from (ItemAt 0 0 0) ∷ [])
     ∷ Some (read_from (Local 0 1) (pos 0) (ItemAt 0 1 0) ∷ control_from (ItemAt 0 2 0) ∷ [])
     ∷ Some (read_from (Local 0 1) (pos 1) (ItemAt 0 2 1) ∷ control_from (ItemAt 0 2 0) ∷ [])
@@ -165,18 +166,18 @@ pub whys_a_2 : whys program plan 100000 the_story 0 2 7 ≡
 unfolding terms
 whys_a_2 = refl
 
-pub nears_a_0 : nears program plan 100000 the_story 0 0 2 ≡ 9 ∷ 9 ∷ []
+pub nears_a_0 : nears (setting_of program plan 100000) the_story 0 0 2 ≡ 9 ∷ 9 ∷ []
 unfolding terms
 nears_a_0 = refl
 
-pub nears_a_1 : nears program plan 100000 the_story 0 1 2 ≡ 9 ∷ 9 ∷ []
+pub nears_a_1 : nears (setting_of program plan 100000) the_story 0 1 2 ≡ 9 ∷ 9 ∷ []
 unfolding terms
 nears_a_1 = refl
 
-pub nears_a_2 : nears program plan 100000 the_story 0 2 6 ≡ 9 ∷ 9 ∷ 9 ∷ 9 ∷ 9 ∷ 9 ∷ []
+pub nears_a_2 : nears (setting_of program plan 100000) the_story 0 2 6 ≡ 9 ∷ 9 ∷ 9 ∷ 9 ∷ 9 ∷ 9 ∷ []
 unfolding terms
 nears_a_2 = refl
 
-pub final_x : last program plan 100000 the_story 0 ≡ (pos 1, ItemAt 0 2 2)
+pub final_x : last (setting_of program plan 100000) the_story 0 ≡ (pos 1, ItemAt 0 2 2)
 unfolding terms
 final_x = refl

@@ -1,4 +1,5 @@
 -- shared int x, y; sem s = 1; process p { P(s); if (y) { print(x); } } process q { x = 5; }
+use Rattle.ppd_model.specs.Setting.{setting_of}
 use Rattle.std.proofs.Common.{◌≡◌, refl}
 use Rattle.std.specs.Prelude.{ℕ, zero, suc, pos, true, false, List, [], ◌∷◌, Some, None}
 use Rattle.ppd_ast.specs.Term.{terms}
@@ -60,19 +61,19 @@ abbrev pub first : List ℕ
 first = 0 ∷ 0 ∷ 0 ∷ 0 ∷ 1 ∷ 1 ∷ []
 
 abbrev pub story_first : Story
-story_first = story program plan 100000 first
+story_first = story (setting_of program plan 100000) first
 
-nobody_first : (p : ℕ) → enabled program plan (told program plan 100000 first).world p ≡ false
+nobody_first : (p : ℕ) → enabled program plan (told (setting_of program plan 100000) first).world p ≡ false
 unfolding terms
 nobody_first zero = refl
 nobody_first (suc zero) = refl
 nobody_first (suc (suc p)) = refl
 
-pub whole_first : IsWhole program plan 100000 first
+pub whole_first : IsWhole (setting_of program plan 100000) first
 unfolding terms
-whole_first = record { last = (told program plan 100000 first).world; runs = refl; over = record { nobody = nobody_first } }
+whole_first = record { last = (told (setting_of program plan 100000) first).world; runs = refl; over = record { nobody = nobody_first } }
 
-pub ends_first : (close program plan 100000 first).ends ≡ ended status.Ended 3 4 [] ∷ ended status.Ended 5 2 [] ∷ []
+pub ends_first : (close (setting_of program plan 100000) first).ends ≡ ended status.Ended 3 4 [] ∷ ended status.Ended 5 2 [] ∷ []
 unfolding terms
 ends_first = refl
 
@@ -87,11 +88,11 @@ events_q_first =
     traced (event 4 [] (access (Shared 0) (pos 5) ∷ []) None None None) [] None None
     ∷ traced (quiet 5) [] None None ∷ []
 
-pub trace_first : full_trace program plan 100000 (story program plan 100000 first) ≡ record { events = events_p_first ∷ events_q_first ∷ [] }
+pub trace_first : full_trace (setting_of program plan 100000) (story (setting_of program plan 100000) first) ≡ record { events = events_p_first ∷ events_q_first ∷ [] }
 unfolding terms
 trace_first = refl
 
-pub synchronizations_first : sync_record program plan 100000 first ≡ (synced sync.P 0 1 ∷ []) ∷ [] ∷ []
+pub synchronizations_first : sync_record (setting_of program plan 100000) first ≡ (synced sync.P 0 1 ∷ []) ∷ [] ∷ []
 unfolding terms
 synchronizations_first = refl
 
@@ -103,40 +104,40 @@ pub accesses_q_first : accesses story_first 1 ≡ touched 0 0 true ∷ []
 unfolding terms
 accesses_q_first = refl
 
-pub races_first : races program plan 100000 first ≡ []
+pub races_first : races (setting_of program plan 100000) first ≡ []
 unfolding terms
 races_first = refl
 
-pub logs_first : (closed_logs program plan 100000 first).lists ≡
+pub logs_first : (closed_logs (setting_of program plan 100000) first).lists ≡
     (entry.Prelog 0 [] ∷ entry.Unit 0 [] ∷ entry.Sync sync.P 0 1 (pos 0) [] [] ∷ entry.Unit 1 (pos 0 ∷ pos 0 ∷ []) ∷ entry.Postlog 0 [] ∷ entry.End status.Ended 2 (1 ∷ []) [] ∷ [])
     ∷ (entry.Prelog 1 [] ∷ entry.Unit 2 [] ∷ entry.Postlog 1 [] ∷ entry.End status.Ended 1 [] (0 ∷ []) ∷ []) ∷ []
 unfolding terms
 logs_first = refl
 
-pub extents_p_first : extents program plan 100000 story_first 0 ≡
+pub extents_p_first : extents (setting_of program plan 100000) story_first 0 ≡
     extent 0 [] 0 (Some 3) 4 ∷ []
 unfolding terms
 extents_p_first = refl
 
-pub extents_q_first : extents program plan 100000 story_first 1 ≡
+pub extents_q_first : extents (setting_of program plan 100000) story_first 1 ≡
     extent 1 [] 0 (Some 1) 2 ∷ []
 unfolding terms
 extents_q_first = refl
 
-pub open_p_0_first : items program plan 100000 story_first 0 0 ≡
+pub open_p_0_first : items (setting_of program plan 100000) story_first 0 0 ≡
     Some (Own (event 0 [] [] None (Some 1) None)
     ∷ Own (event 1 (access (Shared 1) (pos 0) ∷ []) [] (Some (pos 0)) None None)
     ∷ Own (quiet 3) ∷ [])
 unfolding terms
 open_p_0_first = refl
 
-pub open_q_0_first : items program plan 100000 story_first 1 0 ≡
+pub open_q_0_first : items (setting_of program plan 100000) story_first 1 0 ≡
     Some (Own (event 4 [] (access (Shared 0) (pos 5) ∷ []) None None None)
     ∷ Own (quiet 5) ∷ [])
 unfolding terms
 open_q_0_first = refl
 
-pub whys_p_0_first : whys program plan 100000 story_first 0 0 4 ≡
+pub whys_p_0_first : whys (setting_of program plan 100000) story_first 0 0 4 ≡
     Some (sync_from Initial ∷ control_from Entry ∷ [])
     ∷ Some (read_from (Shared 1) (pos 0) Initial ∷ control_from Entry ∷ [])
     ∷ Some (control_from Entry ∷ [])
@@ -144,26 +145,26 @@ pub whys_p_0_first : whys program plan 100000 story_first 0 0 4 ≡
 unfolding terms
 whys_p_0_first = refl
 
-pub whys_q_0_first : whys program plan 100000 story_first 1 0 3 ≡
+pub whys_q_0_first : whys (setting_of program plan 100000) story_first 1 0 3 ≡
     Some (control_from Entry ∷ [])
     ∷ Some (control_from Entry ∷ [])
     ∷ None ∷ []
 unfolding terms
 whys_q_0_first = refl
 
-pub nears_p_0_first : nears program plan 100000 story_first 0 0 3 ≡ 4 ∷ 4 ∷ 4 ∷ []
+pub nears_p_0_first : nears (setting_of program plan 100000) story_first 0 0 3 ≡ 4 ∷ 4 ∷ 4 ∷ []
 unfolding terms
 nears_p_0_first = refl
 
-pub nears_q_0_first : nears program plan 100000 story_first 1 0 2 ≡ 2 ∷ 2 ∷ []
+pub nears_q_0_first : nears (setting_of program plan 100000) story_first 1 0 2 ≡ 2 ∷ 2 ∷ []
 unfolding terms
 nears_q_0_first = refl
 
-pub final_x_first : last program plan 100000 story_first 0 ≡ (pos 5, ItemAt 1 0 0)
+pub final_x_first : last (setting_of program plan 100000) story_first 0 ≡ (pos 5, ItemAt 1 0 0)
 unfolding terms
 final_x_first = refl
 
-pub final_y_first : last program plan 100000 story_first 1 ≡ (pos 0, Initial)
+pub final_y_first : last (setting_of program plan 100000) story_first 1 ≡ (pos 0, Initial)
 unfolding terms
 final_y_first = refl
 
@@ -171,19 +172,19 @@ abbrev pub second : List ℕ
 second = 1 ∷ 1 ∷ 0 ∷ 0 ∷ 0 ∷ 0 ∷ []
 
 abbrev pub story_second : Story
-story_second = story program plan 100000 second
+story_second = story (setting_of program plan 100000) second
 
-nobody_second : (p : ℕ) → enabled program plan (told program plan 100000 second).world p ≡ false
+nobody_second : (p : ℕ) → enabled program plan (told (setting_of program plan 100000) second).world p ≡ false
 unfolding terms
 nobody_second zero = refl
 nobody_second (suc zero) = refl
 nobody_second (suc (suc p)) = refl
 
-pub whole_second : IsWhole program plan 100000 second
+pub whole_second : IsWhole (setting_of program plan 100000) second
 unfolding terms
-whole_second = record { last = (told program plan 100000 second).world; runs = refl; over = record { nobody = nobody_second } }
+whole_second = record { last = (told (setting_of program plan 100000) second).world; runs = refl; over = record { nobody = nobody_second } }
 
-pub ends_second : (close program plan 100000 second).ends ≡ ended status.Ended 3 4 [] ∷ ended status.Ended 5 2 [] ∷ []
+pub ends_second : (close (setting_of program plan 100000) second).ends ≡ ended status.Ended 3 4 [] ∷ ended status.Ended 5 2 [] ∷ []
 unfolding terms
 ends_second = refl
 
@@ -198,11 +199,11 @@ events_q_second =
     traced (event 4 [] (access (Shared 0) (pos 5) ∷ []) None None None) [] None None
     ∷ traced (quiet 5) [] None None ∷ []
 
-pub trace_second : full_trace program plan 100000 (story program plan 100000 second) ≡ record { events = events_p_second ∷ events_q_second ∷ [] }
+pub trace_second : full_trace (setting_of program plan 100000) (story (setting_of program plan 100000) second) ≡ record { events = events_p_second ∷ events_q_second ∷ [] }
 unfolding terms
 trace_second = refl
 
-pub synchronizations_second : sync_record program plan 100000 second ≡ (synced sync.P 0 1 ∷ []) ∷ [] ∷ []
+pub synchronizations_second : sync_record (setting_of program plan 100000) second ≡ (synced sync.P 0 1 ∷ []) ∷ [] ∷ []
 unfolding terms
 synchronizations_second = refl
 
@@ -214,41 +215,41 @@ pub accesses_q_second : accesses story_second 1 ≡ touched 0 0 true ∷ []
 unfolding terms
 accesses_q_second = refl
 
-pub races_second : races program plan 100000 second ≡ []
+pub races_second : races (setting_of program plan 100000) second ≡ []
 unfolding terms
 races_second = refl
 
 -- unit 1 has another x than in the first schedule, and nobody reads it
-pub logs_second : (closed_logs program plan 100000 second).lists ≡
+pub logs_second : (closed_logs (setting_of program plan 100000) second).lists ≡
     (entry.Prelog 0 [] ∷ entry.Unit 0 [] ∷ entry.Sync sync.P 0 1 (pos 0) [] [] ∷ entry.Unit 1 (pos 5 ∷ pos 0 ∷ []) ∷ entry.Postlog 0 [] ∷ entry.End status.Ended 2 (1 ∷ []) [] ∷ [])
     ∷ (entry.Prelog 1 [] ∷ entry.Unit 2 [] ∷ entry.Postlog 1 [] ∷ entry.End status.Ended 1 [] (0 ∷ []) ∷ []) ∷ []
 unfolding terms
 logs_second = refl
 
-pub extents_p_second : extents program plan 100000 story_second 0 ≡
+pub extents_p_second : extents (setting_of program plan 100000) story_second 0 ≡
     extent 0 [] 0 (Some 3) 4 ∷ []
 unfolding terms
 extents_p_second = refl
 
-pub extents_q_second : extents program plan 100000 story_second 1 ≡
+pub extents_q_second : extents (setting_of program plan 100000) story_second 1 ≡
     extent 1 [] 0 (Some 1) 2 ∷ []
 unfolding terms
 extents_q_second = refl
 
-pub open_p_0_second : items program plan 100000 story_second 0 0 ≡
+pub open_p_0_second : items (setting_of program plan 100000) story_second 0 0 ≡
     Some (Own (event 0 [] [] None (Some 1) None)
     ∷ Own (event 1 (access (Shared 1) (pos 0) ∷ []) [] (Some (pos 0)) None None)
     ∷ Own (quiet 3) ∷ [])
 unfolding terms
 open_p_0_second = refl
 
-pub open_q_0_second : items program plan 100000 story_second 1 0 ≡
+pub open_q_0_second : items (setting_of program plan 100000) story_second 1 0 ≡
     Some (Own (event 4 [] (access (Shared 0) (pos 5) ∷ []) None None None)
     ∷ Own (quiet 5) ∷ [])
 unfolding terms
 open_q_0_second = refl
 
-pub whys_p_0_second : whys program plan 100000 story_second 0 0 4 ≡
+pub whys_p_0_second : whys (setting_of program plan 100000) story_second 0 0 4 ≡
     Some (sync_from Initial ∷ control_from Entry ∷ [])
     ∷ Some (read_from (Shared 1) (pos 0) Initial ∷ control_from Entry ∷ [])
     ∷ Some (control_from Entry ∷ [])
@@ -256,31 +257,31 @@ pub whys_p_0_second : whys program plan 100000 story_second 0 0 4 ≡
 unfolding terms
 whys_p_0_second = refl
 
-pub whys_q_0_second : whys program plan 100000 story_second 1 0 3 ≡
+pub whys_q_0_second : whys (setting_of program plan 100000) story_second 1 0 3 ≡
     Some (control_from Entry ∷ [])
     ∷ Some (control_from Entry ∷ [])
     ∷ None ∷ []
 unfolding terms
 whys_q_0_second = refl
 
-pub nears_p_0_second : nears program plan 100000 story_second 0 0 3 ≡ 4 ∷ 4 ∷ 4 ∷ []
+pub nears_p_0_second : nears (setting_of program plan 100000) story_second 0 0 3 ≡ 4 ∷ 4 ∷ 4 ∷ []
 unfolding terms
 nears_p_0_second = refl
 
-pub nears_q_0_second : nears program plan 100000 story_second 1 0 2 ≡ 2 ∷ 2 ∷ []
+pub nears_q_0_second : nears (setting_of program plan 100000) story_second 1 0 2 ≡ 2 ∷ 2 ∷ []
 unfolding terms
 nears_q_0_second = refl
 
-pub final_x_second : last program plan 100000 story_second 0 ≡ (pos 5, ItemAt 1 0 0)
+pub final_x_second : last (setting_of program plan 100000) story_second 0 ≡ (pos 5, ItemAt 1 0 0)
 unfolding terms
 final_x_second = refl
 
-pub final_y_second : last program plan 100000 story_second 1 ≡ (pos 0, Initial)
+pub final_y_second : last (setting_of program plan 100000) story_second 1 ≡ (pos 0, Initial)
 unfolding terms
 final_y_second = refl
 
 -- the schedules agree, and have one story
-pub agree : Agree program plan 100000 first second
+pub agree : Agree (setting_of program plan 100000) first second
 unfolding terms
 agree = record { first = whole_first; second = whole_second; records = refl }
 
@@ -289,6 +290,6 @@ unfolding terms
 one_story = refl
 
 -- every schedule ends so, with these races
-pub every : (h : List ℕ) → IsWhole program plan 100000 h → outcome program plan 100000 h ≡ (ended status.Ended 3 4 [] ∷ ended status.Ended 5 2 [] ∷ [], [])
+pub every : (h : List ℕ) → IsWhole (setting_of program plan 100000) h → outcome (setting_of program plan 100000) h ≡ (ended status.Ended 3 4 [] ∷ ended status.Ended 5 2 [] ∷ [], [])
 unfolding terms
-every h whole = every_whole program plan 100000 7 15 (outcome program plan 100000) _ refl refl h whole
+every h whole = every_whole program plan 100000 7 15 (outcome (setting_of program plan 100000)) _ refl refl h whole

@@ -1,4 +1,5 @@
 -- The traces of small runs by joined and linked items, by computation: those of the runs.
+use Rattle.ppd_model.specs.Setting.{setting_of}
 use Rattle.std.proofs.Common.{◌≡◌, refl}
 use Rattle.std.specs.Prelude.{ℕ, List, [], ◌∷◌}
 use Rattle.ppd_ast.specs.Term.{terms}
@@ -14,7 +15,7 @@ use Rattle.rows_programs.proofs.Runs.LockOrder as locks
 
 -- the trace by joined items
 abbrev by_items : Program → Plan → List ℕ → Trace
-by_items program plan h = joined_trace program (closed_logs program plan 100000 h) (all_seen program plan 100000 h)
+by_items program plan h = joined_trace program (closed_logs (setting_of program plan 100000) h) (all_seen (setting_of program plan 100000) h)
 
 pub smallest_joined : by_items smallest.program smallest.plan smallest.schedule ≡ record { events = smallest.events_a ∷ [] }
 unfolding terms

@@ -1,4 +1,5 @@
 -- The slices of small runs, by computation.
+use Rattle.ppd_model.specs.Setting.{setting_of}
 use Rattle.std.proofs.Common.{◌≡◌, refl}
 use Rattle.std.specs.Prelude.{ℕ, List, [], ◌∷◌}
 use Rattle.ppd_ast.specs.Term.{terms}
@@ -10,11 +11,11 @@ use Rattle.rows_programs.proofs.Runs.Smallest as smallest
 abbrev at : ℕ → ℕ → ℕ → ℕ → Reached
 at d p k j = record { process = p; interval = k; item = j; depth = d }
 
-pub smallest_slice : reach smallest.program smallest.plan 100000 smallest.the_story 0 0 1 ≡ at 0 0 0 1 ∷ at 1 0 0 0 ∷ []
+pub smallest_slice : reach (setting_of smallest.program smallest.plan 100000) smallest.the_story 0 0 1 ≡ at 0 0 0 1 ∷ at 1 0 0 0 ∷ []
 unfolding terms
 smallest_slice = refl
 
-pub recursion_slice : reach recursion.program recursion.plan 100000 recursion.the_story 0 0 2 ≡
+pub recursion_slice : reach (setting_of recursion.program recursion.plan 100000) recursion.the_story 0 0 2 ≡
     at 0 0 0 2
     ∷ at 1 0 1 4
     ∷ at 2 0 0 0

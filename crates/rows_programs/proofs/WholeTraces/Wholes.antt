@@ -1,4 +1,5 @@
 -- The whole traces of small runs, by computation: the text of the trace.
+use Rattle.ppd_model.specs.Setting.{setting_of}
 use Rattle.std.proofs.Common.{◌≡◌, refl}
 use Rattle.ppd_model.specs.Story.{story}
 use Rattle.std.specs.Prelude.{ℕ, List, ◌++◌, codes}
@@ -14,7 +15,7 @@ use Rattle.rows_programs.proofs.Runs.LockOrder as locks
 
 -- the text of a schedule's trace
 abbrev text : Program → Plan → List ℕ → List ℕ
-text program plan h = whole_text program (full_trace program plan 100000 (story program plan 100000 h))
+text program plan h = whole_text program (full_trace (setting_of program plan 100000) (story (setting_of program plan 100000) h))
 
 pub smallest_text : text smallest.program smallest.plan smallest.schedule ≡
     codes "event a 0 stmt 0 1:27 set write x=2 parent entry\n"

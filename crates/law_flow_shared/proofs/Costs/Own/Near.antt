@@ -1,10 +1,9 @@
 -- Lists of intervals that are near to an item, each once, and their own steps.
+use Rattle.ppd_model.specs.Setting.{Setting}
 use Rattle.std.proofs.Common.{◌≡◌, ℕ, zero, suc, ◌+◌, ◌≤◌, Bool, true, false, cond, List, [], ◌∷◌, ◌++◌, Some, None, refl, ap, ap₂, sym, ◌∙◌, subst, arith, true≢false, inl, inr, eq-eqb, ne_eqb}
 use Rattle.std.specs.Prelude.{nat_eq, slice_get, ◌&&◌, ◌||◌}
 use Rattle.std.specs.List.{list_any}
 use Rattle.std.proofs.lemmas.List.Sums.{sum_by-append, sum_by-cons}
-use Rattle.ppd_ast.specs.declared.plan.Plan.{Plan}
-use Rattle.ppd_ast.specs.declared.program.Program.{Program}
 use Rattle.ppd_sem.specs.Blocks.{block_kind}
 use Rattle.ppd_model.specs.declared.flow.FlowEdge.{FlowEdge}
 use Rattle.ppd_model.specs.FlowbackEdges.{edges, part_at}
@@ -72,40 +71,40 @@ any_in f (d ∷ es) e i g = elim (in_cases e d es i) [
 
 -- ---- near to an item
 
-module _ (program : Program) (plan : Plan) (budget : ℕ) (h : List ℕ) (p k j : ℕ) (x : Split) (there : slice_get (splits program plan budget (story program plan budget h)) p ≡ Some x) (es : List FlowEdge)
-    (edges_are : edges program plan budget (story program plan budget h) p k j ≡ Some es) where
+module _ (setting : Setting) (h : List ℕ) (p k j : ℕ) (x : Split) (there : slice_get (splits setting (story setting h)) p ≡ Some x) (es : List FlowEdge)
+    (edges_are : edges setting (story setting h) p k j ≡ Some es) where
   abbrev xs : List Split
-  xs = splits program plan budget (story program plan budget h)
+  xs = splits setting (story setting h)
 
   abbrev pub IsNear : ℕ → Split → ℕ → Span → Type 0
-  IsNear q y m i = is_near program plan budget (story program plan budget h) p k j q y m i ≡ true
+  IsNear q y m i = is_near setting (story setting h) p k j q y m i ≡ true
 
-  near_beside : (m : ℕ) (i : Span) → (is_round plan (surroundings x k) m i || is_open_at x (part_at x k j) i) ≡ true → IsNear p x m i
+  near_beside : (m : ℕ) (i : Span) → (is_round setting.plan (surroundings x k) m i || is_open_at x (part_at x k j) i) ≡ true → IsNear p x m i
   near_beside m i f =
-      or_left (nat_eq p p && (is_round plan (surroundings x k) m i || is_open_at x (part_at x k j) i)) (list_any (λ d. is_near_origin p x m i d.from) (edges_or_none (edges program plan budget (story program plan budget h) p k j)))
-      (ap (λ b. b && (is_round plan (surroundings x k) m i || is_open_at x (part_at x k j) i)) (eq-eqb p p refl) ∙ f)
+      or_left (nat_eq p p && (is_round setting.plan (surroundings x k) m i || is_open_at x (part_at x k j) i)) (list_any (λ d. is_near_origin p x m i d.from) (edges_or_none (edges setting (story setting h) p k j)))
+      (ap (λ b. b && (is_round setting.plan (surroundings x k) m i || is_open_at x (part_at x k j) i)) (eq-eqb p p refl) ∙ f)
 
   -- one of those round it
   pub near_in : (m : ℕ) (i : Span) → In m (surroundings x k) → IsNear p x m i
   near_in m i f =
-      near_beside m i (or_left (is_round plan (surroundings x k) m i) (is_open_at x (part_at x k j) i)
-      (or_left (is_in m (surroundings x k)) (is_loop (block_kind plan i.block) && is_inside i.round (surroundings x k)) (member_is m (surroundings x k) f)))
+      near_beside m i (or_left (is_round setting.plan (surroundings x k) m i) (is_open_at x (part_at x k j) i)
+      (or_left (is_in m (surroundings x k)) (is_loop (block_kind setting.plan i.block) && is_inside i.round (surroundings x k)) (member_is m (surroundings x k) f)))
 
   -- a loop directly inside one of these
-  pub near_loop : (b m : ℕ) (i : Span) → In b (surroundings x k) → IsLoopIn plan x b m → slice_get x.spans m ≡ Some i → IsNear p x m i
+  pub near_loop : (b m : ℕ) (i : Span) → In b (surroundings x k) → IsLoopIn setting.plan x b m → slice_get x.spans m ≡ Some i → IsNear p x m i
   near_loop b m i f l at =
       let same : l.span ≡ i = some (sym l.there ∙ at) in
-      let loop : is_loop (block_kind plan i.block) ≡ true = ap (λ (s : Span). is_loop (block_kind plan s.block)) (sym same) ∙ l.is_one in
+      let loop : is_loop (block_kind setting.plan i.block) ≡ true = ap (λ (s : Span). is_loop (block_kind setting.plan s.block)) (sym same) ∙ l.is_one in
       let inside : is_inside i.round (surroundings x k) ≡ true =
       ap (λ r. is_inside r (surroundings x k)) (ap (λ (s : Span). s.round) (sym same) ∙ l.round) ∙ member_is b (surroundings x k) f in
-      near_beside m i (or_left (is_round plan (surroundings x k) m i) (is_open_at x (part_at x k j) i)
-      (or_right (is_in m (surroundings x k)) (is_loop (block_kind plan i.block) && is_inside i.round (surroundings x k))
+      near_beside m i (or_left (is_round setting.plan (surroundings x k) m i) (is_open_at x (part_at x k j) i)
+      (or_right (is_in m (surroundings x k)) (is_loop (block_kind setting.plan i.block) && is_inside i.round (surroundings x k))
       (ap₂ (λ a c. a && c) loop inside)))
 
   -- by an edge's origin
   pub near_edge : (e : FlowEdge) → In e es → (q : ℕ) (y : Split) (m : ℕ) (i : Span) → is_near_origin q y m i e.from ≡ true → IsNear q y m i
   near_edge e f q y m i g =
-      or_right (nat_eq p q && (is_round plan (surroundings y k) m i || is_open_at y (part_at y k j) i)) (list_any (λ d. is_near_origin q y m i d.from) (edges_or_none (edges program plan budget (story program plan budget h) p k j)))
+      or_right (nat_eq p q && (is_round setting.plan (surroundings y k) m i || is_open_at y (part_at y k j) i)) (list_any (λ d. is_near_origin q y m i d.from) (edges_or_none (edges setting (story setting h) p k j)))
       (ap (λ o. list_any (λ d. is_near_origin q y m i d.from) (edges_or_none o)) edges_are ∙ any_in (λ d. is_near_origin q y m i d.from) es e f g)
 
   -- these are near, each is listed once
@@ -114,17 +113,17 @@ module _ (program : Program) (plan : Plan) (budget : ℕ) (h : List ℕ) (p k j 
     pub close : (z : ℕ) (i : Span) → In z ms → slice_get y.spans z ≡ Some i → IsNear q y z i
 
   -- so they have no more own steps than all that are near
-  pub near_little : (q : ℕ) (y : Split) (ms : List ℕ) → slice_get (splits program plan budget (story program plan budget h)) q ≡ Some y → AreNear q y ms
-      → steps_of_all (splits program plan budget (story program plan budget h)) (of_process q ms) ≤ near_steps program plan budget (story program plan budget h) p k j
+  pub near_little : (q : ℕ) (y : Split) (ms : List ℕ) → slice_get (splits setting (story setting h)) q ≡ Some y → AreNear q y ms
+      → steps_of_all (splits setting (story setting h)) (of_process q ms) ≤ near_steps setting (story setting h) p k j
   near_little q y ms at h' =
       let is = all_steps_of xs q y ms at in
-      let le : cost y.spans ms ≤ near_steps program plan budget (story program plan budget h) p k j =
-      replays_within (is_near program plan budget (story program plan budget h) p k j) xs q y ms at h'.once
+      let le : cost y.spans ms ≤ near_steps setting (story setting h) p k j =
+      replays_within (is_near setting (story setting h) p k j) xs q y ms at h'.once
       (λ m i g far. not_in_list m ms (λ f. true≢false (sym (h'.close m i f g) ∙ far))) in
       omega (arith, is, le)
 
   -- one of those round the item
-  pub one_little : (m : ℕ) → In m (surroundings x k) → steps_of_all (splits program plan budget (story program plan budget h)) (of_process p (m ∷ [])) ≤ near_steps program plan budget (story program plan budget h) p k j
+  pub one_little : (m : ℕ) → In m (surroundings x k) → steps_of_all (splits setting (story setting h)) (of_process p (m ∷ [])) ≤ near_steps setting (story setting h) p k j
   one_little m f = near_little p x (m ∷ []) there (record {
     once = (tt, tt);
     close = λ z i g at. near_in z i (elim (in_cases z m [] g) [ inl e ↦ subst (λ y. In y (surroundings x k)) (sym e) f | inr l ↦ absurd (no_member l) ]);

@@ -1,4 +1,5 @@
 -- Where an edge with a step ends: the interval there and those round it are open in the edge.
+use Rattle.ppd_model.specs.Setting.{Setting}
 use Rattle.law_flow_shared.proofs.Costs.Steps.Lasting.{Holds, are_begun}
 use Rattle.law_flow_shared.proofs.Costs.Steps.Moments.{cut_at, none_both}
 use Rattle.law_flow_shared.proofs.Costs.Steps.Open.{IsUnleft, open_if, tiled_unleft, unclosed}
@@ -19,8 +20,6 @@ use Rattle.law_flow_shared.proofs.Edges.StepEvents.Writers.{AreNone, HasEvent, e
 use Rattle.law_flow_shared.specs.Edges.Near.{IsOpenAt}
 use Rattle.law_steps.proofs.StaticEdges.SharedCells.Writers.{events_in}
 use Rattle.ppd_ast.specs.Valid.{IsValid}
-use Rattle.ppd_ast.specs.declared.plan.Plan.{Plan}
-use Rattle.ppd_ast.specs.declared.program.Program.{Program}
 use Rattle.ppd_entry.specs.declared.entry.Entry.{Entry}
 use Rattle.ppd_entry.specs.declared.entry.Entry.TheVariants as entry
 use Rattle.ppd_flow_model.specs.Ends.{end_interval, end_item, ending, first_edge, innermost_from, sync_item}
@@ -48,7 +47,7 @@ use Rattle.std.specs.List.{flat_map}
 use Rattle.std.specs.Prelude.{filter_map, get_or, is_some, slice_get}
 
 -- edge e ends at event n or after all events, at this place; all that is round the place is open in the edge
-pub record IsEnd (program : Program) (plan : Plan) (budget : ℕ) (h : List ℕ) (q : ℕ) (x : Split) (e : ℕ) : Type 0 where
+pub record IsEnd (setting : Setting) (h : List ℕ) (q : ℕ) (x : Split) (e : ℕ) : Type 0 where
   pub interval : ℕ
   pub span : Span
   pub there : slice_get x.spans interval ≡ Some span
@@ -57,48 +56,48 @@ pub record IsEnd (program : Program) (plan : Plan) (budget : ℕ) (h : List ℕ)
   pub after : List Part
   pub parts_are : span.parts ≡ before ++ after
   pub event : ℕ
-  pub tiles : Tiles (Logged (get_or (closed_logs program plan budget h).lists q []) x.trace.events) x.spans interval first before event
-  pub stands : Stands (Logged (get_or (closed_logs program plan budget h).lists q []) x.trace.events) x.spans interval span.round first
+  pub tiles : Tiles (Logged (get_or (closed_logs setting h).lists q []) x.trace.events) x.spans interval first before event
+  pub stands : Stands (Logged (get_or (closed_logs setting h).lists q []) x.trace.events) x.spans interval span.round first
   pub within : event ≤ length x.trace.events
   pub count : count_to x.trace.events event ≡ e
-  pub interval_is : end_interval (get_or (closed_logs program plan budget h).lists q []) e ≡ interval
-  pub item_is : end_item (get_or (closed_logs program plan budget h).lists q []) (seen_of x) e ≡ length before
+  pub interval_is : end_interval (get_or (closed_logs setting h).lists q []) e ≡ interval
+  pub item_is : end_item (get_or (closed_logs setting h).lists q []) (seen_of x) e ≡ length before
   pub opens : (z : ℕ) → In z (interval ∷ span.round) → IsOpenAt x e z
 
-module _ (program : Program) (plan : Plan) (budget : ℕ) (h : List ℕ) (v : IsValid program) (q : ℕ) (x : Split) (f : Facts program plan budget h v q x) where
+module _ (setting : Setting) (h : List ℕ) (v : IsValid setting.program) (q : ℕ) (x : Split) (f : Facts setting h v q x) where
   abbrev entries : List Entry
-  entries = get_or (closed_logs program plan budget h).lists q []
+  entries = get_or (closed_logs setting h).lists q []
 
   abbrev events : List TracedEvent
   events = x.trace.events
 
   abbrev F : ℕ → ℕ → ℕ → Type 0
-  F = Logged (get_or (closed_logs program plan budget h).lists q []) x.trace.events
+  F = Logged (get_or (closed_logs setting h).lists q []) x.trace.events
 
-  abbrev r : RecordsAccesses (story program plan budget h) q (get_or (closed_logs program plan budget h).lists q [])
+  abbrev r : RecordsAccesses (story setting h) q (get_or (closed_logs setting h).lists q [])
   r = f.records
 
   abbrev reads : List ℕ
-  reads = set_in (story program plan budget h) q (last_edge (story program plan budget h) q) false
+  reads = set_in (story setting h) q (last_edge (story setting h) q) false
 
   abbrev writes : List ℕ
-  writes = set_in (story program plan budget h) q (last_edge (story program plan budget h) q) true
+  writes = set_in (story setting h) q (last_edge (story setting h) q) true
 
   abbrev stop : Entry
   stop = entry.End r.status r.rest reads writes
 
   -- by a synchronization
-  pub sync_end : (done : List Taken) (y : Taken) (rest : List Taken) → did (told program plan budget h) q ≡ done ++ y ∷ rest → is_some (sync_of y) ≡ true
-      → IsEnd program plan budget h q x (length (filter_map sync_of done))
+  pub sync_end : (done : List Taken) (y : Taken) (rest : List Taken) → did (told setting h) q ≡ done ++ y ∷ rest → is_some (sync_of y) ≡ true
+      → IsEnd setting h q x (length (filter_map sync_of done))
   sync_end done y rest e is =
       let finishes : is_event y.need ≡ true = sync_event y is in
-      let ev : HasEvent program plan budget h v q x f done y = ev_at program plan budget h v q x f done y rest e finishes in
+      let ev : HasEvent setting h v q x f done y = ev_at setting h v q x f done y rest e finishes in
       let ends : EndsAt x entries (count_to events (events_in done)) (events_in done) =
       at_sync x entries f.told_by r.before r.status r.rest reads writes r.entries_are r.no_end (events_in done) (ev.is_sync ∙ is) in
-      let count : count_to events (events_in done) ≡ length (filter_map sync_of done) = ev_count program plan budget h v q x f done (y ∷ rest) e in
-      let m : IsHome program plan budget h v q x f done = home program plan budget h v q x f done y rest e finishes in
+      let count : count_to events (events_in done) ≡ length (filter_map sync_of done) = ev_count setting h v q x f done (y ∷ rest) e in
+      let m : IsHome setting h v q x f done = home setting h v q x f done y rest e finishes in
       let placed : part_at x m.interval m.place ≡ Some (own (events_in done)) = ap (λ o. part_in o m.place) m.there ∙ m.part in
-      let o : IsReferred (splits program plan budget (story program plan budget h)) x q (events_in done) = (items_whole program plan budget h q x v f.there).events (events_in done) ev.within in
+      let o : IsReferred (splits setting (story setting h)) x q (events_in done) = (items_whole setting h q x v f.there).events (events_in done) ev.within in
       let a = o.placed.once (end_interval entries (count_to events (events_in done))) (end_item entries (seen_of x) (count_to events (events_in done))) ends.there in
       let b = o.placed.once m.interval m.place placed in
       let p = place_of_event x entries f.told_by m.interval m.place (events_in done) m.span m.there m.part ev.within in
@@ -118,22 +117,22 @@ module _ (program : Program) (plan : Plan) (budget : ℕ) (h : List ℕ) (v : Is
         count = count;
         interval_is = ap (end_interval entries) (sym count) ∙ a.0 ∙ sym b.0;
         item_is = ap (end_item entries (seen_of x)) (sym count) ∙ a.1 ∙ sym b.1 ∙ sym p.4;
-        opens = λ z i. runs_open program plan budget h v q x f done y rest e z
+        opens = λ z i. runs_open setting h v q x f done y rest e z
             (subst (λ ks. In z ks) (sym m.runs) (subst (λ l. In z (m.interval ∷ l)) m.round i));
       }
 
   -- ---- the last edge, by a step of it
 
-  module _ (done : List Taken) (y : Taken) (mid : List Taken) (are : did (told program plan budget h) q ≡ done ++ y ∷ mid) (plain : sync_of y ≡ None) (still : AreNone mid) (finishes : is_event y.need ≡ true) where
+  module _ (done : List Taken) (y : Taken) (mid : List Taken) (are : did (told setting h) q ≡ done ++ y ∷ mid) (plain : sync_of y ≡ None) (still : AreNone mid) (finishes : is_event y.need ≡ true) where
     abbrev e : ℕ
     e = length (filter_map sync_of done)
 
     total : count_to x.trace.events (length x.trace.events) ≡ length (filter_map sync_of done)
     total =
-        let all : did (told program plan budget h) q ≡ (done ++ y ∷ mid) ++ [] = are ∙ sym (append-nil (done ++ y ∷ mid)) in
-        let counted : count_to x.trace.events (events_in (done ++ y ∷ mid)) ≡ length (filter_map sync_of (done ++ y ∷ mid)) = ev_count program plan budget h v q x f (done ++ y ∷ mid) [] all in
+        let all : did (told setting h) q ≡ (done ++ y ∷ mid) ++ [] = are ∙ sym (append-nil (done ++ y ∷ mid)) in
+        let counted : count_to x.trace.events (events_in (done ++ y ∷ mid)) ≡ length (filter_map sync_of (done ++ y ∷ mid)) = ev_count setting h v q x f (done ++ y ∷ mid) [] all in
         let long : events_in (done ++ y ∷ mid) ≡ length x.trace.events =
-        ap events_in (sym are) ∙ sym (length_is program plan budget (story program plan budget h) q (did (told program plan budget h) q) f.steps_own f.steps_numbered (did (told program plan budget h) q)) ∙ ap length (sym f.events_are) in
+        ap events_in (sym are) ∙ sym (length_is setting (story setting h) q (did (told setting h) q) f.steps_own f.steps_numbered (did (told setting h) q)) ∙ ap length (sym f.events_are) in
         let none : length (filter_map sync_of (y ∷ mid)) ≡ 0 = syncs_none (y ∷ mid) (plain, still) in
         let sum : length (filter_map sync_of (done ++ y ∷ mid)) ≡ length (filter_map sync_of done) + length (filter_map sync_of (y ∷ mid)) = syncs_both done (y ∷ mid) in
         ap (count_to x.trace.events) (sym long) ∙ (let z : count_to x.trace.events (events_in (done ++ y ∷ mid)) ≡ length (filter_map sync_of done) = omega (arith, counted, none, sum) in z)
@@ -152,24 +151,24 @@ module _ (program : Program) (plan : Plan) (budget : ℕ) (h : List ℕ) (v : Is
     -- an interval that was opened before the step, or after it in the same edge, and runs at the end
     below : (i : Span) (m : ℕ) → slice_get x.spans m ≡ Some i → length done < i.opened → i.opened < length x.edges
     below i m g lt =
-        let b = are_begun program plan (story program plan budget h) q budget (did (told program plan budget h) q) m i (subst (λ (w : Split). slice_get w.spans m ≡ Some i) (sym (all_is program plan budget h v q x f)) g) in
+        let b = are_begun setting.program setting.plan (story setting h) q setting.budget (did (told setting h) q) m i (subst (λ (w : Split). slice_get w.spans m ≡ Some i) (sym (all_is setting h v q x f)) g) in
         elim b [
           | inl o ↦ absurd (omega (arith, o, lt))
-          | inr under ↦ subst (λ (w : Split). i.opened < length w.edges) (all_is program plan budget h v q x f) under
+          | inr under ↦ subst (λ (w : Split). i.opened < length w.edges) (all_is setting h v q x f) under
         ]
 
     later : (i : Span) → IsUnleft i → length done < i.opened → i.opened < length x.edges → is_open_in x (length (filter_map sync_of done)) i ≡ true
     later i unleft lt under =
-        let long : length x.edges ≡ length (did (told program plan budget h) q) =
-        ap (λ (w : Split). length w.edges) (sym (all_is program plan budget h v q x f)) ∙ upto_long program plan budget h v q x f (did (told program plan budget h) q) in
-        let c = cut_at (did (told program plan budget h) q) i.opened (omega (arith, long, under)) in
+        let long : length x.edges ≡ length (did (told setting h) q) =
+        ap (λ (w : Split). length w.edges) (sym (all_is setting h v q x f)) ∙ upto_long setting h v q x f (did (told setting h) q) in
+        let c = cut_at (did (told setting h) q) i.opened (omega (arith, long, under)) in
         let number = c.4 in
         let o = cut_once done y mid c.0 (c.1 ∷ c.2) (sym are ∙ c.3) (omega (arith, number, lt)) in
         let none : length (filter_map sync_of (y ∷ o.0)) ≡ 0 = syncs_none (y ∷ o.0) (plain, none_both o.0 (c.1 ∷ c.2) (subst AreNone o.2 still)) in
         let sum : length (filter_map sync_of (done ++ y ∷ o.0)) ≡ length (filter_map sync_of done) + length (filter_map sync_of (y ∷ o.0)) = syncs_both done (y ∷ o.0) in
         let same : length (filter_map sync_of c.0) ≡ length (filter_map sync_of done) = ap (λ l. length (filter_map sync_of l)) o.1 ∙ (let z : length (filter_map sync_of (done ++ y ∷ o.0)) ≡ length (filter_map sync_of done) = omega (arith, none, sum) in z) in
         open_if x.edges i i.opened (length (filter_map sync_of done)) (omega arith) (λ w g. absurd (unclosed i unleft w g))
-        (ap (λ k. slice_get x.edges k) (sym c.4) ∙ edge_of_step program plan budget h v q x f c.0 c.1 c.2 c.3 ∙ ap (λ k. Some k) same)
+        (ap (λ k. slice_get x.edges k) (sym c.4) ∙ edge_of_step setting h v q x f c.0 c.1 c.2 c.3 ∙ ap (λ k. Some k) same)
 
     open_running : (z : ℕ) → In z x.running → IsOpenAt x (length (filter_map sync_of done)) z
     open_running z i =
@@ -178,7 +177,7 @@ module _ (program : Program) (plan : Plan) (budget : ℕ) (h : List ℕ) (v : Is
           span = u.0;
           is_there = u.1;
           is_open = elim (cases_lt (length done) u.0.opened) [
-            | inr le ↦ open_if x.edges u.0 (length done) (length (filter_map sync_of done)) le (λ w g. absurd (unclosed u.0 u.2 w g)) (edge_of_step program plan budget h v q x f done y mid are)
+            | inr le ↦ open_if x.edges u.0 (length done) (length (filter_map sync_of done)) le (λ w g. absurd (unclosed u.0 u.2 w g)) (edge_of_step setting h v q x f done y mid are)
             | inl lt ↦ later u.0 u.2 lt (below u.0 z u.1 lt)
           ];
         }
@@ -200,10 +199,10 @@ module _ (program : Program) (plan : Plan) (budget : ℕ) (h : List ℕ) (v : Is
         by : Stands F x.spans 0 [] p.first → p.first ≡ 0
         by (outermost a b) = b
 
-    pub last_end : IsEnd program plan budget h q x (length (filter_map sync_of done))
+    pub last_end : IsEnd setting h q x (length (filter_map sync_of done))
     last_end = cases x.running refl f.told_by.tiled
       where
-        cases : (ks : List ℕ) → x.running ≡ ks → AreTiled entries events x.spans ks (length x.trace.events) → IsEnd program plan budget h q x (length (filter_map sync_of done))
+        cases : (ks : List ℕ) → x.running ≡ ks → AreTiled entries events x.spans ks (length x.trace.events) → IsEnd setting h q x (length (filter_map sync_of done))
         cases [] g t =
             let p : IsPlaced entries events x.spans 0 t.span = f.told_by.placed 0 t.span t.there in
             let z : p.first ≡ 0 = outer_first t.span p t.round in
@@ -224,7 +223,7 @@ module _ (program : Program) (plan : Plan) (budget : ℕ) (h : List ℕ) (v : Is
               interval_is = interval;
               item_is = item_by 0 0 t.span interval t.there (subst (λ k. OpensAt entries events 0 k) z p.opened) t.parts;
               opens = λ w i. elim (in_cases w 0 t.span.round i) [
-                | inl same ↦ subst (λ k. IsOpenAt x (length (filter_map sync_of done)) k) (sym same) (runs_open program plan budget h v q x f done y mid are 0 (zero_runs program plan budget h v q x f done y mid are finishes))
+                | inl same ↦ subst (λ k. IsOpenAt x (length (filter_map sync_of done)) k) (sym same) (runs_open setting h v q x f done y mid are 0 (zero_runs setting h v q x f done y mid are finishes))
                 | inr more ↦ absurd (no_member (subst (λ l. In w l) t.round more))
               ];
             }

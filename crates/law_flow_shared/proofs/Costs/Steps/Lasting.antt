@@ -1,4 +1,5 @@
 -- What holds of an interval and lasts while steps are taken.
+use Rattle.ppd_model.specs.Setting.{setting_of}
 use Rattle.std.proofs.Common.{◌≡◌, ℕ, zero, suc, ◌+◌, ◌<◌, ◌≤◌, ℤ, Bool, true, false, List, [], ◌∷◌, ◌++◌, Option, Some, None, refl, ap, sym, ◌∙◌, subst, arith, length, length-append, inl, inr, ◌⊎◌, if◌then◌else◌}
 use Rattle.std.specs.Prelude.{fold, option_map, slice_get}
 use Rattle.std.proofs.lemmas.Bool.{cases_eq}
@@ -172,7 +173,7 @@ module _ (program : Program) (plan : Plan) (story' : Story) (p : ℕ) where
   all_begun x [] h = h
   all_begun x (t ∷ ts) h = all_begun (split_step program plan story' p x t) ts (one_begun x t h)
 
-  pub are_begun : (budget : ℕ) (ts : List Taken) → AreBegun (length (split_of program plan budget story' p ts).edges) (split_of program plan budget story' p ts).spans
+  pub are_begun : (budget : ℕ) (ts : List Taken) → AreBegun (length (split_of (setting_of program plan budget) story' p ts).edges) (split_of (setting_of program plan budget) story' p ts).spans
   are_begun budget ts = all_begun (begun_split program plan p (started program plan p budget)) ts first
     where
       first : AreBegun 0 (begun_split program plan p (started program plan p budget)).spans

@@ -1,11 +1,10 @@
 -- The walk back from where an edge that writes a cell ends: it replays each interval once, and each is open in the edge.
+use Rattle.ppd_model.specs.Setting.{Setting}
 use Rattle.std.proofs.Common.{◌≡◌, ℕ, suc, ◌+◌, ◌<◌, ◌≤◌, ℤ, true, false, List, ◌∷◌, ◌++◌, Some, None, Result, Ok, Err, refl, ap, sym, ◌∙◌, subst, arith, length, true≢false, inl, inr}
 use Rattle.std.specs.Prelude.{drop, nat_eq, slice_get, take, get_or, [], filter_map}
 use Rattle.std.specs.List.{list_any}
 use Rattle.std.proofs.lemmas.List.{append_assoc}
 use Rattle.ppd_ast.specs.Valid.{IsValid}
-use Rattle.ppd_ast.specs.declared.plan.Plan.{Plan}
-use Rattle.ppd_ast.specs.declared.program.Program.{Program}
 use Rattle.ppd_entry.specs.declared.entry.Entry.{Entry}
 use Rattle.ppd_sem.specs.declared.proc.Need.{Need}
 use Rattle.ppd_sem.specs.declared.proc.Need.TheVariants as n
@@ -57,27 +56,27 @@ origin_or o (Err m) = o
 
 -- ---- the walk
 
-module _ (program : Program) (plan : Plan) (budget : ℕ) (h : List ℕ) (v : IsValid program) where
-  module _ (q : ℕ) (x : Split) (f : Facts program plan budget h v q x) where
+module _ (setting : Setting) (h : List ℕ) (v : IsValid setting.program) where
+  module _ (q : ℕ) (x : Split) (f : Facts setting h v q x) where
     abbrev entries : List Entry
-    entries = get_or (closed_logs program plan budget h).lists q []
+    entries = get_or (closed_logs setting h).lists q []
 
     abbrev F : ℕ → ℕ → ℕ → Type 0
-    F = Logged (get_or (closed_logs program plan budget h).lists q []) x.trace.events
+    F = Logged (get_or (closed_logs setting h).lists q []) x.trace.events
 
     tree : HasTree x
     tree =
-        let t = closed_told program plan budget h v q x f.there in
-        subst (λ y. HasTree y) t.0 (has_tree program plan (story program plan budget h) q budget (did (told program plan budget h) q))
+        let t = closed_told setting h v q x f.there in
+        subst (λ y. HasTree y) t.0 (has_tree setting.program setting.plan (story setting h) q setting.budget (did (told setting h) q))
 
     -- an interval that was left in the edge is open in it
-    left_open : (k m : ℕ) → k ≤ length x.trace.events → IsTouched x (Logged (get_or (closed_logs program plan budget h).lists q []) x.trace.events) k m → IsOpenAt x (count_to x.trace.events k) m
+    left_open : (k m : ℕ) → k ≤ length x.trace.events → IsTouched x (Logged (get_or (closed_logs setting h).lists q []) x.trace.events) k m → IsOpenAt x (count_to x.trace.events k) m
     left_open k m le t =
-        let c = closed_told program plan budget h v q x f.there in
-        let logged : Logged (closed_log (log_of program plan budget q (get_or (told program plan budget h).moments q []))) x.trace.events m t.lo t.mid =
-        subst (λ es. Logged es x.trace.events m t.lo t.mid) (entries_are program plan budget h q x f.there) t.logged in
+        let c = closed_told setting h v q x f.there in
+        let logged : Logged (closed_log (log_of setting q (get_or (told setting h).moments q []))) x.trace.events m t.lo t.mid =
+        subst (λ es. Logged es x.trace.events m t.lo t.mid) (entries_are setting h q x f.there) t.logged in
         let l : IsLeftBy x t.span (count_to x.trace.events t.mid) =
-        left_by_step program plan budget q (get_or (told program plan budget h).moments q []) (story program plan budget h) x c.0 c.1 x.trace.events m t.lo t.mid t.span t.is_there t.closed logged in
+        left_by_step setting q (get_or (told setting h).moments q []) (story setting h) x c.0 c.1 x.trace.events m t.lo t.mid t.span t.is_there t.closed logged in
         let same : count_to x.trace.events t.mid ≡ count_to x.trace.events k = plain_count x.trace.events t.mid k t.before le t.since in
         let z : l.step + 1 ≡ suc l.step = omega arith in
         record {
@@ -88,7 +87,7 @@ module _ (program : Program) (plan : Plan) (budget : ℕ) (h : List ℕ) (v : Is
               ∙ open_at x.edges t.span.opened l.step (count_to x.trace.events k) l.opened (l.in_edge ∙ ap (λ i. Some i) same);
         }
 
-    module _ (c e : ℕ) (g : IsEnd program plan budget h q x e) where
+    module _ (c e : ℕ) (g : IsEnd setting h q x e) where
       onto : (P : ℕ → ℕ → Type 0) → P g.interval (length g.before) → P (end_interval entries e) (end_item entries (seen_of x) e)
       onto P a = subst (λ i. P i (end_item entries (seen_of x) e)) (sym g.interval_is) (subst (λ i. P g.interval i) (sym g.item_is) a)
 
@@ -130,67 +129,67 @@ module _ (program : Program) (plan : Plan) (budget : ℕ) (h : List ℕ) (v : Is
   -- the process of the edge, and where the edge ends
   pub record IsEnded (a : EdgeId) : Type 0 where
     pub split : Split
-    pub there : slice_get (splits program plan budget (story program plan budget h)) a.process ≡ Some split
-    pub ends : IsEnd program plan budget h a.process split a.edge
+    pub there : slice_get (splits setting (story setting h)) a.process ≡ Some split
+    pub ends : IsEnd setting h a.process split a.edge
 
-  pub writing_ended : (c : ℕ) (a : EdgeId) → In a (writing (closed_logs program plan budget h) c) → IsEnded a
+  pub writing_ended : (c : ℕ) (a : EdgeId) → In a (writing (closed_logs setting h) c) → IsEnded a
   writing_ended c a m =
-      let wr : WritesIn program plan budget h c a.process a.edge = writing_only program plan budget h v c a m in
-      let st : IsWriteStep program plan budget h a.process wr.access = writes_step program plan budget h a.process wr.number wr.access wr.there wr.writes in
+      let wr : WritesIn setting h c a.process a.edge = writing_only setting h v c a m in
+      let st : IsWriteStep setting h a.process wr.access = writes_step setting h a.process wr.number wr.access wr.there wr.writes in
       let q : ℕ = a.process in
-      let need : Need = need_after program plan budget st.before a.process in
-      let s : IsWrite program plan budget st.before st.after a.process wr.access.cell = as_write program plan budget st.before st.after a.process wr.access.cell (goes wr.access.cell need st.writes) in
-      let done : List Taken = did (told program plan budget st.before) a.process in
-      let y : Taken = next program plan (told program plan budget st.before) a.process in
-      let here : did (told program plan budget h) a.process ≡ did (told program plan budget st.before) a.process ++ next program plan (told program plan budget st.before) a.process ∷ s.mid =
-      ap (λ l. did (told program plan budget l) a.process) st.schedule_is ∙ s.steps_are in
-      let lt : a.process < length (told program plan budget h).moments = below_moments (told program plan budget h).moments a.process done y s.mid here in
-      let x = split_there program plan budget (story program plan budget h) 0 (told program plan budget h).moments a.process lt in
-      let f : Facts program plan budget h v a.process x.0 = facts program plan budget h v a.process x.0 x.1 in
-      let edge_is : a.edge ≡ length (filter_map sync_of done) = sym wr.edge_is ∙ st.edge_is ∙ edge_is_count program plan budget st.before a.process in
+      let need : Need = need_after setting st.before a.process in
+      let s : IsWrite setting st.before st.after a.process wr.access.cell = as_write setting st.before st.after a.process wr.access.cell (goes wr.access.cell need st.writes) in
+      let done : List Taken = did (told setting st.before) a.process in
+      let y : Taken = next setting.program setting.plan (told setting st.before) a.process in
+      let here : did (told setting h) a.process ≡ did (told setting st.before) a.process ++ next setting.program setting.plan (told setting st.before) a.process ∷ s.mid =
+      ap (λ l. did (told setting l) a.process) st.schedule_is ∙ s.steps_are in
+      let lt : a.process < length (told setting h).moments = below_moments (told setting h).moments a.process done y s.mid here in
+      let x = split_there setting (story setting h) 0 (told setting h).moments a.process lt in
+      let f : Facts setting h v a.process x.0 = facts setting h v a.process x.0 x.1 in
+      let edge_is : a.edge ≡ length (filter_map sync_of done) = sym wr.edge_is ∙ st.edge_is ∙ edge_is_count setting st.before a.process in
       let is : y.need ≡ n.Write wr.access.cell st.writes.0 = st.writes.1 in
       let plain : sync_of y ≡ None = ap (λ k. numbered (kind_of_sync k) y.number) is in
-      let ends : IsEnd program plan budget h a.process x.0 (length (filter_map sync_of done)) = elim (first_sync s.mid) [
-        | inl still ↦ last_end program plan budget h v a.process x.0 f done y s.mid here plain still (ap is_event is)
+      let ends : IsEnd setting h a.process x.0 (length (filter_map sync_of done)) = elim (first_sync s.mid) [
+        | inl still ↦ last_end setting h v a.process x.0 f done y s.mid here plain still (ap is_event is)
         | inr has ↦
-            let upto : did (told program plan budget h) a.process ≡ (done ++ y ∷ has.front) ++ has.step ∷ has.back =
+            let upto : did (told setting h) a.process ≡ (done ++ y ∷ has.front) ++ has.step ∷ has.back =
             here ∙ ap (λ l. done ++ y ∷ l) has.are ∙ sym (append_assoc done (y ∷ has.front) (has.step ∷ has.back)) in
             let none : length (filter_map sync_of (y ∷ has.front)) ≡ 0 = syncs_none (y ∷ has.front) (plain, has.none) in
             let sum : length (filter_map sync_of (done ++ y ∷ has.front)) ≡ length (filter_map sync_of done) + length (filter_map sync_of (y ∷ has.front)) = syncs_both done (y ∷ has.front) in
-            subst (λ i. IsEnd program plan budget h a.process x.0 i) (let z : length (filter_map sync_of (done ++ y ∷ has.front)) ≡ length (filter_map sync_of done) = omega (arith, none, sum) in z)
-            (sync_end program plan budget h v a.process x.0 f (done ++ y ∷ has.front) has.step has.back upto has.is_sync)
+            subst (λ i. IsEnd setting h a.process x.0 i) (let z : length (filter_map sync_of (done ++ y ∷ has.front)) ≡ length (filter_map sync_of done) = omega (arith, none, sum) in z)
+            (sync_end setting h v a.process x.0 f (done ++ y ∷ has.front) has.step has.back upto has.is_sync)
       ] in
-      record { split = x.0; there = x.1; ends = subst (λ i. IsEnd program plan budget h a.process x.0 i) (sym edge_is) ends }
+      record { split = x.0; there = x.1; ends = subst (λ i. IsEnd setting h a.process x.0 i) (sym edge_is) ends }
 
   -- ---- the last write in such an edge
 
   -- where the write was found; the replays for it are of intervals of one process, each once, each open there
   pub record IsNearWrite (c : ℕ) (a : EdgeId) (from : Origin) : Type 0 where
     pub split : Split
-    pub there : slice_get (splits program plan budget (story program plan budget h)) a.process ≡ Some split
+    pub there : slice_get (splits setting (story setting h)) a.process ≡ Some split
     pub interval : ℕ
     pub item : ℕ
     pub from_is : from ≡ origin.Item a.process interval item
     pub event : ℕ
     pub part : part_at split interval item ≡ Some (own event)
     pub replays : List ℕ
-    pub replays_are : replays ≡ end_interval (get_or (closed_logs program plan budget h).lists a.process []) a.edge
-        ∷ (walk (seen_at (all_seen program plan budget h) a.process) c (end_interval (get_or (closed_logs program plan budget h).lists a.process []) a.edge) (end_item (get_or (closed_logs program plan budget h).lists a.process []) (seen_at (all_seen program plan budget h) a.process) a.edge)).replays
+    pub replays_are : replays ≡ end_interval (get_or (closed_logs setting h).lists a.process []) a.edge
+        ∷ (walk (seen_at (all_seen setting h) a.process) c (end_interval (get_or (closed_logs setting h).lists a.process []) a.edge) (end_item (get_or (closed_logs setting h).lists a.process []) (seen_at (all_seen setting h) a.process) a.edge)).replays
     pub once : AreDistinct replays
     pub opens : (z : ℕ) → In z replays → IsOpenAt split (edge_of_event split event) z
 
-  pub near_write : (c : ℕ) (a : EdgeId) (u : ℤ) (from : Origin) → In a (writing (closed_logs program plan budget h) c)
-      → (written_in (closed_logs program plan budget h) (all_seen program plan budget h) c a).found ≡ Ok (u, from) → IsNearWrite c a from
+  pub near_write : (c : ℕ) (a : EdgeId) (u : ℤ) (from : Origin) → In a (writing (closed_logs setting h) c)
+      → (written_in (closed_logs setting h) (all_seen setting h) c a).found ≡ Ok (u, from) → IsNearWrite c a from
   near_write c a u from m is = by (walk (seen_of d.split) c (end_interval entries' a.edge) (end_item entries' (seen_of d.split) a.edge)).found refl
     where
       d : IsEnded a
       d = writing_ended c a m
 
       entries' : List Entry
-      entries' = get_or (closed_logs program plan budget h).lists a.process []
+      entries' = get_or (closed_logs setting h).lists a.process []
 
-      f : Facts program plan budget h v a.process d.split
-      f = facts program plan budget h v a.process d.split d.there
+      f : Facts setting h v a.process d.split
+      f = facts setting h v a.process d.split d.there
 
       clash : {A B : Type 0} {y : A} {z : B} → Err z ≡ Ok y → ⊥
       clash e = cc
@@ -198,12 +197,12 @@ module _ (program : Program) (plan : Plan) (budget : ℕ) (h : List ℕ) (v : Is
       from_of : (t : Result (ℤ × Origin) Missing) (y z : ℤ × Origin) → t ≡ Ok y → t ≡ Ok z → y.1 ≡ z.1
       from_of t y z e g = ap (origin_or y.1) (sym e ∙ g)
 
-      same_walk : (walk_in (closed_logs program plan budget h) (all_seen program plan budget h) c a).found ≡ (walk (seen_of d.split) c (end_interval entries' a.edge) (end_item entries' (seen_of d.split) a.edge)).found
+      same_walk : (walk_in (closed_logs setting h) (all_seen setting h) c a).found ≡ (walk (seen_of d.split) c (end_interval entries' a.edge) (end_item entries' (seen_of d.split) a.edge)).found
       same_walk = ap (λ (s : Seen). (walk s c (end_interval entries' a.edge) (end_item entries' s a.edge)).found) f.seen_is
 
       by : (w : Walked) → (walk (seen_of d.split) c (end_interval entries' a.edge) (end_item entries' (seen_of d.split) a.edge)).found ≡ w → IsNearWrite c a from
-      by Passed g = absurd (clash (sym (ap (written_at (closed_logs program plan budget h) c a) (same_walk ∙ g)) ∙ is))
-      by Stopped g = absurd (clash (sym (ap (written_at (closed_logs program plan budget h) c a) (same_walk ∙ g)) ∙ is))
+      by Passed g = absurd (clash (sym (ap (written_at (closed_logs setting h) c a) (same_walk ∙ g)) ∙ is))
+      by Stopped g = absurd (clash (sym (ap (written_at (closed_logs setting h) c a) (same_walk ∙ g)) ∙ is))
       by (Found k i z) g =
           let o = walk_finds a.process d.split f c a.edge d.ends k i z g in
           record {
@@ -211,7 +210,7 @@ module _ (program : Program) (plan : Plan) (budget : ℕ) (h : List ℕ) (v : Is
             there = d.there;
             interval = k;
             item = i;
-            from_is = sym (from_of (written_in (closed_logs program plan budget h) (all_seen program plan budget h) c a).found (z, origin.Item a.process k i) (u, from) (ap (written_at (closed_logs program plan budget h) c a) (same_walk ∙ g)) is);
+            from_is = sym (from_of (written_in (closed_logs setting h) (all_seen setting h) c a).found (z, origin.Item a.process k i) (u, from) (ap (written_at (closed_logs setting h) c a) (same_walk ∙ g)) is);
             event = o.0;
             part = o.1;
             replays = end_interval entries' a.edge ∷ (walk (seen_of d.split) c (end_interval entries' a.edge) (end_item entries' (seen_of d.split) a.edge)).replays;

@@ -1,11 +1,10 @@
 -- An interval that was left was left by a step of the edge that goes on after its events.
+use Rattle.ppd_model.specs.Setting.{Setting}
 use Rattle.law_flow_shared.proofs.Edges.LogPlaces.Extended.{is_log, still_one}
 use Rattle.law_flow_shared.proofs.Edges.LogPlaces.Innermost.{not_in}
 use Rattle.law_flow_shared.proofs.Edges.Near.Timed.{before_postlog, edge_at, edge_is, in_middle, size_both}
 use Rattle.law_flow_shared.proofs.Edges.Spans.Facts.{LeavesAt, Logged, at, count_to, syncs}
 use Rattle.ppd_ast.proofs.ValidLaws.{slice_get_there}
-use Rattle.ppd_ast.specs.declared.plan.Plan.{Plan}
-use Rattle.ppd_ast.specs.declared.program.Program.{Program}
 use Rattle.ppd_entry.specs.declared.entry.Entry.{Entry}
 use Rattle.ppd_entry.specs.declared.entry.Entry.TheVariants as entry
 use Rattle.ppd_model.proofs.Changes.{change-at, some}
@@ -90,28 +89,28 @@ pub record IsLeftBy (x : Split) (i : Span) (e : ℕ) : Type 0 where
   pub opened : i.opened ≤ step
   pub in_edge : slice_get x.edges step ≡ Some e
 
-module _ (program : Program) (plan : Plan) (budget : ℕ) (p : ℕ) (ms : List Moment) where
+module _ (setting : Setting) (p : ℕ) (ms : List Moment) where
   abbrev log : List Moment → Logging
-  log done = log_of program plan budget p done
+  log done = log_of setting p done
 
   abbrev entries : List Entry
-  entries = closed_log (log_of program plan budget p ms)
+  entries = closed_log (log_of setting p ms)
 
-  log_grows : (l : Logging) (more : List Moment) → (es : List Entry) × ((fold (log_step program plan) l more).entries ≡ l.entries ++ es)
+  log_grows : (l : Logging) (more : List Moment) → (es : List Entry) × ((fold (log_step setting.program setting.plan) l more).entries ≡ l.entries ++ es)
   log_grows l [] = ([], sym (append-nil l.entries))
   log_grows l (m ∷ more) =
-      let r = log_grows (log_step program plan l m) more in
-      (entries_of program plan l m ++ r.0, r.1 ∙ append_assoc l.entries (entries_of program plan l m) r.0)
+      let r = log_grows (log_step setting.program setting.plan l m) more in
+      (entries_of setting.program setting.plan l m ++ r.0, r.1 ∙ append_assoc l.entries (entries_of setting.program setting.plan l m) r.0)
 
   log_long : (done more : List Moment) → length (log done).entries ≤ length (log (done ++ more)).entries
   log_long done more =
       let r = log_grows (log done) more in
-      let is : (log (done ++ more)).entries ≡ (log done).entries ++ r.0 = ap (λ (l : Logging). l.entries) (fold-append (log_step program plan) (begun_log program plan budget p) done more) ∙ r.1 in
+      let is : (log (done ++ more)).entries ≡ (log done).entries ++ r.0 = ap (λ (l : Logging). l.entries) (fold-append (log_step setting.program setting.plan) (begun_log setting p) done more) ∙ r.1 in
       let long : length (log (done ++ more)).entries ≡ length (log done).entries + length r.0 = ap length is ∙ length-append (log done).entries r.0 in
       omega (arith, long)
 
   abbrev IsOf : ℕ → ℕ → Type 0
-  IsOf = WroteEntry program plan budget p ms
+  IsOf = WroteEntry setting p ms
 
   -- a later entry is of no earlier step
   in_order : (s j t i : ℕ) → IsOf s j → IsOf t i → i < j → t ≤ s
@@ -132,7 +131,7 @@ module _ (program : Program) (plan : Plan) (budget : ℕ) (p : ℕ) (ms : List M
   closed_more : (l : Logging) → (es : List Entry) × (closed_log l ≡ l.entries ++ es)
   closed_more l = (_, refl)
 
-  module _ (story' : Story) (x : Split) (split_is : split_of program plan budget story' p (steps_of ms) ≡ x) (steps : AreOfSteps program plan budget p x ms) where
+  module _ (story' : Story) (x : Split) (split_is : split_of setting story' p (steps_of ms) ≡ x) (steps : AreOfSteps setting p x ms) where
     steps_both : (as' bs : List Moment) (m : Moment) → steps_of (as' ++ m ∷ bs) ≡ steps_of as' ++ m.taken ∷ steps_of bs
     steps_both [] bs m = refl
     steps_both (a ∷ as') bs m = ap (λ l. a.taken ∷ l) (steps_both as' bs m)
@@ -144,26 +143,26 @@ module _ (program : Program) (plan : Plan) (budget : ℕ) (p : ℕ) (ms : List M
     -- the edge of a step that wrote a postlog
     edge_of : (s : ℕ) (events : List TracedEvent) (m mid : ℕ) (l : LeavesAt entries events m mid) → IsOf s (length l.before) → slice_get x.edges s ≡ Some (count_to events mid)
     edge_of s events m mid l w =
-        let begun : Split = begun_split program plan p (started program plan p budget) in
+        let begun : Split = begun_split setting.program setting.plan p (started setting.program setting.plan p setting.budget) in
         let done : Logging = log w.before in
-        let at_step : slice_get (split_of program plan budget story' p (steps_of w.before ++ w.moment.taken ∷ steps_of w.after)).edges (0 + length (steps_of w.before)) ≡ Some (split_of program plan budget story' p (steps_of w.before)).edge =
-        edge_at program plan story' p begun (steps_of w.before) (steps_of w.after) w.moment.taken in
-        let x_is : split_of program plan budget story' p (steps_of w.before ++ w.moment.taken ∷ steps_of w.after) ≡ x =
-        ap (split_of program plan budget story' p) (sym (ap (λ l'. steps_of l') w.moments_are ∙ steps_both w.before w.after w.moment)) ∙ split_is in
+        let at_step : slice_get (split_of setting story' p (steps_of w.before ++ w.moment.taken ∷ steps_of w.after)).edges (0 + length (steps_of w.before)) ≡ Some (split_of setting story' p (steps_of w.before)).edge =
+        edge_at setting.program setting.plan story' p begun (steps_of w.before) (steps_of w.after) w.moment.taken in
+        let x_is : split_of setting story' p (steps_of w.before ++ w.moment.taken ∷ steps_of w.after) ≡ x =
+        ap (split_of setting story' p) (sym (ap (λ l'. steps_of l') w.moments_are ∙ steps_both w.before w.after w.moment)) ∙ split_is in
         let place : 0 + length (steps_of w.before) ≡ s = (let z = steps_long w.before in let y : s ≡ length w.before = w.step in omega (arith, z, y)) in
-        let edge : (split_of program plan budget story' p (steps_of w.before)).edge ≡ syncs done.entries = edge_is program plan story' p (begun_log program plan budget p) begun w.before refl in
-        let next : log (w.before ++ w.moment ∷ []) ≡ log_step program plan done w.moment = fold-append (log_step program plan) (begun_log program plan budget p) w.before (w.moment ∷ []) in
-        let grown = log_grows (log_step program plan done w.moment) w.after in
-        let kept : (log ms).entries ≡ (done.entries ++ entries_of program plan done w.moment) ++ grown.0 =
-        ap (λ l'. (log l').entries) w.moments_are ∙ ap (λ (k : Logging). k.entries) (fold-append (log_step program plan) (begun_log program plan budget p) w.before (w.moment ∷ w.after)) ∙ grown.1 in
+        let edge : (split_of setting story' p (steps_of w.before)).edge ≡ syncs done.entries = edge_is setting.program setting.plan story' p (begun_log setting p) begun w.before refl in
+        let next : log (w.before ++ w.moment ∷ []) ≡ log_step setting.program setting.plan done w.moment = fold-append (log_step setting.program setting.plan) (begun_log setting p) w.before (w.moment ∷ []) in
+        let grown = log_grows (log_step setting.program setting.plan done w.moment) w.after in
+        let kept : (log ms).entries ≡ (done.entries ++ entries_of setting.program setting.plan done w.moment) ++ grown.0 =
+        ap (λ l'. (log l').entries) w.moments_are ∙ ap (λ (k : Logging). k.entries) (fold-append (log_step setting.program setting.plan) (begun_log setting p) w.before (w.moment ∷ w.after)) ∙ grown.1 in
         let more = closed_more (log ms) in
-        let all : (done.entries ++ entries_of program plan done w.moment) ++ (grown.0 ++ more.0) ≡ l.before ++ entry.Postlog l.block l.values ∷ l.after =
-        sym (append_assoc (done.entries ++ entries_of program plan done w.moment) grown.0 more.0) ∙ ap (λ es. es ++ more.0) (sym kept) ∙ sym more.1 ∙ l.entries_are in
-        let hi : length l.before < length (done.entries ++ entries_of program plan done w.moment) = subst (λ (k : Logging). length l.before < length k.entries) next w.there in
-        let mid' = in_middle done.entries (entries_of program plan done w.moment) (grown.0 ++ more.0) l.before l.after (entry.Postlog l.block l.values) all w.new hi in
-        let none : syncs mid'.0 ≡ 0 = before_postlog program plan done w.moment mid'.0 l.block l.values mid'.1 mid'.3 in
+        let all : (done.entries ++ entries_of setting.program setting.plan done w.moment) ++ (grown.0 ++ more.0) ≡ l.before ++ entry.Postlog l.block l.values ∷ l.after =
+        sym (append_assoc (done.entries ++ entries_of setting.program setting.plan done w.moment) grown.0 more.0) ∙ ap (λ es. es ++ more.0) (sym kept) ∙ sym more.1 ∙ l.entries_are in
+        let hi : length l.before < length (done.entries ++ entries_of setting.program setting.plan done w.moment) = subst (λ (k : Logging). length l.before < length k.entries) next w.there in
+        let mid' = in_middle done.entries (entries_of setting.program setting.plan done w.moment) (grown.0 ++ more.0) l.before l.after (entry.Postlog l.block l.values) all w.new hi in
+        let none : syncs mid'.0 ≡ 0 = before_postlog setting.program setting.plan done w.moment mid'.0 l.block l.values mid'.1 mid'.3 in
         let total : syncs l.before ≡ syncs done.entries + syncs mid'.0 = ap syncs mid'.2 ∙ size_both sync_in done.entries mid'.0 in
-        let number : (split_of program plan budget story' p (steps_of w.before)).edge ≡ count_to events mid = (let c = l.count in omega (arith, edge, none, total, c)) in
+        let number : (split_of setting story' p (steps_of w.before)).edge ≡ count_to events mid = (let c = l.count in omega (arith, edge, none, total, c)) in
         ap₂ (λ (z : Split) k. slice_get z.edges k) (sym x_is) (sym place) ∙ at_step ∙ ap (λ k. Some k) number
 
     pub left_by_step : (events : List TracedEvent) (m lo mid : ℕ) (i : Span) → slice_get x.spans m ≡ Some i → is_some i.closed ≡ true → Logged entries events m lo mid → IsLeftBy x i (count_to events mid)

@@ -1,4 +1,5 @@
 -- What the walk from an event replays is round it or open in its edge.
+use Rattle.ppd_model.specs.Setting.{Setting}
 use Rattle.std.proofs.Common.{◌≡◌, ℕ, zero, suc, ◌+◌, ◌<◌, ◌≤◌, Bool, true, false, cond, List, [], ◌∷◌, Option, Some, None, refl, ap, sym, subst, ◌∙◌, arith, length, true≢false, inl, inr, ◌⊎◌, eq-eqb, ne_eqb}
 use Rattle.std.specs.Prelude.{count_by, drop, is_some, nat_eq, slice_get, take, ◌||◌, get_or}
 use Rattle.std.specs.List.{list_any}
@@ -6,8 +7,6 @@ use Rattle.std.proofs.lemmas.Bool.{cases_eq}
 use Rattle.std.proofs.lemmas.List.Sums.{sum_by-append}
 use Rattle.std.proofs.lemmas.Option.{none-some}
 use Rattle.ppd_ast.specs.Valid.{IsValid}
-use Rattle.ppd_ast.specs.declared.plan.Plan.{Plan}
-use Rattle.ppd_ast.specs.declared.program.Program.{Program}
 use Rattle.ppd_ast.proofs.ValidLaws.{slice_get_there, slice_get_below}
 use Rattle.ppd_ast.specs.Counting.{one_if}
 use Rattle.ppd_model.specs.declared.trace.TracedEvent.{TracedEvent}
@@ -80,15 +79,15 @@ plain_count events lo (suc hi) le end' q = elim (cases_eq lo (suc hi)) [
 
 -- ---- near
 
-module _ (program : Program) (plan : Plan) (budget : ℕ) (h : List ℕ) (v : IsValid program) (p : ℕ) (x : Split) (there : slice_get (splits program plan budget (story program plan budget h)) p ≡ Some x) where
+module _ (setting : Setting) (h : List ℕ) (v : IsValid setting.program) (p : ℕ) (x : Split) (there : slice_get (splits setting (story setting h)) p ≡ Some x) where
   abbrev ms : List Moment
-  ms = get_or (told program plan budget h).moments p []
+  ms = get_or (told setting h).moments p []
 
   -- an interval that was left in the edge is open in it
-  left_open : (n m : ℕ) → n ≤ length x.trace.events → IsTouched x (Logged (closed_log (log_of program plan budget p (get_or (told program plan budget h).moments p []))) x.trace.events) n m → IsOpenAt x (count_to x.trace.events n) m
+  left_open : (n m : ℕ) → n ≤ length x.trace.events → IsTouched x (Logged (closed_log (log_of setting p (get_or (told setting h).moments p []))) x.trace.events) n m → IsOpenAt x (count_to x.trace.events n) m
   left_open n m le t =
-      let k = closed_told program plan budget h v p x there in
-      let l : IsLeftBy x t.span (count_to x.trace.events t.mid) = left_by_step program plan budget p ms (story program plan budget h) x k.0 k.1 x.trace.events m t.lo t.mid t.span t.is_there t.closed t.logged in
+      let k = closed_told setting h v p x there in
+      let l : IsLeftBy x t.span (count_to x.trace.events t.mid) = left_by_step setting p ms (story setting h) x k.0 k.1 x.trace.events m t.lo t.mid t.span t.is_there t.closed t.logged in
       let same : count_to x.trace.events t.mid ≡ count_to x.trace.events n = plain_count x.trace.events t.mid n t.before le t.since in
       let z : l.step + 1 ≡ suc l.step = omega arith in
       record {
@@ -106,19 +105,19 @@ module _ (program : Program) (plan : Plan) (budget : ℕ) (h : List ℕ) (v : Is
       lt : n < length x.trace.events
       lt = slice_get_below x.trace.events n e at
 
-      told_by : IsTold (closed_log (log_of program plan budget p (get_or (told program plan budget h).moments p []))) x.trace.events x.spans x.running
-      told_by = (closed_told program plan budget h v p x there).2
+      told_by : IsTold (closed_log (log_of setting p (get_or (told setting h).moments p []))) x.trace.events x.spans x.running
+      told_by = (closed_told setting h v p x there).2
 
       by : (o : Option Span) → slice_get x.spans k ≡ o → part_in o j ≡ Some (own n) → (is_in m (surroundings x k) ≡ true) ⊎ IsOpenAt x (edge_of_event x n) m
       by None g f = absurd (none-some (own n) f)
       by (Some s) g f =
-          let q = place_of_event x (closed_log (log_of program plan budget p (get_or (told program plan budget h).moments p []))) told_by k j n s g f lt in
+          let q = place_of_event x (closed_log (log_of setting p (get_or (told setting h).moments p []))) told_by k j n s g f lt in
           let le : n ≤ length x.trace.events = (let l = lt in omega (arith, l)) in
-          elim (all_walked x c (Logged (closed_log (log_of program plan budget p (get_or (told program plan budget h).moments p []))) x.trace.events) k q.0.first q.1 (own n ∷ q.2) n s g q.3 q.5 le q.0.stands m
+          elim (all_walked x c (Logged (closed_log (log_of setting p (get_or (told setting h).moments p []))) x.trace.events) k q.0.first q.1 (own n ∷ q.2) n s g q.3 q.5 le q.0.stands m
           (subst (λ z. In m (walk (seen_of x) c k z).replays) (sym q.4) (is_member m (walk (seen_of x) c k j).replays i))) [
             | inl t ↦ inr (subst (λ z. IsOpenAt x z m) (sym (counted x.trace.events n)) (left_open n m le t))
             | inr r ↦ inl (member_is m (surroundings x k) (later_in (subst (λ l. In m (round_of l)) (sym g) r)))
           ]
 
 pub walks_near : WalksStayNear
-walks_near program plan budget h p k j n c x e v there place at m i = near_walk program plan budget h v p x there k j n c e place at m i
+walks_near setting h p k j n c x e v there place at m i = near_walk setting h v p x there k j n c e place at m i

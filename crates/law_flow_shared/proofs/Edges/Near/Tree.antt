@@ -1,4 +1,5 @@
 -- Intervals are a tree: each stands at one place of the interval that is the innermost round it.
+use Rattle.ppd_model.specs.Setting.{setting_of}
 use Rattle.std.proofs.Common.{◌≡◌, ℕ, zero, suc, ◌+◌, ◌<◌, Bool, true, false, List, [], ◌∷◌, ◌++◌, Option, Some, None, refl, ap, ap₂, sym, subst, ◌∙◌, arith, length, true≢false, inl, inr, ◌⊎◌, if◌then◌else◌}
 use Rattle.std.specs.Prelude.{⊤, drop, fold, option_map, slice_get}
 use Rattle.std.proofs.lemmas.Bool.{cases_eq}
@@ -250,7 +251,7 @@ module _ (program : Program) (plan : Plan) (story' : Story) (p : ℕ) where
   all_steps x [] h = h
   all_steps x (t ∷ ts) h = all_steps (split_step program plan story' p x t) ts (one_step x t h)
 
-  pub has_tree : (budget : ℕ) (ts : List Taken) → HasTree (split_of program plan budget story' p ts)
+  pub has_tree : (budget : ℕ) (ts : List Taken) → HasTree (split_of (setting_of program plan budget) story' p ts)
   has_tree budget ts = all_steps (begun_split program plan p (started program plan p budget)) ts (record {
     chain = (_, refl, refl, tt);
     parent = λ k j m i e g. absurd (none k j m i e g);

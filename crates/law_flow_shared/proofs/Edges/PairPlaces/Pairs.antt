@@ -1,9 +1,9 @@
 -- The pair of a synchronization is where the model has it.
+use Rattle.ppd_model.specs.Setting.{Setting}
 use Rattle.std.proofs.Common.{◌≡◌, ℕ, ◌+◌, ◌<◌, true, false, List, [], ◌∷◌, ◌++◌, Option, Some, None, refl, ap, ap₂, sym, subst, ◌∙◌, arith, length, get_or, true≢false, inl, inr, ◌⊎◌}
 use Rattle.std.specs.Prelude.{IsTrue, fold, is_some, slice_get, filter_map}
 use Rattle.std.proofs.lemmas.Option.{none-some}
 use Rattle.ppd_ast.specs.Valid.{IsValid}
-use Rattle.ppd_ast.specs.declared.plan.Plan.{Plan}
 use Rattle.ppd_ast.specs.declared.program.Kind.{Kind}
 use Rattle.ppd_ast.specs.declared.program.Kind.TheVariants as kind
 use Rattle.ppd_ast.specs.declared.program.Program.{Program}
@@ -113,109 +113,109 @@ made_of None o s e = absurd (none-some s e)
 made_of (Some z) None s e = absurd (none-some s e)
 made_of (Some z) (Some i) s e = (z, i, refl, refl, ap (λ (y : Sync). y.kind) (some e))
 
-module _ (program : Program) (plan : Plan) (budget : ℕ) (h : List ℕ) (v : IsValid program) where
+module _ (setting : Setting) (h : List ℕ) (v : IsValid setting.program) where
   abbrev xs : List Split
-  xs = splits program plan budget (story program plan budget h)
+  xs = splits setting (story setting h)
 
   abbrev logs : Logs
-  logs = closed_logs program plan budget h
+  logs = closed_logs setting h
 
   abbrev Rec : List (List Sync)
-  Rec = sync_record program plan budget h
+  Rec = sync_record setting h
 
-  partners : ArePartners program Rec (pairs_of program Rec)
-  partners = partners_found program Rec (λ a b s e f. (are_counted program plan budget h).once a b s e f)
+  partners : ArePartners setting.program Rec (pairs_of setting.program Rec)
+  partners = partners_found setting.program Rec (λ a b s e f. (are_counted setting h).once a b s e f)
 
-  syncs_are : (q : ℕ) → get_or Rec q [] ≡ filter_map sync_of (did (told program plan budget h) q)
-  syncs_are q = record_at (story program plan budget h).steps q ∙ ap (filter_map sync_of) (own_is program plan budget h q)
+  syncs_are : (q : ℕ) → get_or Rec q [] ≡ filter_map sync_of (did (told setting h) q)
+  syncs_are q = record_at (story setting h).steps q ∙ ap (filter_map sync_of) (own_is setting.program setting.plan setting.budget h q)
 
-  sync_of_step : (q : ℕ) (before : List Taken) (y : Taken) (after : List Taken) (s : Sync) → did (told program plan budget h) q ≡ before ++ y ∷ after → sync_of y ≡ Some s → sync_at Rec (node q (length (filter_map sync_of before))) ≡ Some s
+  sync_of_step : (q : ℕ) (before : List Taken) (y : Taken) (after : List Taken) (s : Sync) → did (told setting h) q ≡ before ++ y ∷ after → sync_of y ≡ Some s → sync_at Rec (node q (length (filter_map sync_of before))) ≡ Some s
   sync_of_step q before y after s e f = ap (λ l. slice_get l (length (filter_map sync_of before))) (syncs_are q ∙ ap (filter_map sync_of) e) ∙ sync_there before y after s f
 
   -- where a synchronization of a step is an item
-  place_is : (q : ℕ) (before : List Taken) (y : Taken) (after : List Taken) (s : Sync) → did (told program plan budget h) q ≡ before ++ y ∷ after → sync_of y ≡ Some s
-      → (pair_place logs (all_seen program plan budget h) (Node (node q (length (filter_map sync_of before))))).found ≡ Some (ref xs (record { process = q; number = events_in before }))
+  place_is : (q : ℕ) (before : List Taken) (y : Taken) (after : List Taken) (s : Sync) → did (told setting h) q ≡ before ++ y ∷ after → sync_of y ≡ Some s
+      → (pair_place logs (all_seen setting h) (Node (node q (length (filter_map sync_of before))))).found ≡ Some (ref xs (record { process = q; number = events_in before }))
   place_is q before y after s e f =
-      let lt_q : q < length (told program plan budget h).moments = below_moments (told program plan budget h).moments q before y after e in
-      let there = split_there program plan budget (story program plan budget h) 0 (told program plan budget h).moments q lt_q in
+      let lt_q : q < length (told setting h).moments = below_moments (told setting h).moments q before y after e in
+      let there = split_there setting (story setting h) 0 (told setting h).moments q lt_q in
       let x : Split = there.0 in
-      let g : Facts program plan budget h v q x = facts program plan budget h v q x there.1 in
-      let r : RecordsAccesses (story program plan budget h) q (get_or logs.lists q []) = g.records in
-      let a : HasEvent program plan budget h v q x g before y = ev_at program plan budget h v q x g before y after e (sync_event y (ap is_some f)) in
-      let counted : count_to x.trace.events (events_in before) ≡ length (filter_map sync_of before) = ev_count program plan budget h v q x g before (y ∷ after) e in
+      let g : Facts setting h v q x = facts setting h v q x there.1 in
+      let r : RecordsAccesses (story setting h) q (get_or logs.lists q []) = g.records in
+      let a : HasEvent setting h v q x g before y = ev_at setting h v q x g before y after e (sync_event y (ap is_some f)) in
+      let counted : count_to x.trace.events (events_in before) ≡ length (filter_map sync_of before) = ev_count setting h v q x g before (y ∷ after) e in
       let ends : EndsAt x (get_or logs.lists q []) (count_to x.trace.events (events_in before)) (events_in before) =
       at_sync x (get_or logs.lists q []) g.told_by r.before r.status r.rest _ _ r.entries_are r.no_end (events_in before) (a.is_sync ∙ ap is_some f) in
-      ap (λ i. Some (origin.Item q (end_interval (get_or logs.lists q []) i) (end_item (get_or logs.lists q []) (seen_at (all_seen program plan budget h) q) i))) (sym counted)
+      ap (λ i. Some (origin.Item q (end_interval (get_or logs.lists q []) i) (end_item (get_or logs.lists q []) (seen_at (all_seen setting h) q) i))) (sym counted)
       ∙ ap (λ z. Some (origin.Item q (end_interval (get_or logs.lists q []) (count_to x.trace.events (events_in before))) (end_item (get_or logs.lists q []) z (count_to x.trace.events (events_in before))))) g.seen_is
-      ∙ ap (λ o. Some o) (sym (ref_of program plan budget h v q x there.1 (events_in before) (end_interval (get_or logs.lists q []) (count_to x.trace.events (events_in before))) (end_item (get_or logs.lists q []) (seen_of x) (count_to x.trace.events (events_in before))) a.within ends.there))
+      ∙ ap (λ o. Some o) (sym (ref_of setting h v q x there.1 (events_in before) (end_interval (get_or logs.lists q []) (count_to x.trace.events (events_in before))) (end_item (get_or logs.lists q []) (seen_of x) (count_to x.trace.events (events_in before))) a.within ends.there))
 
   -- of a step that is a synchronization
-  of_sync : (p : ℕ) (before : List Taken) (y : Taken) (after : List Taken) (s : Sync) (k : Kind) → did (told program plan budget h) p ≡ before ++ y ∷ after → sync_of y ≡ Some s → takes y.need ≡ is_take k
-      → pair_edges (pair_place logs (all_seen program plan budget h) (pair_at (pairs_of program (record_in logs)) (node p (length (filter_map sync_of before))))).found ≡ model_sync_edges xs k (leading_from program (sync_of y) 0 (story program plan budget h).steps)
+  of_sync : (p : ℕ) (before : List Taken) (y : Taken) (after : List Taken) (s : Sync) (k : Kind) → did (told setting h) p ≡ before ++ y ∷ after → sync_of y ≡ Some s → takes y.need ≡ is_take k
+      → pair_edges (pair_place logs (all_seen setting h) (pair_at (pairs_of setting.program (record_in logs)) (node p (length (filter_map sync_of before))))).found ≡ model_sync_edges xs k (leading_from setting.program (sync_of y) 0 (story setting h).steps)
   of_sync p before y after s k e f take =
-      ap (λ rec. pair_edges (pair_place logs (all_seen program plan budget h) (pair_at (pairs_of program rec) (node p (length (filter_map sync_of before))))).found) (record_syncs program plan budget h).closed
-      ∙ elim (leading_all program (Some s) 0 (story program plan budget h).steps) [
+      ap (λ rec. pair_edges (pair_place logs (all_seen setting h) (pair_at (pairs_of setting.program rec) (node p (length (filter_map sync_of before))))).found) (record_syncs setting h).closed
+      ∙ elim (leading_all setting.program (Some s) 0 (story setting h).steps) [
         | inl l ↦ leads l.0 l.1 l.2
         | inr n' ↦ none n'.0 n'.1
       ]
     where
-      at_b : sync_at (sync_record program plan budget h) (node p (length (filter_map sync_of before))) ≡ Some s
+      at_b : sync_at (sync_record setting h) (node p (length (filter_map sync_of before))) ≡ Some s
       at_b = sync_of_step p before y after s e f
 
-      paired_is : leading_from program (sync_of y) 0 (story program plan budget h).steps ≡ leading_from program (Some s) 0 (story program plan budget h).steps
-      paired_is = ap (λ o. leading_from program o 0 (story program plan budget h).steps) f
+      paired_is : leading_from setting.program (sync_of y) 0 (story setting h).steps ≡ leading_from setting.program (Some s) 0 (story setting h).steps
+      paired_is = ap (λ o. leading_from setting.program o 0 (story setting h).steps) f
 
-      leads : (id : EventId) → leading_from program (Some s) 0 (story program plan budget h).steps ≡ Some id → LeadsFrom program (Some s) 0 (story program plan budget h).steps id
-          → pair_edges (pair_place logs (all_seen program plan budget h) (pair_at (pairs_of program (sync_record program plan budget h)) (node p (length (filter_map sync_of before))))).found ≡ model_sync_edges xs k (leading_from program (sync_of y) 0 (story program plan budget h).steps)
+      leads : (id : EventId) → leading_from setting.program (Some s) 0 (story setting h).steps ≡ Some id → LeadsFrom setting.program (Some s) 0 (story setting h).steps id
+          → pair_edges (pair_place logs (all_seen setting h) (pair_at (pairs_of setting.program (sync_record setting h)) (node p (length (filter_map sync_of before))))).found ≡ model_sync_edges xs k (leading_from setting.program (sync_of y) 0 (story setting h).steps)
       leads id is l =
-          let first = leads_some program (sync_of l.leads.step) (Some s) l.leads.leads in
-          let steps : did (told program plan budget h) l.row ≡ l.leads.before ++ l.leads.step ∷ l.leads.after = sym (own_is program plan budget h l.row) ∙ l.leads.are in
-          let at_a : sync_at (sync_record program plan budget h) (node l.row (length (filter_map sync_of l.leads.before))) ≡ Some first.0 = sync_of_step l.row l.leads.before l.leads.step l.leads.after first.0 steps first.1 in
-          let test : IsTrue (leads_at program (sync_at (sync_record program plan budget h) (node l.row (length (filter_map sync_of l.leads.before)))) (sync_at (sync_record program plan budget h) (node p (length (filter_map sync_of before))))) =
-          ap₂ (λ a b. leads_at program a b) (at_a ∙ sym first.1) at_b ∙ l.leads.leads in
-          let pair = to_node (pair_at (pairs_of program (sync_record program plan budget h)) (node p (length (filter_map sync_of before)))) (node l.row (length (filter_map sync_of l.leads.before))) ((partners.leads (node l.row (length (filter_map sync_of l.leads.before))) (node p (length (filter_map sync_of before)))).0 test) in
+          let first = leads_some setting.program (sync_of l.leads.step) (Some s) l.leads.leads in
+          let steps : did (told setting h) l.row ≡ l.leads.before ++ l.leads.step ∷ l.leads.after = sym (own_is setting.program setting.plan setting.budget h l.row) ∙ l.leads.are in
+          let at_a : sync_at (sync_record setting h) (node l.row (length (filter_map sync_of l.leads.before))) ≡ Some first.0 = sync_of_step l.row l.leads.before l.leads.step l.leads.after first.0 steps first.1 in
+          let test : IsTrue (leads_at setting.program (sync_at (sync_record setting h) (node l.row (length (filter_map sync_of l.leads.before)))) (sync_at (sync_record setting h) (node p (length (filter_map sync_of before))))) =
+          ap₂ (λ a b. leads_at setting.program a b) (at_a ∙ sym first.1) at_b ∙ l.leads.leads in
+          let pair = to_node (pair_at (pairs_of setting.program (sync_record setting h)) (node p (length (filter_map sync_of before)))) (node l.row (length (filter_map sync_of l.leads.before))) ((partners.leads (node l.row (length (filter_map sync_of l.leads.before))) (node p (length (filter_map sync_of before)))).0 test) in
           let process : l.row ≡ id.process = (let z : 0 + l.row ≡ l.row = omega arith in sym z ∙ sym l.process_is) in
           let number : events_in l.leads.before ≡ id.number = (let z : 0 + events_in l.leads.before ≡ events_in l.leads.before = omega arith in sym z ∙ sym l.leads.number) in
-          ap (λ z. pair_edges (pair_place logs (all_seen program plan budget h) z).found) pair
+          ap (λ z. pair_edges (pair_place logs (all_seen setting h) z).found) pair
           ∙ ap pair_edges (place_is l.row l.leads.before l.leads.step l.leads.after first.0 steps first.1)
           ∙ ap₂ (λ a b. bare_edge edge_kind.Sync (ref xs (record { process = a; number = b })) ∷ []) process number
           ∙ sym (ap (model_sync_edges xs k) (paired_is ∙ is))
 
-      none : leading_from program (Some s) 0 (story program plan budget h).steps ≡ None
-          → ((q : ℕ) (b : List Taken) (z : Taken) (a : List Taken) → get_or (story program plan budget h).steps q [] ≡ b ++ z ∷ a → leads_at program (sync_of z) (Some s) ≡ false)
-          → pair_edges (pair_place logs (all_seen program plan budget h) (pair_at (pairs_of program (sync_record program plan budget h)) (node p (length (filter_map sync_of before))))).found ≡ model_sync_edges xs k (leading_from program (sync_of y) 0 (story program plan budget h).steps)
-      none is no_one = by_found (found (sync_record program plan budget h) (wanted program s)) refl
+      none : leading_from setting.program (Some s) 0 (story setting h).steps ≡ None
+          → ((q : ℕ) (b : List Taken) (z : Taken) (a : List Taken) → get_or (story setting h).steps q [] ≡ b ++ z ∷ a → leads_at setting.program (sync_of z) (Some s) ≡ false)
+          → pair_edges (pair_place logs (all_seen setting h) (pair_at (pairs_of setting.program (sync_record setting h)) (node p (length (filter_map sync_of before))))).found ≡ model_sync_edges xs k (leading_from setting.program (sync_of y) 0 (story setting h).steps)
+      none is no_one = by_found (found (sync_record setting h) (wanted setting.program s)) refl
         where
-          pair : pair_at (pairs_of program (sync_record program plan budget h)) (node p (length (filter_map sync_of before))) ≡ partner_of program (sync_record program plan budget h) s
-          pair = pair_is program (sync_record program plan budget h) p (length (filter_map sync_of before)) s at_b
+          pair : pair_at (pairs_of setting.program (sync_record setting h)) (node p (length (filter_map sync_of before))) ≡ partner_of setting.program (sync_record setting h) s
+          pair = pair_is setting.program (sync_record setting h) p (length (filter_map sync_of before)) s at_b
 
-          none_at : (a : NodeId) (o : Option Sync) → sync_at (sync_record program plan budget h) a ≡ o → leads_at program o (Some s) ≡ true → ⊥
+          none_at : (a : NodeId) (o : Option Sync) → sync_at (sync_record setting h) a ≡ o → leads_at setting.program o (Some s) ≡ true → ⊥
           none_at a None g t = true≢false (sym t)
           none_at a (Some z) g t =
-              let c = sync_step (did (told program plan budget h) a.process) a.sync z (ap (λ l. slice_get l a.sync) (sym (syncs_are a.process)) ∙ g) in
-              true≢false (sym (ap (λ o. leads_at program o (Some s)) c.is ∙ t) ∙ no_one a.process c.before c.step c.after (own_is program plan budget h a.process ∙ c.are))
+              let c = sync_step (did (told setting h) a.process) a.sync z (ap (λ l. slice_get l a.sync) (sym (syncs_are a.process)) ∙ g) in
+              true≢false (sym (ap (λ o. leads_at setting.program o (Some s)) c.is ∙ t) ∙ no_one a.process c.before c.step c.after (own_is setting.program setting.plan setting.budget h a.process ∙ c.are))
 
-          by_found : (o : Option NodeId) → found (sync_record program plan budget h) (wanted program s) ≡ o
-              → pair_edges (pair_place logs (all_seen program plan budget h) (pair_at (pairs_of program (sync_record program plan budget h)) (node p (length (filter_map sync_of before))))).found ≡ model_sync_edges xs k (leading_from program (sync_of y) 0 (story program plan budget h).steps)
+          by_found : (o : Option NodeId) → found (sync_record setting h) (wanted setting.program s) ≡ o
+              → pair_edges (pair_place logs (all_seen setting h) (pair_at (pairs_of setting.program (sync_record setting h)) (node p (length (filter_map sync_of before))))).found ≡ model_sync_edges xs k (leading_from setting.program (sync_of y) 0 (story setting h).steps)
           by_found (Some a) g =
-              let named : pair_at (pairs_of program (sync_record program plan budget h)) (node p (length (filter_map sync_of before))) ≡ Node a = pair ∙ ap (paired_by s.kind) g in
+              let named : pair_at (pairs_of setting.program (sync_record setting h)) (node p (length (filter_map sync_of before))) ≡ Node a = pair ∙ ap (paired_by s.kind) g in
               let test = (partners.leads a (node p (length (filter_map sync_of before)))).1 (ap node_of named) in
-              absurd (none_at a (sync_at (sync_record program plan budget h) a) refl (ap (leads_at program (sync_at (sync_record program plan budget h) a)) (sym at_b) ∙ test))
+              absurd (none_at a (sync_at (sync_record setting h) a) refl (ap (leads_at setting.program (sync_at (sync_record setting h) a)) (sym at_b) ∙ test))
           by_found None g =
               let m = made_of (kind_of_sync y.need) y.number s f in
-              let named : pair_at (pairs_of program (sync_record program plan budget h)) (node p (length (filter_map sync_of before))) ≡ paired_by m.0.0 None = pair ∙ ap₂ (λ a b. paired_by a b) (sym m.4) g in
+              let named : pair_at (pairs_of setting.program (sync_record setting h)) (node p (length (filter_map sync_of before))) ≡ paired_by m.0.0 None = pair ∙ ap₂ (λ a b. paired_by a b) (sym m.4) g in
               elim (alone y.need m.0 m.2) [
-                | inl t ↦ ap (λ z. pair_edges (pair_place logs (all_seen program plan budget h) z).found) (named ∙ t.1) ∙ sym (ap (model_sync_edges xs k) (paired_is ∙ is) ∙ model_start xs k (sym take ∙ t.0))
-                | inr t ↦ ap (λ z. pair_edges (pair_place logs (all_seen program plan budget h) z).found) (named ∙ t.1) ∙ sym (ap (model_sync_edges xs k) (paired_is ∙ is) ∙ model_none xs k (sym take ∙ t.0))
+                | inl t ↦ ap (λ z. pair_edges (pair_place logs (all_seen setting h) z).found) (named ∙ t.1) ∙ sym (ap (model_sync_edges xs k) (paired_is ∙ is) ∙ model_start xs k (sym take ∙ t.0))
+                | inr t ↦ ap (λ z. pair_edges (pair_place logs (all_seen setting h) z).found) (named ∙ t.1) ∙ sym (ap (model_sync_edges xs k) (paired_is ∙ is) ∙ model_none xs k (sym take ∙ t.0))
               ]
 
   -- of a step that is none
-  of_other : (y : Taken) (k : Kind) → sync_of y ≡ None → kind_of_sync y.need ≡ None → takes y.need ≡ is_take k → [] ≡ model_sync_edges xs k (leading_from program (sync_of y) 0 (story program plan budget h).steps)
-  of_other y k f g take = sym (ap (model_sync_edges xs k) (ap (λ o. leading_from program o 0 (story program plan budget h).steps) f ∙ nothing) ∙ model_none xs k (sym take ∙ no_take y.need g))
+  of_other : (y : Taken) (k : Kind) → sync_of y ≡ None → kind_of_sync y.need ≡ None → takes y.need ≡ is_take k → [] ≡ model_sync_edges xs k (leading_from setting.program (sync_of y) 0 (story setting h).steps)
+  of_other y k f g take = sym (ap (model_sync_edges xs k) (ap (λ o. leading_from setting.program o 0 (story setting h).steps) f ∙ nothing) ∙ model_none xs k (sym take ∙ no_take y.need g))
     where
-      nothing : leading_from program None 0 (story program plan budget h).steps ≡ None
-      nothing = elim (leading_all program None 0 (story program plan budget h).steps) [
-        | inl l ↦ absurd (leads_none program (sync_of l.2.leads.step) l.2.leads.leads)
+      nothing : leading_from setting.program None 0 (story setting h).steps ≡ None
+      nothing = elim (leading_all setting.program None 0 (story setting h).steps) [
+        | inl l ↦ absurd (leads_none setting.program (sync_of l.2.leads.step) l.2.leads.leads)
         | inr n' ↦ n'.0
       ]
 
@@ -227,44 +227,44 @@ numbered_step ys before y after h e = by before (subst AreNumberedModel e h)
     by (z ∷ zs) k = by zs k.1
 
 -- by whether the step is a synchronization
-by_sync : (program : Program) (plan : Plan) (budget : ℕ) (h : List ℕ) (v : IsValid program) (p k j : ℕ) (before : List Taken) (y : Taken) (after : List Taken) (kd : Kind) → did (told program plan budget h) p ≡ before ++ y ∷ after → takes y.need ≡ is_take kd
-    → edge_at (get_or (closed_logs program plan budget h).lists p []) (seen_at (all_seen program plan budget h) p) k j ≡ length (filter_map sync_of before) → (o : Option Sync) → sync_of y ≡ o
-    → (sync_edges program (closed_logs program plan budget h) (all_seen program plan budget h) p k j y.number).found ≡ model_sync_edges (splits program plan budget (story program plan budget h)) kd (leading_from program (sync_of y) 0 (story program plan budget h).steps)
-by_sync program plan budget h v p k j before y after kd are take edge_is (Some s) f =
+by_sync : (setting : Setting) (h : List ℕ) (v : IsValid setting.program) (p k j : ℕ) (before : List Taken) (y : Taken) (after : List Taken) (kd : Kind) → did (told setting h) p ≡ before ++ y ∷ after → takes y.need ≡ is_take kd
+    → edge_at (get_or (closed_logs setting h).lists p []) (seen_at (all_seen setting h) p) k j ≡ length (filter_map sync_of before) → (o : Option Sync) → sync_of y ≡ o
+    → (sync_edges setting.program (closed_logs setting h) (all_seen setting h) p k j y.number).found ≡ model_sync_edges (splits setting (story setting h)) kd (leading_from setting.program (sync_of y) 0 (story setting h).steps)
+by_sync setting h v p k j before y after kd are take edge_is (Some s) f =
     let m = made_of (kind_of_sync y.need) y.number s f in
-    ap (λ o. (sync_edges program (closed_logs program plan budget h) (all_seen program plan budget h) p k j o).found) m.3
-    ∙ ap (λ i. pair_edges (pair_place (closed_logs program plan budget h) (all_seen program plan budget h) (pair_at (pairs_of program (record_in (closed_logs program plan budget h))) (node p i))).found) edge_is
-    ∙ of_sync program plan budget h v p before y after s kd are f take
-by_sync program plan budget h v p k j before y after kd are take edge_is None f =
-    let g : kind_of_sync y.need ≡ None = numbered_step (get_or (story program plan budget h).steps p []) before y after (steps_numbered program plan v budget h p) (own_is program plan budget h p ∙ are) f in
-    ap (λ o. (sync_edges program (closed_logs program plan budget h) (all_seen program plan budget h) p k j o).found) ((numbered_at (did (told program plan budget h) p) before y after (numbered_told program plan budget h p) are) g)
-    ∙ of_other program plan budget h v y kd f g take
+    ap (λ o. (sync_edges setting.program (closed_logs setting h) (all_seen setting h) p k j o).found) m.3
+    ∙ ap (λ i. pair_edges (pair_place (closed_logs setting h) (all_seen setting h) (pair_at (pairs_of setting.program (record_in (closed_logs setting h))) (node p i))).found) edge_is
+    ∙ of_sync setting h v p before y after s kd are f take
+by_sync setting h v p k j before y after kd are take edge_is None f =
+    let g : kind_of_sync y.need ≡ None = numbered_step (get_or (story setting h).steps p []) before y after (steps_numbered setting.program setting.plan v setting.budget h p) (own_is setting.program setting.plan setting.budget h p ∙ are) f in
+    ap (λ o. (sync_edges setting.program (closed_logs setting h) (all_seen setting h) p k j o).found) ((numbered_at (did (told setting h) p) before y after (numbered_told setting.program setting.plan setting.budget h p) are) g)
+    ∙ of_other setting h v y kd f g take
   where
     numbered_at : (zs : List Taken) (b : List Taken) (z : Taken) (a : List Taken) → AreNumbered zs → zs ≡ b ++ z ∷ a → kind_of_sync z.need ≡ None → z.number ≡ None
     numbered_at zs b z a w e' = (numbered_from b (z ∷ a) (subst AreNumbered e' w)).0
 
 pub pairs_found : PairsAreFound
-pairs_found program plan budget h v p k j x number e there placed event_is =
-    let f : Facts program plan budget h v p x = facts program plan budget h v p x there in
-    let steps : List Taken = did (told program plan budget h) p in
-    let told_story : Story = story program plan budget h in
+pairs_found setting h v p k j x number e there placed event_is =
+    let f : Facts setting h v p x = facts setting h v p x there in
+    let steps : List Taken = did (told setting h) p in
+    let told_story : Story = story setting h in
     let lt : number < length x.trace.events = slice_get_below x.trace.events number e event_is in
-    let long : length x.trace.events ≡ events_in steps = ap length f.events_are ∙ length_is program plan budget told_story p steps f.steps_own f.steps_numbered steps in
+    let long : length x.trace.events ≡ events_in steps = ap length f.events_are ∙ length_is setting told_story p steps f.steps_own f.steps_numbered steps in
     let s : IsStep steps number = step_of steps number (omega (arith, lt, long)) in
-    let u : Tracing = fold (trace_step program plan told_story p) (begun_tracing (started program plan p budget)) s.before in
-    let mine : s.step.need ≡ need_of program plan u.proc = (own_from program plan told_story p (begun_tracing (started program plan p budget)) s.before (s.step ∷ s.after) (subst (AreOwn program plan (started program plan p budget)) s.are f.steps_own)).0 in
-    let finishes : is_event (need_of program plan u.proc) ≡ true = ap is_event (sym mine) ∙ s.finishes in
-    let head = headed program plan u.proc finishes in
-    let event : slice_get x.trace.events number ≡ Some (new_event program plan told_story p s.step u) =
-    ap₂ (λ es i. slice_get es i) f.events_are (sym s.number) ∙ at_event program plan budget told_story p steps f.steps_own f.steps_numbered s.before s.step s.after s.are s.finishes in
-    let same : new_event program plan told_story p s.step u ≡ e = some (sym event ∙ event_is) in
-    let take : takes s.step.need ≡ is_take (kind_of program head.0.stmt) = ap takes mine ∙ takes_is program plan u.proc head.0 head.1 head.2 finishes in
-    let at : IsAt x (get_or (closed_logs program plan budget h).lists p []) number k j = at_place x (get_or (closed_logs program plan budget h).lists p []) f.told_by k j number placed lt in
-    let edge_is : edge_at (get_or (closed_logs program plan budget h).lists p []) (seen_at (all_seen program plan budget h) p) k j ≡ length (filter_map sync_of s.before) =
-    ap (λ z. edge_at (get_or (closed_logs program plan budget h).lists p []) z k j) f.seen_is ∙ at.edge ∙ ap (count_to x.trace.events) (sym s.number) ∙ ev_count program plan budget h v p x f s.before (s.step ∷ s.after) s.are in
-    let number_is : e.event.number ≡ s.step.number = ap (λ (z : TracedEvent). z.event.number) (sym same) ∙ ap (λ todo. (event_of program plan u.proc s.step todo).number) head.2 in
-    let stmt_is : e.event.stmt ≡ head.0.stmt = ap (λ (z : TracedEvent). z.event.stmt) (sym same) ∙ ap (λ todo. (event_of program plan u.proc s.step todo).stmt) head.2 in
-    let paired : e.paired ≡ leading_from program (sync_of s.step) 0 told_story.steps = ap (λ (z : TracedEvent). z.paired) (sym same) in
-    ap (λ o. (sync_edges program (closed_logs program plan budget h) (all_seen program plan budget h) p k j o).found) number_is
-    ∙ by_sync program plan budget h v p k j s.before s.step s.after (kind_of program head.0.stmt) s.are take edge_is (sync_of s.step) refl
-    ∙ ap₂ (λ i o. model_sync_edges (splits program plan budget told_story) (kind_of program i) o) (sym stmt_is) (sym paired)
+    let u : Tracing = fold (trace_step setting.program setting.plan told_story p) (begun_tracing (started setting.program setting.plan p setting.budget)) s.before in
+    let mine : s.step.need ≡ need_of setting.program setting.plan u.proc = (own_from setting.program setting.plan told_story p (begun_tracing (started setting.program setting.plan p setting.budget)) s.before (s.step ∷ s.after) (subst (AreOwn setting.program setting.plan (started setting.program setting.plan p setting.budget)) s.are f.steps_own)).0 in
+    let finishes : is_event (need_of setting.program setting.plan u.proc) ≡ true = ap is_event (sym mine) ∙ s.finishes in
+    let head = headed setting.program setting.plan u.proc finishes in
+    let event : slice_get x.trace.events number ≡ Some (new_event setting.program setting.plan told_story p s.step u) =
+    ap₂ (λ es i. slice_get es i) f.events_are (sym s.number) ∙ at_event setting told_story p steps f.steps_own f.steps_numbered s.before s.step s.after s.are s.finishes in
+    let same : new_event setting.program setting.plan told_story p s.step u ≡ e = some (sym event ∙ event_is) in
+    let take : takes s.step.need ≡ is_take (kind_of setting.program head.0.stmt) = ap takes mine ∙ takes_is setting.program setting.plan u.proc head.0 head.1 head.2 finishes in
+    let at : IsAt x (get_or (closed_logs setting h).lists p []) number k j = at_place x (get_or (closed_logs setting h).lists p []) f.told_by k j number placed lt in
+    let edge_is : edge_at (get_or (closed_logs setting h).lists p []) (seen_at (all_seen setting h) p) k j ≡ length (filter_map sync_of s.before) =
+    ap (λ z. edge_at (get_or (closed_logs setting h).lists p []) z k j) f.seen_is ∙ at.edge ∙ ap (count_to x.trace.events) (sym s.number) ∙ ev_count setting h v p x f s.before (s.step ∷ s.after) s.are in
+    let number_is : e.event.number ≡ s.step.number = ap (λ (z : TracedEvent). z.event.number) (sym same) ∙ ap (λ todo. (event_of setting.program setting.plan u.proc s.step todo).number) head.2 in
+    let stmt_is : e.event.stmt ≡ head.0.stmt = ap (λ (z : TracedEvent). z.event.stmt) (sym same) ∙ ap (λ todo. (event_of setting.program setting.plan u.proc s.step todo).stmt) head.2 in
+    let paired : e.paired ≡ leading_from setting.program (sync_of s.step) 0 told_story.steps = ap (λ (z : TracedEvent). z.paired) (sym same) in
+    ap (λ o. (sync_edges setting.program (closed_logs setting h) (all_seen setting h) p k j o).found) number_is
+    ∙ by_sync setting h v p k j s.before s.step s.after (kind_of setting.program head.0.stmt) s.are take edge_is (sync_of s.step) refl
+    ∙ ap₂ (λ i o. model_sync_edges (splits setting told_story) (kind_of setting.program i) o) (sym stmt_is) (sym paired)

@@ -1,4 +1,5 @@
 -- The edges whose recorded write set has a cell are those in which the cell is written.
+use Rattle.ppd_model.specs.Setting.{Setting}
 use Rattle.std.specs.Bool.{beq}
 use Rattle.std.proofs.Common.{◌≡◌, ℕ, zero, suc, ◌+◌, ◌<◌, ◌≤◌, List, [], ◌∷◌, ◌++◌, Some, None, Bool, true, false, refl, ap, ap₂, sym, subst, ◌∙◌, arith, length, length-append, map, get_or, true≢false, eq-eqb, eqb-true, inl, inr, ◌&&◌, ◌||◌, if◌then◌else◌}
 use Rattle.std.specs.Prelude.{nat_eq, slice_get}
@@ -6,8 +7,6 @@ use Rattle.std.specs.List.{list_any, range_with_len}
 use Rattle.std.proofs.lemmas.Bool.{and_parts, cases_lt}
 use Rattle.std.proofs.lemmas.Option.{none-some}
 use Rattle.ppd_ast.specs.Valid.{IsValid}
-use Rattle.ppd_ast.specs.declared.plan.Plan.{Plan}
-use Rattle.ppd_ast.specs.declared.program.Program.{Program}
 use Rattle.ppd_ast.specs.Members.{has}
 use Rattle.ppd_ast.proofs.ValidLaws.{slice_get_below}
 use Rattle.ppd_flow_model.specs.EdgeSets.{EdgeSets}
@@ -143,32 +142,32 @@ is_so : (b : Bool) → beq b true ≡ true → b ≡ true
 is_so true e = refl
 is_so false e = e
 
-module _ (program : Program) (plan : Plan) (budget : ℕ) (h : List ℕ) (valid : IsValid program) where
+module _ (setting : Setting) (h : List ℕ) (valid : IsValid setting.program) where
   -- the write set of an edge
-  has_is : (p i c : ℕ) → has (run_sets (story program plan budget h) p i).writes c ≡ has_access (story program plan budget h) p i c true
+  has_is : (p i c : ℕ) → has (run_sets (story setting h) p i).writes c ≡ has_access (story setting h) p i c true
   unfolding run_sets
-  has_is p i c = (cells_are (story program plan budget h) p i true).are c
+  has_is p i c = (cells_are (story setting h) p i true).are c
 
-  pub writing_only : (c : ℕ) (a : EdgeId) → In a (writing (closed_logs program plan budget h) c) → WritesIn program plan budget h c a.process a.edge
+  pub writing_only : (c : ℕ) (a : EdgeId) → In a (writing (closed_logs setting h) c) → WritesIn setting h c a.process a.edge
   writing_only c a m =
-      let r = rows_only c 0 (edge_sets_in (closed_logs program plan budget h)) a m in
+      let r = rows_only c 0 (edge_sets_in (closed_logs setting h)) a m in
       let process : a.process ≡ r.row = r.process_is ∙ (let z : 0 + r.row ≡ r.row = omega arith in z) in
-      elim (cases_lt r.row (length (closed_logs program plan budget h).lists)) [
+      elim (cases_lt r.row (length (closed_logs setting h).lists)) [
         | inl lt ↦
-            let sets : r.sets ≡ run_sets (story program plan budget h) r.row a.edge = through_only (run_sets (story program plan budget h) r.row) (last_edge (story program plan budget h) r.row) a.edge r.sets (ap (λ l. slice_get l a.edge) (sym (row_sets program plan budget h valid r.row lt)) ∙ r.there') in
-            let access : has_access (story program plan budget h) r.row a.edge c true ≡ true = sym (has_is r.row a.edge c) ∙ ap (λ (q : EdgeSets). has q.writes c) (sym sets) ∙ r.writes in
-            let f = any_found (λ (b : SharedAccess). nat_eq b.edge a.edge && nat_eq b.cell c && beq b.writes true) (accesses (story program plan budget h) r.row) access in
+            let sets : r.sets ≡ run_sets (story setting h) r.row a.edge = through_only (run_sets (story setting h) r.row) (last_edge (story setting h) r.row) a.edge r.sets (ap (λ l. slice_get l a.edge) (sym (row_sets setting h valid r.row lt)) ∙ r.there') in
+            let access : has_access (story setting h) r.row a.edge c true ≡ true = sym (has_is r.row a.edge c) ∙ ap (λ (q : EdgeSets). has q.writes c) (sym sets) ∙ r.writes in
+            let f = any_found (λ (b : SharedAccess). nat_eq b.edge a.edge && nat_eq b.cell c && beq b.writes true) (accesses (story setting h) r.row) access in
             let more = and_parts (nat_eq f.1.edge a.edge && nat_eq f.1.cell c) (beq f.1.writes true) f.3 in
             let parts = and_parts (nat_eq f.1.edge a.edge) (nat_eq f.1.cell c) more.0 in
-            subst (λ q. WritesIn program plan budget h c q a.edge) (sym process) (record { number = f.0; access = f.1; there = f.2; cell = eqb-true f.1.cell c parts.1; edge_is = eqb-true f.1.edge a.edge parts.0; writes = is_so f.1.writes more.1 })
-        | inr ge ↦ absurd (none-some r.sets (ap (λ l. slice_get l a.edge) (sym (beyond (sets_from None) (closed_logs program plan budget h).lists r.row ge)) ∙ r.there'))
+            subst (λ q. WritesIn setting h c q a.edge) (sym process) (record { number = f.0; access = f.1; there = f.2; cell = eqb-true f.1.cell c parts.1; edge_is = eqb-true f.1.edge a.edge parts.0; writes = is_so f.1.writes more.1 })
+        | inr ge ↦ absurd (none-some r.sets (ap (λ l. slice_get l a.edge) (sym (beyond (sets_from None) (closed_logs setting h).lists r.row ge)) ∙ r.there'))
       ]
 
-  pub writing_all : (c q i : ℕ) → WritesIn program plan budget h c q i → q < length (closed_logs program plan budget h).lists → i ≤ last_edge (story program plan budget h) q → In (edge q i) (writing (closed_logs program plan budget h) c)
+  pub writing_all : (c q i : ℕ) → WritesIn setting h c q i → q < length (closed_logs setting h).lists → i ≤ last_edge (story setting h) q → In (edge q i) (writing (closed_logs setting h) c)
   writing_all c q i w lt le =
-      let there' : slice_get (get_or (edge_sets_in (closed_logs program plan budget h)) q []) i ≡ Some (run_sets (story program plan budget h) q i) = ap (λ l. slice_get l i) (row_sets program plan budget h valid q lt) ∙ through_at (run_sets (story program plan budget h) q) (last_edge (story program plan budget h) q) i le in
-      let access : has_access (story program plan budget h) q i c true ≡ true =
-      any_at (λ (b : SharedAccess). nat_eq b.edge i && nat_eq b.cell c && beq b.writes true) (accesses (story program plan budget h) q) w.number w.access w.there
+      let there' : slice_get (get_or (edge_sets_in (closed_logs setting h)) q []) i ≡ Some (run_sets (story setting h) q i) = ap (λ l. slice_get l i) (row_sets setting h valid q lt) ∙ through_at (run_sets (story setting h) q) (last_edge (story setting h) q) i le in
+      let access : has_access (story setting h) q i c true ≡ true =
+      any_at (λ (b : SharedAccess). nat_eq b.edge i && nat_eq b.cell c && beq b.writes true) (accesses (story setting h) q) w.number w.access w.there
       (ap₂ (λ x y. x && y) (ap₂ (λ x y. x && y) (eq-eqb w.access.edge i w.edge_is) (eq-eqb w.access.cell c w.cell)) (ap (λ b. beq b true) w.writes)) in
       let z : 0 + q ≡ q = omega arith in
-      subst (λ k. In (edge k i) (writing (closed_logs program plan budget h) c)) z (rows_all c 0 (edge_sets_in (closed_logs program plan budget h)) q i (run_sets (story program plan budget h) q i) there' (has_is q i c ∙ access))
+      subst (λ k. In (edge k i) (writing (closed_logs setting h) c)) z (rows_all c 0 (edge_sets_in (closed_logs setting h)) q i (run_sets (story setting h) q i) there' (has_is q i c ∙ access))

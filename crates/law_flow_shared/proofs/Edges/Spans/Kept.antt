@@ -1,4 +1,5 @@
 -- After all steps of a process its entries tell of its intervals and events.
+use Rattle.ppd_model.specs.Setting.{setting_of}
 use Rattle.std.proofs.Common.{◌≡◌, ℕ, zero, suc, ◌+◌, List, [], ◌∷◌, ◌++◌, Option, Some, None, refl, ap, ap₂, sym, subst, ◌∙◌, arith, length, true≢false}
 use Rattle.std.specs.Prelude.{◌-◌, fold, slice_get}
 use Rattle.std.proofs.lemmas.Option.{none-some}
@@ -61,7 +62,7 @@ module _ (program : Program) (plan : Plan) (story' : Story) (p : ℕ) where
     kept_fold l x [] mine w h = h
     kept_fold l x (m ∷ ms) mine w h = kept_fold (log_step program plan l m) (split_step program plan story' p x m.taken) ms mine.1 w.1 (kept_step l x m mine.0 w.0 h)
 
-    begun : (budget : ℕ) → IsKept (begun_log program plan budget p) (begun_split program plan p (started program plan p budget))
+    begun : (budget : ℕ) → IsKept (begun_log (setting_of program plan budget) p) (begun_split program plan p (started program plan p budget))
     begun budget = record {
       proc = refl;
       inside = inside_begun program plan p budget v;
@@ -75,14 +76,14 @@ module _ (program : Program) (plan : Plan) (story' : Story) (p : ℕ) where
       };
     }
       where
-        begins : OpensAt (begun_log program plan budget p).entries [] 0 0
+        begins : OpensAt (begun_log (setting_of program plan budget) p).entries [] 0 0
         begins = record { before = []; block = _; values = _; after = _; entries_are = refl; number = refl; count = refl; within = omega arith }
 
-        first : (k : ℕ) (i : Span) → slice_get (begun_split program plan p (started program plan p budget)).spans k ≡ Some i → IsPlaced (begun_log program plan budget p).entries [] (begun_split program plan p (started program plan p budget)).spans k i
-        first zero i e = subst (λ j. IsPlaced (begun_log program plan budget p).entries [] (begun_split program plan p (started program plan p budget)).spans 0 j) (some e)
+        first : (k : ℕ) (i : Span) → slice_get (begun_split program plan p (started program plan p budget)).spans k ≡ Some i → IsPlaced (begun_log (setting_of program plan budget) p).entries [] (begun_split program plan p (started program plan p budget)).spans k i
+        first zero i e = subst (λ j. IsPlaced (begun_log (setting_of program plan budget) p).entries [] (begun_split program plan p (started program plan p budget)).spans 0 j) (some e)
             (record { first = 0; stands = outermost refl refl; opened = begins; covers = none })
         first (suc k) i e = absurd (none-some i e)
 
     pub kept : (budget : ℕ) (ms : List Moment) → AreOwn program plan (started program plan p budget) (steps_of ms) → AreNumbered (steps_of ms)
-        → IsKept (log_of program plan budget p ms) (split_of program plan budget story' p (steps_of ms))
-    kept budget ms mine w = kept_fold (begun_log program plan budget p) (begun_split program plan p (started program plan p budget)) ms mine w (begun budget)
+        → IsKept (log_of (setting_of program plan budget) p ms) (split_of (setting_of program plan budget) story' p (steps_of ms))
+    kept budget ms mine w = kept_fold (begun_log (setting_of program plan budget) p) (begun_split program plan p (started program plan p budget)) ms mine w (begun budget)

@@ -1,4 +1,5 @@
 -- The events of a process by its steps: which are synchronizations, and which write a shared cell.
+use Rattle.ppd_model.specs.Setting.{Setting}
 use Rattle.std.proofs.Common.{◌≡◌, ℕ, ◌+◌, ◌<◌, ◌≤◌, Bool, true, false, cond, List, [], ◌∷◌, ◌++◌, Option, Some, None, refl, ap, ap₂, sym, subst, ◌∙◌, arith, length, length-append, inl, inr}
 use Rattle.std.specs.Prelude.{⊤, fold, is_some, slice_get, filter_map}
 use Rattle.std.specs.List.{cons_option}
@@ -121,15 +122,15 @@ module _ (program : Program) (plan : Plan) (story' : Story) (p : ℕ) where
 
 -- ---- the events of all steps of a process
 
-module _ (program : Program) (plan : Plan) (budget : ℕ) (story' : Story) (p : ℕ) (steps : List Taken) (own : AreOwn program plan (started program plan p budget) steps) (w : AreNumbered steps) where
+module _ (setting : Setting) (story' : Story) (p : ℕ) (steps : List Taken) (own : AreOwn setting.program setting.plan (started setting.program setting.plan p setting.budget) steps) (w : AreNumbered steps) where
   abbrev events : List TracedEvent
-  events = (tracing_of program plan budget story' p steps).events
+  events = (tracing_of setting story' p steps).events
 
   abbrev first : Tracing
-  first = begun_tracing (started program plan p budget)
+  first = begun_tracing (started setting.program setting.plan p setting.budget)
 
-  pub length_is : (xs : List Taken) → length (tracing_of program plan budget story' p xs).events ≡ events_in xs
-  length_is xs = count_events program plan story' p first xs ∙ (let z : 0 + events_in xs ≡ events_in xs = omega arith in z)
+  pub length_is : (xs : List Taken) → length (tracing_of setting story' p xs).events ≡ events_in xs
+  length_is xs = count_events setting.program setting.plan story' p first xs ∙ (let z : 0 + events_in xs ≡ events_in xs = omega arith in z)
 
   pub events_within : (xs ys : List Taken) → steps ≡ xs ++ ys → events_in xs ≤ length events
   events_within xs ys e =
@@ -147,58 +148,58 @@ module _ (program : Program) (plan : Plan) (budget : ℕ) (story' : Story) (p : 
     pub is_sync : synchronizes (slice_get events (events_in before)) ≡ is_some (sync_of x)
     pub writes : (c : ℕ) → written_by c (slice_get events (events_in before)) ≡ write_to c x.need
 
-  pub at_event : (before : List Taken) (x : Taken) (after : List Taken) → steps ≡ before ++ x ∷ after → is_event x.need ≡ true → slice_get events (events_in before) ≡ Some (new_event program plan story' p x (after_all program plan story' p first before))
+  pub at_event : (before : List Taken) (x : Taken) (after : List Taken) → steps ≡ before ++ x ∷ after → is_event x.need ≡ true → slice_get events (events_in before) ≡ Some (new_event setting.program setting.plan story' p x (after_all setting.program setting.plan story' p first before))
   at_event before x after e finishes =
       ap (λ n. slice_get events n) (sym (length_is before))
-      ∙ ap (λ xs. slice_get (after_all program plan story' p first xs).events (length (after_all program plan story' p first before).events)) e
-      ∙ there program plan story' p first before x after finishes
+      ∙ ap (λ xs. slice_get (after_all setting.program setting.plan story' p first xs).events (length (after_all setting.program setting.plan story' p first before).events)) e
+      ∙ there setting.program setting.plan story' p first before x after finishes
 
   pub event_is : (before : List Taken) (x : Taken) (after : List Taken) → steps ≡ before ++ x ∷ after → is_event x.need ≡ true → IsEventAt before x
   event_is before x after e finishes =
-      let u : Tracing = after_all program plan story' p first before in
-      let mine : x.need ≡ need_of program plan u.proc = (own_from program plan story' p first before (x ∷ after) (subst (AreOwn program plan first.proc) e own)).0 in
+      let u : Tracing = after_all setting.program setting.plan story' p first before in
+      let mine : x.need ≡ need_of setting.program setting.plan u.proc = (own_from setting.program setting.plan story' p first before (x ∷ after) (subst (AreOwn setting.program setting.plan first.proc) e own)).0 in
       let numbers : IsNumbered x = (numbered_from before (x ∷ after) (subst AreNumbered e w)).0 in
       let at = at_event before x after e finishes in
       record {
-        within = slice_get_below events (events_in before) (new_event program plan story' p x u) at;
-        is_sync = ap synchronizes at ∙ new_number program plan story' p u x mine numbers finishes;
-        writes = λ c. ap (written_by c) at ∙ new_writes program plan story' p u x mine numbers finishes c;
+        within = slice_get_below events (events_in before) (new_event setting.program setting.plan story' p x u) at;
+        is_sync = ap synchronizes at ∙ new_number setting.program setting.plan story' p u x mine numbers finishes;
+        writes = λ c. ap (written_by c) at ∙ new_writes setting.program setting.plan story' p u x mine numbers finishes c;
       }
 
   pub quiet_is : (c : ℕ) (before mid after : List Taken) → steps ≡ before ++ (mid ++ after) → AreStill c mid → AreQuiet events c (events_in before) (events_in (before ++ mid))
   quiet_is c before mid after e still =
-      let u : Tracing = after_all program plan story' p first before in
-      let mine : AreOwn program plan u.proc (mid ++ after) = own_from program plan story' p first before (mid ++ after) (subst (AreOwn program plan first.proc) e own) in
+      let u : Tracing = after_all setting.program setting.plan story' p first before in
+      let mine : AreOwn setting.program setting.plan u.proc (mid ++ after) = own_from setting.program setting.plan story' p first before (mid ++ after) (subst (AreOwn setting.program setting.plan first.proc) e own) in
       let numbers : AreNumbered (mid ++ after) = numbered_from before (mid ++ after) (subst AreNumbered e w) in
-      let quiet : AreQuiet (after_all program plan story' p u (mid ++ after)).events c (length u.events) (length (after_all program plan story' p u mid).events) = quiet_steps program plan story' p c u mid after mine numbers still in
+      let quiet : AreQuiet (after_all setting.program setting.plan story' p u (mid ++ after)).events c (length u.events) (length (after_all setting.program setting.plan story' p u mid).events) = quiet_steps setting.program setting.plan story' p c u mid after mine numbers still in
       subst (λ es. AreQuiet es c (events_in before) (events_in (before ++ mid)))
-      (sym (ap (λ xs. (after_all program plan story' p first xs).events) e ∙ ap (λ (z : Tracing). z.events) (fold-append (trace_step program plan story' p) first before (mid ++ after))))
-      (subst (λ k. AreQuiet (after_all program plan story' p u (mid ++ after)).events c k (events_in (before ++ mid))) (length_is before)
-      (subst (λ k. AreQuiet (after_all program plan story' p u (mid ++ after)).events c (length u.events) k)
-      (ap (λ (z : Tracing). length z.events) (sym (fold-append (trace_step program plan story' p) first before mid)) ∙ length_is (before ++ mid)) quiet))
+      (sym (ap (λ xs. (after_all setting.program setting.plan story' p first xs).events) e ∙ ap (λ (z : Tracing). z.events) (fold-append (trace_step setting.program setting.plan story' p) first before (mid ++ after))))
+      (subst (λ k. AreQuiet (after_all setting.program setting.plan story' p u (mid ++ after)).events c k (events_in (before ++ mid))) (length_is before)
+      (subst (λ k. AreQuiet (after_all setting.program setting.plan story' p u (mid ++ after)).events c (length u.events) k)
+      (ap (λ (z : Tracing). length z.events) (sym (fold-append (trace_step setting.program setting.plan story' p) first before mid)) ∙ length_is (before ++ mid)) quiet))
 
   -- the synchronizations before an event are those of the steps before it
   pub count_is : (before after : List Taken) → steps ≡ before ++ after → count_to events (events_in before) ≡ length (filter_map sync_of before)
   count_is before after e =
-      let u : Tracing = after_all program plan story' p first before in
+      let u : Tracing = after_all setting.program setting.plan story' p first before in
       let all : count_to u.events (length u.events) ≡ 0 + length (filter_map sync_of before) =
-      all_counts program plan story' p first before (own_to program plan story' p first.proc before after (subst (AreOwn program plan first.proc) e own)) (numbered_to before after (subst AreNumbered e w)) in
+      all_counts setting.program setting.plan story' p first before (own_to setting.program setting.plan story' p first.proc before after (subst (AreOwn setting.program setting.plan first.proc) e own)) (numbered_to before after (subst AreNumbered e w)) in
       let grown = grows before after in
-      ap (λ xs. count_to (after_all program plan story' p first xs).events (events_in before)) e
+      ap (λ xs. count_to (after_all setting.program setting.plan story' p first xs).events (events_in before)) e
       ∙ ap (λ es. count_to es (events_in before)) grown.1
       ∙ count_front u.events grown.0 (events_in before) (let l : length u.events ≡ events_in before = length_is before in omega (arith, l))
       ∙ ap (λ k. count_to u.events k) (sym (length_is before)) ∙ all ∙ (let z : 0 + length (filter_map sync_of before) ≡ length (filter_map sync_of before) = omega arith in z)
     where
-      more : (u : Tracing) (xs : List Taken) → (fresh : List TracedEvent) × ((after_all program plan story' p u xs).events ≡ u.events ++ fresh)
+      more : (u : Tracing) (xs : List Taken) → (fresh : List TracedEvent) × ((after_all setting.program setting.plan story' p u xs).events ≡ u.events ++ fresh)
       more u [] = ([], sym (append-nil u.events))
       more u (x ∷ xs) =
-          let rest = more (trace_step program plan story' p u x) xs in
+          let rest = more (trace_step setting.program setting.plan story' p u x) xs in
           let one = step_more (is_event x.need) in
-          (one.0 ++ rest.0, rest.1 ∙ ap (λ es. es ++ rest.0) (events_are program plan story' p x u x.need ∙ one.1) ∙ append_assoc u.events one.0 rest.0)
+          (one.0 ++ rest.0, rest.1 ∙ ap (λ es. es ++ rest.0) (events_are setting.program setting.plan story' p x u x.need ∙ one.1) ∙ append_assoc u.events one.0 rest.0)
         where
-          step_more : (b : Bool) → (fresh : List TracedEvent) × (told_events program plan story' p b x u ≡ u.events ++ fresh)
-          step_more true = (new_event program plan story' p x u ∷ [], refl)
+          step_more : (b : Bool) → (fresh : List TracedEvent) × (told_events setting.program setting.plan story' p b x u ≡ u.events ++ fresh)
+          step_more true = (new_event setting.program setting.plan story' p x u ∷ [], refl)
           step_more false = ([], sym (append-nil u.events))
 
-      grows : (xs ys : List Taken) → (fresh : List TracedEvent) × ((after_all program plan story' p first (xs ++ ys)).events ≡ (after_all program plan story' p first xs).events ++ fresh)
-      grows xs ys = let m = more (after_all program plan story' p first xs) ys in (m.0, ap (λ (z : Tracing). z.events) (fold-append (trace_step program plan story' p) first xs ys) ∙ m.1)
+      grows : (xs ys : List Taken) → (fresh : List TracedEvent) × ((after_all setting.program setting.plan story' p first (xs ++ ys)).events ≡ (after_all setting.program setting.plan story' p first xs).events ++ fresh)
+      grows xs ys = let m = more (after_all setting.program setting.plan story' p first xs) ys in (m.0, ap (λ (z : Tracing). z.events) (fold-append (trace_step setting.program setting.plan story' p) first xs ys) ∙ m.1)

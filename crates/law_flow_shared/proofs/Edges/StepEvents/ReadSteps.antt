@@ -1,10 +1,9 @@
 -- Each shared read of an event is of a step that read the cell, with its tag then.
+use Rattle.ppd_model.specs.Setting.{Setting}
 use Rattle.std.proofs.Common.{◌≡◌, ℕ, zero, suc, ◌+◌, ◌<◌, Bool, true, false, List, [], ◌∷◌, ◌++◌, Some, None, refl, ap, ap₂, sym, subst, ◌∙◌, arith, length, get_or, true≢false}
 use Rattle.std.specs.Prelude.{fold, slice_get}
 use Rattle.std.proofs.lemmas.List.{append_assoc}
 use Rattle.ppd_ast.specs.Valid.{IsValid}
-use Rattle.ppd_ast.specs.declared.plan.Plan.{Plan}
-use Rattle.ppd_ast.specs.declared.program.Program.{Program}
 use Rattle.ppd_ast.proofs.ValidLaws.{slice_get_below}
 use Rattle.ppd_ast.specs.Counting.{one_if}
 use Rattle.ppd_sem.specs.declared.event.Access.{Access}
@@ -57,29 +56,29 @@ step_of (x ∷ xs) n lt = by (is_event x.need) refl n lt (step_of xs)
         let none : one_if (is_event x.need) ≡ 0 = ap one_if e in
         more m m (let z : one_if (is_event x.need) + m ≡ m = omega (arith, none) in z) (rest m (omega (arith, lt', none)))
 
-module _ (program : Program) (plan : Plan) (budget : ℕ) (h : List ℕ) (v : IsValid program) where
+module _ (setting : Setting) (h : List ℕ) (v : IsValid setting.program) where
   -- a step of process p reads the cell, with this tag, after so many of its events
   pub record ReadsAt (p : ℕ) (number c : ℕ) (tag : Tag) : Type 0 where
     pub sooner : List ℕ
     pub later : List ℕ
     pub schedule_is : h ≡ sooner ++ p ∷ later
-    pub needs : need_after program plan budget sooner p ≡ n.Read c
-    pub tag_is : tag ≡ get_or (told program plan budget sooner).writers c None
-    pub events_are : events_in (did (told program plan budget sooner) p) ≡ number
+    pub needs : need_after setting sooner p ≡ n.Read c
+    pub tag_is : tag ≡ get_or (told setting sooner).writers c None
+    pub events_are : events_in (did (told setting sooner) p) ≡ number
 
-  module _ (p : ℕ) (x : Split) (f : Facts program plan budget h v p x) where
+  module _ (p : ℕ) (x : Split) (f : Facts setting h v p x) where
     abbrev steps : List Taken
-    steps = did (told program plan budget h) p
+    steps = did (told setting h) p
 
     abbrev after_all : List Taken → Tracing
-    after_all xs = fold (trace_step program plan (story program plan budget h) p) (begun_tracing (started program plan p budget)) xs
+    after_all xs = fold (trace_step setting.program setting.plan (story setting h) p) (begun_tracing (started setting.program setting.plan p setting.budget)) xs
 
     -- a step that reads
     reads_of : (before : List Taken) (y : Taken) (after : List Taken) → steps ≡ before ++ y ∷ after → (k : ℕ) → k ≡ events_in before → ReadIs (ReadsAt p k) y.need y.writer
     reads_of before y after e k number = by y.need refl
       where
-        t : IsTakenAt program plan (begins program plan budget) h p before y
-        t = taken_at program plan (begins program plan budget) h p before y after e (let z : length (did (begins program plan budget) p) ≡ 0 = ap length (none_did program plan budget p) in omega (arith, z))
+        t : IsTakenAt setting.program setting.plan (begins setting) h p before y
+        t = taken_at setting.program setting.plan (begins setting) h p before y after e (let z : length (did (begins setting) p) ≡ 0 = ap length (none_did setting.program setting.plan setting.budget p) in omega (arith, z))
 
         by : (m : Need) → y.need ≡ m → ReadIs (ReadsAt p k) m y.writer
         by (n.Read c) is = record {
@@ -87,33 +86,33 @@ module _ (program : Program) (plan : Plan) (budget : ℕ) (h : List ℕ) (v : Is
           later = t.later;
           schedule_is = t.schedule_is;
           needs = ap (λ (z : Taken). z.need) t.step_is ∙ is;
-          tag_is = ap (λ (z : Taken). z.writer) (sym t.step_is) ∙ ap (writer_of (told program plan budget t.sooner)) (ap (λ (z : Taken). z.need) t.step_is ∙ is);
+          tag_is = ap (λ (z : Taken). z.writer) (sym t.step_is) ∙ ap (writer_of (told setting t.sooner)) (ap (λ (z : Taken). z.need) t.step_is ∙ is);
           events_are = ap events_in t.did_before ∙ sym number;
         }
         by m is = tt
 
-    answers_here : (before : List Taken) (y : Taken) (after : List Taken) → steps ≡ before ++ y ∷ after → HasAnswers (ReadsAt p (length (after_all before).events)) program (after_all before).proc (after_all before).answers
+    answers_here : (before : List Taken) (y : Taken) (after : List Taken) → steps ≡ before ++ y ∷ after → HasAnswers (ReadsAt p (length (after_all before).events)) setting.program (after_all before).proc (after_all before).answers
     answers_here before y after e =
-        answers_all (ReadsAt p) program plan (story program plan budget h) p (begun_tracing (started program plan p budget)) before
-        (own_to program plan (story program plan budget h) p (started program plan p budget) before (y ∷ after) (subst (AreOwn program plan (started program plan p budget)) e f.steps_own))
+        answers_all (ReadsAt p) setting.program setting.plan (story setting h) p (begun_tracing (started setting.program setting.plan p setting.budget)) before
+        (own_to setting.program setting.plan (story setting h) p (started setting.program setting.plan p setting.budget) before (y ∷ after) (subst (AreOwn setting.program setting.plan (started setting.program setting.plan p setting.budget)) e f.steps_own))
         (λ b z a g. reads_of b z (a ++ y ∷ after) (e ∙ ap (λ l. l ++ y ∷ after) g ∙ append_assoc b (z ∷ a) (y ∷ after)) (length (after_all b).events)
-        (length_is program plan budget (story program plan budget h) p steps f.steps_own f.steps_numbered b))
-        (answers_start (ReadsAt p) program plan (story program plan budget h) p budget)
+        (length_is setting (story setting h) p steps f.steps_own f.steps_numbered b))
+        (answers_start (ReadsAt p) setting.program setting.plan (story setting h) p setting.budget)
 
     -- a shared read of an event
     pub reads_at : (number : ℕ) (e : TracedEvent) (i c : ℕ) (a : Access) (tag : Tag) → slice_get x.trace.events number ≡ Some e → slice_get e.event.reads i ≡ Some a → a.spot ≡ Shared c → slice_get e.writers i ≡ Some tag → ReadsAt p number c tag
     reads_at number e i c a tag there read spot writer =
         let lt : number < length x.trace.events = slice_get_below x.trace.events number e there in
-        let long : length x.trace.events ≡ events_in steps = ap length f.events_are ∙ length_is program plan budget (story program plan budget h) p steps f.steps_own f.steps_numbered steps in
+        let long : length x.trace.events ≡ events_in steps = ap length f.events_are ∙ length_is setting (story setting h) p steps f.steps_own f.steps_numbered steps in
         let s : IsStep steps number = step_of steps number (omega (arith, lt, long)) in
         let u : Tracing = after_all s.before in
-        let mine : s.step.need ≡ need_of program plan u.proc = (own_from program plan (story program plan budget h) p (begun_tracing (started program plan p budget)) s.before (s.step ∷ s.after) (subst (AreOwn program plan (started program plan p budget)) s.are f.steps_own)).0 in
-        let finishes : is_event (need_of program plan u.proc) ≡ true = ap is_event (sym mine) ∙ s.finishes in
-        let head = headed program plan u.proc finishes in
-        let event : slice_get x.trace.events number ≡ Some (new_event program plan (story program plan budget h) p s.step u) =
-        ap₂ (λ es k. slice_get es k) f.events_are (sym s.number) ∙ at_event program plan budget (story program plan budget h) p steps f.steps_own f.steps_numbered s.before s.step s.after s.are s.finishes in
-        let same : e ≡ new_event program plan (story program plan budget h) p s.step u = some (sym there ∙ event) in
-        let count : length u.events ≡ number = length_is program plan budget (story program plan budget h) p steps f.steps_own f.steps_numbered s.before ∙ s.number in
+        let mine : s.step.need ≡ need_of setting.program setting.plan u.proc = (own_from setting.program setting.plan (story setting h) p (begun_tracing (started setting.program setting.plan p setting.budget)) s.before (s.step ∷ s.after) (subst (AreOwn setting.program setting.plan (started setting.program setting.plan p setting.budget)) s.are f.steps_own)).0 in
+        let finishes : is_event (need_of setting.program setting.plan u.proc) ≡ true = ap is_event (sym mine) ∙ s.finishes in
+        let head = headed setting.program setting.plan u.proc finishes in
+        let event : slice_get x.trace.events number ≡ Some (new_event setting.program setting.plan (story setting h) p s.step u) =
+        ap₂ (λ es k. slice_get es k) f.events_are (sym s.number) ∙ at_event setting (story setting h) p steps f.steps_own f.steps_numbered s.before s.step s.after s.are s.finishes in
+        let same : e ≡ new_event setting.program setting.plan (story setting h) p s.step u = some (sym there ∙ event) in
+        let count : length u.events ≡ number = length_is setting (story setting h) p steps f.steps_own f.steps_numbered s.before ∙ s.number in
         subst (λ k. ReadsAt p k c tag) count
-        (read_is (ReadsAt p) program plan (story program plan budget h) p u s.step head.0 head.1 i c a tag head.2 (runs_on program plan u.proc finishes) (answers_here s.before s.step s.after s.are)
+        (read_is (ReadsAt p) setting.program setting.plan (story setting h) p u s.step head.0 head.1 i c a tag head.2 (runs_on setting.program setting.plan u.proc finishes) (answers_here s.before s.step s.after s.are)
         (ap (λ (z : TracedEvent). slice_get z.event.reads i) (sym same) ∙ read) spot (ap (λ (z : TracedEvent). slice_get z.writers i) (sym same) ∙ writer))

@@ -1,4 +1,5 @@
 -- The steps of one process in a schedule: when each of them is taken.
+use Rattle.ppd_model.specs.Setting.{setting_of}
 use Rattle.std.proofs.Common.{◌≡◌, ℕ, zero, suc, ◌+◌, ◌<◌, ◌≤◌, false, List, [], ◌∷◌, ◌++◌, None, refl, ap, ap₂, sym, subst, ◌∙◌, arith, length, length-append, map, get_or, inl, inr, ◌⊎◌}
 use Rattle.std.specs.Prelude.{⊤, fold, slice_get}
 use Rattle.std.proofs.lemmas.Bool.{cases_lt}
@@ -159,17 +160,17 @@ module _ (program : Program) (plan : Plan) where
   ])
 
   module _ (budget : ℕ) where
-    pub own_is : (h : List ℕ) (p : ℕ) → get_or (story program plan budget h).steps p [] ≡ did (told program plan budget h) p
-    own_is h p = map_found steps_of refl (told program plan budget h).moments p
+    pub own_is : (h : List ℕ) (p : ℕ) → get_or (story (setting_of program plan budget) h).steps p [] ≡ did (told (setting_of program plan budget) h) p
+    own_is h p = map_found steps_of refl (told (setting_of program plan budget) h).moments p
 
-    pub none_did : (p : ℕ) → did (begins program plan budget) p ≡ []
-    none_did p = ap steps_of (nothing (started_world program plan budget).procs p)
+    pub none_did : (p : ℕ) → did (begins (setting_of program plan budget)) p ≡ []
+    none_did p = ap steps_of (nothing (started_world (setting_of program plan budget)).procs p)
 
-    pub numbered_told : (h : List ℕ) (p : ℕ) → AreNumbered (did (told program plan budget h) p)
-    numbered_told h p = numbered_on p (begins program plan budget) h (subst AreNumbered (sym (none_did p)) tt)
+    pub numbered_told : (h : List ℕ) (p : ℕ) → AreNumbered (did (told (setting_of program plan budget) h) p)
+    numbered_told h p = numbered_on p (begins (setting_of program plan budget)) h (subst AreNumbered (sym (none_did p)) tt)
 
     -- a process that needs something takes its step
-    same_count : (k : ℕ) (steps : List (List Taken)) → length (states_from program plan budget k steps) ≡ length steps
+    same_count : (k : ℕ) (steps : List (List Taken)) → length (states_from (setting_of program plan budget) k steps) ≡ length steps
     same_count k [] = refl
     same_count k (xs ∷ rest) = ap (λ m. suc m) (same_count (k + 1) rest)
 
@@ -177,14 +178,14 @@ module _ (program : Program) (plan : Plan) where
     length-steps [] = refl
     length-steps (m ∷ ms) = ap (λ k. suc k) (length-steps ms)
 
-    pub did_step : (g : List ℕ) (p : ℕ) → (need_after program plan budget g p ≡ n.Stopped → ⊥) → did (told program plan budget (g ++ p ∷ [])) p ≡ did (told program plan budget g) p ++ next (told program plan budget g) p ∷ []
+    pub did_step : (g : List ℕ) (p : ℕ) → (need_after (setting_of program plan budget) g p ≡ n.Stopped → ⊥) → did (told (setting_of program plan budget) (g ++ p ∷ [])) p ≡ did (told (setting_of program plan budget) g) p ++ next (told (setting_of program plan budget) g) p ∷ []
     did_step g p goes =
-        let t : Telling = told program plan budget g in
+        let t : Telling = told (setting_of program plan budget) g in
         let lt : p < length t.moments = (
         let a : p < length t.world.procs = in_range t.world.procs p goes in
-        let b : length t.world.procs ≡ length t.moments = ap length (states_told program plan budget g) ∙ same_count 0 (map steps_of t.moments) ∙ length-steps t.moments in
+        let b : length t.world.procs ≡ length t.moments = ap length (states_told (setting_of program plan budget) g) ∙ same_count 0 (map steps_of t.moments) ∙ length-steps t.moments in
         omega (arith, a, b)) in
-        ap (λ (z : Telling). did z p) (fold-append (tell program plan) (begins program plan budget) g (p ∷ []))
+        ap (λ (z : Telling). did z p) (fold-append (tell program plan) (begins (setting_of program plan budget)) g (p ∷ []))
         ∙ ap steps_of (changed_own (moment_of program plan t p) p t.moments lt) ∙ steps_append (get_or t.moments p []) (moment_of program plan t p ∷ [])
       where
         in_range : (procs : List Proc) (q : ℕ) → (need_at program plan (slice_get procs q) ≡ n.Stopped → ⊥) → q < length procs

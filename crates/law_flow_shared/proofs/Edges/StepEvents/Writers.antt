@@ -1,4 +1,5 @@
 -- The last writer of a cell in an edge, by the step that wrote it.
+use Rattle.ppd_model.specs.Setting.{Setting}
 use Rattle.std.proofs.Common.{◌≡◌, ℕ, ◌+◌, ◌<◌, ◌≤◌, ℤ, Bool, true, false, cond, List, [], ◌∷◌, ◌++◌, Option, Some, None, refl, ap, ap₂, sym, subst, ◌∙◌, arith, length, true≢false, inl, inr, ◌⊎◌, eq-eqb, ne_eqb, eqb-true, if◌then◌else◌}
 use Rattle.std.specs.Prelude.{⊤, fold, is_some, nat_eq, slice_get, filter_map}
 use Rattle.std.proofs.lemmas.List.{append_assoc}
@@ -110,15 +111,15 @@ none_at program plan c (z ∷ xs) x ys h = none_at program plan c xs x ys h.1
 
 -- ---- events of a schedule
 
-module _ (program : Program) (plan : Plan) (budget : ℕ) (h : List ℕ) (v : IsValid program) (q : ℕ) (x : Split) (f : Facts program plan budget h v q x) where
+module _ (setting : Setting) (h : List ℕ) (v : IsValid setting.program) (q : ℕ) (x : Split) (f : Facts setting h v q x) where
   abbrev steps : List Taken
-  steps = did (told program plan budget h) q
+  steps = did (told setting h) q
 
   abbrev events : List TracedEvent
   events = x.trace.events
 
   pub ev_within : (xs ys : List Taken) → steps ≡ xs ++ ys → events_in xs ≤ length events
-  ev_within xs ys e = subst (λ es. events_in xs ≤ length es) (sym f.events_are) (events_within program plan budget (story program plan budget h) q steps f.steps_own f.steps_numbered xs ys e)
+  ev_within xs ys e = subst (λ es. events_in xs ≤ length es) (sym f.events_are) (events_within setting (story setting h) q steps f.steps_own f.steps_numbered xs ys e)
 
   pub record HasEvent (before : List Taken) (y : Taken) : Type 0 where
     pub within : events_in before < length events
@@ -127,7 +128,7 @@ module _ (program : Program) (plan : Plan) (budget : ℕ) (h : List ℕ) (v : Is
 
   pub ev_at : (before : List Taken) (y : Taken) (after : List Taken) → steps ≡ before ++ y ∷ after → is_event y.need ≡ true → HasEvent before y
   ev_at before y after e finishes =
-      let a = event_is program plan budget (story program plan budget h) q steps f.steps_own f.steps_numbered before y after e finishes in
+      let a = event_is setting (story setting h) q steps f.steps_own f.steps_numbered before y after e finishes in
       record {
         within = subst (λ es. events_in before < length es) (sym f.events_are) a.within;
         is_sync = ap (λ es. synchronizes (slice_get es (events_in before))) f.events_are ∙ a.is_sync;
@@ -136,13 +137,13 @@ module _ (program : Program) (plan : Plan) (budget : ℕ) (h : List ℕ) (v : Is
 
   pub ev_quiet : (c : ℕ) (before mid after : List Taken) → steps ≡ before ++ (mid ++ after) → AreStill c mid → AreQuiet events c (events_in before) (events_in (before ++ mid))
   ev_quiet c before mid after e still =
-      subst (λ es. AreQuiet es c (events_in before) (events_in (before ++ mid))) (sym f.events_are) (quiet_is program plan budget (story program plan budget h) q steps f.steps_own f.steps_numbered c before mid after e still)
+      subst (λ es. AreQuiet es c (events_in before) (events_in (before ++ mid))) (sym f.events_are) (quiet_is setting (story setting h) q steps f.steps_own f.steps_numbered c before mid after e still)
 
   pub ev_count : (before after : List Taken) → steps ≡ before ++ after → count_to events (events_in before) ≡ length (filter_map sync_of before)
-  ev_count before after e = ap (λ es. count_to es (events_in before)) f.events_are ∙ count_is program plan budget (story program plan budget h) q steps f.steps_own f.steps_numbered before after e
+  ev_count before after e = ap (λ es. count_to es (events_in before)) f.events_are ∙ count_is setting (story setting h) q steps f.steps_own f.steps_numbered before after e
 
   -- the writer of the cell up to an event, since which nothing is written or synchronized
-  pub last_writer : (c : ℕ) (u : ℤ) (before : List Taken) (y : Taken) (mid after : List Taken) → steps ≡ before ++ y ∷ (mid ++ after) → y.need ≡ n.Write c u → AreNone mid → NoWrites program plan c mid
+  pub last_writer : (c : ℕ) (u : ℤ) (before : List Taken) (y : Taken) (mid after : List Taken) → steps ≡ before ++ y ∷ (mid ++ after) → y.need ≡ n.Write c u → AreNone mid → NoWrites setting.program setting.plan c mid
       → IsLastWriter events c 0 (events_in (before ++ y ∷ mid)) (events_in before) u
   last_writer c u before y mid after e need none' nowhere =
       let finishes : is_event y.need ≡ true = ap is_event need in
@@ -153,7 +154,7 @@ module _ (program : Program) (plan : Plan) (budget : ℕ) (h : List ℕ) (v : Is
       let total : events_in (before ++ y ∷ mid) ≡ events_in before + (one_if (is_event y.need) + events_in mid) = events_both before (y ∷ mid) in
       let counts : one_if (is_event y.need) ≡ 1 = ap one_if finishes in
       let quiet : AreQuiet events c (events_in (before ++ y ∷ [])) (events_in ((before ++ y ∷ []) ++ mid)) =
-      ev_quiet c (before ++ y ∷ []) mid after (e ∙ sym (append_assoc before (y ∷ []) (mid ++ after))) (still_of program plan c mid none' nowhere) in
+      ev_quiet c (before ++ y ∷ []) mid after (e ∙ sym (append_assoc before (y ∷ []) (mid ++ after))) (still_of setting.program setting.plan c mid none' nowhere) in
       record {
         from = omega arith;
         to = omega (arith, total, counts);
@@ -164,24 +165,24 @@ module _ (program : Program) (plan : Plan) (budget : ℕ) (h : List ℕ) (v : Is
 
 -- ---- edges of a schedule
 
-pub edge_is_count : (program : Program) (plan : Plan) (budget : ℕ) (g : List ℕ) (p : ℕ) → edge_in program plan budget g p ≡ length (filter_map sync_of (did (told program plan budget g) p))
-edge_is_count program plan budget g p =
-    ap (λ (ss : List Sync). length ss) (record_at (story program plan budget g).steps p) ∙ ap (λ l. length (filter_map sync_of l)) (own_is program plan budget g p)
+pub edge_is_count : (setting : Setting) (g : List ℕ) (p : ℕ) → edge_in setting g p ≡ length (filter_map sync_of (did (told setting g) p))
+edge_is_count setting g p =
+    ap (λ (ss : List Sync). length ss) (record_at (story setting g).steps p) ∙ ap (λ l. length (filter_map sync_of l)) (own_is setting.program setting.plan setting.budget g p)
 
 -- a step of a schedule among the steps of its process
-pub record IsWrite (program : Program) (plan : Plan) (budget : ℕ) (b after : List ℕ) (q c : ℕ) : Type 0 where
+pub record IsWrite (setting : Setting) (b after : List ℕ) (q c : ℕ) : Type 0 where
   pub mid : List Taken
-  pub steps_are : did (told program plan budget (b ++ q ∷ after)) q ≡ did (told program plan budget b) q ++ next program plan (told program plan budget b) q ∷ mid
-  pub nowhere : IsUnwritten program plan c (told program plan budget (b ++ q ∷ [])) after → NoWrites program plan c mid
+  pub steps_are : did (told setting (b ++ q ∷ after)) q ≡ did (told setting b) q ++ next setting.program setting.plan (told setting b) q ∷ mid
+  pub nowhere : IsUnwritten setting.program setting.plan c (told setting (b ++ q ∷ [])) after → NoWrites setting.program setting.plan c mid
 
-pub as_write : (program : Program) (plan : Plan) (budget : ℕ) (b after : List ℕ) (q c : ℕ) → (need_after program plan budget b q ≡ n.Stopped → ⊥) → IsWrite program plan budget b after q c
-as_write program plan budget b after q c goes =
-    let one : did (told program plan budget (b ++ q ∷ [])) q ≡ did (told program plan budget b) q ++ next program plan (told program plan budget b) q ∷ [] = did_step program plan budget b q goes in
-    let rest = did_more program plan c q (told program plan budget (b ++ q ∷ [])) after in
-    let all : told program plan budget (b ++ q ∷ after) ≡ fold (tell program plan) (told program plan budget (b ++ q ∷ [])) after =
-    ap (told program plan budget) (sym (append_assoc b (q ∷ []) after)) ∙ fold-append (tell program plan) (told program plan budget []) (b ++ q ∷ []) after in
+pub as_write : (setting : Setting) (b after : List ℕ) (q c : ℕ) → (need_after setting b q ≡ n.Stopped → ⊥) → IsWrite setting b after q c
+as_write setting b after q c goes =
+    let one : did (told setting (b ++ q ∷ [])) q ≡ did (told setting b) q ++ next setting.program setting.plan (told setting b) q ∷ [] = did_step setting.program setting.plan setting.budget b q goes in
+    let rest = did_more setting.program setting.plan c q (told setting (b ++ q ∷ [])) after in
+    let all : told setting (b ++ q ∷ after) ≡ fold (tell setting.program setting.plan) (told setting (b ++ q ∷ [])) after =
+    ap (told setting) (sym (append_assoc b (q ∷ []) after)) ∙ fold-append (tell setting.program setting.plan) (told setting []) (b ++ q ∷ []) after in
     record {
       mid = rest.0;
-      steps_are = ap (λ (t : Telling). did t q) all ∙ rest.1 ∙ ap (λ l. l ++ rest.0) one ∙ append_assoc (did (told program plan budget b) q) (next program plan (told program plan budget b) q ∷ []) rest.0;
+      steps_are = ap (λ (t : Telling). did t q) all ∙ rest.1 ∙ ap (λ l. l ++ rest.0) one ∙ append_assoc (did (told setting b) q) (next setting.program setting.plan (told setting b) q ∷ []) rest.0;
       nowhere = rest.2;
     }

@@ -1,4 +1,5 @@
 -- The counts of synchronizations stay far below 32 bits.
+use Rattle.ppd_model.specs.Setting.{Setting}
 use Rattle.std.proofs.Common.{◌≡◌, ℕ, zero, suc, ◌+◌, ◌<◌, ◌≤◌, ◌^◌, List, [], ◌∷◌, ◌++◌, Option, Some, None, refl, length, map, arith, length-append}
 use Rattle.std.specs.Prelude.{option_map, slice_get}
 use Rattle.std.specs.List as L
@@ -95,5 +96,5 @@ chans_below : (cs : List Chan) → All (ChanBelow MOST_START) (map (λ c. record
 chans_below [] = tt
 chans_below (c ∷ cs) = ((omega arith, omega arith, omega arith), chans_below cs)
 
-pub started_below : (program : Program) (plan : Plan) (budget : ℕ) → IsValid program → AreBelow MOST_START (started_world program plan budget)
-started_below program plan budget v = record { sems = sems_below program.sems v.limits.sems; chans = chans_below program.chans }
+pub started_below : (setting : Setting) → IsValid setting.program → AreBelow MOST_START (started_world setting)
+started_below setting v = record { sems = sems_below setting.program.sems v.limits.sems; chans = chans_below setting.program.chans }

@@ -1,4 +1,5 @@
 -- After each schedule that can be taken each log is lawful so far.
+use Rattle.ppd_model.specs.Setting.{setting_of}
 use Rattle.std.specs.Option.{option_map_or}
 use Rattle.std.proofs.Common.{◌≡◌, ℕ, zero, suc, ◌+◌, ◌-◌, ◌*◌, ◌<◌, ◌≤◌, ◌^◌, ℤ, pos, true, List, [], ◌∷◌, ◌++◌, Option, Some, None, refl, ap, sym, ◌∙◌, subst, length, map, get_or, arith, length-append, inl}
 use Rattle.std.specs.Prelude.{option_map, slice_get}
@@ -49,7 +50,7 @@ module _ (program : Program) (plan : Plan) (v : IsValid program) (w : IsValidPla
   Fine l = IsFine program plan v w k.exprs budget l
 
   abbrev now : List ℕ → World
-  now h = (told program plan budget h).world
+  now h = (told (setting_of program plan budget) h).world
 
   -- ---- the values of a unit
 
@@ -77,22 +78,22 @@ module _ (program : Program) (plan : Plan) (v : IsValid program) (w : IsValidPla
   map_at f (y ∷ xs) (suc i) x e = map_at f xs i x e
 
   -- the world's process is that of the log
-  proc_at : (h : List ℕ) (p : ℕ) (l : Logging) → slice_get (loggings program plan budget h) p ≡ Some l → slice_get (now h).procs p ≡ Some l.proc
+  proc_at : (h : List ℕ) (p : ℕ) (l : Logging) → slice_get (loggings (setting_of program plan budget) h) p ≡ Some l → slice_get (now h).procs p ≡ Some l.proc
   proc_at h p l e =
-      let s = one_state program plan budget h in
-      subst (λ ps. slice_get ps p ≡ Some l.proc) (s.logged ∙ sym s.worlds) (map_at (λ (x : Logging). x.proc) (loggings program plan budget h) p l e)
+      let s = one_state (setting_of program plan budget) h in
+      subst (λ ps. slice_get ps p ≡ Some l.proc) (s.logged ∙ sym s.worlds) (map_at (λ (x : Logging). x.proc) (loggings (setting_of program plan budget) h) p l e)
 
   next : (h : List ℕ) (p : ℕ) → now (h ++ p ∷ []) ≡ step program plan (now h) p
-  next h p = ap (λ (t : Telling). t.world) (fold-append (tell program plan) (begun (started_world program plan budget)) h (p ∷ []))
+  next h p = ap (λ (t : Telling). t.world) (fold-append (tell program plan) (begun (started_world (setting_of program plan budget))) h (p ∷ []))
 
-  one_step : (h : List ℕ) (p m : ℕ) (l : Logging) → enabled program plan (now h) p ≡ true → AreBelow m (now h) → m < 2 ^ 31 → slice_get (loggings program plan budget h) p ≡ Some l
+  one_step : (h : List ℕ) (p m : ℕ) (l : Logging) → enabled program plan (now h) p ≡ true → AreBelow m (now h) → m < 2 ^ 31 → slice_get (loggings (setting_of program plan budget) h) p ≡ Some l
       → Fine l → Fine (log_step program plan l (logged_moment program plan (now h) p))
   one_step h p m l enables counts small e fine =
       let world : World = now h in
       let nd : Need = need program plan world p in
       let is : nd ≡ need_of program plan l.proc = ap (need_at program plan) (proc_at h p l e) in
-      let old : WorldFits world = world_fits program plan budget h k in
-      let new : WorldFits (step program plan world p) = subst WorldFits (next h p) (world_fits program plan budget (h ++ p ∷ []) k) in
+      let old : WorldFits world = world_fits (setting_of program plan budget) h k in
+      let new : WorldFits (step program plan world p) = subst WorldFits (next h p) (world_fits (setting_of program plan budget) (h ++ p ∷ []) k) in
       fine_after program plan v w k.exprs budget l nd (answer world nd) (number_of world nd) (values_at_start plan (step program plan world p).shared (unit_started nd)) is
       (not_stopped world nd enables)
       (record {
@@ -101,12 +102,12 @@ module _ (program : Program) (plan : Plan) (v : IsValid program) (w : IsValidPla
         few = few_at_start (step program plan world p).shared (unit_started nd);
         values = fit_at_start (step program plan world p).shared (unit_started nd) new.shared;
       })
-      (steps_cost program plan budget h p l v w whole e) fine most
+      (steps_cost (setting_of program plan budget) h p l v w whole e) fine most
 
   -- ---- all steps
 
   record IsFineRun (h : List ℕ) : Type 0 where
-    logs : All Fine (loggings program plan budget h)
+    logs : All Fine (loggings (setting_of program plan budget) h)
     counts : AreBelow (MOST_START + length h) (now h)
 
   one_more : (h : List ℕ) (p : ℕ) → enabled program plan (now h) p ≡ true → length h < 2 ^ 30 → IsFineRun h → IsFineRun (h ++ p ∷ [])
@@ -114,8 +115,8 @@ module _ (program : Program) (plan : Plan) (v : IsValid program) (w : IsValidPla
       let one : length (h ++ p ∷ []) ≡ length h + 1 = length-append h (p ∷ []) in
       let more : MOST_START + length h + 1 ≡ MOST_START + length (h ++ p ∷ []) = omega (arith, one) in
       record {
-        logs = subst (All Fine) (sym (logs_grow program plan budget h p))
-            (all_change Fine (λ l. log_step program plan l (logged_moment program plan (now h) p)) p (loggings program plan budget h)
+        logs = subst (All Fine) (sym (logs_grow (setting_of program plan budget) h p))
+            (all_change Fine (λ l. log_step program plan l (logged_moment program plan (now h) p)) p (loggings (setting_of program plan budget) h)
             (λ l e fine. one_step h p (MOST_START + length h) l enables f.counts (omega (arith, long)) e fine) f.logs);
         counts = subst (λ x. AreBelow (MOST_START + length (h ++ p ∷ [])) x) (sym (next h p))
             (subst (λ m. AreBelow m (step program plan (now h) p)) more (step_below (MOST_START + length h) (now h) f.counts program plan p));
@@ -131,7 +132,7 @@ module _ (program : Program) (plan : Plan) (v : IsValid program) (w : IsValidPla
 
   -- ---- the start
 
-  begun_fine : (p : ℕ) → Fine (begun_log program plan budget p)
+  begun_fine : (p : ℕ) → Fine (begun_log (setting_of program plan budget) p)
   begun_fine p =
       let body : ℕ = program.functions + p in
       let u : ℕ = unit_of plan (start.Entry body) in
@@ -144,7 +145,7 @@ module _ (program : Program) (plan : Plan) (v : IsValid program) (w : IsValidPla
         rows = (tt, tt);
         entries = (
           prelog_lawful program plan v w k.exprs (or_zero (block_of plan (block.Process body))) [] (process_block program plan v w body) (short program plan v w k.exprs) tt,
-          (unit_lawful program plan v w k.exprs u vs (unit_small program plan v w (start.Entry body)) (omega (arith, few)) (values_fit program.starts (option_map_or (λ u. u.cells) (slice_get plan.units u) []) (world_fits program plan budget [] k).shared), tt),
+          (unit_lawful program plan v w k.exprs u vs (unit_small program plan v w (start.Entry body)) (omega (arith, few)) (values_fit program.starts (option_map_or (λ u. u.cells) (slice_get plan.units u) []) (world_fits (setting_of program plan budget) [] k).shared), tt),
         );
         steps = omega arith;
         spent = omega arith;
@@ -154,7 +155,7 @@ module _ (program : Program) (plan : Plan) (v : IsValid program) (w : IsValidPla
         done = λ c x e. absurd (no_done (need_of program plan s) c x (unoffered_no_done program plan None s (o.starts program plan p budget)) e);
       }
 
-  all_begun : (q : ℕ) (ss : List Proc) → All Fine (logs_from program plan budget q (map (λ _. []) ss))
+  all_begun : (q : ℕ) (ss : List Proc) → All Fine (logs_from (setting_of program plan budget) q (map (λ _. []) ss))
   all_begun q [] = tt
   all_begun q (s ∷ ss) = (begun_fine q, all_begun (q + 1) ss)
 
@@ -166,22 +167,22 @@ module _ (program : Program) (plan : Plan) (v : IsValid program) (w : IsValidPla
       omega (arith, d, g)
 
   -- a schedule has at most 16 times so many numbers as the budget and one more
-  few_numbers : (h : List ℕ) (last : World) → run program plan budget h ≡ Some last → length h < 2 ^ 30
+  few_numbers : (h : List ℕ) (last : World) → run (setting_of program plan budget) h ≡ Some last → length h < 2 ^ 30
   few_numbers h last e =
-      let bound : length h ≤ length last.procs * (budget + 1) = (bounded program plan budget h last e).all in
-      let procs : length (now h).procs ≡ length program.bodies - program.functions = (objects_stay program plan budget h).processes in
-      let same : length (now h).procs ≡ length last.procs = ap (λ (x : World). length x.procs) (stories_are_of_runs program plan budget h last e) in
+      let bound : length h ≤ length last.procs * (budget + 1) = (bounded (setting_of program plan budget) h last e).all in
+      let procs : length (now h).procs ≡ length program.bodies - program.functions = (objects_stay (setting_of program plan budget) h).processes in
+      let same : length (now h).procs ≡ length last.procs = ap (λ (x : World). length x.procs) (stories_are_of_runs (setting_of program plan budget) h last e) in
       let few : length program.bodies ≤ program.functions + MOST_PROCESSES = v.limits.processes in
       let times : (budget + 1) * length last.procs ≤ (budget + 1) * MOST_PROCESSES = times_less (budget + 1) (length last.procs) MOST_PROCESSES (omega (arith, procs, same, few)) in
       let turned : length last.procs * (budget + 1) ≡ (budget + 1) * length last.procs = omega arith in
       omega (arith, bound, times, turned, most)
 
-  pub run_fine : (h : List ℕ) (last : World) → run program plan budget h ≡ Some last → All Fine (loggings program plan budget h)
+  pub run_fine : (h : List ℕ) (last : World) → run (setting_of program plan budget) h ≡ Some last → All Fine (loggings (setting_of program plan budget) h)
   run_fine h last e =
       let first : MOST_START ≡ MOST_START + 0 = omega arith in
       let few : length h < 2 ^ 30 = few_numbers h last e in
       (all_steps [] h last (omega (arith, few)) e
       (record {
-        logs = all_begun 0 (started_world program plan budget).procs;
-        counts = subst (λ m. AreBelow m (started_world program plan budget)) first (started_below program plan budget v);
+        logs = all_begun 0 (started_world (setting_of program plan budget)).procs;
+        counts = subst (λ m. AreBelow m (started_world (setting_of program plan budget))) first (started_below (setting_of program plan budget) v);
       })).logs

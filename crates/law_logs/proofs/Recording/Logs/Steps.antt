@@ -1,4 +1,5 @@
 -- A log stays lawful by each step of its process.
+use Rattle.ppd_model.specs.Setting.{setting_of}
 use Rattle.ppd_codec.specs.Recordings.{facts_of}
 use Rattle.std.proofs.Common.{◌≡◌, ◌≢◌, ℕ, zero, suc, ◌+◌, ◌*◌, ◌<◌, ◌≤◌, ◌^◌, ℤ, Bool, true, List, [], ◌∷◌, ◌++◌, Option, Some, None, refl, ap, sym, ◌∙◌, subst, length, arith, inl, inr, ◌⊎◌}
 use Rattle.std.specs.Prelude.{nat_eq, slice_get}
@@ -107,7 +108,7 @@ module _ (program : Program) (plan : Plan) (v : IsValid program) (w : IsValidPla
     pub values : All Fit vs
 
   module _ (l : Logging) (need : Need) (a : Answer) (number : Option ℕ) (vs : List ℤ) (is : need ≡ need_of program plan l.proc) (goes : need ≢ n.Stopped) (given : IsGiven a number vs)
-      (cost : CostsWhatItWrites program plan budget l (moment program plan v w table need a number vs)) (fine : IsFine l) (most : budget ≤ MOST_BUDGET) where
+      (cost : CostsWhatItWrites (setting_of program plan budget) l (moment program plan v w table need a number vs)) (fine : IsFine l) (most : budget ≤ MOST_BUDGET) where
     abbrev m : Moment
     m = moment program plan v w table need a number vs
 
@@ -165,7 +166,7 @@ module _ (program : Program) (plan : Plan) (v : IsValid program) (w : IsValidPla
     before : sizes l.entries + noted l ≤ START + 26 * l.proc.spent
     before = elim fine.bytes [ inl b ↦ b.1 | inr b ↦ absurd (none-some b.0 (sym runs ∙ b.1)) ]
 
-    charged : IsPaid program plan budget l m → need ≢ n.Budget → IsCharged
+    charged : IsPaid (setting_of program plan budget) l m → need ≢ n.Budget → IsCharged
     charged p real =
         let cost' : after.proc.spent ≡ l.proc.spent + (1 + values_in new) = p.cost in
         let within' : l.proc.spent + (1 + values_in new) ≤ budget = p.within in

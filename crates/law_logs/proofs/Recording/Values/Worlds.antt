@@ -1,4 +1,5 @@
 -- All values of a run have 64 bits.
+use Rattle.ppd_model.specs.Setting.{Setting}
 use Rattle.std.proofs.Common.{◌≡◌, ℕ, ◌-◌, List, [], ◌∷◌, Option, Some, None, refl, map, length, w64, FitsSigned}
 use Rattle.std.specs.Prelude.{fold, slice_get, ⊤}
 use Rattle.std.specs.List.{range_with_len}
@@ -89,18 +90,18 @@ module _ (program : Program) (plan : Plan) (table : All IsConstantOf64Bits progr
   chans_fit [] = tt
   chans_fit (c ∷ cs) = (tt, chans_fit cs)
 
-pub world_fits : (program : Program) (plan : Plan) (budget : ℕ) (h : List ℕ) → HasConstantsOf64Bits program → WorldFits (told program plan budget h).world
-world_fits program plan budget h k =
-    fold_fits program plan k.exprs (begun (started_world program plan budget)) h (record {
-      shared = all_more (FitsSigned w64) Fit program.starts fits-true k.starts;
-      sent = chans_fit program plan k.exprs program.chans;
-      procs = procs_fit program plan k.exprs budget (range_with_len 0 (length program.bodies - program.functions));
+pub world_fits : (setting : Setting) (h : List ℕ) → HasConstantsOf64Bits setting.program → WorldFits (told setting h).world
+world_fits setting h k =
+    fold_fits setting.program setting.plan k.exprs (begun (started_world setting)) h (record {
+      shared = all_more (FitsSigned w64) Fit setting.program.starts fits-true k.starts;
+      sent = chans_fit setting.program setting.plan k.exprs setting.program.chans;
+      procs = procs_fit setting.program setting.plan k.exprs setting.budget (range_with_len 0 (length setting.program.bodies - setting.program.functions));
     })
 
 pub values_have : ValuesHave64Bits
-values_have program plan budget h k =
-    let f : WorldFits (told program plan budget h).world = world_fits program plan budget h k in
-    let w : World = (told program plan budget h).world in
+values_have setting h k =
+    let f : WorldFits (told setting h).world = world_fits setting h k in
+    let w : World = (told setting h).world in
     record {
       shared = signed w.shared f.shared;
       sent = all_more (λ (c : Channel). All Fit c.sent) _ w.chans (λ c. signed c.sent) f.sent;

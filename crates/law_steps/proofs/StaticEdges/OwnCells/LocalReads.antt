@@ -1,4 +1,5 @@
 -- The value of each local cell that an event reads comes over a data edge.
+use Rattle.ppd_model.specs.Setting.{Setting}
 use Rattle.law_steps.proofs.StaticEdges.Edges.{local_data}
 use Rattle.law_steps.proofs.StaticEdges.Events.{IsStepOf, event_step, in_trace, traced_by_steps}
 use Rattle.law_steps.proofs.StaticEdges.OwnCells.Locals.{Holds, IsIn, holds_all, holds_start}
@@ -72,53 +73,53 @@ top_way : (program : Program) (E : EventId → ℕ → Type 0) (at c : ℕ) (id 
 top_way program E at c id os [] come is = absurd (cc)
 top_way program E at c id os (x ∷ xs) come is = subst (λ tag. IsCome program E (body_of program at) at c tag) (sym is) (come.0 c)
 
-module _ (program : Program) (plan : Plan) (budget : ℕ) (h : List ℕ) (p : ℕ) (v : IsValid program) where
+module _ (setting : Setting) (h : List ℕ) (p : ℕ) (v : IsValid setting.program) where
   abbrev told_story : Story
-  told_story = story program plan budget h
+  told_story = story setting h
 
   abbrev begun : Tracing
-  begun = begun_tracing (started program plan p budget)
+  begun = begun_tracing (started setting.program setting.plan p setting.budget)
 
   -- the states of a trace's steps
-  pub own_here : (before : List Taken) (x : Taken) (after : List Taken) → get_or told_story.steps p [] ≡ before ++ x ∷ after → AreOwn program plan begun.proc (before ++ x ∷ after)
-  own_here before x after steps = subst (λ xs. AreOwn program plan begun.proc xs) steps (own_steps_told program plan budget h p)
+  pub own_here : (before : List Taken) (x : Taken) (after : List Taken) → get_or told_story.steps p [] ≡ before ++ x ∷ after → AreOwn setting.program setting.plan begun.proc (before ++ x ∷ after)
+  own_here before x after steps = subst (λ xs. AreOwn setting.program setting.plan begun.proc xs) steps (own_steps_told setting h p)
 
-  pub own_need : (before : List Taken) (x : Taken) (after : List Taken) → get_or told_story.steps p [] ≡ before ++ x ∷ after → x.need ≡ need_of program plan (traced_by_steps program plan budget h p before).proc
-  own_need before x after steps = (own_from program plan told_story p begun before (x ∷ after) (own_here before x after steps)).0
+  pub own_need : (before : List Taken) (x : Taken) (after : List Taken) → get_or told_story.steps p [] ≡ before ++ x ∷ after → x.need ≡ need_of setting.program setting.plan (traced_by_steps setting h p before).proc
+  own_need before x after steps = (own_from setting.program setting.plan told_story p begun before (x ∷ after) (own_here before x after steps)).0
 
-  pub holds_here : (before : List Taken) (x : Taken) (after : List Taken) → get_or told_story.steps p [] ≡ before ++ x ∷ after → Holds program plan told_story p v (traced_by_steps program plan budget h p before)
+  pub holds_here : (before : List Taken) (x : Taken) (after : List Taken) → get_or told_story.steps p [] ≡ before ++ x ∷ after → Holds setting.program setting.plan told_story p v (traced_by_steps setting h p before)
   holds_here before x after steps =
-      holds_all program plan told_story p v begun before (own_to program plan told_story p begun.proc before (x ∷ after) (own_here before x after steps)) (holds_start program plan told_story p v budget)
+      holds_all setting.program setting.plan told_story p v begun before (own_to setting.program setting.plan told_story p begun.proc before (x ∷ after) (own_here before x after steps)) (holds_start setting.program setting.plan told_story p v setting.budget)
 
   -- a way gives an edge
-  way_edge : (before : List Taken) (x : Taken) (after : List Taken) (t c frame : ℕ) (id : EventId) → get_or told_story.steps p [] ≡ before ++ x ∷ after → IsTrue (has (reads_at false program t) c)
-      → HasWay program (IsIn program plan told_story p v (traced_by_steps program plan budget h p before)) (body_of program t) t c id → ComesOverData program (full_trace program plan budget (story program plan budget h)) id t (Local frame c)
+  way_edge : (before : List Taken) (x : Taken) (after : List Taken) (t c frame : ℕ) (id : EventId) → get_or told_story.steps p [] ≡ before ++ x ∷ after → IsTrue (has (reads_at false setting.program t) c)
+      → HasWay setting.program (IsIn setting.program setting.plan told_story p v (traced_by_steps setting h p before)) (body_of setting.program t) t c id → ComesOverData setting.program (full_trace setting (story setting h)) id t (Local frame c)
   way_edge before x after t c frame id steps reads w = record {
     from = w.from;
-    is_of = in_trace program plan budget h p before (x ∷ after) id w.is_of.event w.from steps w.is_of.own w.is_of.there w.is_of.stmt_is;
+    is_of = in_trace setting h p before (x ∷ after) id w.is_of.event w.from steps w.is_of.own w.is_of.there w.is_of.stmt_is;
     var = w.var;
     is_cell = w.in_var;
-    edge = λ lt. local_data program w.from t w.var w.there (met (body_numbered program (body_of program t)).locals (reads_at false program t) w.var c lt w.in_var reads) (w.comes lt);
+    edge = λ lt. local_data setting.program w.from t w.var w.there (met (body_numbered setting.program (body_of setting.program t)).locals (reads_at false setting.program t) w.var c lt w.in_var reads) (w.comes lt);
   }
 
-  pub local_comes : (e : TracedEvent) (i : ℕ) (a : Access) (id : EventId) (frame c : ℕ) → IsStepOf program plan told_story p begun (get_or told_story.steps p []) e → HasWriter e i a id → a.spot ≡ Local frame c
-      → ComesOverData program (full_trace program plan budget (story program plan budget h)) id e.event.stmt (Local frame c)
+  pub local_comes : (e : TracedEvent) (i : ℕ) (a : Access) (id : EventId) (frame c : ℕ) → IsStepOf setting.program setting.plan told_story p begun (get_or told_story.steps p []) e → HasWriter e i a id → a.spot ≡ Local frame c
+      → ComesOverData setting.program (full_trace setting (story setting h)) id e.event.stmt (Local frame c)
   local_comes e i a id frame c s w spot =
-      let u : Tracing = traced_by_steps program plan budget h p s.before in
-      let head : HasHead u.proc = event_head program plan u.proc (ap is_event (sym (own_need s.before s.taken s.after s.steps_are)) ∙ s.finishes) in
+      let u : Tracing = traced_by_steps setting h p s.before in
+      let head : HasHead u.proc = event_head setting.program setting.plan u.proc (ap is_event (sym (own_need s.before s.taken s.after s.steps_are)) ∙ s.finishes) in
       let t : ℕ = head.head.stmt in
-      let event : e.event ≡ event_of program plan u.proc s.taken u.proc.todo = ap (λ (y : TracedEvent). y.event) s.event_is in
-      let read : slice_get (event_of program plan u.proc s.taken u.proc.todo).reads i ≡ Some a = sym (ap (λ (y : Event). slice_get y.reads i) event) ∙ w.read in
-      let tags : slice_get (tags_of (top_tags u.activations) u.answers (event_of program plan u.proc s.taken u.proc.todo).reads) i ≡ Some (Some id) = sym (ap (λ (y : TracedEvent). slice_get y.writers i) s.event_is) ∙ w.writer in
-      let tag : Some id ≡ get_or (top_tags u.activations) c None = local_tag (top_tags u.activations) u.answers (event_of program plan u.proc s.taken u.proc.todo).reads i a (Some id) frame c read tags spot in
-      let come : AllCome program (IsIn program plan told_story p v u) (Some t ∷ calls_of u.proc.frames) (locals u.activations) =
-      subst (λ o. AllCome program (IsIn program plan told_story p v u) (o ∷ calls_of u.proc.frames) (locals u.activations)) (ap next_stmt_of head.is) (holds_here s.before s.taken s.after s.steps_are).come in
-      let may : IsTrue (has (reads false program.exprs (kind_of program t)) c) = (may_read program plan u.proc s.taken head.head head.rest i a head.is read).local_cell frame c spot in
-      let stmt : t ≡ e.event.stmt = sym (ap (λ todo. (event_of program plan u.proc s.taken todo).stmt) head.is) ∙ sym (ap (λ (y : Event). y.stmt) event) in
-      subst (λ n. ComesOverData program (full_trace program plan budget (story program plan budget h)) id n (Local frame c)) stmt
+      let event : e.event ≡ event_of setting.program setting.plan u.proc s.taken u.proc.todo = ap (λ (y : TracedEvent). y.event) s.event_is in
+      let read : slice_get (event_of setting.program setting.plan u.proc s.taken u.proc.todo).reads i ≡ Some a = sym (ap (λ (y : Event). slice_get y.reads i) event) ∙ w.read in
+      let tags : slice_get (tags_of (top_tags u.activations) u.answers (event_of setting.program setting.plan u.proc s.taken u.proc.todo).reads) i ≡ Some (Some id) = sym (ap (λ (y : TracedEvent). slice_get y.writers i) s.event_is) ∙ w.writer in
+      let tag : Some id ≡ get_or (top_tags u.activations) c None = local_tag (top_tags u.activations) u.answers (event_of setting.program setting.plan u.proc s.taken u.proc.todo).reads i a (Some id) frame c read tags spot in
+      let come : AllCome setting.program (IsIn setting.program setting.plan told_story p v u) (Some t ∷ calls_of u.proc.frames) (locals u.activations) =
+      subst (λ o. AllCome setting.program (IsIn setting.program setting.plan told_story p v u) (o ∷ calls_of u.proc.frames) (locals u.activations)) (ap next_stmt_of head.is) (holds_here s.before s.taken s.after s.steps_are).come in
+      let may : IsTrue (has (reads false setting.program.exprs (kind_of setting.program t)) c) = (may_read setting.program setting.plan u.proc s.taken head.head head.rest i a head.is read).local_cell frame c spot in
+      let stmt : t ≡ e.event.stmt = sym (ap (λ todo. (event_of setting.program setting.plan u.proc s.taken todo).stmt) head.is) ∙ sym (ap (λ (y : Event). y.stmt) event) in
+      subst (λ n. ComesOverData setting.program (full_trace setting (story setting h)) id n (Local frame c)) stmt
       (way_edge s.before s.taken s.after t c frame id s.steps_are may
-      (top_way program (IsIn program plan told_story p v u) t c id (calls_of u.proc.frames) u.activations come tag))
+      (top_way setting.program (IsIn setting.program setting.plan told_story p v u) t c id (calls_of u.proc.frames) u.activations come tag))
 
 pub local_reads_come : LocalReadsComeOverEdges
-local_reads_come program plan budget h p n e i a id frame c v is w spot =
-    local_comes program plan budget h p v e i a id frame c (event_step program plan budget h p n e is) w spot
+local_reads_come setting h p n e i a id frame c v is w spot =
+    local_comes setting h p v e i a id frame c (event_step setting h p n e is) w spot

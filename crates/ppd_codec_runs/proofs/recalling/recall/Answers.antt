@@ -1,3 +1,4 @@
+use Rattle.ppd_codec_runs.specs.Recordings.{recorded_setting}
 use Rattle.ppd_session.proofs.Keeping.{nothing_kept}
 use Rattle.ppd_codec_runs.proofs.Cells.{cells_there}
 use Rattle.ppd_codec_runs.proofs.recalling.recall.Goals as goal
@@ -13,5 +14,5 @@ returns-in-Ok-clause-together c =
       cut_index_is = c.in-Ok.ensures.index;
       fitting = c.in-Ok.ensures.fitting;
       graph_is = c.in-Ok.ensures.graph;
-      kept_are = nothing_kept r.program r.plan r.header.budget r.logs;
+      kept_are = nothing_kept (recorded_setting r) r.logs;
     }

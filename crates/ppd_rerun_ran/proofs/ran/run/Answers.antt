@@ -1,3 +1,4 @@
+use Rattle.ppd_model.specs.Setting.{Setting, setting_of}
 use Rattle.std.proofs.Common.{◌≡◌, ℕ, suc, ◌+◌, ◌-◌, ◌*◌, List, ◌++◌, Some, None, length, map, ap, ap₂, sym, subst, ◌∙◌, arith}
 use Rattle.std.proofs.lemmas.List.{append-nil}
 use Rattle.ppd_ast.specs.declared.plan.Plan.{Plan}
@@ -12,9 +13,9 @@ use Rattle.ppd_rerun_model.proofs.MostSteps.{most_steps}
 
 pub loop-step-init : goal.loop-step-init
 loop-step-init c = record {
-  come = subst (λ (h : List ℕ). HasCome c.args.setting.now.program.now c.args.setting.now.plan.now c.args.budget (map left_of c.args.guide.now.dues.items) h
+  come = subst (λ (h : List ℕ). HasCome (setting_of c.args.setting.now.program.now c.args.setting.now.plan.now c.args.budget) (map left_of c.args.guide.now.dues.items) h
       c.args.guide.now.world (map left_of c.args.guide.now.dues.items) (map seen c.args.held.now.items)) (sym c.new-schedule.ensures)
-      (come_begun c.args.setting.now.program.now c.args.setting.now.plan.now c.args.budget c.args.guide.now.world (map left_of c.args.guide.now.dues.items)
+      (come_begun (setting_of c.args.setting.now.program.now c.args.setting.now.plan.now c.args.budget) c.args.guide.now.world (map left_of c.args.guide.now.dues.items)
       (map seen c.args.held.now.items) c.requires.come c.requires.held);
   rest =
       let n : ℕ = most_steps c.args.setting.now.program.now c.args.budget in
@@ -28,24 +29,24 @@ loop-step-preserved c =
     let plan : Plan = c.args.setting.now.plan.now in
     let old : Guiding = guiding_of c.loop-step.guide.world c.loop-step.guide.dues.items in
     let now : Guiding = guiding_of c.take.new.guide.world c.take.new.guide.dues.items in
-    let may : chosen c.loop-step.guide.world.program c.loop-step.guide.world.plan old ≡ Some c.in-Some.p = sym c.chosen.ensures ∙ c.in-Some.is in
+    let may : chosen c.loop-step.guide.world.setting.program c.loop-step.guide.world.setting.plan old ≡ Some c.in-Some.p = sym c.chosen.ensures ∙ c.in-Some.is in
     let run = c.loop-step.invariant.come.run in
     let same : c.process_count.result ≡ length program.bodies - program.functions =
-    c.process_count.ensures ∙ ap (λ (a : Program). length a.bodies - a.functions) c.requires.come.is_program in
+    c.process_count.ensures ∙ ap (λ (a : Setting). length a.program.bodies - a.program.functions) c.requires.come.is_setting in
     let most : c.most_steps-step-end.result ≡ most_steps program c.args.budget =
     c.most_steps-step-end.ensures ∙ ap (λ (k : ℕ). k * (c.args.budget + 1)) same in
     let more : most_steps program c.args.budget - c.loop-step._step ≡ suc (most_steps program c.args.budget - (c.loop-step._step + 1)) =
     subst (λ (k : ℕ). k - c.loop-step._step ≡ suc (k - (c.loop-step._step + 1))) most (omega arith) in
     record {
-      come = subst (λ (h : List ℕ). HasCome program plan c.args.budget (map left_of c.args.guide.now.dues.items) h
+      come = subst (λ (h : List ℕ). HasCome (setting_of program plan c.args.budget) (map left_of c.args.guide.now.dues.items) h
           c.take.new.guide.world (map left_of c.take.new.guide.dues.items) (map seen c.take.new.held.items)) (sym c.in_ok-take-in-Some.ensures.schedule)
-          (come_on program plan c.args.budget (map left_of c.args.guide.now.dues.items) c.loop-step.schedule c.in-Some.p c.loop-step.guide.world c.take.new.guide.world
+          (come_on (setting_of program plan c.args.budget) (map left_of c.args.guide.now.dues.items) c.loop-step.schedule c.in-Some.p c.loop-step.guide.world c.take.new.guide.world
           (map left_of c.loop-step.guide.dues.items) (map left_of c.take.new.guide.dues.items) (map seen c.loop-step.held.items) (map seen c.take.new.held.items)
           c.loop-step.invariant.come may c.in_ok-take-in-Some.ensures.guided c.in_ok-take-in-Some.ensures.comes c.in_ok-take-in-Some.ensures.kept c.in_ok-take-in-Some.ensures.held);
       rest = rest_on program plan (most_steps program c.args.budget - c.loop-step._step) (most_steps program c.args.budget - (c.loop-step._step + 1)) old now c.in-Some.p
           c.loop-step.schedule c.take.new.schedule _ more
-          (ap₂ (λ (a : Program) (b : Plan). chosen a b old) (sym run.is_program) (sym run.is_plan) ∙ may)
-          (c.in_ok-take-in-Some.ensures.guided ∙ ap₂ (λ (a : Program) (b : Plan). guide a b old c.in-Some.p) run.is_program run.is_plan)
+          (ap (λ (a : Setting). chosen a.program a.plan old) (sym run.is_setting) ∙ may)
+          (c.in_ok-take-in-Some.ensures.guided ∙ ap (λ (a : Setting). guide a.program a.plan old c.in-Some.p) run.is_setting)
           c.in_ok-take-in-Some.ensures.schedule c.loop-step.invariant.rest;
     }
 
@@ -55,7 +56,7 @@ returns-in-None-clause-schedule c =
     let plan : Plan = c.args.setting.now.plan.now in
     let old : Guiding = guiding_of c.loop-step.guide.world c.loop-step.guide.dues.items in
     let run = c.loop-step.invariant.come.run in
-    let may : chosen program plan old ≡ None = ap₂ (λ (a : Program) (b : Plan). chosen a b old) (sym run.is_program) (sym run.is_plan) ∙ (sym c.chosen.ensures ∙ c.in-None.is) in
+    let may : chosen program plan old ≡ None = ap (λ (a : Setting). chosen a.program a.plan old) (sym run.is_setting) ∙ (sym c.chosen.ensures ∙ c.in-None.is) in
     sym (append-nil c.loop-step.schedule)
     ∙ ap (λ (xs : List ℕ). c.loop-step.schedule ++ xs) (sym (rest_none program plan (most_steps program c.args.budget - c.loop-step._step) old may))
     ∙ c.loop-step.invariant.rest

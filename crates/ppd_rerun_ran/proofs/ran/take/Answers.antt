@@ -11,8 +11,8 @@ use Rattle.ppd_rerun_ran.proofs.ran.take.Goals as goal
 
 pub proc-requires : goal.proc-requires
 proc-requires c =
-    is_there c.args.guide.now.world.program c.args.guide.now.world.plan c.args.guide.now.world.world c.args.p
-    (chosen_can c.args.guide.now.world.program c.args.guide.now.world.plan (guiding_of c.args.guide.now.world c.args.guide.now.dues.items) c.args.p c.requires.may)
+    is_there c.args.guide.now.world.setting.program c.args.guide.now.world.setting.plan c.args.guide.now.world.world c.args.p
+    (chosen_can c.args.guide.now.world.setting.program c.args.guide.now.world.setting.plan (guiding_of c.args.guide.now.world c.args.guide.now.dues.items) c.args.p c.requires.may)
 
 pub hold-requires-clause-program : goal.hold-requires-clause-program
 hold-requires-clause-program c = subst (λ (a : Program). IsRunnable a) c.requires.program (runnable c.args.guide.now.world c.requires.reached)

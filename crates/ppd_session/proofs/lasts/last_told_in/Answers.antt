@@ -1,3 +1,4 @@
+use Rattle.ppd_flow_past.specs.PastSetting.{past_setting}
 use Rattle.std.proofs.Common.{subst, sym}
 use Rattle.ppd_session.specs.Known.{last_by}
 use Rattle.ppd_session.specs.Sessions.{IsWhy, unfound}
@@ -19,5 +20,5 @@ pub returns-clause-error : goal.returns-clause-error
 returns-clause-error g c =
     let past = c.args.past.now in
     subst
-    (IsWhy (unfound (last_by past.program.now past.plan.now past.budget past.logs.now c.args.cell)))
+    (IsWhy (unfound (last_by (past_setting past) past.logs.now c.args.cell)))
     (sym c.no_items.ensures) (last_fails past c.requires.uncut c.args.cell 0 0 c.in-Err.error c.in-Err.ensures.found)

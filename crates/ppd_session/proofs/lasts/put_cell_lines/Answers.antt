@@ -1,3 +1,4 @@
+use Rattle.ppd_flow_past.specs.PastSetting.{past_setting}
 use Rattle.std.proofs.Common.{◌<◌, [], arith, length, refl, sym}
 use Rattle.std.proofs.lemmas.List.{append-nil}
 use Rattle.std.proofs.lemmas.Result.{err_from_is_err_and}
@@ -27,7 +28,7 @@ returns-in_err-put_cell_line-clause-error c =
     let past = c.args.past.now in
     let lt : c.loop-cell.cell < length past.program.now.starts = omega (arith, c.loop-cell-test.true, c.len-cell-end.ensures) in
     let e = err_from_is_err_and c.from_residual.result c.from_residual.ensures.1 in
-    rw (e.1, e.2) (why (last_by past.program.now past.plan.now past.budget past.logs.now) c.loop-cell.cell
+    rw (e.1, e.2) (why (last_by (past_setting past) past.logs.now) c.loop-cell.cell
     (length past.program.now.starts) c.in_err-put_cell_line.field-0.0 lt c.loop-cell.invariant.none
     c.in_err-put_cell_line.ensures.error)
 
@@ -42,7 +43,7 @@ returns-in_err-put_cell_line-clause-part c =
 pub loop-cell-preserved : goal.loop-cell-preserved
 loop-cell-preserved c =
     let past = c.args.past.now in
-    let n = next (last_by past.program.now past.plan.now past.budget past.logs.now) past.program.now c.loop-cell.cell
+    let n = next (last_by (past_setting past) past.logs.now) past.program.now c.loop-cell.cell
     c.args.text.now.items c.loop-cell.text.items c.put_cell_line.new.text.items c.loop-cell.invariant.text
     c.loop-cell.invariant.none c.in_ok-put_cell_line.ensures.told in
     record {

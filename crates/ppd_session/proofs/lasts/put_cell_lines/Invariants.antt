@@ -1,3 +1,4 @@
+use Rattle.ppd_flow_past.specs.PastSetting.{past_setting}
 use Rattle.std.specs.Result.{result_err}
 use Rattle.std.specs.List.{filter_map}
 use Rattle.std.specs.Prelude.{slice_get}
@@ -15,8 +16,8 @@ invariant-loop-cell l = record {
   text : l.text.items
       ≡ l.initial.text.items
       ++ lasts_text l.past.program.now 0
-      (of_cells (last_by l.past.program.now l.past.plan.now l.past.budget l.past.logs.now) 0 l.cell);
-  none : slice_get (filter_map result_err (of_cells (last_by l.past.program.now l.past.plan.now l.past.budget l.past.logs.now) 0 l.cell)) 0
+      (of_cells (last_by (past_setting l.past) l.past.logs.now) 0 l.cell);
+  none : slice_get (filter_map result_err (of_cells (last_by (past_setting l.past) l.past.logs.now) 0 l.cell)) 0
       ≡ None;
   asked : AreAsked (known_by l.past []) (of_cells (last_block l.past) 0 l.cell) l.initial.kept l.kept;
   tables : AreOfLast l.past l.tables;

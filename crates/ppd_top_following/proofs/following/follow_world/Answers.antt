@@ -1,4 +1,4 @@
-use Rattle.ppd_top_following.proofs.Followed.{fails_at, unfinished, comes_to, same_program, same_plan, same_budget}
+use Rattle.ppd_top_following.proofs.Followed.{fails_at, unfinished, comes_to, same_setting}
 use Rattle.ppd_top_following.proofs.following.follow_world.Goals as goal
 
 pub returns-in-Err-clause-error : goal.returns-in-Err-clause-error
@@ -10,11 +10,5 @@ returns-in-Some-clause-error c = unfinished c.args.program.now c.args.options.no
 pub close_world-requires-clause-comes : goal.close_world-requires-clause-comes
 close_world-requires-clause-comes c = comes_to c.args.program.now c.args.options.now c.args.world c.drive.new.self c.requires.first c.requires.comes c.args.schedule.now c.in-Ok.ensures.driven
 
-pub close_world-requires-clause-program : goal.close_world-requires-clause-program
-close_world-requires-clause-program c = same_program c.args.program.now c.args.options.now c.args.world c.drive.new.self c.requires.first c.requires.comes c.args.schedule.now c.in-Ok.ensures.driven
-
-pub close_world-requires-clause-plan : goal.close_world-requires-clause-plan
-close_world-requires-clause-plan c = same_plan c.args.program.now c.args.options.now c.args.world c.drive.new.self c.requires.first c.requires.comes c.args.schedule.now c.in-Ok.ensures.driven
-
-pub close_world-requires-clause-budget : goal.close_world-requires-clause-budget
-close_world-requires-clause-budget c = same_budget c.args.program.now c.args.options.now c.args.world c.drive.new.self c.requires.first c.requires.comes c.args.schedule.now c.in-Ok.ensures.driven
+pub close_world-requires-clause-setting : goal.close_world-requires-clause-setting
+close_world-requires-clause-setting c = same_setting c.args.program.now c.args.options.now c.args.world c.drive.new.self c.requires.first c.requires.comes c.args.schedule.now c.in-Ok.ensures.driven

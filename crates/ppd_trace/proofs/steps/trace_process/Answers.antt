@@ -1,3 +1,4 @@
+use Rattle.ppd_model.specs.Setting.{setting_of}
 use Rattle.std.proofs.Common.{◌≡◌, ap}
 use Rattle.ppd_sem.specs.Process.{started}
 use Rattle.ppd_model.specs.FullTrace.{begun_tracing, tracing_of}
@@ -21,6 +22,6 @@ returns-clause-events g c =
     let story = c.args.subject.now.told.now.story in
     let p = c.args.subject.now.process in
     done_with c.trace_steps-done.result c.trace_steps-done.new.tracer.events c.and.result
-    (λ events. events ≡ (tracing_of program plan c.args.budget story p c.args.own.now).events) _ c.and.ensures
+    (λ events. events ≡ (tracing_of (setting_of program plan c.args.budget) story p c.args.own.now).events) _ c.and.ensures
     c.trace_steps-done.ensures.traced
     (λ traced. ap (λ (t : Tracer). t.events) (traced (begun_tracing (started program plan p c.args.budget)) c.in_ok-tracer.ensures.begun))

@@ -1,3 +1,4 @@
+use Rattle.ppd_model.specs.Setting.{setting_of}
 use Rattle.std.proofs.Common.{ℕ, List, [], length, ap, sym, ◌∙◌, ◌++◌, None}
 use Rattle.std.specs.Prelude.{replicate}
 use Rattle.ppd_model.specs.declared.tracing.Taken.{Taken}
@@ -14,7 +15,7 @@ returns-in-Ok-clause-told g c =
     let t = c.fill.new.self in
     let world = c.fill.ensures.world ∙ c.of_world-teller.ensures.world in
     rw (← c.setting.view_is)
-    (tells_none s.program.now s.plan.now s.budget n k t.world t.counts t.writers t.steps.items
+    (tells_none (setting_of s.program.now s.plan.now s.budget) n k t.world t.counts t.writers t.steps.items
     (world ∙ c.in_ok-world.ensures.world) c.process_count-count.ensures
     (ap length c.cells-cells.ensures ∙ ap (λ (r : Running). length r.world.shared) (sym world))
     (c.in-Ok.ensures.counts ∙ ap (λ (l : List ℕ). l ++ replicate n 0) c.of_world-teller.ensures.counts)

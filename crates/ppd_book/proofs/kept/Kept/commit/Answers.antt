@@ -3,4 +3,4 @@ use Rattle.ppd_book.proofs.kept.Kept.commit.Goals as goal
 
 pub is_current-current-requires-clause-there : goal.is_current-current-requires-clause-there
 is_current-current-requires-clause-there g c =
-    worker_there g.J.Job.program g.J.Job.plan g.J.Job.budget c.view.inside.program.now c.view.inside.plan.now c.self.inside.world c.self.inside.schedule _ _ c.self.invariant c.view.invariant
+    worker_there g.J.Job.setting c.view.inside.program.now c.view.inside.plan.now c.self.inside.world c.self.inside.schedule _ _ c.self.invariant c.view.invariant

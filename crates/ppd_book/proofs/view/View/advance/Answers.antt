@@ -5,5 +5,5 @@ use Rattle.ppd_book.proofs.view.View.advance.Goals as goal
 
 pub invariant_of-self-2 : goal.invariant_of-self-2
 invariant_of-self-2 g c =
-    view_advanced g.J.Job.program g.J.Job.plan g.J.Job.budget c.self.inside.program.now c.self.inside.plan.now _ _ c.self.invariant
-    (subst (λ (v : Seen). HasMore g.J.Job.program g.J.Job.plan v) (sym c.self.view_is) c.requires) c.meet.new.proc (c.in_ok-meet.ensures.ok) c.meet.ensures.kept _ c.look-self-inside.ensures
+    view_advanced g.J.Job.setting c.self.inside.program.now c.self.inside.plan.now _ _ c.self.invariant
+    (subst (λ (v : Seen). HasMore g.J.Job.setting.program g.J.Job.setting.plan v) (sym c.self.view_is) c.requires) c.meet.new.proc (c.in_ok-meet.ensures.ok) c.meet.ensures.kept _ c.look-self-inside.ensures

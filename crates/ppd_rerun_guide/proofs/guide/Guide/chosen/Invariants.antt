@@ -7,5 +7,5 @@ use Rattle.ppd_rerun_guide.proofs.guide.Guide.chosen.Given as goal
 
 abbrev pub invariant-loop-p : goal.invariant-loop-p
 invariant-loop-p l =
-    chosen l.self.world.program l.self.world.plan (guiding_of l.self.world l.self.dues.items)
-    ≡ find (may_step l.self.world.program l.self.world.plan (guiding_of l.self.world l.self.dues.items)) (range_with_len l.p (length l.self.world.world.procs - l.p))
+    chosen l.self.world.setting.program l.self.world.setting.plan (guiding_of l.self.world l.self.dues.items)
+    ≡ find (may_step l.self.world.setting.program l.self.world.setting.plan (guiding_of l.self.world l.self.dues.items)) (range_with_len l.p (length l.self.world.world.procs - l.p))

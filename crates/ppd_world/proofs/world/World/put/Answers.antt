@@ -1,3 +1,4 @@
+use Rattle.ppd_model.specs.Setting.{setting_of}
 use Rattle.std.specs.Prelude.{slice_get}
 use Rattle.std.proofs.Common.{◌<◌, List, length, map, arith, refl, ap, sym, ◌∙◌, subst}
 use Rattle.ppd_model.specs.declared.state.Logging.{Logging}
@@ -40,19 +41,19 @@ pub look_at-need-requires-clause-program : goal.look_at-need-requires-clause-pro
 look_at-need-requires-clause-program c =
     let f = c.self.inside in
     let reached = went_reached _ _ c.args.p c.args.steps c.args.proc (subst (λ (r : Running). IsReached r) (sym c.self.view_is) c.requires.reached) (subst (λ (r : Running). ComesPlainly r c.args.p c.args.steps c.args.proc) (sym c.self.view_is) c.requires.comes) (now_moved _ c.go_on.new.loggings.items c.args.p c.args.steps c.args.proc refl c.go_on.ensures) in
-    (parts_ready f.code.program.now f.code.plan.now f.budget f.store c.go_on.new.loggings.items c.as_slice.result.now _ refl c.as_slice.ensures.value reached).runnable
+    (parts_ready (setting_of f.code.program.now f.code.plan.now f.budget) f.store c.go_on.new.loggings.items c.as_slice.result.now _ refl c.as_slice.ensures.value reached).runnable
 
 pub look_at-need-requires-clause-plan : goal.look_at-need-requires-clause-plan
 look_at-need-requires-clause-plan c =
     let f = c.self.inside in
     let reached = went_reached _ _ c.args.p c.args.steps c.args.proc (subst (λ (r : Running). IsReached r) (sym c.self.view_is) c.requires.reached) (subst (λ (r : Running). ComesPlainly r c.args.p c.args.steps c.args.proc) (sym c.self.view_is) c.requires.comes) (now_moved _ c.go_on.new.loggings.items c.args.p c.args.steps c.args.proc refl c.go_on.ensures) in
-    (parts_ready f.code.program.now f.code.plan.now f.budget f.store c.go_on.new.loggings.items c.as_slice.result.now _ refl c.as_slice.ensures.value reached).numbered
+    (parts_ready (setting_of f.code.program.now f.code.plan.now f.budget) f.store c.go_on.new.loggings.items c.as_slice.result.now _ refl c.as_slice.ensures.value reached).numbered
 
 pub look_at-need-requires-clause-loggings : goal.look_at-need-requires-clause-loggings
 look_at-need-requires-clause-loggings c =
     let f = c.self.inside in
     let reached = went_reached _ _ c.args.p c.args.steps c.args.proc (subst (λ (r : Running). IsReached r) (sym c.self.view_is) c.requires.reached) (subst (λ (r : Running). ComesPlainly r c.args.p c.args.steps c.args.proc) (sym c.self.view_is) c.requires.comes) (now_moved _ c.go_on.new.loggings.items c.args.p c.args.steps c.args.proc refl c.go_on.ensures) in
-    (parts_ready f.code.program.now f.code.plan.now f.budget f.store c.go_on.new.loggings.items c.as_slice.result.now _ refl c.as_slice.ensures.value reached).small
+    (parts_ready (setting_of f.code.program.now f.code.plan.now f.budget) f.store c.go_on.new.loggings.items c.as_slice.result.now _ refl c.as_slice.ensures.value reached).small
 
 pub invariant_of-self : goal.invariant_of-self
 invariant_of-self c =

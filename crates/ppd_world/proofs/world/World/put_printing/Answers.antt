@@ -1,3 +1,4 @@
+use Rattle.ppd_model.specs.Setting.{setting_of}
 use Rattle.std.specs.Prelude.{slice_get}
 use Rattle.std.proofs.Common.{◌∙◌, ◌<◌, List, length, map, arith, refl, ap, sym, subst}
 use Rattle.ppd_model.specs.declared.state.Logging.{Logging}
@@ -49,7 +50,7 @@ look_at-need-requires-clause-program c =
     let began = subst (λ (r : Running). IsReached r) (sym c.self.view_is) c.requires.reached in
     let comes = subst (λ (r : Running). ComesPrinting r c.args.p c.args.steps c.args.after) (sym c.self.view_is) c.requires.comes in
     let reached = went_reached _ _ c.args.p c.args.steps _ began (comes_printed _ _ _ _ comes) (now_moved _ c.go_on_printing.new.loggings.items c.args.p c.args.steps _ refl (c.in_ok-go_on_printing.ensures.ok ∙ own_printed _ c.args.p c.args.steps c.args.after began comes)) in
-    (parts_ready f.code.program.now f.code.plan.now f.budget f.store c.go_on_printing.new.loggings.items c.as_slice.result.now _ refl c.as_slice.ensures.value reached).runnable
+    (parts_ready (setting_of f.code.program.now f.code.plan.now f.budget) f.store c.go_on_printing.new.loggings.items c.as_slice.result.now _ refl c.as_slice.ensures.value reached).runnable
 
 pub look_at-need-requires-clause-plan : goal.look_at-need-requires-clause-plan
 look_at-need-requires-clause-plan c =
@@ -57,7 +58,7 @@ look_at-need-requires-clause-plan c =
     let began = subst (λ (r : Running). IsReached r) (sym c.self.view_is) c.requires.reached in
     let comes = subst (λ (r : Running). ComesPrinting r c.args.p c.args.steps c.args.after) (sym c.self.view_is) c.requires.comes in
     let reached = went_reached _ _ c.args.p c.args.steps _ began (comes_printed _ _ _ _ comes) (now_moved _ c.go_on_printing.new.loggings.items c.args.p c.args.steps _ refl (c.in_ok-go_on_printing.ensures.ok ∙ own_printed _ c.args.p c.args.steps c.args.after began comes)) in
-    (parts_ready f.code.program.now f.code.plan.now f.budget f.store c.go_on_printing.new.loggings.items c.as_slice.result.now _ refl c.as_slice.ensures.value reached).numbered
+    (parts_ready (setting_of f.code.program.now f.code.plan.now f.budget) f.store c.go_on_printing.new.loggings.items c.as_slice.result.now _ refl c.as_slice.ensures.value reached).numbered
 
 pub look_at-need-requires-clause-loggings : goal.look_at-need-requires-clause-loggings
 look_at-need-requires-clause-loggings c =
@@ -65,7 +66,7 @@ look_at-need-requires-clause-loggings c =
     let began = subst (λ (r : Running). IsReached r) (sym c.self.view_is) c.requires.reached in
     let comes = subst (λ (r : Running). ComesPrinting r c.args.p c.args.steps c.args.after) (sym c.self.view_is) c.requires.comes in
     let reached = went_reached _ _ c.args.p c.args.steps _ began (comes_printed _ _ _ _ comes) (now_moved _ c.go_on_printing.new.loggings.items c.args.p c.args.steps _ refl (c.in_ok-go_on_printing.ensures.ok ∙ own_printed _ c.args.p c.args.steps c.args.after began comes)) in
-    (parts_ready f.code.program.now f.code.plan.now f.budget f.store c.go_on_printing.new.loggings.items c.as_slice.result.now _ refl c.as_slice.ensures.value reached).small
+    (parts_ready (setting_of f.code.program.now f.code.plan.now f.budget) f.store c.go_on_printing.new.loggings.items c.as_slice.result.now _ refl c.as_slice.ensures.value reached).small
 
 pub invariant_of-self-2 : goal.invariant_of-self-2
 invariant_of-self-2 c =

@@ -1,3 +1,4 @@
+use Rattle.ppd_model.specs.Setting.{setting_of}
 use Rattle.std.proofs.Common.{refl}
 use Rattle.ppd_world.specs.Parts.{world_of}
 use Rattle.ppd_world.proofs.KeptNeeds.{kept_by_step}
@@ -7,7 +8,7 @@ use Rattle.ppd_world.proofs.world.World.take.Goals as goal
 pub take_step-requires-clause-ready : goal.take_step-requires-clause-ready
 take_step-requires-clause-ready c =
     let f = c.self.inside in
-    parts_ready f.code.program.now f.code.plan.now f.budget f.store f.loggings.items _ _ c.self.view_is refl c.requires
+    parts_ready (setting_of f.code.program.now f.code.plan.now f.budget) f.store f.loggings.items _ _ c.self.view_is refl c.requires
 
 pub returns-clause-ok : goal.returns-clause-ok
 returns-clause-ok c =
