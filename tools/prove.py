@@ -3,8 +3,8 @@
 are proved, that on which the longest chain waits first. A library is proved and built by one call, so that no crate above
 builds it again. One call at a time works in one copy of the repository, so each processor has a copy of its own; what is
 built is linked into the others. A program is left to who runs it, whose call proves and builds it. Tells on standard
-error how far it is, in crates, functions and processor minutes, which are an estimate from the lengths of sources and
-proofs: at a terminal in one line that changes, else once a minute. Where a proof fails, the end of what was written goes
+error how far it is, in crates, functions and processor minutes, which are an estimate from the lengths of sources:
+at a terminal in one line that changes, else once a minute. Where a proof fails, the end of what was written goes
 there, and the status is 1. Prints the folder of the crate, in the copy in which the last proof was.
 
     prove.py FOLDER CRATE [WORKERS]     FOLDER: for the copies; WORKERS: how many processors to use, all where none is given
@@ -26,8 +26,8 @@ PARTS = ("src", "specs", "proofs")
 SOURCE = re.compile(r"[^.#].*\.(rt|antt)")
 FUNCTION = re.compile(r"^[^/\n]*\bfn \w", re.MULTILINE)
 PROVED = re.compile(r"^logic=proved functions=(\d+)", re.MULTILINE)
-# what proofs take on one processor, about: seconds for each crate, for each function, and for each line of proofs
-EACH_CRATE, EACH_FUNCTION, EACH_LINE = 25.0, 2.5, 0.001
+# what proofs take on one processor, about: seconds for each crate, and for each line of its code with its contracts
+EACH_CRATE, EACH_LINE = 5.0, 0.127
 # the bytes of built libraries that may stay
 MOST_KEPT = 2_000_000_000
 
@@ -69,8 +69,8 @@ def functions_in(crate):
 def seconds_of(crate):
     """About how long the proofs of a crate take on one processor."""
     folder = os.path.join(TOP, "crates", crate)
-    lines = sum(text_of(os.path.join(folder, name)).count("\n") for name in files_of(folder) if name.startswith("proofs"))
-    return EACH_CRATE + EACH_FUNCTION * functions_in(crate) + EACH_LINE * lines
+    lines = sum(text_of(os.path.join(folder, name)).count("\n") for name in files_of(folder) if name.startswith("src"))
+    return EACH_CRATE + EACH_LINE * lines
 
 
 def weights_of(below, seconds):
@@ -217,7 +217,7 @@ class Teller:
         self.left = sum(self.seconds.values()) - self.kept
         print(
             f"ppd: {self.count - len(proved)} of {self.count} crates are to be proved, {workers} at a time: about"
-            f" {minutes(self.left)} processor minutes, by an estimate from the lengths of sources and proofs",
+            f" {minutes(self.left)} processor minutes, by an estimate from the lengths of sources",
             file=sys.stderr,
             flush=True,
         )

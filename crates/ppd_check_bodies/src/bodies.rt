@@ -285,6 +285,47 @@ fn note_cells<L: Ledger>(variables: &[Variable], found: &mut Option<Fault>, step
     }
 }
 
+// One more variable, which has this first cell.
+fn push_var<L: Ledger>(
+    alloc: Global,
+    variable: &Variable,
+    base: u16,
+    list: &mut Seq<Var>,
+    steps: &mut Steps<L>,
+) -> Result<(), Memory>
+    ensures pushed { OnOk result
+        (list.new ≡ list.old ++ record { name = variable.now.name; base = base; len = variable.now.length } ∷ []) }
+    ensures cost { steps.new ≤ steps.old + 2 }
+{
+    let name = bytes_of(alloc, variable.name.as_slice(), steps)?;
+    steps.tick();
+    list.push(Var {
+        name,
+        base,
+        len: variable.length,
+    })
+}
+
+// Puts the variables with their first cells into a list that has none yet.
+fn write_vars<L: Ledger>(
+    alloc: Global,
+    variables: &[Variable],
+    list: &mut Seq<Var>,
+    steps: &mut Steps<L>,
+) -> Result<(), Memory>
+    requires none { list.old ≡ [] }
+    ensures value { OnOk result (list.new ≡ vars 0 variables.now) }
+    ensures cost { steps.new ≤ steps.old + 3 * length variables.now }
+{
+    let mut base = 0;
+    for variable in variables {
+        steps.tick();
+        push_var(alloc, variable, base, list, steps)?;
+        base = after_cells(base, variable.length);
+    }
+    Ok(())
+}
+
 /// The variables with their first cells, of which the first is 0. `Memory` is want of memory.
 pub fn vars_of<L: Ledger>(
     alloc: Global,
@@ -295,18 +336,7 @@ pub fn vars_of<L: Ledger>(
     ensures cost { steps.new ≤ steps.old + 3 * length variables.now }
 {
     let mut list = Seq::new(alloc);
-    let mut base = 0;
-    for variable in variables {
-        let len = variable.length;
-        steps.tick();
-        steps.tick();
-        list.push(Var {
-            name: bytes_of(alloc, variable.name.as_slice(), steps)?,
-            base,
-            len,
-        })?;
-        base = after_cells(base, len);
-    }
+    write_vars(alloc, variables, &mut list, steps)?;
     Ok(list)
 }
 
@@ -332,12 +362,12 @@ struct Heading<'a> {
     params: u16,
     value: bool,
     first: u32,
-    end: u32,
 }
 
 // One more entry, of the body that has this frame and whose row this is; the row is empty then.
 fn push_body<L: Ledger>(
     head: Heading<'_>,
+    end: u32,
     frame: &Frame,
     row: &mut Ids,
     bodies: &mut Seq<Body>,
@@ -354,7 +384,7 @@ fn push_body<L: Ledger>(
           locals = vars 0 frame.now.variables;
           top = row.old;
           first = head.entry.first;
-          end = head.entry.end;
+          end = end;
         } ∷ []) }
     ensures cost { steps.new ≤ steps.old + 3 * length frame.now.variables + 2 }
 {
@@ -372,8 +402,39 @@ fn push_body<L: Ledger>(
         locals,
         top,
         first: head.first,
-        end: head.end,
+        end,
     })
+}
+
+// The entry of a body whose statements stand in the table, and the fault of its cells.
+fn close_body<L: Ledger>(
+    head: Heading<'_>,
+    frame: &Frame,
+    out: &mut Output,
+    bodies: &mut Seq<Body>,
+    steps: &mut Steps<L>,
+) -> Result<(), Memory>
+    ensures table { out.new.table ≡ record out.old.table {
+      found = first_of_both out.old.table.found (first (past_cells MOST_LOCAL_CELLS Locals 0 frame.now.variables));
+    } }
+    ensures pushed { OnOk result
+        (bodies.new ≡ bodies.old
+        ++ record {
+          name = head.entry.name.now;
+          process = head.entry.process;
+          params = head.entry.params;
+          value = head.entry.value;
+          cells = frame.now.cells;
+          locals = vars 0 frame.now.variables;
+          top = out.old.row;
+          first = head.entry.first;
+          end = length out.old.table.stmts;
+        } ∷ []) }
+    ensures cost { steps.new ≤ steps.old + 4 * length frame.now.variables + 2 }
+{
+    note_cells(frame.variables.as_slice(), &mut out.table.found, steps);
+    let end = count_of(&out.table.stmts)?;
+    push_body(head, end, frame, &mut out.row, bodies, steps)
 }
 
 // The function or process at a node, in a frame that has nothing yet: its statements with their expressions, its
@@ -408,17 +469,14 @@ fn write_body<L: Ledger>(
     let params = as_short(frame.variables.len() as u64);
     out.row = Ids::new(frame.scopes.alloc());
     fill(level, id, process, frame, out, steps)?;
-    note_cells(frame.variables.as_slice(), &mut out.table.found, steps);
-    let end = count_of(&out.table.stmts)?;
     let head = Heading {
         name: label_at(source, id, 1).text,
         process,
         params,
         value: gives_at(source, id, process),
         first,
-        end,
     };
-    push_body(head, frame, &mut out.row, bodies, steps)
+    close_body(head, frame, out, bodies, steps)
 }
 
 // The same inside scopes, which are given back.

@@ -5,7 +5,7 @@ ghost use Rattle.ppd_check_names.specs.Names.{innermost};
 ghost use Rattle.ppd_check_names.specs.Frames.{after_cells, declared, twice_faults, variable_of, with_hidden};
 ghost use Rattle.ppd_check_names.specs.Nodes.{label_name};
 
-use crate::fault::{Cause, Fault, note};
+use crate::fault::{Cause, Fault, note_if};
 use crate::meaning::Meaning;
 use crate::nodes::Label;
 use crate::scopes::Scopes;
@@ -106,9 +106,8 @@ pub fn declare<L: Ledger>(
 {
     let alloc = frame.scopes.alloc();
     let meaning = Meaning::Local(frame.cells, length);
-    if frame.scopes.declare(label.text, meaning, steps)? {
-        note(found, label.place, Cause::Twice);
-    }
+    let twice = frame.scopes.declare(label.text, meaning, steps)?;
+    note_if(found, twice, label.place, Cause::Twice);
     push_variable(alloc, &mut frame.variables, label, length, steps)?;
     frame.cells = after_cells(frame.cells, length);
     Ok(())

@@ -65,6 +65,11 @@ bad_long bytes h = by_length h
 pub bad_front : (bytes : List ℕ) (e : BadBytes) → length bytes ≤ MOST_RECORDING_BYTES → front.read 0 bytes ≡ Err e → IsBad bytes e
 bad_front bytes e h r = by_front e h r
 
+-- the logs to the end of the bytes, which are read only past a version that is the one of the facts
+abbrev logs_past_version : ℕ → Facts → ℕ → List ℕ → Result (List (List Entry)) BadBytes
+logs_past_version v f now rest =
+    if nat_eq v f.version then nothing_left ((logs_form f).read now rest) else Err (bad.Range 4 F.Version)
+
 module _ (bytes : List ℕ) (h : Front) (now : ℕ) (rest : List ℕ) (short : length bytes ≤ MOST_RECORDING_BYTES) (came : Came front.read 0 bytes now rest h) where
   comes : ComesToSource bytes (got h now rest) h.1.1.1.1.1
   comes = record { short = short; reads = came; source_is = refl }
@@ -93,12 +98,30 @@ module _ (bytes : List ℕ) (h : Front) (now : ℕ) (rest : List ℕ) (short : l
       let one : Wrote (recording (facts_of p)).bytes (recording (facts_of p)).Lawful 0 bytes (h, lists) l.0 [] = (recording_holds (facts_of p)).back 0 bytes (h, lists) l.0 [] b all in
       (one.lawful, one.bytes_are ∙ append-nil ((recording (facts_of p)).bytes (h, lists)))
 
+  pub bad_last : (p : Program) (e : BadBytes) → IsRead h.1.1.1.1.1 p → logs_past_version h.1.0 (facts_of p) now rest ≡ Err e → IsBad bytes e
+  bad_last p e is n = by (nat_eq h.1.0 (facts_of p).version) refl n
+    where
+      by : (t : Bool) → nat_eq h.1.0 (facts_of p).version ≡ t → cond t (nothing_left ((logs_form (facts_of p)).read now rest)) (Err (bad.Range 4 F.Version)) ≡ Err e → IsBad bytes e
+      by true v n = bad_logs p e is v n
+      by false v n = subst (λ (x : BadBytes). IsBad bytes x) (cc) (bad_version p is v)
+
 -- the version is compared with that of the facts which the code finds
 pub same_version : (v : ℕ) (found facts : Facts) → found ≡ facts → v ≡ found.version → nat_eq v facts.version ≡ true
 same_version v found facts is e = let same : v ≡ facts.version = e ∙ ap (λ (f : Facts). f.version) is in grind (arith, nat_tests)
 
 pub other_version : (v : ℕ) (found facts : Facts) → found ≡ facts → v ≢ found.version → nat_eq v facts.version ≡ false
 other_version v found facts is e = let other : v ≢ facts.version = subst (λ (f : Facts). v ≢ f.version) is e in grind (arith, nat_tests)
+
+pub past_same : (v : ℕ) (found facts : Facts) (now : ℕ) (rest : List ℕ) (answer : Result (List (List Entry)) BadBytes) → found ≡ facts → v ≡ found.version → nothing_left ((logs_form found).read now rest) ≡ answer
+    → (nat_eq v facts.version ≡ true) × (nothing_left ((logs_form facts).read now rest) ≡ answer) × (logs_past_version v facts now rest ≡ answer)
+past_same v found facts now rest answer is e n =
+    let one = same_version v found facts is e in
+    let all : nothing_left ((logs_form facts).read now rest) ≡ answer = subst (λ (f : Facts). nothing_left ((logs_form f).read now rest) ≡ answer) is n in
+    (one, all, ap (λ (t : Bool). cond t (nothing_left ((logs_form facts).read now rest)) (Err (bad.Range 4 F.Version))) one ∙ all)
+
+pub past_other : (v : ℕ) (found facts : Facts) (now : ℕ) (rest : List ℕ) → found ≡ facts → v ≢ found.version → logs_past_version v facts now rest ≡ Err (bad.Range 4 F.Version)
+past_other v found facts now rest is e =
+    ap (λ (t : Bool). cond t (nothing_left ((logs_form facts).read now rest)) (Err (bad.Range 4 F.Version))) (other_version v found facts is e)
 
 version_is : (v w : ℕ) → nat_eq v w ≡ true → v ≡ w
 version_is v w e = grind (arith, nat_tests)

@@ -5,6 +5,7 @@ pub mod Parts
 pub mod Coming
 pub mod Several
 pub mod Writing
+pub mod Counting
 pub mod Answered
 pub mod Spelling
 pub mod Spelled

@@ -27,3 +27,7 @@ link old a mid b new m n = n ∙ ap (λ (ys : List ℕ). ys ++ b) m ∙ append_a
 pub on_ok : {T E : Type 0} (r : Result T E) {P Q : Type 0} → (P → Q) → OnOk r P → OnOk r Q
 on_ok (Ok x) h p = h p
 on_ok (Err e) h p = tt
+
+-- two lists after what was written, by what they are
+pub followed : {A : Type 0} (f : List A → List ℕ) (mid new : List ℕ) (xs xs_in ys ys_in : List A) → new ≡ mid ++ (f xs ++ f ys) → xs ≡ xs_in → ys ≡ ys_in → new ≡ mid ++ (f xs_in ++ f ys_in)
+followed f mid new xs xs_in ys ys_in n is also = n ∙ ap (λ (zs : List _). mid ++ (f zs ++ f ys)) is ∙ ap (λ (zs : List _). mid ++ (f xs_in ++ f zs)) also

@@ -1,9 +1,10 @@
-ghost use Rattle.std.specs.Prelude.{◌≡◌, ◌≢◌, ◌+◌, ◌<◌, ◌≤◌, length, Ok, Err, IfErr, IfOk};
+ghost use Rattle.std.specs.Prelude.{◌≡◌, ◌≢◌, ◌+◌, ◌<◌, ◌≤◌, length, nat_eq, true, Ok, Err, IfErr, IfOk, if◌then◌else◌};
 ghost use Rattle.ppd_ast.specs.Valid.{IsValid};
 ghost use Rattle.ppd_ast.specs.ValidPlan.{IsValidPlan, IsValidPolicy};
 ghost use Rattle.ppd_codec.specs.Answer.{IsDecodingOf};
 ghost use Rattle.ppd_codec.specs.Format.{logs as logs_form};
-ghost use Rattle.ppd_codec.specs.Recordings.{IsMade, nothing_left, refusal as refusal_of};
+ghost use Rattle.ppd_blocks.specs.Blocks.{plan_of};
+ghost use Rattle.ppd_codec.specs.Recordings.{IsMade, facts_of as facts_in, nothing_left, refusal as refusal_of};
 
 use crate::bad::{BadBytes, Field};
 use crate::cursor::Cursor;
@@ -11,7 +12,7 @@ use crate::facts::{Facts, facts_of};
 use crate::front::Front;
 use crate::recording::Recording;
 use ppd_ast::limits::MOST_RECORDING_BYTES;
-use ppd_ast::{Bytes, Program, Seq, Steps};
+use ppd_ast::{Bytes, Plan, Program, Seq, Steps};
 use ppd_blocks::partition;
 use ppd_check::{SourceError, read_source};
 use ppd_entry::{Entry, Logs};
@@ -49,6 +50,52 @@ impl<'a> Cursor<'a> {
         }
         Err(BadBytes::Trailing(self.offset()))
     }
+
+    // The logs of a recording of this program, which has to ask for this version.
+    fn last_of<L: Ledger>(
+        &mut self,
+        alloc: Global,
+        program: &Program,
+        version: u8,
+        steps: &mut Steps<L>,
+    ) -> Result<Seq<Seq<Entry>>, BadBytes>
+        requires { IsValid program.now }
+        ensures ok { IfOk result
+            (λ lists. (nat_eq version (facts_in program.now).version ≡ true)
+            × (nothing_left ((logs_form (facts_in program.now)).read self.old.at self.old.rest.now) ≡ Ok lists)) }
+        ensures err { IfErr result
+            (λ e. e ≢ BadBytes.Memory
+            → (if nat_eq version (facts_in program.now).version
+            then nothing_left ((logs_form (facts_in program.now)).read self.old.at self.old.rest.now)
+            else Err (BadBytes.Range 4 Field.Version)) ≡ Err e) }
+        ensures cost { steps.new ≤ steps.old + length self.old.rest.now }
+    {
+        let facts = facts_of(program);
+        if version != facts.version {
+            return Err(BadBytes::Range(4, Field::Version));
+        }
+        self.last(alloc, facts, steps)
+    }
+}
+
+// What a recording keeps beside what was read: the plan of the program, and the source's bytes.
+fn plan_and_source(
+    alloc: Global,
+    front: &Front,
+    program: &Program,
+) -> Result<(Plan, Bytes), BadBytes>
+    requires program { IsValid program.now }
+    requires policy { IsValidPolicy front.now.header.policy }
+    ensures plan { IfOk result (λ kept. kept.0 ≡ plan_of program.now front.now.header.policy) }
+    ensures valid { IfOk result (λ kept. IsValidPlan program.now kept.0) }
+    ensures source { IfOk result (λ kept. kept.1 ≡ front.now.source.now) }
+    ensures err { IfErr result (λ e. e ≡ BadBytes.Memory) }
+{
+    let plan = partition(alloc, program, &front.header.policy)?;
+    let Ok(source) = Vec::from_slice(alloc, front.source) else {
+        return Err(BadBytes::Memory);
+    };
+    Ok((plan, Bytes::from_vec(source)))
 }
 
 // The recording of parts that were read.
@@ -64,12 +111,13 @@ fn made(
     ensures valid { IfOk result (λ r. IsValidPlan r.program r.plan) }
     ensures err { IfErr result (λ e. e ≡ BadBytes.Memory) }
 {
-    let plan = partition(alloc, &program, &front.header.policy)?;
-    let Ok(source) = Vec::from_slice(alloc, front.source) else {
+    let Ok((plan, source)) = plan_and_source(alloc, front, &program) else {
+        drop(program);
+        drop(lists);
         return Err(BadBytes::Memory);
     };
     Ok(Recording {
-        source: Bytes::from_vec(source),
+        source,
         program,
         plan,
         header: front.header,
@@ -96,11 +144,13 @@ pub fn decode_in<L: Ledger>(
         Ok(program) => program,
         Err(error) => return Err(refusal(error)),
     };
-    let facts = facts_of(&program);
-    if front.version != facts.version {
-        return Err(BadBytes::Range(4, Field::Version));
-    }
-    let lists = cursor.last(alloc, facts, steps)?;
+    let lists = match cursor.last_of(alloc, &program, front.version, steps) {
+        Ok(lists) => lists,
+        Err(error) => {
+            drop(program);
+            return Err(error);
+        }
+    };
     made(alloc, &front, program, lists)
 }
 

@@ -1,9 +1,9 @@
-ghost use Rattle.std.specs.Int.{w16};
+ghost use Rattle.std.specs.Int.{w16, w32};
 ghost use Rattle.std.specs.Prelude.{◌≡◌, ℕ, ◌+◌, ◌<◌, ◌≤◌, ◌^◌, ◌++◌, length, OnOk};
 ghost use Rattle.std.specs.List.{All};
 ghost use Rattle.ppd_codec.specs.Counted.{IsCounted, IsCountedLog};
 ghost use Rattle.ppd_codec.specs.declared.facts.Facts.{Facts};
-ghost use Rattle.ppd_codec.specs.Form.{byte as byte_form, number as number_form};
+ghost use Rattle.ppd_codec.specs.Form.{byte as byte_form, number as number_form, value as value_form};
 ghost use Rattle.ppd_codec.specs.Format.{values as values_form, cells as cells_form, an_entry, log as log_form, logs as logs_form};
 ghost use Rattle.ppd_codec_fields.specs.Fields.{kind_code as kind_code_of, status_code as status_code_of};
 
@@ -86,6 +86,63 @@ impl Writer {
         self.values(values, steps)
     }
 
+    /// What stands in a synchronization before its reads and writes.
+    fn event<L: Ledger>(
+        &mut self,
+        kind: SyncKind,
+        object: u8,
+        number: u32,
+        value: i64,
+        steps: &mut Steps<L>,
+    ) -> Result<(), Memory>
+        ensures ok { OnOk result
+            (self.new.out.items ≡ self.old.out.items
+            ++ (byte_form.bytes 3 ++ (byte_form.bytes (kind_code_of kind) ++ (byte_form.bytes object
+            ++ ((number_form w32).bytes number ++ value_form.bytes value))))) }
+        ensures cost { steps.new + length self.old.out.items ≤ steps.old + length self.new.out.items }
+    {
+        self.byte(3, steps)?;
+        self.byte(kind_code(kind), steps)?;
+        self.byte(object, steps)?;
+        self.number_4(number, steps)?;
+        self.value(value, steps)
+    }
+
+    /// What stands in an end before its reads and writes.
+    fn ending<L: Ledger>(
+        &mut self,
+        status: Status,
+        rest: u32,
+        steps: &mut Steps<L>,
+    ) -> Result<(), Memory>
+        ensures ok { OnOk result
+            (self.new.out.items ≡ self.old.out.items
+            ++ (byte_form.bytes 5 ++ (byte_form.bytes (status_code_of status) ++ (number_form w32).bytes rest))) }
+        ensures cost { steps.new + length self.old.out.items ≤ steps.old + length self.new.out.items }
+    {
+        self.byte(5, steps)?;
+        self.byte(status_code(status), steps)?;
+        self.number_4(rest, steps)
+    }
+
+    /// The reads and the writes.
+    fn accesses<L: Ledger>(
+        &mut self,
+        reads: &[u16],
+        writes: &[u16],
+        steps: &mut Steps<L>,
+    ) -> Result<(), Memory>
+        requires reads { length reads.now < 2 ^ 16 }
+        requires writes { length writes.now < 2 ^ 16 }
+        ensures ok { OnOk result
+            ((shared : ℕ) → self.new.out.items ≡ self.old.out.items
+            ++ ((cells_form shared).bytes reads.now ++ (cells_form shared).bytes writes.now)) }
+        ensures cost { steps.new + length self.old.out.items ≤ steps.old + length self.new.out.items }
+    {
+        self.cells(reads, steps)?;
+        self.cells(writes, steps)
+    }
+
     /// An entry; its bytes are the same whatever the source is.
     pub fn entry<L: Ledger>(&mut self, entry: &Entry, steps: &mut Steps<L>) -> Result<(), Memory>
         requires { IsCounted entry.now }
@@ -104,13 +161,8 @@ impl Writer {
                 reads,
                 writes,
             } => {
-                self.byte(3, steps)?;
-                self.byte(kind_code(*kind), steps)?;
-                self.byte(*object, steps)?;
-                self.number_4(*number, steps)?;
-                self.value(*value, steps)?;
-                self.cells(reads.as_slice(), steps)?;
-                self.cells(writes.as_slice(), steps)
+                self.event(*kind, *object, *number, *value, steps)?;
+                self.accesses(reads.as_slice(), writes.as_slice(), steps)
             }
             Entry::Postlog { block, values } => self.numbered(4, *block, values.as_slice(), steps),
             Entry::End {
@@ -119,11 +171,8 @@ impl Writer {
                 reads,
                 writes,
             } => {
-                self.byte(5, steps)?;
-                self.byte(status_code(*status), steps)?;
-                self.number_4(*rest, steps)?;
-                self.cells(reads.as_slice(), steps)?;
-                self.cells(writes.as_slice(), steps)
+                self.ending(*status, *rest, steps)?;
+                self.accesses(reads.as_slice(), writes.as_slice(), steps)
             }
         }
     }

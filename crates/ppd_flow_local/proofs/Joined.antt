@@ -1,5 +1,7 @@
 -- What is found by replays of a process, one after another.
-use Rattle.std.proofs.Common.{◌≡◌, ℕ, List, [], ◌∷◌, ◌++◌, Result, Ok, Err, refl, ap, sym, subst}
+use Rattle.std.proofs.Common.{◌≡◌, ℕ, List, [], ◌∷◌, ◌++◌, Result, Ok, Err, refl, ap, sym, ◌∙◌, subst}
+use Rattle.std.proofs.lemmas.Result.{err_from_is_err_and}
+use Rattle.std.specs.Result.{IsErrAnd, result_map_both}
 use Rattle.std.specs.Prelude.{Option, Some, None, unwrap_or}
 use Rattle.ppd_flow_tables.specs.FlowError.{FlowError}
 use Rattle.ppd_flow_tables.specs.FlowError.TheVariants.{Diverged, NoEvent, Sets, Memory}
@@ -19,6 +21,9 @@ of_both p (m ∷ ms) ns = ap (λ xs. (p, m) ∷ xs) (of_both p ms ns)
 abbrev pub the_ok : {A : Type 0} → A → Result A FlowError → A
 the_ok x (Ok y) = y
 the_ok x (Err e) = x
+
+abbrev err_of : {A : Type 0} → FlowError → Result A FlowError
+err_of e = Err e
 
 abbrev ok_of : {A : Type 0} → A → Result A FlowError
 ok_of x = Ok x
@@ -64,6 +69,19 @@ module _ (s : Search) where
   failed_alone a y n m (Diverged p k) f = f
   failed_alone a y n m Memory f = tt
 
+  -- want of memory is free
+  pub no_memory : {A : Type 0} (a : Looked ℕ A) (n m : ℕ) (r : Result A FlowError) → IsErrAnd r (λ e. e ≡ Memory)
+      → IsFound s a n m r
+  no_memory {A = A} a n m r h =
+      let e = err_from_is_err_and r h in
+      subst (λ (z : Result A FlowError). IsFound s a n m z) (sym (e.1 ∙ ap (λ (x : FlowError). err_of x) e.2)) tt
+
+  pub no_memory_with : {A B : Type 0} (a : Looked ℕ A) (x : A) (n m : ℕ) (r : Result B FlowError)
+      → IsErrAnd r (λ e. e ≡ Memory) → IsFound s a n m (result_map_both (λ y. x) (λ e. e) r)
+  no_memory_with {B = B} a x n m r h =
+      let e = err_from_is_err_and r h in
+      subst (λ (z : Result B FlowError). IsFound s a n m (result_map_both (λ y. x) (λ e. e) z)) (sym (e.1 ∙ ap (λ (y : FlowError). err_of y) e.2)) tt
+
   -- ---- an origin, or else what is found by further replays
 
   pub else_origin : (a : Looked ℕ (Option Origin)) (b : Looked ℕ Origin) (n m k : ℕ) (r : Result Origin FlowError)
@@ -71,6 +89,12 @@ module _ (s : Search) where
   else_origin a b n m k r f g =
       subst (λ z. IsFound s (record { found = unwrap_or z b.found; replays = a.replays ++ unless z b.replays }) n k r)
       (sym (is_given a None n m f)) (joined a b None n m k r f g)
+
+  pub some_origin : (a : Looked ℕ (Option Origin)) (b : Looked ℕ Origin) (x : Origin) (n m : ℕ)
+      → IsFound s a n m (Ok (Some x)) → IsFound s (look_or a b) n m (Ok x)
+  some_origin a b x n m f =
+      subst (λ z. IsFound s (record { found = unwrap_or z b.found; replays = a.replays ++ unless z b.replays }) n m (Ok x))
+      (sym (is_given a (Some x) n m f)) (joined a (known x) (Some x) n m m (Ok x) f (nothing x x m refl))
 
   pub origin_failed : (a : Looked ℕ (Option Origin)) (b : Looked ℕ Origin) (n m : ℕ) (e : FlowError)
       → IsFound s a n m (Err e) → IsFound s (look_or a b) n m (Err e)
@@ -93,8 +117,11 @@ module _ (s : Search) where
   either_failed a b n m e f = failed a (record { found = option_or a.found b.found; replays = unless a.found b.replays }) n m e f
 
   -- where the origin is known without replays
-  pub after_none : {A : Type 0} (a : Looked ℕ A) (v : A) (o : Option Origin) (b : Looked ℕ Origin) (n m k : ℕ)
-      (r : Result Origin FlowError) → o ≡ None → IsFound s a n m (Ok v) → IsFound s b m k r
-      → IsFound s (after_look a (look_or (known o) b)) n k r
-  after_none a v o b n m k r e f g =
-      subst (λ z. IsFound s (after_look a (look_or (known z) b)) n k r) (sym e) (joined a b v n m k r f g)
+  pub known_else : (o : Option Origin) (b : Looked ℕ Origin) (n k : ℕ) (r : Result Origin FlowError) → None ≡ o
+      → IsFound s b n k r → IsFound s (look_or (known o) b) n k r
+  known_else o b n k r e f = subst (λ (z : Option Origin). IsFound s (look_or (known z) b) n k r) e f
+
+  pub known_origin : (o : Option Origin) (b : Looked ℕ Origin) (x : Origin) (n : ℕ) → Some x ≡ o
+      → IsFound s (look_or (known o) b) n n (Ok x)
+  known_origin o b x n e =
+      subst (λ (z : Option Origin). IsFound s (look_or (known z) b) n n (Ok x)) e (nothing x x n refl)

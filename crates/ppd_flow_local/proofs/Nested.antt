@@ -1,5 +1,5 @@
 -- The edges of a loop: what it left, and then what let it run.
-use Rattle.std.proofs.Common.{◌≡◌, ℕ, List, [], ◌∷◌, ◌++◌, Result, Ok, Err, ap, sym, ◌∙◌, subst}
+use Rattle.std.proofs.Common.{◌≡◌, ℕ, List, [], ◌∷◌, ◌++◌, Result, Ok, Err, ap, ◌∙◌, sym, subst}
 use Rattle.std.specs.Prelude.{ℤ}
 use Rattle.ppd_ast.specs.declared.plan.BlockKind.TheVariants as block
 use Rattle.ppd_model.specs.declared.flow.EdgeKind.TheVariants.{Control}
@@ -13,7 +13,15 @@ use Rattle.ppd_flow_model.specs.Looked.{Looked, look_map}
 use Rattle.ppd_flow_model.specs.Own.{edges_of_nested, frame_at, left_edges}
 use Rattle.ppd_flow_local.specs.declared.search.Search.{Search}
 use Rattle.ppd_flow_local.specs.Searches.{IsFound, plan_in, program_in, seen}
-use Rattle.ppd_flow_local.proofs.Joined.{after_look, and_so, failed, failed_alone, is_given, joined}
+use Rattle.ppd_flow_local.proofs.Joined.{after_look, and_so, failed, is_given, joined}
+
+-- the edge from what was found is added
+pub control_added : (s : Search) (a : Looked ℕ Origin) (es now : List FlowEdge) (from : Origin) (n m : ℕ)
+    → IsFound s a n m (Ok from) → now ≡ es ++ bare_edge Control from ∷ []
+    → IsFound s (look_map (λ x. es ++ bare_edge Control x ∷ []) a) n m (Ok now)
+control_added s a es now from n m f e =
+    and_so s a from (es ++ bare_edge Control a.found ∷ []) now n m f
+    (ap (λ (x : Origin). es ++ bare_edge Control x ∷ []) (is_given s a from n m f) ∙ sym e)
 
 module _ (s : Search) (k j stmt b frame : ℕ) (cells : List ℕ) (values : List ℤ)
     (fr : frame ≡ frame_at (program_in s) (plan_in s) (seen s) k j) (ce : cells ≡ postlog_cells (plan_in s) b) where
@@ -39,18 +47,14 @@ module _ (s : Search) (k j stmt b frame : ℕ) (cells : List ℕ) (values : List
       subst (λ f. IsFound s (edges_in f (postlog_cells (plan_in s) b)) n m r) fr
       (subst (λ (cs : List ℕ). IsFound s (edges_in frame cs) n m r) ce f)
 
-  pub loop_found : (i n m o : ℕ) (ls now : List FlowEdge) (co : Origin) → IsFound s (edges_in frame cells) n m (Ok ls)
-      → IsFound s control m o (Ok co) → now ≡ ls ++ bare_edge Control co ∷ [] → IsNested i n o (Ok now)
-  loop_found i n m o ls now co f g e =
+  pub loop_found : (i n m o : ℕ) (ls : List FlowEdge) (r : Result (List FlowEdge) FlowError)
+      → IsFound s (edges_in frame cells) n m (Ok ls)
+      → IsFound s (look_map (λ from. ls ++ bare_edge Control from ∷ []) control) m o r → IsNested i n o r
+  loop_found i n m o ls r f g =
       let left = moved n m (Ok ls) f in
-      and_so s (after_look brought control) co all now n o (joined s brought control ls n m o (Ok co) left g)
-      (ap (λ (es : List FlowEdge). es ++ bare_edge Control control.found ∷ []) (is_given s brought ls n m left)
-      ∙ (ap (λ (z : Origin). ls ++ bare_edge Control z ∷ []) (is_given s control co m o g) ∙ sym e))
+      subst (λ (es : List FlowEdge). IsFound s (after_look brought (look_map (λ from. es ++ bare_edge Control from ∷ []) control)) n o r)
+      (sym (is_given s brought ls n m left))
+      (joined s brought (look_map (λ from. ls ++ bare_edge Control from ∷ []) control) ls n m o r left g)
 
   pub loop_failed : (i n m : ℕ) (x : FlowError) → IsFound s (edges_in frame cells) n m (Err x) → IsNested i n m (Err x)
   loop_failed i n m x f = failed s brought (look_map (λ z. all) control) n m x (moved n m (Err x) f)
-
-  pub control_failed : (i n m o : ℕ) (ls : List FlowEdge) (x : FlowError) → IsFound s (edges_in frame cells) n m (Ok ls)
-      → IsFound s control m o (Err x) → IsNested i n o (Err x)
-  control_failed i n m o ls x f g =
-      failed_alone s (after_look brought control) all n o x (joined s brought control ls n m o (Err x) (moved n m (Ok ls) f) g)

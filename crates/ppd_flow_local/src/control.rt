@@ -3,7 +3,7 @@ ghost use Rattle.ppd_ast.specs.declared.plan.BlockKind.TheVariants as block;
 ghost use Rattle.ppd_ast.specs.Lookups.{kind_of};
 ghost use Rattle.ppd_flow_local.specs.Searches.{IsControlFound, IsFound, IsPlace, IsSearch, plan_in, program_in, seen};
 ghost use Rattle.std.specs.Option.{option_or};
-ghost use Rattle.ppd_flow_model.specs.Control.{call_or_entry as call_or_entry_of, control_above as control_above_of, control_in as control_in_of, last_test as last_test_among, leaf_call_at, test_of_run as test_of_run_by, test_round as test_round_by};
+ghost use Rattle.ppd_flow_model.specs.Control.{call_or_entry as call_or_entry_of, control_above as control_above_of, control_in as control_in_of, control_outside as control_outside_of, last_test as last_test_among, leaf_call_at, test_of_run as test_of_run_by, test_round as test_round_by};
 ghost use Rattle.ppd_flow_model.specs.Seen.{kind_at};
 
 use crate::search::{Place, Search};
@@ -118,6 +118,26 @@ impl<'a> Search<'a> {
         }
     }
 
+    /// The control parent of a statement in an interval before a place, or what began the interval.
+    fn control_outside<L: Ledger>(
+        &self,
+        place: &Place,
+        stmt: u32,
+        steps: &mut Steps<L>,
+    ) -> Result<Origin, FlowError>
+        requires past { IsSearch self.now }
+        requires place { IsPlace self.now place.now }
+        ensures { IsFound self.now
+            (control_outside_of (program_in self.now) (plan_in self.now) (seen self.now) self.now.process
+            place.now.interval place.now.item stmt)
+            steps.old steps.new result }
+    {
+        match self.control_in(place, stmt)? {
+            Some(origin) => Ok(origin),
+            None => self.call_or_entry(place.interval, steps),
+        }
+    }
+
     /// What let an interval of a loop run: the control parent of the loop in the interval round it.
     fn control_round<L: Ledger>(
         &self,
@@ -138,10 +158,7 @@ impl<'a> Search<'a> {
             items: items.as_slice(),
             item: self.place_of(outer, items.as_slice(), interval),
         };
-        match self.control_in(&place, stmt)? {
-            Some(origin) => Ok(origin),
-            None => self.call_or_entry(outer, steps),
-        }
+        self.control_outside(&place, stmt, steps)
     }
 
     /// What let an interval run.

@@ -1,10 +1,12 @@
 ghost use Rattle.std.specs.Prelude.{◌≡◌, ◌<◌, ◌-◌, ◌∷◌, ◌++◌, [], get_or, length, pos, ℕ};
+ghost use Rattle.std.specs.Result.{result_map_both};
 ghost use Rattle.ppd_ast.specs.declared.plan.BlockKind.TheVariants as blocks;
-ghost use Rattle.ppd_flow_local.specs.Searches.{IsFound, IsItemPlace, IsSearch, left_origin_at, plan_in, program_in, seen};
+ghost use Rattle.ppd_flow_local.specs.Searches.{IsFound, IsItemPlace, IsPlace, IsSearch, left_origin_at, plan_in, program_in, seen};
 ghost use Rattle.ppd_model.specs.declared.flow.EdgeKind.TheVariants as edge_kind;
 ghost use Rattle.ppd_model.specs.declared.flow.Origin.TheVariants as origin;
 ghost use Rattle.ppd_model.specs.FlowbackEdges.{bare_edge};
 ghost use Rattle.ppd_sem.specs.Blocks.{block_kind as kind_of_block};
+ghost use Rattle.ppd_flow_model.specs.Control.{control_origin as control_origin_of};
 ghost use Rattle.ppd_flow_model.specs.Own.{edges_of_nested, left_edges as left_edges_of, returned_edges as returned_edges_of};
 ghost use Rattle.ppd_flow_model.specs.Looked.{look_map};
 
@@ -78,6 +80,27 @@ impl<'a> Search<'a> {
         Ok(edges)
     }
 
+    /// Adds the edge from what let a statement at a place run.
+    fn push_control<L: Ledger>(
+        &self,
+        edges: &mut Seq<FlowEdge>,
+        place: &Place,
+        stmt: u32,
+        steps: &mut Steps<L>,
+    ) -> Result<(), FlowError>
+        requires past { IsSearch self.now }
+        requires place { IsPlace self.now place.now }
+        ensures { let control =
+            control_origin_of (program_in self.now) (plan_in self.now) (seen self.now) self.now.process
+            place.now.interval place.now.item stmt in
+            IsFound self.now (look_map (λ from. edges.old ++ bare_edge edge_kind.Control from ∷ []) control)
+            steps.old steps.new (result_map_both (λ done. edges.new) (λ error. error) result) }
+    {
+        let from = self.control_origin(place, stmt, steps)?;
+        edges.push(control_edge(from))?;
+        Ok(())
+    }
+
     /// The edges of a loop at a place: what it left, and what let it run.
     fn loop_edges<L: Ledger>(
         &self,
@@ -97,8 +120,7 @@ impl<'a> Search<'a> {
         let frame = self.frame_at(place)?;
         let cells = postlog_cells(self.past.plan, block);
         let mut edges = self.left_edges(place, frame, cells, values, steps)?;
-        let from = self.control_origin(place, stmt, steps)?;
-        edges.push(control_edge(from))?;
+        self.push_control(&mut edges, place, stmt, steps)?;
         Ok(edges)
     }
 

@@ -3,6 +3,7 @@ ghost use Rattle.ppd_flow_local.specs.Scans.{scanned as scan_by};
 ghost use Rattle.ppd_flow_local.specs.Searches.{IsFound, IsLocalFound, IsPlace, IsSearch, plan_in, program_in, seen, written_in};
 ghost use Rattle.ppd_flow_model.specs.Locals.{in_loops as in_loops_of, local_above as local_above_of, local_in as local_in_of, local_outside as local_outside_of, outer_frame as outer_frame_of, parameter as parameter_of, scan as scan_of, writer_at as writer_in};
 ghost use Rattle.ppd_flow_model.specs.Looked.{after_replay};
+ghost use Rattle.ppd_flow_model.specs.Own.{frame_at as frame_at_place};
 ghost use Rattle.ppd_flow_model.specs.Seen.{kind_at, outer_of as outer_at, outer_place as outer_place_of};
 
 use crate::scan::{LocalCell, Scan, has_cell};
@@ -65,6 +66,25 @@ impl<'a> Search<'a> {
         }
     }
 
+    /// The last write of a cell of an interval's own activation among all its items, if there is one.
+    fn written_among<L: Ledger>(
+        &self,
+        interval: u32,
+        items: &[Item],
+        cell: u16,
+        steps: &mut Steps<L>,
+    ) -> Result<Option<Origin>, FlowError>
+        requires past { IsSearch self.now }
+        requires items { items.now ≡ get_or (seen self.now).items interval [] }
+        ensures { let own = get_or (seen self.now).items interval [] in
+            let writer = (scan_of (program_in self.now) (plan_in self.now) 0 cell own).writer in
+            IsFound self.now (writer_in (seen self.now) self.now.process interval writer)
+            steps.old steps.new result }
+    {
+        let writer = self.last_writer(interval, items, cell)?;
+        self.writer_at(interval, writer, steps)
+    }
+
     /// The last write of a cell in a loop.
     fn in_loop<L: Ledger>(
         &self,
@@ -79,8 +99,7 @@ impl<'a> Search<'a> {
             steps.old steps.new result }
     {
         let items = self.items(interval, steps)?;
-        let writer = self.last_writer(interval, items.as_slice(), cell)?;
-        self.writer_at(interval, writer, steps)
+        self.written_among(interval, items.as_slice(), cell, steps)
     }
 
     /// The last write in the first of these loops, from the last, in which the cell is written.
@@ -197,6 +216,26 @@ impl<'a> Search<'a> {
         }
     }
 
+    /// The last write before a place of a cell of the frame of that place, or what the interval began with.
+    fn local_at<L: Ledger>(
+        &self,
+        place: &Place,
+        cell: u16,
+        steps: &mut Steps<L>,
+    ) -> Result<Origin, FlowError>
+        requires past { IsSearch self.now }
+        requires place { IsPlace self.now place.now }
+        ensures { let k = place.now.interval in
+            let frame = frame_at_place (program_in self.now) (plan_in self.now) (seen self.now) k place.now.item in
+            IsFound self.now
+            (local_outside_of (program_in self.now) (plan_in self.now) (seen self.now) self.now.process k
+            place.now.item frame cell)
+            steps.old steps.new result }
+    {
+        let frame = self.frame_at(place)?;
+        self.local_outside(place, LocalCell { frame, cell }, steps)
+    }
+
     /// What a local cell had when an interval of a loop began: the last write before it in the interval round it.
     fn local_round<L: Ledger>(
         &self,
@@ -221,8 +260,7 @@ impl<'a> Search<'a> {
             items: items.as_slice(),
             item: self.place_of(outer, items.as_slice(), interval),
         };
-        let frame = self.frame_at(&place)?;
-        self.local_outside(&place, LocalCell { frame, cell }, steps)
+        self.local_at(&place, cell, steps)
     }
 
     /// What a local cell had when an interval began.

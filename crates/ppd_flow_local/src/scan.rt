@@ -1,4 +1,4 @@
-ghost use Rattle.std.specs.Prelude.{◌≡◌, ◌+◌, ◌<◌, ◌^◌, ◌∷◌, ◌&&◌, nat_eq, reverse, IfOk, OnOk};
+ghost use Rattle.std.specs.Prelude.{◌≡◌, ◌+◌, ◌<◌, ◌^◌, ◌∷◌, ◌&&◌, fold, length, nat_eq, reverse, IfOk, OnOk};
 ghost use Rattle.std.specs.List.{list_any};
 ghost use Rattle.ppd_flow_local.specs.Scans.{scanned};
 ghost use Rattle.ppd_model.specs.NearIntervals.{is_in};
@@ -182,6 +182,20 @@ impl Scan {
         Ok(())
     }
 
+    /// These items, from the first on.
+    fn items(&mut self, code: &Code, wanted: LocalCell, items: &[Item]) -> Result<(), Memory>
+        requires few { length items.now < 2 ^ 32 }
+        requires begun { self.old.next ≡ 0 }
+        ensures { OnOk result (scanned self.new
+            ≡ fold (scan_item code.now.program.now code.now.plan.now wanted.frame wanted.cell) (scanned self.old)
+            items.now) }
+    {
+        for item in items {
+            self.item(code, wanted, item)?;
+        }
+        Ok(())
+    }
+
     /// These items, for a local cell. `Memory` is want of memory, also for items that have no 32-bit numbers.
     pub(crate) fn over(
         alloc: Global,
@@ -194,9 +208,7 @@ impl Scan {
     {
         let _fits = number(items.len())?;
         let mut state = Scan::new(alloc);
-        for item in items {
-            state.item(code, wanted, item)?;
-        }
+        state.items(code, wanted, items)?;
         Ok(state)
     }
 }

@@ -1,4 +1,4 @@
-ghost use Rattle.std.specs.Prelude.{◌≡◌, ◌≤◌, [], length, option_copied, take, IfOk, IfSome, get_or};
+ghost use Rattle.std.specs.Prelude.{◌≡◌, ◌≤◌, ◌-◌, ℕ, [], length, option_copied, take, IfOk, IfSome, get_or};
 ghost use Rattle.ppd_flow_local.specs.Searches.{IsFound, IsPlace, IsSearch, plan_in, program_in, seen};
 ghost use Rattle.ppd_model.specs.declared.flow.Origin.TheVariants as origin;
 ghost use Rattle.ppd_flow_model.specs.Locals.{leaf_at as leaf_among};
@@ -118,6 +118,16 @@ impl<'a> Search<'a> {
         }
     }
 
+    /// The item straight before a place of an interval, and its first before the first place. `Memory` is want of
+    /// memory, for an item that has no 32-bit number.
+    fn item_before(&self, interval: u32, place: usize) -> Result<Origin, FlowError>
+        ensures { (n : ℕ)
+            → IsFound self.now (known (origin.Item self.now.process interval (place - 1))) n n result }
+    {
+        let item = number(place.saturating_sub(1))?;
+        Ok(self.origin(interval, item))
+    }
+
     /// The items of an interval, kept or by its replay.
     pub fn items<L: Ledger>(
         &self,
@@ -142,8 +152,7 @@ impl<'a> Search<'a> {
             steps.old steps.new result }
     {
         let items = self.items(interval, steps)?;
-        let item = number(items.as_slice().len().saturating_sub(1))?;
-        Ok(self.origin(interval, item))
+        self.item_before(interval, items.as_slice().len())
     }
 
     /// The call that began an interval of a function: it stands straight before the interval.
@@ -159,7 +168,6 @@ impl<'a> Search<'a> {
         let outer = self.outer(interval);
         let items = self.items(outer, steps)?;
         let place = self.place_of(outer, items.as_slice(), interval);
-        let item = number(place.saturating_sub(1))?;
-        Ok(self.origin(outer, item))
+        self.item_before(outer, place)
     }
 }

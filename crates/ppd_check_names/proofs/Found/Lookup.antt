@@ -28,8 +28,12 @@ module _ {A : Type 0} where
   found_lookup [] x = refl
   found_lookup (e ∷ es) x = ap (λ o. cond (is_key x e.0) (Some e.1) o) (found_lookup es x)
 
-  pub found_get : {S : Type 0} (m : IndexMap (Vec ℕ A) Meaning S) (x : List ℕ) → looked_up (scope_of m) x ≡ get_by (is_key x) m
+  found_get : {S : Type 0} (m : IndexMap (Vec ℕ A) Meaning S) (x : List ℕ) → looked_up (scope_of m) x ≡ get_by (is_key x) m
   found_get m x = found_lookup m.entries x
+
+  -- what a map answers is what its scope says
+  pub found_told : {S : Type 0} (m : IndexMap (Vec ℕ A) Meaning S) (x : List ℕ) (o p : Option Meaning) → p ≡ o → o ≡ get_by (is_key x) m → p ≡ looked_up (scope_of m) x
+  found_told m x o p e value = e ∙ value ∙ sym (found_get m x)
 
   -- the last of the first n maps decides, or else the maps before it
   pub meaning_at : {S : Type 0} (ms : List (IndexMap (Vec ℕ A) Meaning S)) (x : List ℕ) (n : ℕ) (m : IndexMap (Vec ℕ A) Meaning S) (o : Option Meaning) → 0 < n → n ≤ length ms

@@ -1,15 +1,13 @@
-use Rattle.std.proofs.Common.{◌≡◌, ◌≢◌, ◌≤◌, length, Ok, Err, arith, subst, sym, rules}
+use Rattle.std.proofs.Common.{◌≢◌, ◌≤◌, length, arith, subst, sym, rules}
 use Rattle.ppd_ast.specs.declared.limits.TheConstants.{MOST_RECORDING_BYTES}
 use Rattle.ppd_ast.specs.Valid.{IsValid}
 use Rattle.ppd_codec.specs.declared.bad.BadBytes.{BadBytes}
 use Rattle.ppd_codec.specs.declared.bad.BadBytes.TheVariants as bad
-use Rattle.ppd_codec.specs.declared.bad.Field.TheVariants as F
-use Rattle.ppd_codec.specs.declared.facts.Facts.{Facts}
 use Rattle.ppd_codec.specs.declared.recording.Recording.{Recording}
 use Rattle.ppd_codec.specs.Came.{Came}
-use Rattle.ppd_codec.specs.Format.{front, logs}
-use Rattle.ppd_codec.specs.Recordings.{IsBad, IsDecoded, IsMade, facts_of, front_of, nothing_left}
-use Rattle.ppd_codec.proofs.Answered.{are_bytes, bad_logs, bad_version, bad_front, bad_long, bad_source, handed_on, is_refused, lawful_again, made_decoded, other_version, past_front, same_version}
+use Rattle.ppd_codec.specs.Format.{front}
+use Rattle.ppd_codec.specs.Recordings.{IsBad, IsDecoded, IsMade, front_of}
+use Rattle.ppd_codec.proofs.Answered.{are_bytes, bad_front, bad_last, bad_long, bad_source, handed_on, is_refused, lawful_again, made_decoded, past_front}
 use Rattle.ppd_codec.proofs.Coming.{from_start}
 use Rattle.ppd_codec.proofs.Mapped.{map_err, map_ok}
 use Rattle.ppd_codec.proofs.decoding.decode_in.Goals as goal
@@ -36,46 +34,27 @@ returns-in-Err-clause-decoding g c =
     (bad_source c.args.bytes.now h c.front.new.self.at c.front.new.self.rest.now short came c.in-Err.error c.in-Err.ensures.refused))
     (λ m. past_front c.args.bytes.now h c.front.new.self.at c.front.new.self.rest.now short came)
 
-pub returns-then-front-facts-clause-decoding : goal.returns-then-front-facts-clause-decoding
-returns-then-front-facts-clause-decoding g c =
+pub returns-in-Err-last_of-clause-decoding : goal.returns-in-Err-last_of-clause-decoding
+returns-in-Err-last_of-clause-decoding g c =
     let short : length c.args.bytes.now ≤ MOST_RECORDING_BYTES = omega (arith, c.if-bytes-gt-MOST_RECORDING_BYTES.false) in
     let f = c.in_ok-front.front in
     let h = front_of f.version f.header f.source.now in
-    let p = c.in-Ok.program in
     let came : Came front.read 0 c.args.bytes.now c.front.new.self.at c.front.new.self.rest.now h = from_start front.read _ c.new-cursor.result.at c.new-cursor.result.rest.now c.args.bytes.now c.new-cursor.ensures.at c.new-cursor.ensures.rest c.in_ok-front.ensures.ok in
-    is_refused c.args.bytes.now (bad.Range 4 F.Version)
-    (λ m. bad_version c.args.bytes.now h c.front.new.self.at c.front.new.self.rest.now short came p c.in-Ok.ensures.read (other_version f.version c.facts_of-facts.result (facts_of p) c.facts_of-facts.ensures (omega (arith, c.if-front-facts.true))))
-    (λ m. absurd (cc))
-
-pub returns-in_err-lists-clause-decoding : goal.returns-in_err-lists-clause-decoding
-returns-in_err-lists-clause-decoding g c =
-    let short : length c.args.bytes.now ≤ MOST_RECORDING_BYTES = omega (arith, c.if-bytes-gt-MOST_RECORDING_BYTES.false) in
-    let f = c.in_ok-front.front in
-    let h = front_of f.version f.header f.source.now in
-    let p = c.in-Ok.program in
-    let facts : c.facts_of-facts.result ≡ facts_of p = c.facts_of-facts.ensures in
-    let came : Came front.read 0 c.args.bytes.now c.front.new.self.at c.front.new.self.rest.now h = from_start front.read _ c.new-cursor.result.at c.new-cursor.result.rest.now c.args.bytes.now c.new-cursor.ensures.at c.new-cursor.ensures.rest c.in_ok-front.ensures.ok in
-    let e = c.in_err-lists.field-0.0 in
-    handed_on c.args.bytes.now c.from_residual-in_err-lists.result e c.from_residual-in_err-lists.ensures.1
-    (is_refused c.args.bytes.now e
-    (λ m. bad_logs c.args.bytes.now h c.front.new.self.at c.front.new.self.rest.now short came p e c.in-Ok.ensures.read
-    (same_version f.version c.facts_of-facts.result (facts_of p) facts (omega (arith, c.if-front-facts.false)))
-    (subst (λ (x : Facts). nothing_left ((logs x).read c.front.new.self.at c.front.new.self.rest.now) ≡ Err e) facts (c.in_err-lists.ensures.err m)))
-    (λ m. past_front c.args.bytes.now h c.front.new.self.at c.front.new.self.rest.now short came))
+    let e = c.in-Err-last_of.error in
+    is_refused c.args.bytes.now e
+    (λ m. bad_last c.args.bytes.now h c.front.new.self.at c.front.new.self.rest.now short came c.in-Ok.program e c.in-Ok.ensures.read (c.in-Err-last_of.ensures.err m))
+    (λ m. past_front c.args.bytes.now h c.front.new.self.at c.front.new.self.rest.now short came)
 
 pub returns-clause-decoding : goal.returns-clause-decoding
 returns-clause-decoding g c =
     let short : length c.args.bytes.now ≤ MOST_RECORDING_BYTES = omega (arith, c.if-bytes-gt-MOST_RECORDING_BYTES.false) in
     let f = c.in_ok-front.front in
     let p = c.in-Ok.program in
-    let facts : c.facts_of-facts.result ≡ facts_of p = c.facts_of-facts.ensures in
     let b = are_bytes c.args.bytes.now (λ k l. first_of (omega (arith, c.type_inv.bytes k), search rules)) in
     let came : Came front.read 0 c.args.bytes.now c.front.new.self.at c.front.new.self.rest.now (front_of f.version f.header f.source.now) = from_start front.read _ c.new-cursor.result.at c.new-cursor.result.rest.now c.args.bytes.now c.new-cursor.ensures.at c.new-cursor.ensures.rest c.in_ok-front.ensures.ok in
-    let last : nothing_left ((logs (facts_of p)).read c.front.new.self.at c.front.new.self.rest.now) ≡ Ok c.in_ok-lists.lists =
-    subst (λ (x : Facts). nothing_left ((logs x).read c.front.new.self.at c.front.new.self.rest.now) ≡ Ok c.in_ok-lists.lists) facts c.in_ok-lists.ensures.ok in
-    let one = same_version f.version c.facts_of-facts.result (facts_of p) facts (omega (arith, c.if-front-facts.false)) in
-    let decoded : (r : Recording) → IsMade f.header f.source.now p c.in_ok-lists.lists r → IsDecoded c.args.bytes.now r =
-    λ r made. made_decoded c.args.bytes.now f.version f.header f.source.now c.front.new.self.at c.front.new.self.rest.now p c.in_ok-lists.lists r short b came c.in-Ok.ensures.read one last made in
+    let last = c.in-Ok-last_of.ensures.ok in
+    let decoded : (r : Recording) → IsMade f.header f.source.now p c.in-Ok-last_of.lists r → IsDecoded c.args.bytes.now r =
+    λ r made. made_decoded c.args.bytes.now f.version f.header f.source.now c.front.new.self.at c.front.new.self.rest.now p c.in-Ok-last_of.lists r short b came c.in-Ok.ensures.read last.0 last.1 made in
     record {
       ok = map_ok c.made.result decoded c.made.ensures.ok;
       again = map_ok c.made.result (λ r made. lawful_again c.args.bytes.now r (decoded r made)) c.made.ensures.ok;

@@ -1,10 +1,14 @@
 use Rattle.std.proofs.lemmas.Result.{err_from_is_err_and}
-use Rattle.ppd_flow_local.proofs.Joined.{else_origin, origin_failed}
+use Rattle.ppd_flow_local.proofs.Joined.{else_origin, origin_failed, some_origin}
 use Rattle.ppd_flow_local.proofs.search.Search.local_outside.Goals as goal
 
 pub returns-in-None : goal.returns-in-None
 returns-in-None g c =
     else_origin c.args.self.now _ _ c.args.steps.now c.local_in.new.steps c.parameter.new.steps c.parameter.result (rw c.in-None.is at c.in_ok-origin.ensures) c.parameter.ensures
+
+pub returns-in-Some : goal.returns-in-Some
+returns-in-Some g c =
+    some_origin c.args.self.now _ _ c.in-Some.origin c.args.steps.now c.local_in.new.steps (rw c.in-Some.is at c.in_ok-origin.ensures)
 
 pub returns-in_err-origin : goal.returns-in_err-origin
 returns-in_err-origin g c =

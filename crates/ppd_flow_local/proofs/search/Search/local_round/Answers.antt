@@ -7,4 +7,4 @@ pub returns : goal.returns
 returns g c =
     local_from c.args.self.now c.args.interval c.outer-outer.result c.place_of.result c.in_ok-items.items c.args.steps.now c.items.new.steps c.outer-outer.ensures
     (c.place_of.ensures.place ∙ ap (place_of c.args.interval) c.as_slice-2.ensures) c.in_ok-items.ensures
-    c.in_ok-frame.frame c.args.cell c.local_outside.new.steps c.local_outside.result c.in_ok-frame.ensures c.local_outside.ensures
+    c.args.cell c.local_at.new.steps c.local_at.result c.local_at.ensures

@@ -1,7 +1,7 @@
 use Rattle.std.proofs.Common.{◌≡◌, take, ◌≤◌, ◌+◌, ◌*◌}
 use Rattle.ppd_check_bodies.specs.Sources.{vars}
 use Rattle.ppd_check_names.proofs.Declared.Counted.{end_cells}
-use Rattle.ppd_check_bodies.proofs.bodies.vars_of.Given as goal
+use Rattle.ppd_check_bodies.proofs.bodies.write_vars.Given as goal
 
 -- the variables before, and the first cell after them
 abbrev pub invariant-loop-variable : goal.invariant-loop-variable
