@@ -265,11 +265,13 @@ def prove(below, copies):
         ready = [crate for crate in waiting if proved.issuperset(below[crate])]
         spare = len(copies) - sum(each.jobs for each in checks)
         if ready and spare > 0:
-            # where all others wait for one, it gets all that is free; a large one gets more than that, since its
-            # jobs cannot become more later
+            # where all others wait for one, it gets all that is free; a large one gets more than one, and so does one
+            # whose chain is longer than its share of all that is left, since jobs cannot become more later
             waiting.remove(ready[0])
-            least = 1 + functions_in(ready[0]) // 80
-            jobs = max(spare // len(ready), min(least, spare + 1))
+            left = sum(seconds[crate] for crate in below if crate not in proved)
+            share = weights[ready[0]] * len(copies) / left
+            least = max(1 + functions_in(ready[0]) // 80, 2 + int((share - 1.3) / 0.5) if share > 1.3 else 1)
+            jobs = max(spare // len(ready), min(least, spare))
             checks.append(Check(ready[0], free.pop(0), jobs, seconds[ready[0]]))
             continue
         time.sleep(0.2)
