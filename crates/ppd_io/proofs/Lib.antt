@@ -1,3 +1,2 @@
-pub mod EntryPlaces
 pub mod Lining
 pub mod Prefixes

@@ -1,6 +1,5 @@
--- Counts of faults, what readers, writers and shelves hold, and what the forms in memory do.
+-- Counts of faults, what readers, writers and shelves hold, and what the steady source gives.
 pub mod Causes
 pub mod Content
-pub mod Entries
-pub mod Forms
+pub mod Feeds
 pub mod Lines

@@ -1,15 +1,12 @@
-//! Bytes in and out: where they are read, written and kept by name, with counts of faults,
-//! over the system, over memory, and over memory with faults at chosen calls; and the lines of a source.
+//! Bytes in and out: where they are read, written and kept by name, with counts of faults, over the system; a source of
+//! bytes in memory; and the lines of a source.
 #![tactic(auto)]
 
 mod adapters;
 mod bytes;
-mod calls;
-mod entries;
 mod gate;
 mod host;
 mod lines;
-mod memory;
 mod put;
 mod shelf;
 mod sink;
@@ -21,9 +18,8 @@ pub use bytes::CHUNK_BYTES;
 pub use gate::{FreeGate, Gate};
 pub use host::HostShelf;
 pub use lines::{LineError, LineReader};
-pub use memory::{MemoryShelf, MemorySink, MemorySource};
 pub use put::put_all;
 pub use shelf::{Shelf, ShelfError};
 pub use sink::{Failed, Sink};
 pub use source::Source;
-pub use steady::{SteadyShelf, SteadySink, SteadySource};
+pub use steady::SteadySource;

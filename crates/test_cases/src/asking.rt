@@ -13,15 +13,14 @@ use crate::traces::traced;
 use crate::trees::{told_nodes, told_tree};
 use ppd_ast::Policy;
 use ppd_ast::limits::{MOST_BUDGET, MOST_POLICY};
-use ppd_io::{
-    CHUNK_BYTES, FreeGate, MemoryShelf, MemorySink, MemorySource, Shelf, StdSink, StdSource,
-};
+use ppd_io::{CHUNK_BYTES, FreeGate, Shelf, StdSink, StdSource};
 use ppd_top::{Options, Outcome, ppd};
 use ppd_top_following::follow;
 use std::alloc::Global;
 use std::sync::Wait;
 use std::sync::atomic::AtomicU64;
 use std::thread::Threads;
+use test_devices::{MemoryShelf, MemorySink, MemorySource};
 
 /// The room of an output where a case says none, in bytes.
 const ROOM: u32 = 1_048_576;

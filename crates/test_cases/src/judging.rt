@@ -4,10 +4,10 @@ use crate::asking::{Answer, answer_of, held, shelf_of};
 use crate::content::{block, number};
 use crate::fault::Fault;
 use crate::said::{Part, number_said, said, schedule_of, stray_line};
-use ppd_io::MemoryShelf;
 use std::alloc::Global;
 use std::sync::Wait;
 use std::thread::Threads;
+use test_devices::MemoryShelf;
 
 /// How many cases there were, and how many of them were as they say.
 #[derive(Clone, Copy)]

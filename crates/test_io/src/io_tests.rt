@@ -1,10 +1,11 @@
 use ppd_io::{
-    Failed, FreeGate, Gate, HostShelf, MemoryShelf, MemorySink, MemorySource, Shelf, ShelfError,
-    Sink, Source, StdSink, StdSource, SteadyShelf, SteadySink, SteadySource, put_all,
+    Failed, FreeGate, Gate, HostShelf, Shelf, ShelfError, Sink, Source, StdSink, StdSource,
+    SteadySource, put_all,
 };
 use std::alloc::Global;
 use std::io::{Read, Write};
 use std::{fs, io};
+use test_devices::{MemoryShelf, MemorySink, MemorySource, SteadyShelf, SteadySink};
 
 /// What a device takes of each piece.
 #[derive(Clone, Copy)]

@@ -4,7 +4,7 @@ use Rattle.std.specs.Str.{bytes_eq}
 use Rattle.std.proofs.Common.{◌≡◌, ◌≢◌, ℕ, suc, ◌+◌, ◌<◌, ◌≤◌, List, [], ◌∷◌, ◌++◌, length, drop, get_or, set, map, arith, refl, ap, sym, subst, ◌∙◌, add-one, drop-cons}
 use Rattle.std.proofs.lemmas.List.{drop_all, get_or-map, length-map, map-append, map-set}
 use Rattle.std.proofs.lemmas.Slice.Eq.{bytes_eq-Decides}
-use Rattle.ppd_io.specs.Entries.{find_entry, put_entry, place_of}
+use Rattle.test_devices.specs.Entries.{find_entry, put_entry, place_of}
 
 -- a walk over the entries, by what each one shows
 module _ (X : Type 0) (f : X → List ℕ × List ℕ) (name : List ℕ) where

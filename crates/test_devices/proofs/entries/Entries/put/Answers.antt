@@ -1,7 +1,7 @@
 use Rattle.std.proofs.Common.{◌≡◌, map, arith, ap, ◌∙◌}
 use Rattle.std.specs.String.{string_bytes}
-use Rattle.ppd_io.proofs.EntryPlaces.{put_shown, put_new}
-use Rattle.ppd_io.proofs.entries.Entries.put.Goals as goal
+use Rattle.test_devices.proofs.EntryPlaces.{put_shown, put_new}
+use Rattle.test_devices.proofs.entries.Entries.put.Goals as goal
 
 pub returns-then-place-len-clause-ok : goal.returns-then-place-len-clause-ok
 returns-then-place-len-clause-ok c =

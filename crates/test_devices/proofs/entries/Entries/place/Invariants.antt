@@ -1,7 +1,7 @@
 use Rattle.std.proofs.Common.{◌≡◌, ◌+◌, map, drop}
 use Rattle.std.specs.String.{string_bytes}
-use Rattle.ppd_io.specs.Entries.{place_of}
-use Rattle.ppd_io.proofs.entries.Entries.place.Given as goal
+use Rattle.test_devices.specs.Entries.{place_of}
+use Rattle.test_devices.proofs.entries.Entries.place.Given as goal
 
 abbrev pub invariant-loop-place : goal.invariant-loop-place
 invariant-loop-place l =

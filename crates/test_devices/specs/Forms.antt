@@ -1,7 +1,8 @@
--- What the steady forms and the forms in memory are to a caller, and what their calls do.
-use Rattle.std.specs.Prelude.{◌==◌, ◌&&◌, ◌||◌, ◌+◌, ◌-◌, ◌^◌, ℕ, Bool, false, true, not, is_none, nat_le, List, ◌++◌, length, take, drop, min, Option, None, Some, if◌then◌else◌}
+-- What the steady sink and the devices in memory are to a caller, and what their calls do.
+use Rattle.std.specs.Prelude.{◌==◌, ◌&&◌, ◌||◌, ◌+◌, ◌-◌, ◌^◌, ℕ, Bool, false, true, not, is_none, nat_le, List, ◌++◌, length, take, min, Option, None, Some, if◌then◌else◌}
 use Rattle.std.specs.List.{list_any}
-use Rattle.ppd_io.specs.Entries.{find_entry, put_entry}
+use Rattle.ppd_io.specs.Feeds.{Feed, after_read, after_vain_read}
+use Rattle.test_devices.specs.Entries.{find_entry, put_entry}
 
 -- a count after one more, up to the end of its type
 abbrev pub one_more : ℕ → ℕ
@@ -17,28 +18,6 @@ fails_next c = list_any (λ n. n == c.next) c.fails
 
 abbrev pub after_call : Calls → Calls
 after_call c = record { fails = c.fails; next = one_more c.next }
-
--- the bytes that are left to read, those that were left when the last read began (all, before any), and how many a call
--- gives at most
-pub record Feed : Type 0 where
-  pub left : List ℕ
-  pub before : List ℕ
-  pub chunk : ℕ
-
--- none of whose bytes was read
-abbrev pub new_feed : List ℕ → ℕ → Feed
-new_feed bytes chunk = record { left = bytes; before = bytes; chunk = chunk }
-
--- how many bytes a read into this much room takes
-abbrev pub read_size : Feed → ℕ → ℕ
-read_size f room = min (min room f.chunk) (length f.left)
-
-abbrev pub after_read : Feed → ℕ → Feed
-after_read f room = record { left = drop (read_size f room) f.left; before = f.left; chunk = f.chunk }
-
--- a read began, and gave nothing
-abbrev pub after_vain_read : Feed → Feed
-after_vain_read f = record { left = f.left; before = f.left; chunk = f.chunk }
 
 -- a feed whose listed calls fail, with the count of failures
 pub record FaultyFeed : Type 0 where

@@ -1,16 +1,15 @@
 ghost use Rattle.std.specs.Prelude.{◌≡◌, ◌↔◌, ℕ, List, [], Some, ◌<◌, ◌≤◌, length, vec_len, is_ok, is_err, IfOk, OnOk, OnErr, IsErrOf, IsTrue};
 ghost use Rattle.ppd_io.specs.Causes.{HasCause, Rose};
 ghost use Rattle.ppd_io.specs.Content.{Reads, Writes, Loads, Stores, StoreFails};
-ghost use Rattle.ppd_io.specs.Entries.{find_entry, put_entry};
-ghost use Rattle.ppd_io.specs.Forms.{fails_next, new_feed, read_size, after_faulty_read, fails_write, write_size, after_faulty_write, fails_load, after_load, after_store};
+ghost use Rattle.test_devices.specs.Entries.{find_entry, put_entry};
+ghost use Rattle.ppd_io.specs.Feeds.{new_feed, read_size};
+ghost use Rattle.test_devices.specs.Forms.{fails_next, after_faulty_read, fails_write, write_size, after_faulty_write, fails_load, after_load, after_store};
 
 use crate::calls::ListedCalls;
 use crate::entries::Entries;
-use crate::shelf::{Shelf, ShelfError};
-use crate::sink::{Failed, Sink};
-use crate::source::Source;
-use crate::steady::{SteadySource, copy_of_first};
+use crate::steady::copy_of_first;
 use ppd_ast::Memory;
+use ppd_io::{Failed, Shelf, ShelfError, Sink, Source, SteadySource};
 use std::alloc::Global;
 use std::marker::Model;
 
@@ -23,7 +22,7 @@ pub struct MemorySource {
 }
 
 impl Model for MemorySource {
-    ghost use Rattle.ppd_io.specs.Forms.{FaultyFeed};
+    ghost use Rattle.test_devices.specs.Forms.{FaultyFeed};
 
     ghost Value = { FaultyFeed };
 
@@ -84,7 +83,7 @@ pub struct MemorySink {
 
 impl Model for MemorySink {
     ghost use Rattle.std.specs.Prelude.{◌≤◌, vec_len, vec_capacity};
-    ghost use Rattle.ppd_io.specs.Forms.{FaultyTank};
+    ghost use Rattle.test_devices.specs.Forms.{FaultyTank};
 
     ghost Value = { FaultyTank };
 
@@ -160,7 +159,7 @@ pub struct MemoryShelf {
 }
 
 impl Model for MemoryShelf {
-    ghost use Rattle.ppd_io.specs.Forms.{FaultyShelf};
+    ghost use Rattle.test_devices.specs.Forms.{FaultyShelf};
 
     ghost Value = { FaultyShelf };
 
@@ -193,7 +192,7 @@ impl MemoryShelf {
 
 impl Shelf for MemoryShelf {
     ghost use Rattle.std.specs.Prelude.{Some};
-    ghost use Rattle.ppd_io.specs.Entries.{find_entry};
+    ghost use Rattle.test_devices.specs.Entries.{find_entry};
 
     ghost held = { λ s. Some (find_entry s.entries) };
 

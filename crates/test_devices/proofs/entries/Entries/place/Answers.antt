@@ -2,9 +2,9 @@ use Rattle.std.proofs.Common.{◌≡◌, map, arith}
 use Rattle.std.specs.Prelude.{true, false}
 use Rattle.std.specs.Str.{bytes_eq}
 use Rattle.std.specs.String.{string_bytes}
-use Rattle.ppd_io.specs.Entries.{place_of}
-use Rattle.ppd_io.proofs.EntryPlaces.{place_found, place_passes, place_end}
-use Rattle.ppd_io.proofs.entries.Entries.place.Goals as goal
+use Rattle.test_devices.specs.Entries.{place_of}
+use Rattle.test_devices.proofs.EntryPlaces.{place_found, place_passes, place_end}
+use Rattle.test_devices.proofs.entries.Entries.place.Goals as goal
 
 pub returns-then-eq : goal.returns-then-eq
 returns-then-eq c =

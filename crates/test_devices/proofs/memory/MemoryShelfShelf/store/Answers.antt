@@ -1,7 +1,7 @@
 use Rattle.std.proofs.Common.{ap, ◌∙◌}
-use Rattle.ppd_io.specs.Entries.{find_entry}
-use Rattle.ppd_io.proofs.EntryPlaces.{find-put_same, find-put_other}
-use Rattle.ppd_io.proofs.memory.MemoryShelfShelf.store.Goals as goal
+use Rattle.test_devices.specs.Entries.{find_entry}
+use Rattle.test_devices.proofs.EntryPlaces.{find-put_same, find-put_other}
+use Rattle.test_devices.proofs.memory.MemoryShelfShelf.store.Goals as goal
 
 pub returns-clause-bytes : goal.returns-clause-bytes
 returns-clause-bytes c =

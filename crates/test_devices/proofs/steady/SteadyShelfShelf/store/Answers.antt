@@ -1,8 +1,8 @@
 use Rattle.std.specs.Prelude.{unwrap_or}
 use Rattle.std.proofs.Common.{ap, [], Some, ◌∙◌}
-use Rattle.ppd_io.specs.Entries.{find_entry}
-use Rattle.ppd_io.proofs.EntryPlaces.{find-put_same, find-put_other}
-use Rattle.ppd_io.proofs.steady.SteadyShelfShelf.store.Goals as goal
+use Rattle.test_devices.specs.Entries.{find_entry}
+use Rattle.test_devices.proofs.EntryPlaces.{find-put_same, find-put_other}
+use Rattle.test_devices.proofs.steady.SteadyShelfShelf.store.Goals as goal
 
 pub returns-clause-bytes : goal.returns-clause-bytes
 returns-clause-bytes c =

@@ -1,5 +1,5 @@
 ghost use Rattle.std.specs.Prelude.{◌≡◌};
-ghost use Rattle.ppd_io.specs.Forms.{fails_next, after_call};
+ghost use Rattle.test_devices.specs.Forms.{fails_next, after_call};
 
 use std::marker::Model;
 
@@ -11,7 +11,7 @@ pub struct ListedCalls {
 }
 
 impl Model for ListedCalls {
-    ghost use Rattle.ppd_io.specs.Forms.{Calls};
+    ghost use Rattle.test_devices.specs.Forms.{Calls};
 
     ghost Value = { Calls };
 

@@ -1,7 +1,7 @@
 use Rattle.std.proofs.Common.{Some, arith, ap, sym, ◌∙◌}
 use Rattle.std.specs.String.{string_bytes}
-use Rattle.ppd_io.proofs.EntryPlaces.{find_shown, find_missing}
-use Rattle.ppd_io.proofs.entries.Entries.find.Goals as goal
+use Rattle.test_devices.proofs.EntryPlaces.{find_shown, find_missing}
+use Rattle.test_devices.proofs.entries.Entries.find.Goals as goal
 
 pub returns-then-place-len : goal.returns-then-place-len
 returns-then-place-len c =

@@ -1,6 +1,6 @@
 ghost use Rattle.std.specs.Prelude.{◌≡◌, [], OnOk, OnErr};
 ghost use Rattle.std.specs.Option.{option_copied};
-ghost use Rattle.ppd_io.specs.Entries.{find_entry, put_entry, place_of};
+ghost use Rattle.test_devices.specs.Entries.{find_entry, put_entry, place_of};
 
 use ppd_ast::Memory;
 use std::alloc::Global;

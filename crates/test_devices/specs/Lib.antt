@@ -1,0 +1,3 @@
+-- What the devices in memory hold, and what their calls do.
+pub mod Entries
+pub mod Forms
