@@ -64,7 +64,8 @@ lies entries x (nested m) = record { edge = left_edge entries m; ends = false }
 abbrev pub is_clean : Program → Story → ℕ → Lies → Bool
 is_clean program s p l =
     not (any_raced (λ a. is_past program (record_of s) (edge p l.edge) a
-    || (l.ends && is_before program (record_of s) (node a.process a.edge) (node p l.edge))) (races_among (edges_of_story program s)))
+    || (l.ends && is_before program (record_of s) (node a.process a.edge) (node p l.edge)))
+    (races_among (edges_of_story program s)))
 
 -- ---- where there is no clean item
 

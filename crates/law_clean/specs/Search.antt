@@ -80,7 +80,8 @@ module _ (setting : Setting) (logs : Logs) (rec : List (List Sync)) (races : Lis
   by_item o xs None =
       if is_reached (left_edge (get_or logs.lists p []) k) o then unclean_or p o no_item else no_item
   by_item o xs (Some t) =
-      if is_unclean xs o t then unclean_or p o no_item else with_edges t (found_edges setting.program setting.plan logs xs p k j).found
+      if is_unclean xs o t then unclean_or p o no_item
+      else with_edges t (found_edges setting.program setting.plan logs xs p k j).found
 
   abbrev pub by_first : Option ℕ → CleanOr
   by_first o = by_item o (seens o) (slice_get (get_or (seen_at (seens o) p).items k []) j)

@@ -1,5 +1,5 @@
--- A write that is missing: an entry that ends an internal edge has the cell in its write set, and no event of that edge,
--- as replays give them, writes the cell.
+-- A write that is missing: an entry that ends an internal edge has the cell in its write set, and no event of that
+-- edge, as replays give them, writes the cell.
 use Rattle.ppd_ast.specs.Members.{has}
 use Rattle.ppd_ast.specs.declared.plan.Plan.{Plan}
 use Rattle.ppd_ast.specs.declared.program.Program.{Program}

@@ -78,8 +78,8 @@ pub record HasItsEdges (r : Run) (h : List ℕ) (x : Known) (p n : ℕ) (e : Tra
   pub place : ref (splits_in r h) (record { process = p; number = n }) ≡ origin.Item p interval item
   pub edges : flow_at x p interval item ≡ Ok (edges_of_event r.program (splits_in r h) e)
 
--- no line is left without an answer; each event of the full trace, and each item, has all its edges; and the answer to a
--- line that asks for those of an item is the item with every one of them
+-- no line is left without an answer; each event of the full trace, and each item, has all its edges; and the answer to
+-- a line that asks for those of an item is the item with every one of them
 pub record MissesNoEdge (r : Run) (h : List ℕ) (x : Known) : Type 0 where
   pub lines : (line : List ℕ) → failure_of x line ≡ None
   pub events : (p n : ℕ) (e : TracedEvent)

@@ -18,8 +18,8 @@ pub record AreUnordered (program : Program) (syncs : List (List Sync)) (a b : Ed
   pub not_before : EdgeBefore program syncs a b → ⊥
   pub not_after : EdgeBefore program syncs b a → ⊥
 
--- edges i of process p and j of process q, of which p has the smaller number, have accesses of one cell, of which by the
--- kind at least one is a write, and are left unordered by the record
+-- edges i of process p and j of process q, of which p has the smaller number, have accesses of one cell, of which by
+-- the kind at least one is a write, and are left unordered by the record
 pub record IsUnorderedConflict (program : Program) (s : Story) (r : Race) : Type 0 where
   pub two_processes : r.p < r.q
   pub first : HasAccess s r.p r.i r.cell (first_writes r.kind)

@@ -80,11 +80,13 @@ abbrev pub LacksNothing : (SyncKind → ℕ → Type 0) → Type 0
 LacksNothing Lacks = (kind : SyncKind) (n : ℕ) → Lacks kind n → ⊥
 
 -- the first object that lacks something, semaphores before channels, lacks this
-pub data IsMissing (program : Program) (numbered : SyncKind → ℕ → Numbered) : SyncKind → (object number : ℕ) → Type 0 where
+pub data IsMissing (program : Program)
+    (numbered : SyncKind → ℕ → Numbered) : SyncKind → (object number : ℕ) → Type 0 where
   of_semaphore : (kind : SyncKind) (o n : ℕ) → o < length program.sems
       → ((m : ℕ) → m < o → LacksNothing (Semaphore program numbered m)) → Semaphore program numbered o kind n
       → IsMissing program numbered kind o n
-  of_channel : (kind : SyncKind) (o n : ℕ) → ((m : ℕ) → m < length program.sems → LacksNothing (Semaphore program numbered m))
+  of_channel : (kind : SyncKind) (o n : ℕ)
+      → ((m : ℕ) → m < length program.sems → LacksNothing (Semaphore program numbered m))
       → o < length program.chans → ((m : ℕ) → m < o → LacksNothing (Channel program numbered m))
       → Channel program numbered o kind n → IsMissing program numbered kind o n
 

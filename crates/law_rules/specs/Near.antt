@@ -19,7 +19,8 @@ pub data IsNear (setting : Setting) (story : Story) (p k j q : ℕ) (x : Split) 
   -- it is the item's own interval, or one round it
   is_round : p ≡ q → Any (λ n. m ≡ n) (surroundings x k) → IsNear setting story p k j q x m i
   -- it is a loop's, directly inside one of these
-  is_loop_inside : (n : ℕ) (round : List ℕ) → p ≡ q → is_loop (block_kind setting.plan i.block) ≡ true → i.round ≡ n ∷ round
+  is_loop_inside : (n : ℕ) (round : List ℕ) → p ≡ q → is_loop (block_kind setting.plan i.block) ≡ true
+      → i.round ≡ n ∷ round
       → Any (λ o. n ≡ o) (surroundings x k) → IsNear setting story p k j q x m i
   -- it is open in the internal edge of the event that the item is
   is_open_there : p ≡ q → IsTrue (is_open_at x (part_at x k j) i) → IsNear setting story p k j q x m i

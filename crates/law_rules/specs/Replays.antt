@@ -88,7 +88,8 @@ pub data Turns (program : Program) (plan : Plan) (r : Replaying) (need : Need) :
   -- another step that needs no piece is an event; a write is in force from here on, and a unit may start
   needs_none : (t : Turn) → EndsLater r → ((c : ℕ) → need ≢ Read c) → need ≢ Stopped → need ≢ Budget
       → Needs program plan r need None
-      → Starts plan (stepped program plan Go (with_write need (with_event program plan Go None r))) (unit_started need) t
+      → Starts plan (stepped program plan Go (with_write need (with_event program plan Go None r)))
+      (unit_started need) t
       → Turns program plan r need t
   -- the next piece is not the one that is needed
   other_piece : (w : Wanted) → EndsLater r → Needs program plan r need (Some w) → (Fits program plan r w → ⊥)
@@ -102,13 +103,15 @@ pub data Turns (program : Program) (plan : Plan) (r : Replaying) (need : Need) :
   -- an interval inside was left: its postlog is applied in its place, and the unit behind it starts
   skips : (w : Wanted) (k b : ℕ) (values : List ℤ) (t : Turn) → EndsLater r
       → Needs program plan r need (Some w) → Fits program plan r w → (next_piece r).1 ≡ nested k b values
-      → Starts plan (past_piece (counted (record (with_item (item.Nested k b values true) (with_call program plan need r))
+      → Starts plan (past_piece (counted (record (with_item (item.Nested k b values true)
+      (with_call program plan need r))
       { proc = skipped program plan values r.proc }))) (Some (unit_past plan r.proc.todo need)) t
       → Turns program plan r need t
   -- an interval inside was not left: nothing of this one came after it
   enters : (w : Wanted) (k b : ℕ) → EndsLater r → Needs program plan r need (Some w) → Fits program plan r w
       → (next_piece r).1 ≡ unfinished k b
-      → Turns program plan r need (finished (counted (with_item (item.Nested k b [] false) (with_call program plan need r))))
+      → Turns program plan r need (finished (counted (with_item (item.Nested k b [] false)
+      (with_call program plan need r))))
   -- the interval is left
   leaves : (w : Wanted) (values : List ℤ) → EndsLater r → Needs program plan r need (Some w) → Fits program plan r w
       → (next_piece r).1 ≡ postlog values

@@ -1,6 +1,6 @@
-//! What a process needs, the replay of an interval, the intervals near to an item, and what the synchronizations of logs
-//! lack, rule by rule, and the bytes of a recording, field after field: that the definitions which compute them follow
-//! these rules, and no others.
+//! What a process needs, the replay of an interval, the intervals near to an item, and what the synchronizations of
+//! logs lack, rule by rule, and the bytes of a recording, field after field: that the definitions which compute them
+//! follow these rules, and no others.
 #![tactic(auto)]
 
 mod laws;

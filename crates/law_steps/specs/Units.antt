@@ -41,7 +41,8 @@ last_unit entries = fold unit_logged None entries
 abbrev pub IsLastOfLog : Type 0
 IsLastOfLog =
     (setting : Setting) (p : ℕ) (moments : List Moment)
-    → last_unit (log_of setting p moments).entries ≡ Some (unit_in_force setting.program setting.plan p (steps_of moments))
+    → last_unit (log_of setting p moments).entries
+    ≡ Some (unit_in_force setting.program setting.plan p (steps_of moments))
 
 -- ---- reads
 

@@ -51,8 +51,8 @@ fn add_unit(units: &mut Seq<Unit>, alloc: Global, start: Start) -> Result<(), Me
     })
 }
 
-// What a policy numbers, body by body, without its cells: the blocks, known by their kinds, and the units, known by their
-// starts.
+// What a policy numbers, body by body, without its cells: the blocks, known by their kinds, and the units, known by
+// their starts.
 trait Bare: Sized + Drop {
     ghost use Rattle.std.specs.Prelude.{ℕ, List};
     ghost use Rattle.ppd_ast.specs.declared.program.Stmt.{Stmt};

@@ -171,7 +171,8 @@ impl<'a, T: Drop> IntoIterator for &'a Seq<T> {
 
     type IntoIter = Iter<'a, T>;
 
-    ghost into_iter_gives = { λ list it. (iter_rest it ≡ list.now) × (length (iter_rest it) < 2 ^ 64) × IterYieldsInOrder T };
+    ghost into_iter_gives = { λ list it. (iter_rest it ≡ list.now) × (length (iter_rest it) < 2 ^ 64)
+        × IterYieldsInOrder T };
 
     fn into_iter(self) -> Iter<'a, T> {
         self.iter()

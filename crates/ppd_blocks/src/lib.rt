@@ -1,5 +1,5 @@
-//! The synchronization units of a program, each with the shared cells that it may read; its e-blocks under a policy, and
-//! its plan.
+//! The synchronization units of a program, each with the shared cells that it may read; its e-blocks under a policy,
+//! and its plan.
 #![tactic(auto)]
 
 mod blocks;

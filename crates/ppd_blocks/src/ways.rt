@@ -132,7 +132,8 @@ fn first_of(program: &Program, body: u16) -> Option<u32>
 }
 
 fn begin_of_body(program: &Program, loops: &[u32], body: u16) -> Option<u32>
-    ensures { result ≡ find (λ t. not (has loops.now t)) (option_to_list (slice_get (body_numbered program.now body).top 0)) }
+    ensures { result ≡ find (λ t. not (has loops.now t))
+        (option_to_list (slice_get (body_numbered program.now body).top 0)) }
 {
     match first_of(program, body) {
         None => None,

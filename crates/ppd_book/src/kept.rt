@@ -110,7 +110,8 @@ impl<'a, J: Job> Kept<'a, J> {
     /// The lowest process that can take a step.
     fn lowest(&self) -> Option<u8>
         ensures some { IfSome result (IsLowest self.now.world) }
-        ensures none { IfNone result (IsOver self.now.world.setting.program self.now.world.setting.plan self.now.world.world) }
+        ensures none { IfNone result
+            (IsOver self.now.world.setting.program self.now.world.setting.plan self.now.world.world) }
         ensures held { IsHeld J.setting self.now.world self.now.schedule }
     {
         self.world.lowest()
@@ -218,7 +219,8 @@ impl<'a, J: Job> Kept<'a, J> {
 
     /// Takes the turns that are left, lowest process first. `Memory` is want of memory: some were taken.
     fn take_rest(&mut self) -> Result<(), Memory>
-        ensures over { OnOk result (IsOver self.new.world.setting.program self.new.world.setting.plan self.new.world.world) }
+        ensures over { OnOk result
+            (IsOver self.new.world.setting.program self.new.world.setting.plan self.new.world.world) }
         ensures taken { OnOk result ((rest : List ℕ) × (self.new.schedule ≡ self.old.schedule ++ rest)
             × GoesLowest self.old.world rest self.new.world) }
     {

@@ -211,7 +211,8 @@ fn write_table<L: Ledger>(
           sems = globals.new.sems;
           chans = globals.new.chans;
         } ≡ core_of (source_of (tree_of source.entry.nodes.now))) }
-    ensures found { OnOk result (lists.new.out.table.found ≡ first (faults_in (source_of (tree_of source.entry.nodes.now)))) }
+    ensures found { OnOk result
+        (lists.new.out.table.found ≡ first (faults_in (source_of (tree_of source.entry.nodes.now)))) }
     ensures cost { steps.new ≤ steps.old + 140 * length source.entry.nodes.now + 1 }
 {
     write_lists(alloc, source, globals, lists, steps)?;
@@ -225,9 +226,11 @@ fn check_nodes<L: Ledger>(
     source: Source<'_>,
     steps: &mut Steps<L>,
 ) -> Result<Checked, Memory>
-    ensures program { IfOk result (λ checked. (faults_in (source_of (tree_of source.entry.nodes.now)) ≡ []) → checked.program ≡ core_of
+    ensures program { IfOk result
+        (λ checked. (faults_in (source_of (tree_of source.entry.nodes.now)) ≡ []) → checked.program ≡ core_of
         (source_of (tree_of source.entry.nodes.now))) }
-    ensures found { IfOk result (λ checked. checked.found ≡ first (faults_in (source_of (tree_of source.entry.nodes.now)))) }
+    ensures found { IfOk result
+        (λ checked. checked.found ≡ first (faults_in (source_of (tree_of source.entry.nodes.now)))) }
     ensures cost { steps.new ≤ steps.old + 150 * length source.entry.nodes.now + 2048 }
 {
     let mut found = None;

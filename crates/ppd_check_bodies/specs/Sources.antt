@@ -141,7 +141,8 @@ bodies scope n (h ∷ hs) = body scope n h ∷ bodies scope (n + C.count (head_c
 -- the statements of bodies from number b on
 abbrev pub all_stmts : (b n m : ℕ) → List Code → List Stmt
 all_stmts b n m [] = []
-all_stmts b n m (c ∷ cs) = stmts (fitted 16 b) None n m c ++ all_stmts (b + 1) (n + C.count c) (m + weights (terms c)) cs
+all_stmts b n m (c ∷ cs) =
+    stmts (fitted 16 b) None n m c ++ all_stmts (b + 1) (n + C.count c) (m + weights (terms c)) cs
 
 -- the table of a source
 abbrev pub core_of : Source → Program

@@ -30,8 +30,8 @@ declared length f x =
       hidden = f.hidden;
     }
 
--- One more hidden variable, which no name means: its own name is a percent sign, and which hidden one of the body it is,
--- from 1.
+-- One more hidden variable, which no name means: its own name is a percent sign, and which hidden one of the body it
+-- is, from 1.
 abbrev pub with_hidden : Place → Frame → Frame
 with_hidden p f =
     record {

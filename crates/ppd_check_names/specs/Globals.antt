@@ -79,7 +79,8 @@ with_shared_variable x length starts g =
 -- what is declared after one more item: shared cells and semaphores, channels and functions are numbered in order
 abbrev pub with_item : Item → Globals → Globals
 with_item (shared x v) g = with_shared_variable x None (v ∷ []) g
-with_item (shared_array x n) g = with_shared_variable x (Some (fitted 16 n.value)) (replicate (fitted 16 n.value) (pos 0)) g
+with_item (shared_array x n) g =
+    with_shared_variable x (Some (fitted 16 n.value)) (replicate (fitted 16 n.value) (pos 0)) g
 with_item (semaphore x n) g =
     record g {
       scope = declare x.text (N.semaphore (fitted 8 (length g.semaphores))) g.scope;

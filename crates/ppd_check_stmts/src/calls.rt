@@ -137,7 +137,8 @@ fn argument<L: Ledger>(
     steps: &mut Steps<L>,
 ) -> Result<(), Memory>
     requires within { id < length source.nodes.now }
-    ensures argued { OnOk result (Argued source.entry.nodes.now frame.now.scopes (id ∷ []) table.old.exprs table.new.exprs
+    ensures argued { OnOk result
+        (Argued source.entry.nodes.now frame.now.scopes (id ∷ []) table.old.exprs table.new.exprs
         args.old args.new table.old.found table.new.found) }
     ensures stmts { table.new.stmts ≡ table.old.stmts }
     ensures cost { steps.new ≤ steps.old + 6 * plain_at source.entry.nodes.now id + 4 }

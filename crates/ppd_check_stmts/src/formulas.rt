@@ -153,7 +153,8 @@ pub fn write_term<L: Ledger>(
     requires inside { IsOperand source.nodes.now operand }
     ensures added { IfOk result (λ n. Added table.old.exprs (term_of frame.now.scopes (operand_formula
         source.entry.nodes.now operand)) table.new.exprs n) }
-    ensures faults { OnOk result (table.new.found ≡ first_of_both table.old.found (first (formula_faults frame.now.scopes
+    ensures faults { OnOk result
+        (table.new.found ≡ first_of_both table.old.found (first (formula_faults frame.now.scopes
         (operand_formula source.entry.nodes.now operand)))) }
     ensures stmts { table.new.stmts ≡ table.old.stmts }
     ensures cost { steps.new ≤ steps.old + 6 * operand_nodes source.entry.nodes.now operand + 3 }

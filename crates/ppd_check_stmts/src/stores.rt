@@ -166,7 +166,8 @@ pub fn write_spot<L: Ledger>(
         ++ flats (length table.old.exprs) (spot_terms (spot_of frame.now.scopes (goal_said source.entry.nodes.now
         goal.entry)))) }
     ensures target { IfOk result
-        (λ t. t ≡ target (length table.old.exprs) (spot_of frame.now.scopes (goal_said source.entry.nodes.now goal.entry))) }
+        (λ t. t ≡ target (length table.old.exprs)
+        (spot_of frame.now.scopes (goal_said source.entry.nodes.now goal.entry))) }
     ensures faults { OnOk result
         (table.new.found ≡ first_of_both table.old.found
         (first (formula_faults frame.now.scopes (goal_formula (goal_said source.entry.nodes.now goal.entry))))) }

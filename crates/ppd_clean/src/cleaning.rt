@@ -182,9 +182,9 @@ fn answered_from<L: Ledger>(
 /// `Unclean`: a race touches the past of this edge, the least such edge of the process from the one in which the
 /// interval begins, and the item's past has a race, or the interval has no such item and reaches the edge. `NoEvent`:
 /// it has no such item, and reaches no such edge. `Diverged`: the replay of an interval of this process from its cut
-/// log fails at this entry. `Sets`: this entry, of logs that the index accepts, ends an internal edge of the process, its
-/// write set has the cell, and no event that the replays of the cut logs give of that edge writes the cell. `Memory` is
-/// want of memory, also for processes, edges or items that have no numbers.
+/// log fails at this entry. `Sets`: this entry, of logs that the index accepts, ends an internal edge of the process,
+/// its write set has the cell, and no event that the replays of the cut logs give of that edge writes the cell.
+/// `Memory` is want of memory, also for processes, edges or items that have no numbers.
 ///
 /// Of what is kept of a whole run, with races or without, under the plan of a policy, the item and its edges are those
 /// of the run, `Unclean` and `NoEvent` come exactly where the run has it so, and `Diverged` and `Sets` never.

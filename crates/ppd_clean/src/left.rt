@@ -45,7 +45,8 @@ pub(crate) fn edge_of_item(
 ) -> Result<u32, Memory>
     requires past { IsPast past.now }
     requires before { before.now ≡ take asked.now.item (items_in past.now asked.now.process asked.now.interval) }
-    ensures { IfOk result (λ edge. edge ≡ edge_of_item_in past.now asked.now (seen_in past.now asked.now.process) item.now) }
+    ensures { IfOk result
+        (λ edge. edge ≡ edge_of_item_in past.now asked.now (seen_in past.now asked.now.process) item.now) }
 {
     match item {
         Item::Own(_) => edge_at(past, asked.process, asked.interval, before),

@@ -17,7 +17,8 @@ use ppd_model::{EdgeId, Item};
 fn is_unclean(past: &Past, asked: &Asked, before: &[Item], item: &Item) -> Result<bool, Memory>
     requires past { IsPast past.now }
     requires before { before.now ≡ take asked.now.item (items_in past.now asked.now.process asked.now.interval) }
-    ensures { IfOk result (λ unclean. unclean ≡ is_unclean_of past.now asked.now (seen_in past.now asked.now.process) item.now) }
+    ensures { IfOk result
+        (λ unclean. unclean ≡ is_unclean_of past.now asked.now (seen_in past.now asked.now.process) item.now) }
 {
     let Some(_) = asked.first else {
         return Ok(false);

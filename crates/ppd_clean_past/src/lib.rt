@@ -1,4 +1,5 @@
-//! Whether a race touches the past of an item, by the order of a graph, and how much of a log stays where it is cut off.
+//! Whether a race touches the past of an item, by the order of a graph, and how much of a log stays where it is cut
+//! off.
 #![tactic(auto)]
 
 mod asked;

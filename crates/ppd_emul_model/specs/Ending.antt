@@ -9,7 +9,8 @@ use Rattle.ppd_emul_model.specs.Replay.{Replaying, Replayed, Turn, more, done, b
 -- from here some turns go on, and the one after them ends the replay so
 pub data IsEndedBy (program : Program) (plan : Plan) : Replaying → Replayed → Type 0 where
   now : {r : Replaying} {x : Replayed} → turn program plan r ≡ done x → IsEndedBy program plan r x
-  later : {r next : Replaying} {x : Replayed} → turn program plan r ≡ more next → IsEndedBy program plan next x → IsEndedBy program plan r x
+  later : {r next : Replaying} {x : Replayed} → turn program plan r ≡ more next
+      → IsEndedBy program plan next x → IsEndedBy program plan r x
 
 -- it is over with this, or goes on and ends by a turn
 abbrev pub IsOverBy : Program → Plan → Turn → Replayed → Type 0
@@ -24,4 +25,5 @@ TurnsEnd = (program : Program) (plan : Plan) (turns : ℕ) (r : Replaying) → r
 -- so a replay is over with its first unit, or ends by a turn
 abbrev pub ReplaysEndByTurns : Type 0
 ReplaysEndByTurns = (program : Program) (plan : Plan) (l : IntervalLog) (budget : ℕ)
-    → IsOverBy program plan (take_unit plan (Some (block_unit plan (block_kind plan l.block))) (begun_replay program plan l budget)) (replay program plan l budget)
+    → IsOverBy program plan (take_unit plan (Some (block_unit plan (block_kind plan l.block)))
+    (begun_replay program plan l budget)) (replay program plan l budget)

@@ -7,8 +7,8 @@ use crate::replayer::Replayer;
 use ppd_emul_model::{EmulError, Wanted};
 use std::alloc::Global;
 
-/// Why the replay cannot go on: `Diverged`, since the next piece is not the one that is wanted; or `Memory`, for want of
-/// memory to tell it.
+/// Why the replay cannot go on: `Diverged`, since the next piece is not the one that is wanted; or `Memory`, for want
+/// of memory to tell it.
 pub fn fail(alloc: Global, state: &Replayer, wanted: Wanted) -> EmulError
     ensures { IfFailed result (turned (Err result) state.now ≡ fail_of (replaying state.now) wanted) }
 {

@@ -32,8 +32,8 @@ fn unit_past(plan: &Plan, todo: &Stack<Todo>, need: Need) -> u16
     }
 }
 
-/// Goes past an interval that was left, in whose place its postlog is applied, and starts the unit after it. `Diverged`:
-/// this unit is not the next piece. `Memory` is want of memory.
+/// Goes past an interval that was left, in whose place its postlog is applied, and starts the unit after it.
+/// `Diverged`: this unit is not the next piece. `Memory` is want of memory.
 pub fn skip_over<L: Ledger>(
     code: &Code,
     state: &mut Replayer,

@@ -91,7 +91,8 @@ index_step x e =
         running = length x.intervals ∷ x.running;
       }
       | entry.Unit u values ↦ record x { intervals = with_own (unit u values) }
-      | entry.Sync kind object number value reads writes ↦ record x { intervals = with_own (sync kind object number value) }
+      | entry.Sync kind object number value reads writes ↦
+          record x { intervals = with_own (sync kind object number value) }
       | entry.Postlog b values ↦
           record x { intervals = left_interval x.entry values x.running x.intervals; running = drop 1 x.running }
       | entry.End status rest reads writes ↦

@@ -70,7 +70,8 @@ RoseWithin past p before after = (ks : List ℕ) × (after ≡ before + cost pas
 
 abbrev pub far_of_spot_at : Search → Place → Spot → List ℕ
 far_of_spot_at s place spot =
-    far_of_spot s.past.now.program.now s.past.now.logs.now (seens_in s.past.now) s.process place.interval place.item spot
+    far_of_spot s.past.now.program.now s.past.now.logs.now (seens_in s.past.now) s.process
+    place.interval place.item spot
 
 abbrev pub far_of_reads_at : Search → Place → List Access → List ℕ
 far_of_reads_at s place reads =

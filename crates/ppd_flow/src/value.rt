@@ -19,12 +19,12 @@ use std::sync::ledger::Ledger;
 /// write set has the cell, else at the start. The counter rises by the own steps of the intervals that are replayed.
 ///
 /// `Diverged`: the replay of one of these intervals fails, the first that does, at this entry. `Sets`: none of these
-/// replays fails; this entry, of logs that the index accepts, ends the internal edge, its write set has the cell, and no
-/// event that the replays give of that edge writes the cell. `Memory` is want of memory, also for items that have no
-/// 32-bit numbers. `NoEvent` never comes. Of what is kept of a whole run without a race, under the plan of a policy, the
-/// answer is the last value in the run with the item of its last write, or `Memory`; the counter rose by at most the own
-/// steps of the intervals of the writer's process that are open in the internal edge of the last write, and not at all
-/// for a start value.
+/// replays fails; this entry, of logs that the index accepts, ends the internal edge, its write set has the cell, and
+/// no event that the replays give of that edge writes the cell. `Memory` is want of memory, also for items that have no
+/// 32-bit numbers. `NoEvent` never comes. Of what is kept of a whole run without a race, under the plan of a policy,
+/// the answer is the last value in the run with the item of its last write, or `Memory`; the counter rose by at most
+/// the own steps of the intervals of the writer's process that are open in the internal edge of the last write, and not
+/// at all for a start value.
 pub fn last<L: Ledger>(
     alloc: Global,
     past: &Past,
@@ -45,7 +45,8 @@ pub fn last<L: Ledger>(
 
 /// What `last` answers for a cell that this internal edge wrote last (`last_edge`), from the items of the interval in
 /// which the edge ends, as a replay gave them: so that cells of one interval need one replay of it. The counter rises
-/// as in `last`, but not by the own steps of that interval, and where their tables are given the items are not gone over.
+/// as in `last`, but not by the own steps of that interval, and where their tables are given the items are not gone
+/// over.
 pub fn last_from<L: Ledger>(
     alloc: Global,
     past: &Past,
@@ -70,8 +71,8 @@ pub fn last_from<L: Ledger>(
     last_write_from(alloc, past, cell, last, given, steps)
 }
 
-/// The tables of an interval of a process, whose items these are, by which searches look up from it. `Memory` is want of
-/// memory, also for items, entries and edges that have no 32-bit numbers.
+/// The tables of an interval of a process, whose items these are, by which searches look up from it. `Memory` is want
+/// of memory, also for items, entries and edges that have no 32-bit numbers.
 pub fn block_tables(
     alloc: Global,
     past: &Past,

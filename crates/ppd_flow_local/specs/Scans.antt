@@ -1,4 +1,5 @@
--- What a scan in code stands for, whose loops are seen from the last, and how the call whose activation goes on is found without one.
+-- What a scan in code stands for, whose loops are seen from the last, and how the call whose activation goes on is
+-- found without one.
 use Rattle.std.specs.Prelude.{ℕ, Option, reverse}
 use Rattle.ppd_ast.specs.declared.plan.Plan.{Plan}
 use Rattle.ppd_ast.specs.declared.program.Program.{Program}

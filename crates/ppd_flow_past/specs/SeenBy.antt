@@ -47,7 +47,9 @@ rounds_by parents =
 -- the items of each interval by its replay, its block, and the intervals round it
 abbrev pub seen_by : Setting → List Entry → Seen
 seen_by setting entries = record {
-  items = map (λ i. result_unwrap_or (told_by (replay setting.program setting.plan (log_by setting.plan i) setting.budget).answer) []) (indexed entries);
+  items = map (λ i. result_unwrap_or
+      (told_by (replay setting.program setting.plan (log_by setting.plan i) setting.budget).answer) [])
+      (indexed entries);
   blocks = map (λ x. x.block) (extents entries);
   rounds = rounds_by (map (λ x. x.parent) (extents entries));
 }

@@ -50,8 +50,9 @@ impl<'a> CellSearch<'a> {
     /// is read there: none where the internal edge of the place writes it before the place, or no edge before does.
     ///
     /// The counter rises by the own steps of the intervals of the process that are replayed, and no interval of the
-    /// edge that is found is among these for its sake. `Diverged`: the replay of one of them, the first that fails, does
-    /// so at this entry. `Memory` is want of memory, also for places that have no 32-bit numbers. No other error comes.
+    /// edge that is found is among these for its sake. `Diverged`: the replay of one of them, the first that fails,
+    /// does so at this entry. `Memory` is want of memory, also for places that have no 32-bit numbers. No other error
+    /// comes.
     pub fn far_edge<L: Ledger>(
         &self,
         interval: u32,

@@ -29,7 +29,8 @@ later_if before q best None = best
 later_if before q best (Some n) = greater before best (edge q n)
 
 -- over the processes from number q on
-abbrev pub latest_from : (EdgeId → EdgeId → Bool) → (ℕ → ℕ) → ℕ → ℕ → Option EdgeId → List (List EdgeSets) → Option EdgeId
+abbrev pub latest_from : (EdgeId → EdgeId → Bool) → (ℕ → ℕ) → ℕ → ℕ → Option EdgeId
+    → List (List EdgeSets) → Option EdgeId
 latest_from before limit c q best [] = best
 latest_from before limit c q best (ss ∷ rest) =
     latest_from before limit c (q + 1) (later_if before q best (last_below (limit q) (numbers_in c 0 ss))) rest

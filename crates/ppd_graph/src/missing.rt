@@ -170,11 +170,13 @@ impl<'a> Numbers<'a> {
         object: u8,
         steps: &mut Steps<L>,
     ) -> Option<Missing>
-        ensures cost { steps.new ≤ steps.old + object_numbers objects self.now.program.now self.now.greatest.now object }
+        ensures cost { steps.new
+            ≤ steps.old + object_numbers objects self.now.program.now self.now.greatest.now object }
         ensures taken { IfNone result
             (steps.new ≡ steps.old + object_numbers objects self.now.program.now self.now.greatest.now object) }
         ensures value { result
-            ≡ object_misses objects self.now.program.now (numbered_kept self.now.nodes.now self.now.greatest.now) object }
+            ≡ object_misses objects self.now.program.now
+            (numbered_kept self.now.nodes.now self.now.greatest.now) object }
     {
         match objects {
             Objects::Semaphores => self.missing_of_sem(object, steps),
@@ -188,7 +190,8 @@ impl<'a> Numbers<'a> {
         ensures taken { IfNone result
             (steps.new ≡ steps.old + objects_cost objects self.now.program.now self.now.greatest.now) }
         ensures value { result
-            ≡ first_missing (object_misses objects self.now.program.now (numbered_kept self.now.nodes.now self.now.greatest.now))
+            ≡ first_missing (object_misses objects self.now.program.now
+            (numbered_kept self.now.nodes.now self.now.greatest.now))
             (range_with_len 0 (object_count objects self.now.program.now)) }
     {
         let count = count_of(self.program, objects);
@@ -207,8 +210,10 @@ impl<'a> Numbers<'a> {
         requires sems { length self.now.program.now.sems ≤ MOST_NAMED }
         requires chans { length self.now.program.now.chans ≤ MOST_NAMED }
         ensures cost { steps.new ≤ steps.old + missing_cost self.now.program.now self.now.greatest.now }
-        ensures taken { IfNone result (steps.new ≡ steps.old + missing_cost self.now.program.now self.now.greatest.now) }
-        ensures value { result ≡ missing_by self.now.program.now (numbered_kept self.now.nodes.now self.now.greatest.now) }
+        ensures taken { IfNone result
+            (steps.new ≡ steps.old + missing_cost self.now.program.now self.now.greatest.now) }
+        ensures value { result
+            ≡ missing_by self.now.program.now (numbered_kept self.now.nodes.now self.now.greatest.now) }
     {
         if let Some(missing) = self.missing_among(Objects::Semaphores, steps) {
             return Some(missing);

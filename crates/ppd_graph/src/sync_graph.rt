@@ -18,8 +18,8 @@ pub struct SyncGraph {
 }
 
 impl SyncGraph {
-    /// How many internal edges a process has: one more than its synchronizations; 0 past the processes. The graph of logs
-    /// has fewer than 2^32 of each.
+    /// How many internal edges a process has: one more than its synchronizations; 0 past the processes. The graph of
+    /// logs has fewer than 2^32 of each.
     pub fn edges(&self, p: u8) -> u32
         ensures { edge_count self.now p < 2 ^ 32 → result ≡ edge_count self.now p }
     {

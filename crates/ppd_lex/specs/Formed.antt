@@ -7,7 +7,8 @@ use Rattle.ppd_lex.specs.declared.token.TokenKind.{TokenKind}
 use Rattle.ppd_lex.specs.declared.token.TokenKind.TheVariants.{Name, Number, Word, Mark, End}
 use Rattle.ppd_lex.specs.Front.{keywords, marks, looked_up}
 
--- a name of at least a byte that is not too long, a number of 0 to 9223372036854775807, the kind of a keyword or a mark, or the end
+-- a name of at least a byte that is not too long, a number of 0 to 9223372036854775807, the kind of a keyword or a
+-- mark, or the end
 abbrev pub IsKind : TokenKind → Type 0
 IsKind (Name text) = (1 ≤ length text) × (length text ≤ MOST_NAME_BYTES)
 IsKind (Number (pos n)) = n < 2 ^ 63

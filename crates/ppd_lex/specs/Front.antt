@@ -89,5 +89,6 @@ front (b ∷ bs) =
     else (if is_letter b then read_word (take_while is_name_byte (b ∷ bs))
     else (if is_ascii_digit b then read_number (take_while is_name_byte (b ∷ bs))
     else (if starts_with nat_eq (b ∷ bs) (codes "//") then Gap (prefix_len (λ c. not (nat_eq c 10)) (b ∷ bs))
-    else (if starts_with nat_eq (b ∷ bs) (codes "/*") then option_map_or Gap (close_from 2 (drop 2 (b ∷ bs))) (Bad OpenComment)
+    else (if starts_with nat_eq (b ∷ bs) (codes "/*")
+    then option_map_or Gap (close_from 2 (drop 2 (b ∷ bs))) (Bad OpenComment)
     else read_mark b bs))))

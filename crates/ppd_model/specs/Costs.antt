@@ -45,7 +45,8 @@ HasWholePrelogs program plan = All (λ x. IsWholeBlock program x x.kind) plan.bl
 
 -- the step costs 1 and the values that it writes, which the budget allows, and is counted
 pub record IsPaid (setting : Setting) (l : Logging) (m : Moment) : Type 0 where
-  pub cost : (log_step setting.program setting.plan l m).proc.spent ≡ l.proc.spent + (1 + values_in (entries_of setting.program setting.plan l m))
+  pub cost : (log_step setting.program setting.plan l m).proc.spent
+      ≡ l.proc.spent + (1 + values_in (entries_of setting.program setting.plan l m))
   pub within : l.proc.spent + (1 + values_in (entries_of setting.program setting.plan l m)) ≤ setting.budget
   pub counted : (log_step setting.program setting.plan l m).proc.steps ≡ l.proc.steps + 1
 

@@ -83,7 +83,8 @@ part_at x k j = option_and_then (λ i. slice_get i.parts j) (slice_get x.spans k
 abbrev pub edges : Setting → Story → ℕ → ℕ → ℕ → Option (List FlowEdge)
 edges setting story p k j =
     let xs = splits setting story in
-    option_and_then (λ x. option_and_then (edges_of_part setting.program setting.plan xs x) (part_at x k j)) (slice_get xs p)
+    option_and_then (λ x. option_and_then (edges_of_part setting.program setting.plan xs x) (part_at x k j))
+    (slice_get xs p)
 
 -- the last value of a shared cell, and where it was written
 abbrev pub last : Setting → Story → ℕ → ℤ × Origin

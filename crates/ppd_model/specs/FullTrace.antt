@@ -194,7 +194,8 @@ begun_tracing s = record {
 -- process p, traced by its own steps
 abbrev pub tracing_of : Setting → Story → ℕ → List Taken → Tracing
 tracing_of setting story p steps =
-    fold (trace_step setting.program setting.plan story p) (begun_tracing (started setting.program setting.plan p setting.budget)) steps
+    fold (trace_step setting.program setting.plan story p)
+    (begun_tracing (started setting.program setting.plan p setting.budget)) steps
 
 -- the full trace of a story: the events of each process
 abbrev pub full_trace : Setting → Story → Trace

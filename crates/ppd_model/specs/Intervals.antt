@@ -151,7 +151,8 @@ begun_split program plan p s =
 -- process p in its intervals, by its own steps
 abbrev pub split_of : Setting → Story → ℕ → List Taken → Split
 split_of setting story p steps =
-    fold (split_step setting.program setting.plan story p) (begun_split setting.program setting.plan p (started setting.program setting.plan p setting.budget)) steps
+    fold (split_step setting.program setting.plan story p)
+    (begun_split setting.program setting.plan p (started setting.program setting.plan p setting.budget)) steps
 
 -- the processes of a story in their intervals
 abbrev pub splits : Setting → Story → List Split

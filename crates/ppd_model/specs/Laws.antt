@@ -82,7 +82,8 @@ abbrev pub LogsGrow : Type 0
 LogsGrow =
     (setting : Setting) (h : List ℕ) (p : ℕ)
     → loggings setting (h ++ p ∷ [])
-    ≡ change (λ l. log_step setting.program setting.plan l (logged_moment setting.program setting.plan (told setting h).world p)) p
+    ≡ change (λ l. log_step setting.program setting.plan l
+    (logged_moment setting.program setting.plan (told setting h).world p)) p
     (loggings setting h)
 
 -- ---- equal stories

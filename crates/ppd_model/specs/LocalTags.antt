@@ -108,7 +108,8 @@ AreOwn program plan s (x ∷ xs) =
 abbrev pub StoriesTellOwnSteps : Type 0
 StoriesTellOwnSteps =
     (setting : Setting) (h : List ℕ) (p : ℕ)
-    → AreOwn setting.program setting.plan (started setting.program setting.plan p setting.budget) (get_or (story setting h).steps p [])
+    → AreOwn setting.program setting.plan (started setting.program setting.plan p setting.budget)
+    (get_or (story setting h).steps p [])
 
 -- through these steps the activation goes on, and none writes the cell
 abbrev pub IsSteady : Program → Plan → ℕ → ℕ → Proc → List Taken → Type 0
@@ -169,7 +170,8 @@ abbrev pub LocalTagsAreLastWrites : Type 0
 LocalTagsAreLastWrites =
     (setting : Setting) (story : Story) (p : ℕ) (steps : List Taken)
     → AreOwn setting.program setting.plan (started setting.program setting.plan p setting.budget) steps
-    → HasLocalTags setting.program setting.plan story p (begun_tracing (started setting.program setting.plan p setting.budget))
+    → HasLocalTags setting.program setting.plan story p
+    (begun_tracing (started setting.program setting.plan p setting.budget))
     (tracing_of setting story p steps) steps
 
 -- so it is at each time of a schedule, after the steps that the process took before it
@@ -177,7 +179,8 @@ abbrev pub SchedulesTagLastWrites : Type 0
 SchedulesTagLastWrites =
     (setting : Setting) (h : List ℕ) (p : ℕ) (before after : List Taken)
     → get_or (story setting h).steps p [] ≡ before ++ after
-    → HasLocalTags setting.program setting.plan (story setting h) p (begun_tracing (started setting.program setting.plan p setting.budget))
+    → HasLocalTags setting.program setting.plan (story setting h) p
+    (begun_tracing (started setting.program setting.plan p setting.budget))
     (tracing_of setting (story setting h) p before) before
 
 -- a local cell that an event reads is one of the top activation, and its tag is that cell's

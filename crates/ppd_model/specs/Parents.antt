@@ -153,7 +153,8 @@ abbrev pub ParentsAreLatestTests : Type 0
 ParentsAreLatestTests =
     (setting : Setting) (h : List ℕ) (p n : ℕ) (e : TracedEvent)
     → slice_get (get_or (full_trace setting (story setting h)).events p []) n ≡ Some e
-    → HasParent setting.program setting.plan (story setting h) p (begun_tracing (started setting.program setting.plan p setting.budget))
+    → HasParent setting.program setting.plan (story setting h) p
+    (begun_tracing (started setting.program setting.plan p setting.budget))
     (get_or (story setting h).steps p []) n e
 
 -- ---- valid programs
@@ -237,5 +238,6 @@ abbrev pub ValidParents : Type 0
 ValidParents =
     (setting : Setting) (h : List ℕ) (p n : ℕ) (e : TracedEvent) → IsValid setting.program
     → slice_get (get_or (full_trace setting (story setting h)).events p []) n ≡ Some e
-    → HasValidParent setting.program setting.plan (story setting h) p (begun_tracing (started setting.program setting.plan p setting.budget))
+    → HasValidParent setting.program setting.plan (story setting h) p
+    (begun_tracing (started setting.program setting.plan p setting.budget))
     (get_or (story setting h).steps p []) n e

@@ -19,7 +19,8 @@ started_world setting = record {
   shared = setting.program.starts;
   sems = map (λ s. record { given = s.start; taken = 0 }) setting.program.sems;
   chans = map (λ c. record { capacity = c.capacity; sent = []; received = 0; completed = 0 }) setting.program.chans;
-  procs = map (λ p. started setting.program setting.plan p setting.budget) (range_with_len 0 (length setting.program.bodies - setting.program.functions));
+  procs = map (λ p. started setting.program setting.plan p setting.budget)
+      (range_with_len 0 (length setting.program.bodies - setting.program.functions));
 }
 
 -- the world after the steps of the schedule from the start

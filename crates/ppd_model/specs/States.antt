@@ -13,7 +13,8 @@ act_on program plan s x = act program plan s x.answer
 
 -- process p after these steps
 abbrev pub state_of : Setting → ℕ → List Taken → Proc
-state_of setting p steps = fold (act_on setting.program setting.plan) (started setting.program setting.plan p setting.budget) steps
+state_of setting p steps =
+    fold (act_on setting.program setting.plan) (started setting.program setting.plan p setting.budget) steps
 
 -- the processes from number p on after their steps
 abbrev pub states_from : Setting → ℕ → List (List Taken) → List Proc

@@ -49,5 +49,6 @@ pub record AreOfSteps (setting : Setting) (p : ℕ) (x : Split) (moments : List 
 -- so it is after each schedule
 abbrev pub IntervalsAreOfSteps : Type 0
 IntervalsAreOfSteps =
-    (setting : Setting) (h : List ℕ) (p : ℕ) (x : Split) (moments : List Moment) → slice_get (splits setting (story setting h)) p ≡ Some x
+    (setting : Setting) (h : List ℕ) (p : ℕ) (x : Split) (moments : List Moment)
+    → slice_get (splits setting (story setting h)) p ≡ Some x
     → slice_get (told setting h).moments p ≡ Some moments → AreOfSteps setting p x moments

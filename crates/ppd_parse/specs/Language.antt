@@ -83,7 +83,8 @@ abbrev pub received : Phrase
 received = word K.RecvWord · parens (word K.Name)
 
 -- The right sides. An else belongs to the nearest open if: an if stands without one only where no else is next. The
--- value of an assignment that is a statement of its own is no expression: with an expression the assignment is a change.
+-- value of an assignment that is a statement of its own is no expression: with an expression the assignment is a
+-- change.
 abbrev pub phrase : Side → Phrase
 phrase source_side =
     made R.Source

@@ -26,7 +26,8 @@ count_with n x = if x.at.inside then (if is_sign (kind_at x) then n + 1 else n) 
 -- after n operators of an expression, these tokens keep the limits of open constructs and of operators
 abbrev pub KeepLimits : ℕ → List Marked → Type 0
 KeepLimits n [] = Unit {0}
-KeepLimits n (x ∷ xs) = (x.at.depth ≤ MOST_OPEN) × (count_with n x ≤ MOST_SOURCE_OPERATORS) × KeepLimits (count_with n x) xs
+KeepLimits n (x ∷ xs) =
+    (x.at.depth ≤ MOST_OPEN) × (count_with n x ≤ MOST_SOURCE_OPERATORS) × KeepLimits (count_with n x) xs
 
 -- the token with this number from 0, and an end where there is none
 abbrev pub token_at : List Token → ℕ → Token
@@ -90,7 +91,8 @@ Stepped n t (Ok m) a b =
     × (m ≡ count_with n (record { token = t; at = at })) × (m ≤ MOST_SOURCE_OPERATORS)
 Stepped n t (Err (E.Unexpected place)) a b = (place ≡ t.place) × IsDead (kind_of t.kind) a
 Stepped n t (Err (E.Deep place)) a b =
-    (place ≡ t.place) × ((at : At) × Shifts (record { token = t; at = at }) a b × IsGood b.wants × (MOST_OPEN < at.depth))
+    (place ≡ t.place)
+    × ((at : At) × Shifts (record { token = t; at = at }) a b × IsGood b.wants × (MOST_OPEN < at.depth))
 Stepped n t (Err (E.Wide place)) a b =
     (place ≡ t.place)
     × ((at : At) × Shifts (record { token = t; at = at }) a b × IsGood b.wants × (at.depth ≤ MOST_OPEN)

@@ -52,12 +52,14 @@ Advanced token M.Moved a b =
     SameAt (kind_of token.kind) a b × IsGood b.wants × (rank b.wants < rank a.wants)
     × (length b.wants ≤ length a.wants + 7)
 Advanced token (M.Read at) a b =
-    Shifts (record { token = token; at = at }) a b × IsGood b.wants × (kind_of token.kind ≡ K.End → HasEndsAlone b.wants)
+    Shifts (record { token = token; at = at }) a b × IsGood b.wants
+    × (kind_of token.kind ≡ K.End → HasEndsAlone b.wants)
     × (rank b.wants + 1 ≤ rank a.wants + 15) × (length b.wants ≤ length a.wants)
 Advanced token M.Refused a b = IsDead (kind_of token.kind) a
 
 -- the token was read with this mark, or nothing goes on with it
 abbrev pub Taken : Token → Option At → State → State → Type 0
 Taken token (Some at) a b =
-    Shifts (record { token = token; at = at }) a b × IsGood b.wants × (kind_of token.kind ≡ K.End → HasEndsAlone b.wants)
+    Shifts (record { token = token; at = at }) a b × IsGood b.wants
+    × (kind_of token.kind ≡ K.End → HasEndsAlone b.wants)
 Taken token None a b = IsDead (kind_of token.kind) a

@@ -1,5 +1,5 @@
--- What a controlled re-execution answers of logs: the program runs under the recorded synchronization, and each interval
--- of the logs is replayed and compared with the run.
+-- What a controlled re-execution answers of logs: the program runs under the recorded synchronization, and each
+-- interval of the logs is replayed and compared with the run.
 use Rattle.ppd_model.specs.Setting.{Setting}
 use Rattle.std.specs.Prelude.{◌≡◌, ℕ, ◌<◌, List, [], length, get_or, Option, Some, None, Ok, ⊤}
 use Rattle.ppd_entry.specs.IntervalLogs.{interval_log}

@@ -111,7 +111,10 @@ begun_held program plan p = begun_in (unwrap_or (block_of plan (block.Process (p
 -- process p before its first step
 abbrev pub begun_course : Setting → ℕ → Course
 begun_course setting p =
-    record { proc = started setting.program setting.plan p setting.budget; held = begun_held setting.program setting.plan p }
+    record {
+      proc = started setting.program setting.plan p setting.budget;
+      held = begun_held setting.program setting.plan p;
+    }
 
 -- process p after its steps
 abbrev pub course : Setting → ℕ → List Taken → Course

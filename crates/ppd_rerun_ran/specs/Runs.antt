@@ -32,7 +32,8 @@ begun_helds program plan n = map (begun_held program plan) (range_with_len 0 n)
 abbrev pub HoldsStep : Running → ℕ → List Holding → List Holding → Type 0
 HoldsStep r p before after =
     (s : Proc) → slice_get r.world.procs p ≡ Some s
-    → after ≡ change (λ x. hold_step r.setting.program r.setting.plan s x (logged_moment r.setting.program r.setting.plan r.world p).taken) p before
+    → after ≡ change (λ x. hold_step r.setting.program r.setting.plan s x
+    (logged_moment r.setting.program r.setting.plan r.world p).taken) p before
 
 -- the run of this schedule, and what is left of these records after it, with what is held of its processes
 pub record HasCome (setting : Setting) (syncs : List (List Sync)) (h : List ℕ) (r : Running)

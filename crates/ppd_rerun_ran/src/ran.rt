@@ -123,12 +123,15 @@ fn run(
     held: &mut Vec<Held>,
 ) -> Result<Bytes, Memory>
     requires come { IsHeld (setting_of setting.now.program.now setting.now.plan.now budget) guide.old.world [] }
-    requires held { map seen held.old.items ≡ helds (setting_of setting.now.program.now setting.now.plan.now budget) [] }
+    requires held { map seen held.old.items
+        ≡ helds (setting_of setting.now.program.now setting.now.plan.now budget) [] }
     ensures schedule { IfOk result
         (λ h. h ≡ guided_from setting.now.program.now setting.now.plan.now
-        ((length setting.now.program.now.bodies - setting.now.program.now.functions) * (budget + 1)) (guiding_of guide.old.world guide.old.dues.items)) }
+        ((length setting.now.program.now.bodies - setting.now.program.now.functions) * (budget + 1))
+        (guiding_of guide.old.world guide.old.dues.items)) }
     ensures come { IfOk result
-        (λ h. HasCome (setting_of setting.now.program.now setting.now.plan.now budget) (map left_of guide.old.dues.items) h
+        (λ h. HasCome (setting_of setting.now.program.now setting.now.plan.now budget)
+        (map left_of guide.old.dues.items) h
         guide.new.world (map left_of guide.new.dues.items) (map seen held.new.items)) }
 {
     let mut schedule = Bytes::new(setting.alloc);

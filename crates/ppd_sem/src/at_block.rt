@@ -24,7 +24,9 @@ fn frame_with(
     numbers: &[u16],
     values: &[i64],
 ) -> Result<Frame, Memory>
-    ensures { IfOk result (λ frame. frame ≡ record (new_frame_of program.now body [] None) { cells = with_values numbers.now values.now (new_frame_of program.now body [] None).cells }) }
+    ensures { IfOk result
+        (λ frame. frame ≡ record (new_frame_of program.now body [] None)
+        { cells = with_values numbers.now values.now (new_frame_of program.now body [] None).cells }) }
 {
     let mut frame = new_frame(program, body, Nums::new(alloc), None)?;
     write_values(&mut frame.cells, numbers, values);

@@ -107,7 +107,8 @@ of_extent x = record { block = x.block; parent = x.parent; closed = x.closed }
 -- the items of each interval of a process, by its replay from its own log
 abbrev pub told_of_entries : Setting → List Entry → List Told
 told_of_entries setting entries =
-    map (λ i. told_by (replay setting.program setting.plan (log_by setting.plan i) setting.budget).answer) (indexed entries)
+    map (λ i. told_by (replay setting.program setting.plan (log_by setting.plan i) setting.budget).answer)
+    (indexed entries)
 
 -- what the replays of each process give
 abbrev pub seens : Setting → Logs → List Seen

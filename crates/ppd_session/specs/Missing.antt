@@ -25,8 +25,8 @@ IsCauseOfSets x (Err (Sets at)) =
     → IsMissingAt logs (seens setting logs) at
 IsCauseOfSets x result = ⊤
 
--- of logs with these races: where the edges of an item, or what a line asks for, are not found for want of a write, that
--- write is missing
+-- of logs with these races: where the edges of an item, or what a line asks for, are not found for want of a write,
+-- that write is missing
 pub record AreMissing (setting : Setting) (logs : Logs) (races : List Race) : Type 0 where
   pub flow : (p k j q n c : ℕ) → flow_at (known_with setting logs races) p k j ≡ Err (flow_error.Sets q n c)
       → IsMissingWrite logs (seens setting logs) (write_at q n c)

@@ -21,8 +21,8 @@ pub fn missing_writes_are_told()
 {}
 
 /// Law: of logs that the index accepts this is known. Their races are those of their record and sets, their intervals
-/// those of their entries, and their items what the replay of each gives. Where a last value or the edges of an item are
-/// not found, the replay of an interval fails at the entry that is named, or a write is missing that it records.
+/// those of their entries, and their items what the replay of each gives. Where a last value or the edges of an item
+/// are not found, the replay of an interval fails at the entry that is named, or a write is missing that it records.
 pub fn logs_are_known()
     ensures { LogsAreKnown }
 {}

@@ -121,11 +121,11 @@ impl<'a> Session<'a> {
     ///
     /// An interval is opened by its replay from its own log, or by a kept block; the edges of an item and a last value
     /// are found by replays of single intervals.
-    /// `Diverged` comes exactly where such a replay fails, the first that does, at its entry. `Sets` comes exactly where
-    /// none fails and a search misses a write that this entry records: of logs that the index accepts, the entry ends an
-    /// internal edge, and its write set has a cell that no event which the replays give of that edge writes. Neither
-    /// comes of the logs of a whole run, and after them the session is not asked again. `Memory` is want of memory: the
-    /// line can be asked again.
+    /// `Diverged` comes exactly where such a replay fails, the first that does, at its entry. `Sets` comes exactly
+    /// where none fails and a search misses a write that this entry records: of logs that the index accepts, the entry
+    /// ends an internal edge, and its write set has a cell that no event which the replays give of that edge writes.
+    /// Neither comes of the logs of a whole run, and after them the session is not asked again. `Memory` is want of
+    /// memory: the line can be asked again.
     ///
     /// After an answer each block that the line asked for was put in front of those that are kept, or, if it was not
     /// kept, may be kept now; after an error so were the first of them.

@@ -12,7 +12,8 @@ is_item a b = nat_eq a.process b.process && nat_eq a.interval b.interval && nat_
 abbrev pub is_sooner : ItemAt → ItemAt → Bool
 is_sooner a b =
     nat_lt a.process b.process
-    || (nat_eq a.process b.process && (nat_lt a.interval b.interval || (nat_eq a.interval b.interval && nat_lt a.item b.item)))
+    || (nat_eq a.process b.process
+    && (nat_lt a.interval b.interval || (nat_eq a.interval b.interval && nat_lt a.item b.item)))
 
 -- an item put into a rising list, where it stands once
 abbrev pub put_item : ItemAt → List ItemAt → List ItemAt

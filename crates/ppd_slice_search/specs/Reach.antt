@@ -33,7 +33,8 @@ IsIn x (y ∷ ys) = (x ≡ y) ⊎ IsIn x ys
 -- a list of so many edges leads from item a to item b, where the edges of an item come from `next` of it
 pub data Leads (next : ItemAt → List ItemAt) : ℕ → ItemAt → ItemAt → Type 0 where
   stays : {d : ℕ} {a b : ItemAt} → d ≡ 0 → a ≡ b → Leads next d a b
-  comes : {d : ℕ} {a b : ItemAt} (n : ℕ) (c : ItemAt) → d ≡ suc n → IsIn c (next a) → Leads next n c b → Leads next d a b
+  comes : {d : ℕ} {a b : ItemAt} (n : ℕ) (c : ItemAt) → d ≡ suc n → IsIn c (next a) → Leads next n c b
+      → Leads next d a b
 
 -- ---- order
 

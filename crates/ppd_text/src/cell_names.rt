@@ -82,7 +82,8 @@ pub fn put_what(
     plan: &Plan,
     block: u16,
 ) -> Result<(), Memory>
-    ensures { OnOk result (text.new.items ≡ text.old.items ++ at_number (λ b. block_what program.now b.kind) plan.now.blocks block) }
+    ensures { OnOk result
+        (text.new.items ≡ text.old.items ++ at_number (λ b. block_what program.now b.kind) plan.now.blocks block) }
 {
     match plan.blocks.as_slice().get(block as usize) {
         Some(block) => put_block_what(text, program, block.kind),

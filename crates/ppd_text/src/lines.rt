@@ -89,8 +89,10 @@ fn put_sets(
     ensures { OnOk result
         (text.new.items
         ≡ text.old.items
-        ++ (codes " used" ++ names_text program.now.shared (shared_through program.now (reads_at true program.now) number)
-        ++ codes " defined" ++ names_text program.now.shared (shared_through program.now (writes_at true program.now) number))) }
+        ++ (codes " used" ++ names_text program.now.shared
+        (shared_through program.now (reads_at true program.now) number)
+        ++ codes " defined" ++ names_text program.now.shared
+        (shared_through program.now (writes_at true program.now) number))) }
 {
     let vars = program.shared.as_slice();
     put_uses(text, vars, sets.used(number), sets.defined(number))?;

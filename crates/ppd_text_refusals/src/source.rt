@@ -18,7 +18,8 @@ use std::alloc::Global;
 
 /// A limit's word after a space, and how many there may be at most.
 fn limit_row(limit: Limit) -> (&'static [u8], usize)
-    ensures { (place : Place) → result.0.now ++ decimal result.1 ≡ limit_part (source.Check (check.TooMany place limit)) }
+    ensures { (place : Place) → result.0.now ++ decimal result.1
+        ≡ limit_part (source.Check (check.TooMany place limit)) }
 {
     match limit {
         Limit::Statements => (b" statements ", MOST_STATEMENTS),

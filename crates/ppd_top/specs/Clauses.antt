@@ -68,8 +68,8 @@ pub record WasAnswered (c : Call) : Type 0 where
   pub written : Wrote c (answers known commands).text
 
 -- statuses 0 and 6 of a query: the loaded recording was accepted, and what belongs to the query was written, with its
--- status; the schedule is that which belongs to it. What is known of the recording is what is known of the run, where it
--- is that of a whole one, and of each schedule that agrees with a run without a race; and so is the answer
+-- status; the schedule is that which belongs to it. What is known of the recording is what is known of the run, where
+-- it is that of a whole one, and of each schedule that agrees with a run without a race; and so is the answer
 pub record WasQueried (c : Call) : Type 0 where
   pub query : Query
   pub recording : Recording

@@ -98,7 +98,8 @@ SourcesAreRecorded =
 abbrev pub AsksLines : Call → Type 0
 AsksLines c = (name : List ℕ) × Asks c.words (on_recording name)
 
--- all that was written is, by what is told of each run whose recording was loaded, the answers to the lines of the input
+-- all that was written is, by what is told of each run whose recording was loaded, the answers to the lines of the
+-- input
 pub record DebugTells (c : Call) : Type 0 where
   pub name : List ℕ
   pub bytes : List ℕ

@@ -44,7 +44,8 @@ const USAGE: &[u8] = b"usage: ppd flow|run|debug|show|drill|slice|rerun|clean|wh
 ///
 /// `slice`, `rerun`, `clean` and `whole` test the bytes of a recording as `debug` does. Then `slice` writes what the
 /// item came from; `rerun` whether a run under the recorded synchronization is the recorded one; `clean` the item and
-/// what it came from directly, where no race touches its past; and `whole` each event of the run; or they write why not.
+/// what it came from directly, where no race touches its past; and `whole` each event of the run; or they write why
+/// not.
 ///
 /// - 0: in `flow` the source's program ran to its end, and its summary and all answers were written; in `run` its
 ///   recording was stored and its summary written; in `show` the tables of the source's program were written; in
@@ -59,9 +60,9 @@ const USAGE: &[u8] = b"usage: ppd flow|run|debug|show|drill|slice|rerun|clean|wh
 /// - 5: want of memory, and a prefix of what belongs there was written; nothing where no run came to its end. The shelf
 ///   holds what it held. It may come whatever the words are.
 /// - 6: in `debug`, `slice`, `rerun`, `clean` and `whole` the recording is refused, and the line that says why was
-///   written; or an answer needs a replay that failed (not in `rerun`; in `slice` that of any interval of a process with
-///   an item of the slice) or a write that is missing (in `debug`, `slice` and `clean`), and the answers before it and
-///   the line that says so were written.
+///   written; or an answer needs a replay that failed (not in `rerun`; in `slice` that of any interval of a process
+///   with an item of the slice) or a write that is missing (in `debug`, `slice` and `clean`), and the answers before it
+///   and the line that says so were written.
 /// - 7: in `flow` or `debug` a line has more than 4,096 bytes, and `long line` was written in place of its answer.
 /// - 8: in `flow` or `debug` there is a line number 65,537 and no `quit` before it, and `many lines` was written.
 ///

@@ -1,5 +1,5 @@
-//! The commands on a source, `flow`, `run` and `show`, and on a recording, `debug`: what is told of a run, and the lines
-//! of an input, each answered before the next is read, on a run or on a recording.
+//! The commands on a source, `flow`, `run` and `show`, and on a recording, `debug`: what is told of a run, and the
+//! lines of an input, each answered before the next is read, on a run or on a recording.
 #![tactic(auto)]
 
 mod answering;

@@ -68,7 +68,8 @@ fn put_middle(text: &mut Vec<u8>, number: u32, process: u32) -> Result<(), Memor
 
 fn put_middles(text: &mut Vec<u8>, number: u32, count: u32) -> Result<(), Memory>
     requires { count ≤ 6 }
-    ensures { OnOk result (text.new.items ≡ text.old.items ++ flat_map (middle_process number) (range_with_len 1 count)) }
+    ensures { OnOk result
+        (text.new.items ≡ text.old.items ++ flat_map (middle_process number) (range_with_len 1 count)) }
 {
     for process in 0..count {
         put_middle(text, number, process + 1)?;

@@ -56,7 +56,8 @@ pub data IsCleanBy (r : Recording) (q k j : ℕ) (found : CleanOr) : Type 0 wher
       → (t : Item) → slice_get (get_or (seen_at (seens (recorded_setting r) (cut_of r q k j)) q).items k []) j ≡ Some t
       → is_item_raced r q k j t ≡ false
       → ((es : List FlowEdge) × (found ≡ clean t es))
-      ⊎ ((m : Missing) × (found ≡ unwritten m) × IsMissingWrite r.logs (seens (recorded_setting r) (cut_of r q k j)) m) → IsCleanBy r q k j found
+      ⊎ ((m : Missing) × (found ≡ unwritten m) × IsMissingWrite r.logs (seens (recorded_setting r) (cut_of r q k j)) m)
+      → IsCleanBy r q k j found
 
 -- ---- answers
 
@@ -70,8 +71,8 @@ IsAnsweredBy r x (Clean a) schedule text = (schedule ≡ []) × ((q : ℕ) × (p
     × ((found : CleanOr) × IsCleanBy r q a.interval a.item found
     × (clean_text r.program r.plan a.item found ≡ Some text)))
 
--- or a replay that the answer needs fails: of the whole trace that of the first interval, by process and number, that is
--- told to fail; of an item in a run with races, that of some interval from the cut logs, or a write that the entry
+-- or a replay that the answer needs fails: of the whole trace that of the first interval, by process and number, that
+-- is told to fail; of an item in a run with races, that of some interval from the cut logs, or a write that the entry
 -- records is missing
 abbrev pub IsFailedBy : Recording → Known → Query → SessionError → Type 0
 IsFailedBy r x (Slice a) error = IsSliceFailure x error

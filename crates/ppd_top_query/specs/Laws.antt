@@ -10,7 +10,8 @@ use Rattle.ppd_codec_runs.specs.Recordings.{IsAccepted, IsRunRecorded}
 -- what is asked of a recording ends with status 0, or with status 6
 abbrev pub QueriesEnd : Type 0
 QueriesEnd =
-    (r : Recording) (query : Query) (schedule : List ℕ) (status : ℕ) (text : List ℕ) → Gives r query schedule status text
+    (r : Recording) (query : Query) (schedule : List ℕ) (status : ℕ) (text : List ℕ)
+    → Gives r query schedule status text
     → (status ≡ 0) ⊎ (status ≡ 6)
 
 -- of the recording of a whole run with status 0

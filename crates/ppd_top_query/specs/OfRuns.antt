@@ -26,8 +26,8 @@ use Rattle.ppd_whole.specs.WholeText.{whole_text}
 use Rattle.std.specs.List.{flat_map}
 use Rattle.std.specs.Prelude.{List, None, Some, [], slice_get, ℕ, ◌≡◌}
 
--- a slice that is not refused has a line for each item that the run's flowback edges lead to from the item that is asked
--- for, of the process of that name, and no other; the whole trace is the text of its full
+-- a slice that is not refused has a line for each item that the run's flowback edges lead to from the item that is
+-- asked for, of the process of that name, and no other; the whole trace is the text of its full
 -- trace; a run again is confirmed, by a schedule that agrees with it; and clean flowback of an item of an interval that
 -- is there is what is to be answered by the run itself
 abbrev pub IsOfRun : Setting → List ℕ → Query → (schedule text : List ℕ) → Type 0

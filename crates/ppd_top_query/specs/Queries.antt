@@ -191,8 +191,8 @@ IsFailure r (Whole workers) error = IsWholeFailure r error
 IsFailure r Rerun error = ⊥
 IsFailure r (Clean a) error = IsCleanFailure r a error
 
--- what is written in all, with which status, and the schedule that was taken: a refusal or the answer; or, where nothing
--- is refused, the line of a replay that fails
+-- what is written in all, with which status, and the schedule that was taken: a refusal or the answer; or, where
+-- nothing is refused, the line of a replay that fails
 pub data IsWritten (refused : Option (List ℕ)) (Answers : (schedule text : List ℕ) → Type 0)
     (Fails : SessionError → Type 0) (program : Program)
     : (schedule : List ℕ) → (status : ℕ) → (text : List ℕ) → Type 0 where

@@ -35,9 +35,9 @@ pub fn answers_are_of_runs()
     items_are_whole();
 }
 
-/// Law: where a query of an accepted recording fails with `Sets` at an entry, a write that the entry records is missing:
-/// the entry ends an internal edge, its write set has the cell, and no event that the replays of the query give of that
-/// edge writes the cell.
+/// Law: where a query of an accepted recording fails with `Sets` at an entry, a write that the entry records is
+/// missing: the entry ends an internal edge, its write set has the cell, and no event that the replays of the query
+/// give of that edge writes the cell.
 pub fn missing_writes_are_told()
     ensures { FailuresAreMissing }
 {}

@@ -229,8 +229,8 @@ fn request_in<'a>(given: &CommandWords<'a>) -> Option<Request<'a>>
 
 /// What the words ask for: `flow`, `run` or `show`, its options in any order, each at most once, and its names; or
 /// `debug` and its name, or `drill` and its number; or what is asked of a recording, with its name: `slice` or
-/// `clean` and an item, `rerun`, or `whole` with its option. None where they ask for nothing. The error is want of memory, and
-/// may come whatever the words are.
+/// `clean` and an item, `rerun`, or `whole` with its option. None where they ask for nothing. The error is want of
+/// memory, and may come whatever the words are.
 pub fn asked<'a>(alloc: Global, words: &'a [&'a str]) -> Result<Option<Request<'a>>, Memory>
     ensures is { IfOk result (λ o. option_map request_of o ≡ asked_for words.entry.now) }
     ensures range { IfOk result (λ o. IfSome o IsInRange) }

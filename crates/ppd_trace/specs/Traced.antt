@@ -52,7 +52,8 @@ IsTraceOfAgreeing setting h (Err e) = ⊤
 
 -- the steps of each process are its own, and few enough for 32 bits, and the processes those of the program
 pub record IsTraceable (setting : Setting) (s : Story) : Type 0 where
-  pub own : (p : ℕ) → AreOwn setting.program setting.plan (started setting.program setting.plan p setting.budget) (get_or s.steps p [])
+  pub own : (p : ℕ) → AreOwn setting.program setting.plan (started setting.program setting.plan p setting.budget)
+      (get_or s.steps p [])
   pub few : All (λ steps. length steps < 2 ^ 32) s.steps
   pub processes : setting.program.functions + length s.steps ≤ length setting.program.bodies
   pub range : setting.program.functions + length s.steps < 2 ^ 16

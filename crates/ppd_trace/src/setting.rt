@@ -25,7 +25,8 @@ impl<'a> Model for Setting<'a> {
 
     ghost view = { λ s. record { program = s.program.now; plan = s.plan.now; budget = s.budget } };
 
-    ghost invariant = { λ s. IsValidSetting (record { program = s.program.now; plan = s.plan.now; budget = s.budget }) };
+    ghost invariant = { λ s. IsValidSetting
+        (record { program = s.program.now; plan = s.plan.now; budget = s.budget }) };
 }
 
 impl<'a> Setting<'a> {

@@ -138,8 +138,8 @@ fn trace_steps<L: Ledger>(
         → tracer.old ≡ tracer_of first
         → tracer.new
         ≡ tracer_of
-        (fold (step_of subject.now.program.now subject.now.plan.now subject.now.told.now.story subject.now.process) first
-        own.now)) }
+        (fold (step_of subject.now.program.now subject.now.plan.now subject.now.told.now.story subject.now.process)
+        first own.now)) }
     ensures cost { steps.new
         ≤ steps.old + (3 * most_statement_cells subject.now.program.now + 12) * length own.now }
 {
@@ -165,8 +165,8 @@ pub(crate) fn trace_process<L: Ledger>(
     requires own { AreOwn subject.now.program.now subject.now.plan.now (started_with subject.now budget) own.now }
     ensures events { IfOk result
         (λ events. events
-        ≡ (tracing_of (setting_of subject.now.program.now subject.now.plan.now budget) subject.now.told.now.story subject.now.process
-        own.now).events) }
+        ≡ (tracing_of (setting_of subject.now.program.now subject.now.plan.now budget)
+        subject.now.told.now.story subject.now.process own.now).events) }
     ensures cost { steps.new
         ≤ steps.old + 2 + 2 * body_size subject.now
         + (3 * most_statement_cells subject.now.program.now + 12) * length own.now }

@@ -149,7 +149,8 @@ pub fn events_of_all<'a>(
 
 /// Whether the events of each process have 32-bit numbers.
 pub fn are_few(events: &[Vec<&Event>]) -> bool
-    ensures { IsTrue result → (q : ℕ) → length (get_or (map (λ es. map (λ e. e.now) es.items) events.now) q []) < 2 ^ 32 }
+    ensures { IsTrue result
+        → (q : ℕ) → length (get_or (map (λ es. map (λ e. e.now) es.items) events.now) q []) < 2 ^ 32 }
 {
     for own in events {
         if own.len() >= 4294967296 {

@@ -20,7 +20,8 @@ fn tag_finished<L: Ledger>(
 ) -> Result<(), Memory>
     ensures { OnOk result
         (runs.new
-        ≡ tagged_by_kind at.now.program.now at.now.call tag event.now (kind_of at.now.program.now event.now.stmt) runs.old) }
+        ≡ tagged_by_kind at.now.program.now at.now.call tag event.now
+        (kind_of at.now.program.now event.now.stmt) runs.old) }
 {
     match at.program.stmts.as_slice().get(event.stmt as usize) {
         Some(stmt) => tag_kind(at, tag, event, &stmt.kind, runs, steps),
@@ -36,7 +37,8 @@ pub(crate) fn tag_event<L: Ledger>(
     runs: &mut Stack<Run>,
     steps: &mut Steps<L>,
 ) -> Result<(), Memory>
-    ensures { OnOk result (runs.new ≡ tagged_unless event.now.trap at.now.program.now at.now.call tag event.now runs.old) }
+    ensures { OnOk result
+        (runs.new ≡ tagged_unless event.now.trap at.now.program.now at.now.call tag event.now runs.old) }
 {
     match event.trap {
         Some(_) => Ok(()),

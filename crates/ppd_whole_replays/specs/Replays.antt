@@ -17,5 +17,6 @@ AreReplays past ms (Err e) = IsFailure past ms e
 -- the first of these answers that is a failure is this one, or it is want of memory
 abbrev pub StopsAt : List (Result (List Item) WholeError) → WholeError → Type 0
 StopsAt xs (Diverged p n) =
-    (rows : List (List Item)) × (ys : List (Result (List Item) WholeError)) × (xs ≡ map Ok rows ++ Err (Diverged p n) ∷ ys)
+    (rows : List (List Item)) × (ys : List (Result (List Item) WholeError))
+    × (xs ≡ map Ok rows ++ Err (Diverged p n) ∷ ys)
 StopsAt xs Memory = ⊤

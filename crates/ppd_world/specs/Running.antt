@@ -34,7 +34,8 @@ begun setting = record {
 abbrev pub stepped : Running → ℕ → Running
 stepped r p = record r {
   world = step r.setting.program r.setting.plan r.world p;
-  loggings = change (λ l. log_step r.setting.program r.setting.plan l (logged_moment r.setting.program r.setting.plan r.world p)) p r.loggings;
+  loggings = change (λ l. log_step r.setting.program r.setting.plan l
+      (logged_moment r.setting.program r.setting.plan r.world p)) p r.loggings;
 }
 
 -- what is left when nobody can take a step

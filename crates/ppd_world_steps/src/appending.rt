@@ -168,7 +168,8 @@ pub fn push_unit(
 ) -> Result<(), Memory>
     ensures { OnOk result
         (entries.new.items ≡ entries.old.items
-        ++ units (unit_started_of need) (option_map_or (values_of_unit code.now.plan.now shared.now) (unit_started_of need) [])) }
+        ++ units (unit_started_of need)
+        (option_map_or (values_of_unit code.now.plan.now shared.now) (unit_started_of need) [])) }
 {
     match unit_started(need) {
         Some(unit) => {

@@ -53,7 +53,8 @@ pub fn can_complete(chans: &[Channel], chan: u8) -> bool
 
 /// Whether the channel is there and fewer were received from it than sent.
 pub fn can_receive(chans: &[Channel], chan: u8) -> bool
-    ensures { result ≡ option_map_or (λ (x : Channel). nat_lt x.received (length x.sent)) (slice_get chans.now chan) false }
+    ensures { result ≡ option_map_or (λ (x : Channel). nat_lt x.received (length x.sent))
+        (slice_get chans.now chan) false }
 {
     match chans.get(chan as usize) {
         Some(channel) => (channel.received as usize) < channel.sent.len(),
@@ -63,7 +64,8 @@ pub fn can_receive(chans: &[Channel], chan: u8) -> bool
 
 /// The value that is received next from this channel, and 0 where there is none.
 pub fn next_value(chans: &[Channel], chan: u8) -> i64
-    ensures { result ≡ option_map_or (λ (x : Channel). get_or x.sent x.received (pos 0)) (slice_get chans.now chan) (pos 0) }
+    ensures { result ≡ option_map_or (λ (x : Channel). get_or x.sent x.received (pos 0))
+        (slice_get chans.now chan) (pos 0) }
 {
     match chans.get(chan as usize) {
         Some(channel) => value_at(channel.sent.as_slice(), channel.received as usize),

@@ -54,7 +54,8 @@ opening_of setting p moments zero =
       proc = started setting.program setting.plan p setting.budget;
       rest = moments;
     })
-opening_of setting p moments (suc k) = opening setting.program setting.plan (started setting.program setting.plan p setting.budget) moments k
+opening_of setting p moments (suc k) =
+    opening setting.program setting.plan (started setting.program setting.plan p setting.budget) moments k
 
 -- what is to come in it
 abbrev pub coming_in : Program → Plan → ℕ → Opening → Coming

@@ -53,6 +53,7 @@ AreRead plan xs (m ∷ ms) = IsRead xs m m.taken.need × AreRead plan (in_force_
 abbrev pub ReadsAreInForce : Type 0
 ReadsAreInForce =
     (program : Program) (policy : Policy) (budget : ℕ) (h : List ℕ) (w : World) (p : ℕ)
-    → IsValid program → run (setting_by program policy budget) h ≡ Some w → races (setting_by program policy budget) h ≡ []
+    → IsValid program → run (setting_by program policy budget) h ≡ Some w
+    → races (setting_by program policy budget) h ≡ []
     → AreRead (plan_of program policy) (begun_in_force program (plan_of program policy) p)
     (get_or (told (setting_by program policy budget) h).moments p [])

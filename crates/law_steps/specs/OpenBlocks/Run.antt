@@ -30,11 +30,14 @@ IsNumbered false number = number ≡ None
 abbrev pub IsRun : Program → Plan → Proc → List Moment → Type 0
 IsRun program plan s [] = s.status ≡ None → is_some (kind_of_sync (need_of program plan s)) ≡ true
 IsRun program plan s (m ∷ ms) =
-    (m.taken.need ≡ need_of program plan s) × IsGiven m.taken.need m.taken.answer × IsNumbered (is_some (kind_of_sync m.taken.need)) m.taken.number
+    (m.taken.need ≡ need_of program plan s) × IsGiven m.taken.need m.taken.answer
+    × IsNumbered (is_some (kind_of_sync m.taken.need)) m.taken.number
     × IsRun program plan (act program plan s m.taken.answer) ms
 
 -- so it is with each process of a whole schedule
 abbrev pub SchedulesAreRuns : Type 0
 SchedulesAreRuns =
-    (setting : Setting) (h : List ℕ) (p : ℕ) → IsValid setting.program → IsWhole setting h → setting.program.functions + p < length setting.program.bodies
-    → IsRun setting.program setting.plan (started setting.program setting.plan p setting.budget) (get_or (told setting h).moments p [])
+    (setting : Setting) (h : List ℕ) (p : ℕ) → IsValid setting.program → IsWhole setting h
+    → setting.program.functions + p < length setting.program.bodies
+    → IsRun setting.program setting.plan (started setting.program setting.plan p setting.budget)
+    (get_or (told setting h).moments p [])

@@ -26,7 +26,8 @@ use Rattle.ppd_model.specs.Marks.{Mark, opened, closed}
 -- the bodies that the returns to come leave, the next first
 abbrev pub returning : Program → List Todo → List ℕ
 returning program [] = []
-returning program (t ∷ ts) = (if returns (kind_of program t.stmt) then body_of program t.stmt ∷ [] else []) ++ returning program ts
+returning program (t ∷ ts) =
+    (if returns (kind_of program t.stmt) then body_of program t.stmt ∷ [] else []) ++ returning program ts
 
 -- the block of a loop that is entered
 abbrev pub entered_block : Program → Plan → Todo → List ℕ
@@ -34,12 +35,16 @@ entered_block program plan t = if t.entered then option_to_list (loop_of plan t.
 
 -- the block of the function that a return leaves
 abbrev pub returned_block : Program → Plan → Todo → List ℕ
-returned_block program plan t = if returns (kind_of program t.stmt) then option_to_list (block_of plan (block.Function (body_of program t.stmt))) else []
+returned_block program plan t =
+    if returns (kind_of program t.stmt)
+    then option_to_list (block_of plan (block.Function (body_of program t.stmt)))
+    else []
 
 -- the blocks that these statements close, the next first
 abbrev pub open_blocks : Program → Plan → List Todo → List ℕ
 open_blocks program plan [] = []
-open_blocks program plan (t ∷ ts) = (entered_block program plan t ++ returned_block program plan t) ++ open_blocks program plan ts
+open_blocks program plan (t ∷ ts) =
+    (entered_block program plan t ++ returned_block program plan t) ++ open_blocks program plan ts
 
 -- the block of process p
 abbrev pub process_block : Program → Plan → ℕ → ℕ
@@ -55,7 +60,8 @@ stack program plan p s = open_blocks program plan s.todo ++ process_block progra
 abbrev pub block_frames : Plan → List Frame → ℕ
 block_frames plan [] = 0
 block_frames plan (f ∷ []) = 0
-block_frames plan (f ∷ g ∷ fs) = (if is_some (block_of plan (block.Function f.body)) then 1 else 0) + block_frames plan (g ∷ fs)
+block_frames plan (f ∷ g ∷ fs) =
+    (if is_some (block_of plan (block.Function f.body)) then 1 else 0) + block_frames plan (g ∷ fs)
 
 -- ---- the states of a process
 
@@ -76,10 +82,20 @@ Moves None None s before after = before ≡ after
 -- each process begins in order with its own block alone, and each step of a running one keeps the order and
 -- opens and closes as it says; the functions that are open are those of the frames
 pub record StepsMoveBlocks : Type 0 where
-  pub starts : (program : Program) (plan : Plan) (p budget : ℕ) → IsValid program → program.functions + p < length program.bodies → IsInOrder program plan p (started program plan p budget)
-  pub alone : (program : Program) (plan : Plan) (p budget : ℕ) → IsValid program → stack program plan p (started program plan p budget) ≡ process_block program plan p ∷ []
-  pub stays : (program : Program) (plan : Plan) (p : ℕ) (s : Proc) (a : Answer) → IsValid program → IsInOrder program plan p s → IsInOrder program plan p (act program plan s a)
-  pub moves : (program : Program) (plan : Plan) (p : ℕ) (s : Proc) (a : Answer) → IsValid program → IsInOrder program plan p s → s.status ≡ None
-      → Moves (opened program plan s (need_of program plan s)) (closed program plan s (need_of program plan s)) (status_of (need_of program plan s)) (stack program plan p s) (stack program plan p (act program plan s a))
-  pub depth : (program : Program) (policy : Policy) (p : ℕ) (s : Proc) → IsValid program → program.functions + p < length program.bodies → IsInOrder program (plan_of program policy) p s
-      → functions_in (plan_of program policy) (stack program (plan_of program policy) p s) ≡ block_frames (plan_of program policy) s.frames
+  pub starts : (program : Program) (plan : Plan) (p budget : ℕ) → IsValid program
+      → program.functions + p < length program.bodies
+      → IsInOrder program plan p (started program plan p budget)
+  pub alone : (program : Program) (plan : Plan) (p budget : ℕ) → IsValid program
+      → stack program plan p (started program plan p budget) ≡ process_block program plan p ∷ []
+  pub stays : (program : Program) (plan : Plan) (p : ℕ) (s : Proc) (a : Answer) → IsValid program
+      → IsInOrder program plan p s → IsInOrder program plan p (act program plan s a)
+  pub moves : (program : Program) (plan : Plan) (p : ℕ) (s : Proc) (a : Answer) → IsValid program
+      → IsInOrder program plan p s → s.status ≡ None
+      → Moves (opened program plan s (need_of program plan s)) (closed program plan s (need_of program plan s))
+      (status_of (need_of program plan s)) (stack program plan p s)
+      (stack program plan p (act program plan s a))
+  pub depth : (program : Program) (policy : Policy) (p : ℕ) (s : Proc) → IsValid program
+      → program.functions + p < length program.bodies
+      → IsInOrder program (plan_of program policy) p s
+      → functions_in (plan_of program policy) (stack program (plan_of program policy) p s)
+      ≡ block_frames (plan_of program policy) s.frames
