@@ -1,4 +1,5 @@
--- The costs of a run under the plan of a policy, which lists all parameters of its functions' blocks.
+-- The setting of a program under the plan of a policy, and the costs of its runs: the plan lists all parameters of its
+-- functions' blocks.
 use Rattle.ppd_model.specs.Setting.{Setting}
 use Rattle.std.specs.Prelude.{◌≡◌, ℕ, List, slice_get, Some}
 use Rattle.ppd_ast.specs.Valid.{IsValid}
