@@ -1,5 +1,5 @@
 // A recording run again under its own synchronization.
-ghost use Rattle.ppd_model.specs.Setting.{setting_of};
+ghost use Rattle.ppd_codec_runs.specs.Recordings.{recorded_setting};
 ghost use Rattle.std.specs.Prelude.{◌≡◌, ◌<◌, IfErr, IfOk};
 ghost use Rattle.ppd_rerun_model.specs.Verdicts.{IsVerdict};
 ghost use Rattle.ppd_session.specs.declared.reply.SessionError.TheVariants as session_error;
@@ -23,8 +23,7 @@ fn counted<L: Ledger>(alloc: Global, recalled: &Recalled, blank: Blank) -> Resul
     requires parts { blank.parts ≡ L.parts }
     requires some { 0 < blank.parts }
     requires recording { IsAskable recalled.now }
-    ensures { IfOk result (λ v. IsVerdict (setting_of recalled.now.recording.program recalled.now.recording.plan
-        recalled.now.recording.header.budget) recalled.now.recording.logs v) }
+    ensures { IfOk result (λ v. IsVerdict (recorded_setting recalled.now.recording) recalled.now.recording.logs v) }
 {
     let mut steps: Steps<L> = Steps::new(blank);
     let recording = &recalled.recording;
@@ -42,8 +41,7 @@ fn counted<L: Ledger>(alloc: Global, recalled: &Recalled, blank: Blank) -> Resul
 /// The verdict, with steps that nobody reads.
 fn verdict_on(alloc: Global, recalled: &Recalled) -> Result<Verdict, Memory>
     requires { IsAskable recalled.now }
-    ensures { IfOk result (λ v. IsVerdict (setting_of recalled.now.recording.program recalled.now.recording.plan
-        recalled.now.recording.header.budget) recalled.now.recording.logs v) }
+    ensures { IfOk result (λ v. IsVerdict (recorded_setting recalled.now.recording) recalled.now.recording.logs v) }
 {
     counted::<Brand>(alloc, recalled, Blank::new(1))
 }
