@@ -8,7 +8,7 @@ use Rattle.ppd_session.specs.Known.{Known, known_of_run, known_of_story}
 use Rattle.law_headline.proofs.Below.{Below}
 use Rattle.law_headline.specs.Answered.{AreEdgesOf, AreValuesOf, MissesNoEdge}
 use Rattle.law_headline.specs.Headline.{Headline}
-use Rattle.law_headline.specs.Runs.{AgreesWith, Run, plan_in, setting_in}
+use Rattle.law_headline.specs.Runs.{AgreesWith, Run, setting_in}
 use Rattle.law_headline.proofs.Edges.{edges_are, misses_none}
 use Rattle.law_headline.proofs.Few.{replays_few}
 use Rattle.law_headline.proofs.Listed.{races_listed}

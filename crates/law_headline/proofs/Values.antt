@@ -21,7 +21,7 @@ use Rattle.ppd_session.proofs.Tables.{cell_at}
 use Rattle.law_whole.specs.Joined.{events_in, events_of_items, joined}
 use Rattle.law_whole.specs.Laws.{JoinedAreEvents, bare}
 use Rattle.law_headline.specs.Answered.{AreValuesOf, events_told, items_told, told_if}
-use Rattle.law_headline.specs.Runs.{Run, plan_in, splits_in, story_in, setting_in}
+use Rattle.law_headline.specs.Runs.{Run, splits_in, story_in, setting_in}
 use Rattle.law_headline.proofs.Tables.{told_in, told_in_span, told_row}
 use Rattle.ppd_session.proofs.KnownWords.{of_cells, last_told}
 

@@ -5,7 +5,7 @@ use Rattle.ppd_model.specs.Schedule.{IsWhole}
 use Rattle.ppd_session.specs.Known.{Known}
 use Rattle.law_headline.specs.Answered.{AreEdgesOf, AreValuesOf, MissesNoEdge}
 use Rattle.law_headline.specs.Replayed.{AreByReExecuting}
-use Rattle.law_headline.specs.Runs.{AgreesWith, Run, plan_in, story_in, setting_in}
+use Rattle.law_headline.specs.Runs.{AgreesWith, Run, story_in, setting_in}
 use Rattle.law_headline.specs.Unordered.{ListsExactly}
 
 -- what the headline says of a run and of what is told of it: of its source, program and schedule, of its race report,

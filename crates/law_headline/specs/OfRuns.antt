@@ -3,7 +3,7 @@ use Rattle.ppd_check.specs.Read.{IsRead}
 use Rattle.ppd_model.specs.Schedule.{IsWhole}
 use Rattle.ppd_session.specs.Known.{known_of_run}
 use Rattle.law_headline.specs.Headline.{Headline}
-use Rattle.law_headline.specs.Runs.{Run, plan_in, setting_in}
+use Rattle.law_headline.specs.Runs.{Run, setting_in}
 
 abbrev pub RunsHaveTheHeadline : Type 0
 RunsHaveTheHeadline =

@@ -1,12 +1,12 @@
 -- What an item of a run comes from is an item of the run, so that there are no more levels than items.
 use Rattle.ppd_model.specs.Setting.{Setting}
-use Rattle.std.proofs.Common.{◌≡◌, ℕ, zero, suc, ◌+◌, ◌<◌, ◌≤◌, ℤ, Bool, true, false, List, [], ◌∷◌, ◌++◌, Option, Some, None, refl, ap, ap₂, sym, subst, ◌∙◌, arith, length, length-append, map, inl, inr, ◌⊎◌, cond}
+use Rattle.std.proofs.Common.{◌≡◌, ℕ, zero, suc, ◌+◌, ℤ, Bool, true, false, List, [], ◌∷◌, ◌++◌, Option, Some, None, refl, ap, ap₂, sym, subst, ◌∙◌, arith, length, length-append, map, inl, inr, cond}
 use Rattle.ppd_sem.specs.declared.event.Spot.TheVariants.{Local}
 use Rattle.ppd_sem.specs.declared.event.Spot.{Spot}
 use Rattle.ppd_model.specs.declared.flow.EdgeKind.{EdgeKind}
 use Rattle.std.specs.Option.{option_map_or}
 use Rattle.std.specs.Prelude.{⊤, position, slice_get, sum_by, zip, option_map, unwrap_or}
-use Rattle.std.specs.List.{flat_map, position_from}
+use Rattle.std.specs.List.{position_from}
 use Rattle.std.proofs.lemmas.List.Sums.{sum_by-cons}
 use Rattle.std.proofs.lemmas.Option.{none-some}
 use Rattle.std.proofs.lemmas.Iterator.Adapters.{position_from-zero}
@@ -27,15 +27,14 @@ use Rattle.ppd_model.specs.declared.trace.EventId.{EventId}
 use Rattle.ppd_model.specs.declared.trace.TracedEvent.{TracedEvent}
 use Rattle.ppd_model.specs.declared.tracing.Story.{Story}
 use Rattle.ppd_model.specs.FlowbackEdges.{bare_edge, edges, edges_of_event, edges_of_nested, edges_of_part, part_at, result_edges, sync_edges, value_edges}
-use Rattle.ppd_model.proofs.EdgeWords.{edges_if, edges_in, part_in, read_edge}
+use Rattle.ppd_model.proofs.EdgeWords.{edges_if, edges_in, read_edge}
 use Rattle.ppd_model.specs.FullTrace.{Tag}
 use Rattle.ppd_model.specs.Intervals.{Part, own, nested, Span, Split, is_own, place_in, ref, splits}
 use Rattle.ppd_model.proofs.IntervalWords.{item_at, place_or, ref_in}
 use Rattle.ppd_slice_search.specs.declared.reached.ItemAt.{ItemAt}
 use Rattle.ppd_slice_search.specs.Reach.{IsIn, IsReach, at, place_of, places_of}
-use Rattle.ppd_slice_search.specs.Levels.{reached}
 use Rattle.ppd_slice_search.specs.OfRuns.{count_items, items_of_process, origins, reach}
-use Rattle.ppd_slice_search.proofs.Levels.{in_back, in_both, in_flat, in_front, levels_reach}
+use Rattle.ppd_slice_search.proofs.Levels.{in_back, in_both, in_front, levels_reach}
 
 -- ---- all items
 

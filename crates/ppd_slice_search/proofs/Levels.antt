@@ -3,12 +3,12 @@ use Rattle.std.proofs.lemmas.List.Elements.{All-from_recursion}
 use Rattle.std.proofs.lemmas.List.Kept.{AllPairs-cons}
 use Rattle.std.proofs.Common.{◌≡◌, ℕ, zero, suc, ◌+◌, ◌<◌, ◌≤◌, Bool, true, false, List, [], ◌∷◌, ◌++◌, refl, ap, ap₂, sym, subst, ◌∙◌, arith, length, length-append, map, filter, cond, inl, inr, ◌⊎◌, true≢false}
 use Rattle.std.specs.Prelude.{⊤, fold, nat_eq, nat_lt, not, ◌&&◌, ◌||◌, if◌then◌else◌, AllPairs}
-use Rattle.std.specs.List.{flat_map, list_any, AllByRecursion}
+use Rattle.std.specs.List.{flat_map, AllByRecursion}
 use Rattle.std.proofs.lemmas.Bool.{and_parts, cases_eq, cases_lt, eq-eqb, eqb-true, le-ltb, lt-ltb, ltb-true, or_cases}
 use Rattle.ppd_slice_search.specs.declared.reached.ItemAt.{ItemAt}
 use Rattle.ppd_slice_search.specs.declared.reached.Reached.{Reached}
 use Rattle.ppd_slice_search.specs.Laws.{LevelsAreReach}
-use Rattle.ppd_slice_search.specs.Levels.{at_depth, is_among, is_item, is_sooner, levels, next_level, put_item, reached, sorted}
+use Rattle.ppd_slice_search.specs.Levels.{at_depth, is_among, is_item, is_sooner, levels, next_level, put_item, reached}
 use Rattle.ppd_slice_search.specs.Reach.{IsBefore, IsIn, IsReach, Leads, at, comes, item_of, stays}
 
 -- item a comes before item b: by process, then interval, then number

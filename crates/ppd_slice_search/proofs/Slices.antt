@@ -1,11 +1,11 @@
 -- An item has one slice: two rising lists with the same elements are equal.
 use Rattle.std.proofs.lemmas.List.Elements.{recursion_from_All}
-use Rattle.std.proofs.Common.{◌≡◌, ℕ, zero, suc, ◌+◌, ◌<◌, ◌≤◌, List, [], ◌∷◌, refl, ap, ap₂, sym, subst, ◌∙◌, arith, inl, inr, ◌⊎◌}
-use Rattle.std.specs.Prelude.{⊤, AllPairs}
+use Rattle.std.proofs.Common.{◌≡◌, ℕ, suc, ◌≤◌, List, [], ◌∷◌, refl, ap₂, sym, subst, ◌∙◌, arith, inl, inr}
+use Rattle.std.specs.Prelude.{AllPairs}
 use Rattle.ppd_slice_search.specs.declared.reached.ItemAt.{ItemAt}
 use Rattle.ppd_slice_search.specs.declared.reached.Reached.{Reached}
 use Rattle.ppd_slice_search.specs.Laws.{SlicesAreOne}
-use Rattle.ppd_slice_search.specs.Reach.{IsBefore, IsIn, IsReach, Leads, at, item_of}
+use Rattle.ppd_slice_search.specs.Reach.{IsBefore, IsIn, IsReach, Leads, item_of}
 use Rattle.ppd_slice_search.proofs.Levels.{AllAfter, IsSooner}
 
 sooner_not : (a b : ItemAt) → IsSooner a b → IsSooner b a → ⊥

@@ -28,7 +28,7 @@ use Rattle.ppd_top_query.specs.Queries.{Gives, IsAnswer, IsFailure, clean_of, cu
 use Rattle.ppd_top_requests.specs.Questions.{Query}
 use Rattle.ppd_top_query.specs.Queries.IsWritten.{answers, fails, refuses}
 use Rattle.ppd_top_requests.specs.Questions.Query.{Clean, Rerun, Slice, Whole}
-use Rattle.std.proofs.Common.{Bool, Err, List, None, Ok, Option, Result, Some, ap, false, inl, inr, refl, subst, sym, true, ℕ, ◌∙◌, ◌≡◌, ◌⊎◌}
+use Rattle.std.proofs.Common.{Bool, Err, List, None, Ok, Option, Result, Some, ap, false, inl, inr, refl, subst, sym, true, ℕ, ◌∙◌, ◌≡◌}
 use Rattle.std.specs.Prelude.{[], get_or, if◌then◌else◌, nat_le, slice_get}
 
 module _ (r : Recording) (q k j : ℕ) where

@@ -9,7 +9,6 @@ use Rattle.ppd_codec.specs.declared.recording.Recording.{Recording}
 use Rattle.ppd_codec_runs.specs.Recordings.{IsAccepted, known_of, recorded_setting}
 use Rattle.ppd_entry.specs.declared.entry.At.{At}
 use Rattle.ppd_flow_model.specs.Ends.{first_edge}
-use Rattle.ppd_flow_model.specs.Seen.{Seen}
 use Rattle.ppd_flow_model.specs.Shared.{Missing, seen_at}
 use Rattle.ppd_model.specs.RecordedSets.{record_in}
 use Rattle.ppd_model.specs.declared.flow.FlowEdge.{FlowEdge}

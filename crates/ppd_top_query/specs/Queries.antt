@@ -37,7 +37,7 @@ use Rattle.ppd_whole.specs.Intervals.{intervals_from}
 use Rattle.ppd_whole.specs.WholeText.{whole_text}
 use Rattle.std.specs.List.{flat_map}
 use Rattle.std.specs.Option.{option_map_or, option_or}
-use Rattle.std.specs.Prelude.{Err, List, None, Ok, Option, Some, [], codes, decimal, false, get_or, if◌then◌else◌, length, nat_lt, ℕ, ◌++◌, ◌∷◌, ◌≡◌}
+use Rattle.std.specs.Prelude.{Err, List, None, Ok, Option, Some, [], codes, decimal, false, get_or, if◌then◌else◌, length, nat_lt, ℕ, ◌++◌, ◌≡◌}
 use Rattle.std.specs.Result.{result_unwrap_or}
 
 -- ---- refusals, each with what stands in its place where it does not apply

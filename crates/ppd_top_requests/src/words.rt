@@ -6,7 +6,7 @@ ghost use Rattle.ppd_top_requests.specs.Questions.{asked_of as item_asked, query
 ghost use Rattle.ppd_top_requests.specs.Questions.Query.{Clean as clean_asked, Slice as slice_asked, Whole as whole_asked};
 ghost use Rattle.ppd_top_requests.specs.Words.{AreInRange};
 ghost use Rattle.ppd_top_words.specs.declared.commands.Command.TheVariants as word;
-ghost use Rattle.std.specs.Prelude.{IfOk, IfSome, None, Some, codes, option_map, ◌<◌, ◌≡◌, ◌≤◌};
+ghost use Rattle.std.specs.Prelude.{IfOk, IfSome, None, Some, codes, option_map, ◌≡◌, ◌≤◌};
 
 use crate::options::Options;
 use crate::query::{AskedItem, Query};
