@@ -89,21 +89,21 @@ abbrev pub query_by : (Text → Option Text) → Option Query → Option Request
 query_by v query = option_and_then (λ q. option_map (λ name. on_query name q) (name_in (v (codes "recording")))) query
 
 -- what each command asks for: `whole` by 1 to 64 workers, and by 8 where the option was not given
-abbrev pub asked_of : Word → (Text → Option Text) → Option Request
-asked_of word.Flow v = asked_by (Some Flow) v
-asked_of word.Run v = asked_by (option_map Run (name_in (v (codes "recording")))) v
-asked_of word.Debug v = option_map on_recording (name_in (v (codes "recording")))
-asked_of word.Show v = asked_by (Some Show) v
-asked_of word.Drill v =
+abbrev pub asked_by_word : Word → (Text → Option Text) → Option Request
+asked_by_word word.Flow v = asked_by (Some Flow) v
+asked_by_word word.Run v = asked_by (option_map Run (name_in (v (codes "recording")))) v
+asked_by_word word.Debug v = option_map on_recording (name_in (v (codes "recording")))
+asked_by_word word.Show v = asked_by (Some Show) v
+asked_by_word word.Drill v =
     option_map on_number (number_in None 0 MOST_DRILL (v (codes "number")))
-asked_of word.Slice v = query_by v (option_map Slice (item_in v))
-asked_of word.Rerun v = query_by v (Some Rerun)
-asked_of word.Clean v = query_by v (option_map Clean (item_in v))
-asked_of word.Whole v = query_by v (option_map Whole (number_in (Some 8) 1 64 (v (codes "workers"))))
+asked_by_word word.Slice v = query_by v (option_map Slice (item_in v))
+asked_by_word word.Rerun v = query_by v (Some Rerun)
+asked_by_word word.Clean v = query_by v (option_map Clean (item_in v))
+asked_by_word word.Whole v = query_by v (option_map Whole (number_in (Some 8) 1 64 (v (codes "workers"))))
 
 -- what the words ask for: the command that they give, with numbers within their limits and names that are not empty
 abbrev pub asked : List (Bor Text) → Option Request
-asked words = option_and_then (λ given. asked_of given.0 (λ id. value_of id given.1)) (command_gives (texts words))
+asked words = option_and_then (λ given. asked_by_word given.0 (λ id. value_of id given.1)) (command_gives (texts words))
 
 -- the words ask for this
 abbrev pub Asks : List (Bor (List ℕ)) → Request → Type 0

@@ -1,8 +1,8 @@
 // What the words of the command line ask for.
 ghost use Rattle.clap.specs.Matches.{first_value, found_of};
-ghost use Rattle.ppd_top_requests.specs.Words.{IsInRange, asked as asked_for, asked_by, asked_of, command_of, item_in, name_in, number_in as number_for, options_in as options_for, query_by, request_of};
+ghost use Rattle.ppd_top_requests.specs.Words.{IsInRange, asked as asked_for, asked_by, asked_by_word, command_of, item_in, name_in, number_in as number_for, options_in as options_for, query_by, request_of};
 ghost use Rattle.ppd_top_requests.specs.Words.Command.{Run as run_asked};
-ghost use Rattle.ppd_top_requests.specs.Questions.{asked_of as item_asked, query_of};
+ghost use Rattle.ppd_top_requests.specs.Questions.{asked_of, query_of};
 ghost use Rattle.ppd_top_requests.specs.Questions.Query.{Clean as clean_asked, Slice as slice_asked, Whole as whole_asked};
 ghost use Rattle.ppd_top_requests.specs.Words.{AreInRange};
 ghost use Rattle.ppd_top_words.specs.declared.commands.Command.TheVariants as word;
@@ -138,7 +138,8 @@ fn on_source<'a>(command: Option<Command<'a>>, given: &CommandWords<'a>) -> Opti
 
 /// The command `debug`, with the name of its recording.
 fn on_recording<'a>(given: &CommandWords<'a>) -> Option<Request<'a>>
-    ensures request { option_map request_of result ≡ asked_of word.Debug (first_value (found_of given.now.matches)) }
+    ensures request { option_map request_of result ≡ asked_by_word word.Debug
+        (first_value (found_of given.now.matches)) }
     ensures range { IfSome result IsInRange }
 {
     let name = name_of(given, "recording")?;
@@ -147,7 +148,8 @@ fn on_recording<'a>(given: &CommandWords<'a>) -> Option<Request<'a>>
 
 /// The command `drill`, with its number.
 fn on_number<'a>(given: &CommandWords<'a>) -> Option<Request<'a>>
-    ensures request { option_map request_of result ≡ asked_of word.Drill (first_value (found_of given.now.matches)) }
+    ensures request { option_map request_of result ≡ asked_by_word word.Drill
+        (first_value (found_of given.now.matches)) }
     ensures range { IfSome result IsInRange }
 {
     let word = given.value("number")?;
@@ -157,7 +159,7 @@ fn on_number<'a>(given: &CommandWords<'a>) -> Option<Request<'a>>
 
 /// An item of a recording, by the words of its process, interval and number.
 fn item_of<'a>(given: &CommandWords<'a>) -> Option<AskedItem<'a>>
-    ensures { option_map item_asked result ≡ item_in (first_value (found_of given.now.matches)) }
+    ensures { option_map asked_of result ≡ item_in (first_value (found_of given.now.matches)) }
 {
     let process = name_of(given, "process")?;
     let interval = item_number_of(given, "interval")?;
@@ -210,7 +212,7 @@ fn whole_of<'a>(given: &CommandWords<'a>) -> Option<Query<'a>>
 
 /// The request of a command with its words, if its numbers and names are right.
 fn request_in<'a>(given: &CommandWords<'a>) -> Option<Request<'a>>
-    ensures request { option_map request_of result ≡ asked_of given.now.command
+    ensures request { option_map request_of result ≡ asked_by_word given.now.command
         (first_value (found_of given.now.matches)) }
     ensures range { IfSome result IsInRange }
 {

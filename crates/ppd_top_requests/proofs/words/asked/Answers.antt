@@ -4,7 +4,7 @@ use Rattle.ppd_top_words.specs.declared.commands.Command.{Command as Word}
 use Rattle.ppd_top_words.specs.Words.{Uses, texts, value_of}
 use Rattle.ppd_top_words.specs.Reads.{ReadsCommand}
 use Rattle.ppd_top_words.specs.Commands.{command_gives}
-use Rattle.ppd_top_requests.specs.Words.{asked_of}
+use Rattle.ppd_top_requests.specs.Words.{asked_by_word}
 use Rattle.ppd_top_requests.proofs.words.asked.Goals as goal
 
 pub returns-in-Some-clause-is : goal.returns-in-Some-clause-is
@@ -12,4 +12,4 @@ returns-in-Some-clause-is c =
     let words : List (List ℕ) = texts c.args.words.now in
     let r : ReadsCommand words c.in-Some.given =
     subst (λ o. MatchOption o (command_gives words ≡ None) (ReadsCommand words)) c.in-Some.is c.in_ok-read_command.ensures in
-    c.request_in.ensures.request ∙ ((λ i. asked_of c.in-Some.given.command (λ id. r.value id i)) ∙ sym (ap (option_and_then (λ (given : Word × Uses). asked_of given.0 (λ id. value_of id given.1))) r.is))
+    c.request_in.ensures.request ∙ ((λ i. asked_by_word c.in-Some.given.command (λ id. r.value id i)) ∙ sym (ap (option_and_then (λ (given : Word × Uses). asked_by_word given.0 (λ id. value_of id given.1))) r.is))
