@@ -67,6 +67,21 @@ impl Writer {
         Ok(())
     }
 
+    /// A byte, and another behind it.
+    fn two_bytes<L: Ledger>(
+        &mut self,
+        first: u8,
+        second: u8,
+        steps: &mut Steps<L>,
+    ) -> Result<(), Memory>
+        ensures ok { OnOk result
+            (self.new.out.items ≡ self.old.out.items ++ (byte_form.bytes first ++ byte_form.bytes second)) }
+        ensures cost { steps.new + length self.old.out.items ≤ steps.old + length self.new.out.items }
+    {
+        self.byte(first, steps)?;
+        self.byte(second, steps)
+    }
+
     /// The number of a block or a unit, and its values, after a tag.
     fn numbered<L: Ledger>(
         &mut self,
@@ -101,8 +116,7 @@ impl Writer {
             ++ ((number_form w32).bytes number ++ value_form.bytes value))))) }
         ensures cost { steps.new + length self.old.out.items ≤ steps.old + length self.new.out.items }
     {
-        self.byte(3, steps)?;
-        self.byte(kind_code(kind), steps)?;
+        self.two_bytes(3, kind_code(kind), steps)?;
         self.byte(object, steps)?;
         self.number_4(number, steps)?;
         self.value(value, steps)
@@ -120,8 +134,7 @@ impl Writer {
             ++ (byte_form.bytes 5 ++ (byte_form.bytes (status_code_of status) ++ (number_form w32).bytes rest))) }
         ensures cost { steps.new + length self.old.out.items ≤ steps.old + length self.new.out.items }
     {
-        self.byte(5, steps)?;
-        self.byte(status_code(status), steps)?;
+        self.two_bytes(5, status_code(status), steps)?;
         self.number_4(rest, steps)
     }
 
