@@ -8,8 +8,9 @@ at a terminal in one line that changes, else once a minute. Where a proof fails,
 there, and the status is 1. Prints the folder of the crate, in the copy in which the last proof was.
 
     prove.py FOLDER CRATE [WORKERS]     FOLDER: for the copies; WORKERS: how many processors to use, all where none is given
-    prove.py --keep FOLDER CRATE PLACE  once all is built in PLACE, what the first form printed: that copy alone stays, cut
-                                        to 2 GB of built libraries, the lowest first, which a later call takes as proved
+    prove.py --alone FOLDER PLACE       once all is proved in PLACE, what the first form printed: the other copies go
+    prove.py --keep FOLDER CRATE PLACE  once all is built there too: that copy alone stays, cut to 2 GB of built libraries,
+                                        the lowest first, which a later call takes as proved
 """
 import filecmp
 import hashlib
@@ -189,7 +190,9 @@ class Check:
         self.log = os.path.join(copy.folder, f"{crate}.log")
         with open(self.log, "w", encoding="utf-8") as file:
             words = [sys.executable, os.path.join(TOP, "tools", "rt_once.py"), "lib", "--jobs", str(jobs)]
-            self.process = subprocess.Popen(words, cwd=copy.crate(crate), stdin=subprocess.DEVNULL, stdout=file, stderr=file)
+            # a proof ends soon, so the prover's allocator gives no memory back to the system before
+            how = {"env": {"MIMALLOC_PURGE_DELAY": "-1", **os.environ}, "stdin": subprocess.DEVNULL}
+            self.process = subprocess.Popen(words, cwd=copy.crate(crate), stdout=file, stderr=file, **how)
 
     def output(self):
         return text_of(self.log)
@@ -274,7 +277,7 @@ def prove(below, copies):
             jobs = max(spare // len(ready), min(least, spare))
             checks.append(Check(ready[0], free.pop(0), jobs, seconds[ready[0]]))
             continue
-        time.sleep(0.2)
+        time.sleep(0.05)
         for each in [each for each in checks if each.process.poll() is not None]:
             checks.remove(each)
             free.append(each.copy)
@@ -300,12 +303,18 @@ def size_of(folder):
     return sum(os.lstat(os.path.join(at, name)).st_size for at, _, names in os.walk(folder) for name in names)
 
 
-def keep(folder, crate, place):
-    """Leaves of all copies that in which the crate was built, and of it the libraries of the lowest crates."""
+def alone(folder, place):
+    """Leaves of all copies that in which the crate was proved."""
     copy = os.path.dirname(os.path.dirname(place))
     for name in os.listdir(folder):
         if os.path.join(folder, name) != copy:
             shutil.rmtree(os.path.join(folder, name), ignore_errors=True)
+    return copy
+
+
+def keep(folder, crate, place):
+    """Leaves of all copies that in which the crate was built, and of it the libraries of the lowest crates."""
+    copy = alone(folder, place)
     below, kept, room = crates_below(crate), set(), MOST_KEPT
     for each in lowest_first(below):
         out = os.path.join(copy, "crates", each, "out")
@@ -325,6 +334,9 @@ def keep(folder, crate, place):
 def main():
     if sys.argv[1] == "--keep":
         keep(*sys.argv[2:5])
+        return 0
+    if sys.argv[1] == "--alone":
+        alone(*sys.argv[2:4])
         return 0
     folder, crate = sys.argv[1:3]
     workers = int(sys.argv[3]) if len(sys.argv) > 3 else len(os.sched_getaffinity(0))
