@@ -2,11 +2,9 @@
 //! e-blocks and synchronization units, and the words in which a process ends.
 #![tactic(auto)]
 
-mod bare;
 mod digit;
 pub mod limits;
 mod lists;
-mod numbered;
 mod plan;
 mod program;
 mod status;
@@ -14,7 +12,6 @@ mod steps;
 
 pub use digit::is_digit;
 pub use lists::{Bytes, Cells, Ids, Memory, Nums, Seq};
-pub use numbered::{end_of, is_block_body, is_block_loop};
 pub use plan::{Block, BlockKind, Plan, Policy, Start, Unit};
 pub use program::{Body, Chan, Expr, Kind, Op, Place, Program, Sem, Stmt, Target, Var};
 pub use status::{Status, SyncKind, Trap};

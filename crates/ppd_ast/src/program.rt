@@ -1,7 +1,7 @@
 ghost use Rattle.std.specs.Prelude.{◌≡◌, option_copied, slice_get, option_and_then};
 ghost use Rattle.std.specs.Slice.{IsItemAt};
 ghost use Rattle.ppd_ast.specs.Lookups.{kind_of};
-ghost use Rattle.ppd_ast.specs.Numbered.{is_while};
+ghost use Rattle.ppd_ast.specs.Numbered.{is_while, is_call, is_left};
 
 use crate::lists::{Bytes, Ids, Nums, Seq};
 
@@ -172,5 +172,39 @@ impl Program {
         ensures value { option_copied result ≡ slice_get self.now.bodies number }
     {
         self.bodies.get(number as usize)
+    }
+}
+
+impl Kind {
+    /// Whether it is a `While`.
+    pub fn is_while(&self) -> bool
+        ensures { result ≡ is_while self.now }
+    {
+        match self {
+            Kind::While(_, _) => true,
+            _ => false,
+        }
+    }
+
+    /// Whether it is a call.
+    pub fn is_call(&self) -> bool
+        ensures { result ≡ is_call self.now }
+    {
+        match self {
+            Kind::Call { .. } => true,
+            _ => false,
+        }
+    }
+
+    /// Whether a unit starts after it: it is a call or a synchronization.
+    pub fn is_left(&self) -> bool
+        ensures { result ≡ is_left self.now }
+    {
+        match self {
+            Kind::Call { .. } | Kind::P(_) | Kind::V(_) | Kind::Send(_, _) | Kind::Recv(_, _) => {
+                true
+            }
+            _ => false,
+        }
     }
 }

@@ -2,13 +2,17 @@
 //! and its plan.
 #![tactic(auto)]
 
+mod bare;
 mod blocks;
 mod cells;
 mod laws;
+mod numbered;
 mod numbering;
 mod plan;
 mod ways;
 
+pub use bare::bare_plan;
 pub use laws::{cells_are_shared, cells_by_paths};
+pub use numbered::{is_block_body, is_block_loop};
 pub use numbering::units;
 pub use plan::partition;

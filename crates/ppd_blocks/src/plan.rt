@@ -6,6 +6,7 @@ ghost use Rattle.ppd_ast.specs.ValidPlan.{IsValidPlan, IsValidPolicy};
 ghost use Rattle.ppd_blocks.specs.Blocks.{filled, loop_in, plan_of};
 ghost use Rattle.ppd_blocks.specs.Starts.{units_of};
 
+use crate::bare::bare_plan;
 use crate::blocks::{fill, loops_among};
 use crate::numbering::units;
 use ppd_ast::{Block, Memory, Plan, Policy, Program, Seq, Unit};
@@ -64,6 +65,6 @@ pub fn partition(alloc: Global, program: &Program, policy: &Policy) -> Result<Pl
     ensures plan { IfOk result (λ plan. plan ≡ plan_of program.now policy.now) }
     ensures valid { IfOk result (λ plan. IsValidPlan program.now plan) }
 {
-    let bare = Plan::bare(alloc, program, policy)?;
+    let bare = bare_plan(alloc, program, policy)?;
     plan_with(alloc, program, policy, bare.blocks.as_slice())
 }

@@ -9,7 +9,7 @@ ghost use Rattle.std.specs.List.{filter, find};
 ghost use Rattle.std.specs.Prelude.{IfOk, None, Some, not, option_and_then, option_to_list, slice_get, ◌≡◌};
 
 use ppd_ast::limits::MOST_NESTING;
-use ppd_ast::{Ids, Kind, Memory, Program, Seq, Start, Stmt};
+use ppd_ast::{Ids, Memory, Program, Seq, Start, Stmt};
 use ppd_cfg::{next_after, successors_of};
 use std::alloc::Global;
 
@@ -62,22 +62,12 @@ fn does_leave(program: &Program, loops: &[u32], stmt: u32, next: u32) -> bool
     contains(loops, stmt) && !does_stand_in(stmts, stmt, Some(next), MOST_NESTING)
 }
 
-// Whether it is a call or a synchronization.
-fn is_left(kind: &Kind) -> bool
-    ensures { result ≡ is_left kind.now }
-{
-    match kind {
-        Kind::Call { .. } | Kind::P(_) | Kind::V(_) | Kind::Send(_, _) | Kind::Recv(_, _) => true,
-        _ => false,
-    }
-}
-
 // Whether a unit starts after the statement: a call or a synchronization.
 pub(crate) fn is_left_at(program: &Program, stmt: u32) -> bool
     ensures { result ≡ is_left (kind_of program.now stmt) }
 {
     match program.stmt(stmt) {
-        Some(found) => is_left(&found.kind),
+        Some(found) => found.kind.is_left(),
         None => false,
     }
 }

@@ -10,9 +10,9 @@ use Rattle.ppd_flow_past.specs.PastSetting.{past_setting}
 use Rattle.ppd_flow_past.specs.SeenBy.{failed_at, seen_by}
 use Rattle.ppd_flow_past.specs.declared.past.Past.{Past}
 use Rattle.ppd_model.specs.declared.flow.Item.{Item}
-use Rattle.ppd_race.specs.Graphs.{IsGraphOf}
-use Rattle.ppd_race.specs.Races.{AreCellsThere}
-use Rattle.ppd_race.specs.SyncGraph.{SyncGraph}
+use Rattle.ppd_graph.specs.Graphs.{IsGraphOf}
+use Rattle.ppd_graph.specs.LogEdges.{AreCellsThere}
+use Rattle.ppd_graph.specs.declared.sync_graph.SyncGraph.{SyncGraph}
 use Rattle.std.specs.Prelude.{List, None, Option, Some, [], get_or, slice_get, ℕ, ◌≡◌}
 
 -- the items that are kept of interval k of process p, if they are

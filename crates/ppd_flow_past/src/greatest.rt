@@ -1,7 +1,7 @@
 ghost use Rattle.std.specs.Prelude.{◌≡◌, ◌&&◌, IfOk, nat_eq, nat_lt, slice_get, Some, None};
 ghost use Rattle.ppd_ast.specs.Members.{has};
 ghost use Rattle.ppd_flow_past.specs.Edges.Found.{IsEdgeIf, greater_if as greater_with, greatest_from, greatest_in, is_within as is_in_limit};
-ghost use Rattle.ppd_race.specs.Graphs.{IsEdge};
+ghost use Rattle.ppd_graph.specs.Graphs.{IsEdge};
 ghost use Rattle.ppd_flow_past.specs.Pasts.{IsPast};
 ghost use Rattle.ppd_flow_model.specs.Shared.{greater as greater_of, greatest_before as greatest_before_of, greatest_writing as greatest_of_all, is_before_in};
 
@@ -9,7 +9,7 @@ use crate::past::Past;
 use crate::replaying::number;
 use ppd_ast::Memory;
 use ppd_model::EdgeId;
-use ppd_race::EdgeSets;
+use ppd_graph::EdgeSets;
 
 fn writes_cell(writes: &[u16], cell: u16) -> bool
     ensures { result ≡ has writes.now cell }

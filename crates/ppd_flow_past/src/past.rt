@@ -4,7 +4,7 @@ use ppd_ast::{Plan, Program, Seq};
 use ppd_emul::LogIndex;
 use ppd_entry::Logs;
 use ppd_model::Item;
-use ppd_race::SyncGraph;
+use ppd_graph::SyncGraph;
 
 /// What is kept of a run: its program with the plan and the budget of each process, its logs, and their index and
 /// graph. The intervals that are replayed are those of `cut`, the logs themselves or logs that were cut off, which have

@@ -10,3 +10,4 @@ pub mod Times
 pub mod Cycles
 pub mod Graphs
 pub mod Spending
+pub mod LogEdges

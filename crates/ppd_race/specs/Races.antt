@@ -1,37 +1,18 @@
 -- The races of logs, and those of a graph: each is the list of the races among its edges.
 use Rattle.ppd_model.specs.Setting.{Setting}
-use Rattle.std.specs.Prelude.{◌≡◌, ℕ, ◌<◌, ◌≤◌, Bool, true, false, List, [], length, get_or}
+use Rattle.std.specs.Prelude.{◌≡◌, ℕ, ◌≤◌, List, length}
 use Rattle.ppd_ast.specs.declared.limits.TheConstants.{MOST_SHARED_CELLS}
 use Rattle.ppd_ast.specs.declared.program.Program.{Program}
 use Rattle.ppd_ast.specs.Members.{has}
 use Rattle.ppd_ast.specs.Valid.{IsValid}
 use Rattle.ppd_entry.specs.declared.entry.Logs.{Logs}
-use Rattle.ppd_model.specs.declared.graph.EdgeId.{EdgeId}
 use Rattle.ppd_model.specs.declared.graph.Race.{Race}
-use Rattle.ppd_model.specs.HappenedBefore.{is_edge_before}
 use Rattle.ppd_model.specs.Logs.{closed_logs}
 use Rattle.ppd_model.specs.Races.{Edges, races}
 pub use Rattle.ppd_model.specs.Races.{races_among}
-use Rattle.ppd_model.specs.RecordedSets.{record_in}
 use Rattle.ppd_race_found.specs.SyncGraph.{SyncGraph}
-use Rattle.ppd_race_found.specs.EdgeSets.{EdgeSets}
 use Rattle.ppd_race_found.specs.Graphs.{IsGraphOf, edge_count, is_before_by, sets_at}
-use Rattle.ppd_race_found.specs.LogRecord.{edge_sets_in}
-
--- the cells that an edge writes, or those that it reads
-abbrev pub cells_by : Bool → EdgeSets → List ℕ
-cells_by true sets = sets.writes
-cells_by false sets = sets.reads
-
--- those of logs, of which they tell the record and the sets
-abbrev pub edges_of_logs : Program → Logs → Edges
-edges_of_logs program logs = record {
-  processes = length logs.lists;
-  cells = length program.starts;
-  count = λ p. length (get_or (edge_sets_in logs) p []);
-  accesses = λ a cell writes. has (cells_by writes (sets_at (edge_sets_in logs) a)) cell;
-  before = is_edge_before program (record_in logs);
-}
+pub use Rattle.ppd_race_found.specs.LogEdges.{AreCellsThere, IsThere, cells_by, edges_of_logs}
 
 -- no program has more shared cells
 unfoldable pub most_cells : ℕ
@@ -48,16 +29,6 @@ edges_of_graph g = record {
 }
 
 -- ---- one list for two
-
--- an edge that is there
-abbrev pub IsThere : Edges → EdgeId → Type 0
-IsThere e a = (a.process < e.processes) × (a.edge < e.count a.process)
-
--- each cell that the logs name for an edge is one of the program's
-abbrev pub AreCellsThere : Program → Logs → Type 0
-AreCellsThere program logs =
-    (a : EdgeId) (c : ℕ) (w : Bool) → length program.starts ≤ c → IsThere (edges_of_logs program logs) a
-    → has (cells_by w (sets_at (edge_sets_in logs) a)) c ≡ false
 
 -- the races of the graph of logs are those of their record and sets
 abbrev pub GraphRacesAreOfLogs : Type 0

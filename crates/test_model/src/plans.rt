@@ -4,7 +4,7 @@ ghost use Rattle.ppd_ast.specs.Valid.{IsValid};
 
 use crate::changes::{BUFFER, CALL, RECURSION};
 use ppd_ast::{Block, BlockKind, Cells, Memory, Plan, Policy, Program, Seq, Start, Unit};
-use ppd_blocks::partition;
+use ppd_blocks::{bare_plan, partition};
 use ppd_check::read_source;
 use std::alloc::Global;
 use test_valid::{is_valid_plan, is_valid_program};
@@ -248,7 +248,7 @@ fn are_bare_units(units: &[Unit], others: &[Unit]) -> bool {
 fn has_bare(alloc: Global, program: &Program, plan: &Plan) -> bool
     requires { IsValid program.now }
 {
-    match Plan::bare(alloc, program, &FUNCTIONS) {
+    match bare_plan(alloc, program, &FUNCTIONS) {
         Ok(bare) => {
             is_valid_plan(&bare, program)
                 && are_bare_blocks(bare.blocks.as_slice(), plan.blocks.as_slice())

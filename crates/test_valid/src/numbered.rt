@@ -4,9 +4,9 @@ ghost use Rattle.ppd_ast.specs.declared.plan.BlockKind.TheVariants.{Function, Pr
 ghost use Rattle.ppd_ast.specs.Numbered.{numbers_of, is_block_body, loops_at, starts_at, of_body};
 ghost use Rattle.test_valid.specs.Begins.{Begins};
 
-use ppd_ast::{
-    Block, BlockKind, Body, Policy, Start, Stmt, Unit, end_of, is_block_body, is_block_loop,
-};
+use ppd_ast::{Block, BlockKind, Body, Policy, Start, Stmt, Unit};
+use ppd_blocks::{is_block_body, is_block_loop};
+use ppd_sets::end_of;
 
 // What a policy numbers, body by body: the blocks, known by their kinds, and the units, known by their starts.
 pub(crate) trait Numbered: Sized {

@@ -6,10 +6,10 @@ use Rattle.std.proofs.Math.Bool.{and-false}
 use Rattle.ppd_ast.specs.declared.program.Program.{Program}
 use Rattle.ppd_entry.specs.declared.entry.Entry.{Entry}
 use Rattle.ppd_entry.specs.declared.entry.Logs.{Logs}
-use Rattle.ppd_race.specs.SyncGraph.{SyncGraph}
-use Rattle.ppd_race.specs.Graphs.{IsEdge, IsGraphOf, edge_count, is_before_by}
-use Rattle.ppd_race.specs.LogRecord.{sets_from}
-use Rattle.ppd_race.proofs.Built.{sets_count}
+use Rattle.ppd_graph.specs.declared.sync_graph.SyncGraph.{SyncGraph}
+use Rattle.ppd_graph.specs.Graphs.{IsEdge, IsGraphOf, edge_count, is_before_by}
+use Rattle.ppd_graph.specs.LogRecord.{sets_from}
+use Rattle.ppd_graph.proofs.Built.{sets_count}
 use Rattle.ppd_model.specs.declared.graph.EdgeId.{EdgeId}
 use Rattle.ppd_model.specs.declared.graph.NodeId.{NodeId}
 use Rattle.ppd_model.specs.HappenedBefore.{closed_through, is_before, is_direct, is_edge_before, node, sync_at}

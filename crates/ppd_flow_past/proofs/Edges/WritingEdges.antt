@@ -4,7 +4,7 @@ use Rattle.std.specs.Prelude.{filter, fold, if◌then◌else◌}
 use Rattle.std.proofs.lemmas.List.Elements.{filter-append}
 use Rattle.std.proofs.lemmas.List.Sums.{fold-append}
 use Rattle.ppd_ast.specs.Members.{has}
-use Rattle.ppd_race.specs.EdgeSets.{EdgeSets}
+use Rattle.ppd_graph.specs.declared.sets.EdgeSets.{EdgeSets}
 use Rattle.ppd_model.specs.declared.graph.EdgeId.{EdgeId}
 use Rattle.ppd_model.specs.HappenedBefore.{edge}
 use Rattle.ppd_flow_past.specs.Edges.Found.{greater_if, greatest_from, greatest_in, is_within}

@@ -1,9 +1,9 @@
 -- What is found of internal edges in the index and the graph of a past.
 use Rattle.std.specs.Prelude.{ℕ, ◌+◌, Bool, true, false, ◌&&◌, List, [], ◌∷◌, Option, Some, None, if◌then◌else◌, ⊤, nat_lt, nat_le, unwrap_or}
 use Rattle.ppd_ast.specs.Members.{has}
-use Rattle.ppd_race.specs.EdgeSets.{EdgeSets}
-use Rattle.ppd_race.specs.SyncGraph.{SyncGraph}
-use Rattle.ppd_race.specs.Graphs.{IsEdge}
+use Rattle.ppd_graph.specs.declared.sets.EdgeSets.{EdgeSets}
+use Rattle.ppd_graph.specs.declared.sync_graph.SyncGraph.{SyncGraph}
+use Rattle.ppd_graph.specs.Graphs.{IsEdge}
 use Rattle.ppd_model.specs.declared.graph.EdgeId.{EdgeId}
 use Rattle.ppd_model.specs.Extents.{Extent}
 use Rattle.ppd_flow_model.specs.Shared.{greater}

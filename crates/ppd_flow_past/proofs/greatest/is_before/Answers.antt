@@ -1,5 +1,5 @@
 use Rattle.std.proofs.Common.{◌≤◌, ◌<◌, ◌∙◌, subst}
-use Rattle.ppd_race.specs.Graphs.{IsEdge, edge_count}
+use Rattle.ppd_graph.specs.Graphs.{IsEdge, edge_count}
 use Rattle.ppd_flow_past.proofs.Edges.Before.{before_is, before_none}
 use Rattle.ppd_flow_past.proofs.greatest.is_before.Goals as goal
 

@@ -2,7 +2,7 @@ use Rattle.std.proofs.Common.{◌≡◌, sym, ap, ◌∙◌, subst}
 use Rattle.ppd_ast.specs.Bare.{bare}
 use Rattle.ppd_ast.specs.ValidPlan.{IsValidPlan}
 use Rattle.ppd_ast.proofs.BareValid.{bare_valid}
-use Rattle.ppd_ast.proofs.plan.Plan.bare.Goals as goal
+use Rattle.ppd_blocks.proofs.bare.bare_plan.Goals as goal
 
 pub returns-clause-valid : goal.returns-clause-valid
 returns-clause-valid c =

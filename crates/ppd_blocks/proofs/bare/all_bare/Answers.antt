@@ -1,6 +1,6 @@
 use Rattle.ppd_ast.specs.Numbered.{of_body}
 use Rattle.ppd_ast.proofs.Growing.{bodies_grown}
-use Rattle.ppd_ast.proofs.bare.all_bare.Goals as goal
+use Rattle.ppd_blocks.proofs.bare.all_bare.Goals as goal
 
 pub loop-number-preserved : goal.loop-number-preserved
 loop-number-preserved g c =

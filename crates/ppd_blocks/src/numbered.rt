@@ -1,44 +1,11 @@
-ghost use Rattle.std.specs.Prelude.{◌≡◌, ◌-◌, length, min};
+ghost use Rattle.std.specs.Prelude.{◌≡◌, ◌-◌, length};
 ghost use Rattle.std.specs.List.{flat_map};
-ghost use Rattle.ppd_ast.specs.Numbered.{is_while, is_call, is_left, in_while, is_block_loop, has_call, is_block_body};
+ghost use Rattle.ppd_ast.specs.Numbered.{in_while, is_block_loop, has_call, is_block_body};
 ghost use Rattle.ppd_ast.specs.Order.{inner, preorder};
 
-use crate::limits::MOST_NESTING;
-use crate::plan::Policy;
-use crate::program::{Body, Kind, Stmt};
-
-impl Kind {
-    /// Whether it is a `While`.
-    pub fn is_while(&self) -> bool
-        ensures { result ≡ is_while self.now }
-    {
-        match self {
-            Kind::While(_, _) => true,
-            _ => false,
-        }
-    }
-
-    fn is_call(&self) -> bool
-        ensures { result ≡ is_call self.now }
-    {
-        match self {
-            Kind::Call { .. } => true,
-            _ => false,
-        }
-    }
-
-    /// Whether a unit starts after it: it is a call or a synchronization.
-    pub fn is_left(&self) -> bool
-        ensures { result ≡ is_left self.now }
-    {
-        match self {
-            Kind::Call { .. } | Kind::P(_) | Kind::V(_) | Kind::Send(_, _) | Kind::Recv(_, _) => {
-                true
-            }
-            _ => false,
-        }
-    }
-}
+use ppd_ast::limits::MOST_NESTING;
+use ppd_ast::{Body, Kind, Policy, Stmt};
+use ppd_sets::end_of;
 
 // Whether a `while` is among this parent and those that it stands in. It calls itself no deeper.
 fn is_in_while(stmts: &[Stmt], parent: Option<u32>, depth: u32) -> bool
@@ -99,13 +66,6 @@ pub fn is_block_loop(stmts: &[Stmt], policy: Policy, stmt: &Stmt) -> bool
         && policy.loops > 0
         && !is_in_while(stmts, stmt.parent, MOST_NESTING)
         && missing_inside(stmts, &stmt.kind, policy.loops, MOST_NESTING) == 0
-}
-
-/// The number after the body's last statement that is there.
-pub fn end_of(stmts: &[Stmt], body: &Body) -> u32
-    ensures { result ≡ min body.now.end (length stmts.now) }
-{
-    (body.end as usize).min(stmts.len()) as u32
 }
 
 fn has_call(stmts: &[Stmt], body: &Body) -> bool

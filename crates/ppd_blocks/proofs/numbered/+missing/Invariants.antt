@@ -1,7 +1,7 @@
 use Rattle.std.proofs.Common.{◌≡◌, ◌+◌, ◌*◌, ◌-◌, length, take}
 use Rattle.std.specs.List.{flat_map}
 use Rattle.ppd_ast.specs.Order.{preorder}
-use Rattle.ppd_ast.proofs.numbered.+missing.Given as goal
+use Rattle.ppd_blocks.proofs.numbered.+missing.Given as goal
 
 abbrev pub decreases-missing_in : goal.decreases-missing_in
 decreases-missing_in l = 2 * l.depth

@@ -5,7 +5,7 @@ use Rattle.ppd_ast.specs.Numbered.{in_while, is_while}
 use Rattle.ppd_ast.proofs.Vocabulary.{while_or}
 use Rattle.ppd_ast.proofs.Walks.{got_some, got_none}
 use Rattle.ppd_ast.proofs.Whiles.{in_while_deep, in_while_top, in_while_some}
-use Rattle.ppd_ast.proofs.numbered.+is_in_while.Goals as goal
+use Rattle.ppd_blocks.proofs.numbered.+is_in_while.Goals as goal
 
 pub returns-then-depth-eq0 : goal.returns-then-depth-eq0
 returns-then-depth-eq0 t c = sym (in_while_deep c.args.depth c.args.stmts.now c.args.parent c.if-depth-eq0.true)

@@ -7,8 +7,8 @@ use Rattle.ppd_ast.proofs.Vocabulary.{inner_of, inner_at}
 use Rattle.ppd_ast.proofs.Walks.{got_some, got_none}
 use Rattle.ppd_ast.proofs.Countings.{preorder_none}
 use Rattle.ppd_ast.proofs.Whiles.{count_more, count_part}
-use Rattle.ppd_ast.proofs.numbered.+missing.Goals as goal
-use Rattle.ppd_ast.proofs.numbered.+missing.Goals.{missing_in-in-None, missing_in-in-Some}
+use Rattle.ppd_blocks.proofs.numbered.+missing.Goals as goal
+use Rattle.ppd_blocks.proofs.numbered.+missing.Goals.{missing_in-in-None, missing_in-in-Some}
 
 pub missing_in-returns-then-depth-eq0 : goal.missing_in-returns-then-depth-eq0
 missing_in-returns-then-depth-eq0 t c =

@@ -7,10 +7,9 @@ ghost use Rattle.ppd_ast.specs.Numbered.{is_block_loop, is_block_body, loops_at,
 ghost use Rattle.ppd_ast.specs.Valid.{IsValid};
 ghost use Rattle.ppd_ast.specs.ValidPlan.{IsValidPlan, IsValidPolicy};
 
-use crate::lists::{Memory, Seq};
-use crate::numbered::{end_of, is_block_body, is_block_loop};
-use crate::plan::{Block, BlockKind, Plan, Policy, Start, Unit};
-use crate::program::{Body, Program};
+use crate::numbered::{is_block_body, is_block_loop};
+use ppd_ast::{Block, BlockKind, Body, Memory, Plan, Policy, Program, Seq, Start, Unit};
+use ppd_sets::end_of;
 use std::alloc::Global;
 
 fn gives_value(bodies: &[Body], kind: BlockKind) -> bool
@@ -251,21 +250,19 @@ fn all_bare<T: Bare>(alloc: Global, program: &Program, policy: Policy) -> Result
     Ok(list)
 }
 
-impl Plan {
-    /// The valid plan of the policy in which every list of cells is empty: with it the entries of
-    /// blocks and units have no values but returned ones. `Memory` is want of memory.
-    pub fn bare(alloc: Global, program: &Program, policy: &Policy) -> Result<Plan, Memory>
-        requires program { IsValid program.now }
-        requires policy { IsValidPolicy policy.now }
-        ensures bare { IfOk result (λ plan. plan ≡ bare program.now policy.now) }
-        ensures valid { IfOk result (λ plan. IsValidPlan program.now plan) }
-    {
-        let blocks = all_bare(alloc, program, *policy)?;
-        let units = all_bare(alloc, program, *policy)?;
-        Ok(Plan {
-            policy: *policy,
-            blocks,
-            units,
-        })
-    }
+/// The valid plan of the policy in which every list of cells is empty: with it the entries of
+/// blocks and units have no values but returned ones. `Memory` is want of memory.
+pub fn bare_plan(alloc: Global, program: &Program, policy: &Policy) -> Result<Plan, Memory>
+    requires program { IsValid program.now }
+    requires policy { IsValidPolicy policy.now }
+    ensures bare { IfOk result (λ plan. plan ≡ bare program.now policy.now) }
+    ensures valid { IfOk result (λ plan. IsValidPlan program.now plan) }
+{
+    let blocks = all_bare(alloc, program, *policy)?;
+    let units = all_bare(alloc, program, *policy)?;
+    Ok(Plan {
+        policy: *policy,
+        blocks,
+        units,
+    })
 }

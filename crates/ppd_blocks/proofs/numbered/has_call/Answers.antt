@@ -3,7 +3,7 @@ use Rattle.std.specs.Prelude.{slice_get}
 use Rattle.ppd_ast.proofs.Vocabulary.{is_call_of}
 use Rattle.std.proofs.lemmas.Option.{slice_get-get_or}
 use Rattle.ppd_ast.proofs.Ranges.{any_more, any_found}
-use Rattle.ppd_ast.proofs.numbered.has_call.Goals as goal
+use Rattle.ppd_blocks.proofs.numbered.has_call.Goals as goal
 
 pub returns-then-is_call : goal.returns-then-is_call
 returns-then-is_call c =

@@ -1,7 +1,7 @@
 use Rattle.std.proofs.Common.{◌≡◌, map, take}
 use Rattle.std.specs.List.{flat_map, enumerate_from}
 use Rattle.ppd_ast.specs.Numbered.{of_body}
-use Rattle.ppd_ast.proofs.bare.all_bare.Given as goal
+use Rattle.ppd_blocks.proofs.bare.all_bare.Given as goal
 
 abbrev pub invariant-loop-number : goal.invariant-loop-number
 invariant-loop-number g l =

@@ -1,6 +1,6 @@
 use Rattle.std.proofs.Common.{arith, ◌≤◌}
 use Rattle.ppd_ast.proofs.Growing.{numbers_more}
-use Rattle.ppd_ast.proofs.bare.add_stmts.Goals as goal
+use Rattle.ppd_blocks.proofs.bare.add_stmts.Goals as goal
 
 pub loop-number-preserved : goal.loop-number-preserved
 loop-number-preserved g c =

@@ -4,7 +4,7 @@ use Rattle.ppd_ast.specs.declared.plan.Start.TheVariants.{Enter, Exit}
 use Rattle.ppd_ast.specs.Bare.{bare_unit}
 use Rattle.ppd_ast.specs.Numbered.{is_block_loop}
 use Rattle.ppd_ast.proofs.Growing.{starts_none, starts_loop, on_ok}
-use Rattle.ppd_ast.proofs.bare.UnitBare.add_stmt.Goals as goal
+use Rattle.ppd_blocks.proofs.bare.UnitBare.add_stmt.Goals as goal
 
 pub returns-then-not-is_block_loop : goal.returns-then-not-is_block_loop
 returns-then-not-is_block_loop c =

@@ -1,6 +1,6 @@
 use Rattle.std.proofs.Common.{◌≡◌, ◌≤◌, ◌++◌, ◌-◌, map}
 use Rattle.std.specs.List.{flat_map, range_with_len}
-use Rattle.ppd_ast.proofs.bare.add_stmts.Given as goal
+use Rattle.ppd_blocks.proofs.bare.add_stmts.Given as goal
 
 abbrev pub invariant-loop-number : goal.invariant-loop-number
 invariant-loop-number g l = record {

@@ -3,7 +3,7 @@ use Rattle.std.proofs.lemmas.List.{append-nil}
 use Rattle.ppd_ast.specs.Bare.{bare_block}
 use Rattle.ppd_ast.specs.Numbered.{is_block_loop}
 use Rattle.ppd_ast.proofs.Growing.{loops_none}
-use Rattle.ppd_ast.proofs.bare.BlockBare.add_stmt.Goals as goal
+use Rattle.ppd_blocks.proofs.bare.BlockBare.add_stmt.Goals as goal
 
 pub returns-then-not-is_block_loop : goal.returns-then-not-is_block_loop
 returns-then-not-is_block_loop c =
