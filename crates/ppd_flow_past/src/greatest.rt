@@ -8,8 +8,8 @@ ghost use Rattle.ppd_flow_model.specs.Shared.{greater as greater_of, greatest_be
 use crate::past::Past;
 use crate::replaying::number;
 use ppd_ast::Memory;
-use ppd_model::EdgeId;
 use ppd_graph::EdgeSets;
+use ppd_model::EdgeId;
 
 fn writes_cell(writes: &[u16], cell: u16) -> bool
     ensures { result ≡ has writes.now cell }

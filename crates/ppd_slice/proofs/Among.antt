@@ -12,10 +12,10 @@ use Rattle.ppd_model.specs.declared.flow.FlowEdge.{FlowEdge}
 use Rattle.ppd_model.specs.declared.flow.Item.{Item}
 use Rattle.ppd_slice_search.specs.declared.reached.ItemAt.{ItemAt}
 use Rattle.ppd_slice_search.specs.declared.reached.Reached.{Reached}
-use Rattle.ppd_slice_search.specs.Levels.{at_depth}
+use Rattle.ppd_slice_search.specs.Levels.{at_depth, is_item}
 use Rattle.ppd_slice_search.specs.Reach.{IsIn, item_of, places_of}
 use Rattle.ppd_slice.specs.Asked.{AreKeptAmong, AreKeptFor, IsAsked}
-use Rattle.ppd_slice_search.specs.Searched.{IsSortedOf, same_at, was_found, with_all_found, with_found}
+use Rattle.ppd_slice_search.specs.Searched.{IsSortedOf, was_found, with_all_found, with_found}
 use Rattle.ppd_slice.specs.Slices.{IsNoItem, has_process}
 use Rattle.ppd_slice.proofs.Flows.{same_here}
 use Rattle.ppd_slice.proofs.Origins.{HasOrigin, from_far}
@@ -85,7 +85,7 @@ has_one : (found : List Reached) (a : ItemAt) (d : ℕ) → has_process (with_fo
 has_one found a d = by (was_found found a) refl
   where
     by : (b : Bool) → was_found found a ≡ b → has_process (if b then found else found ++ at_depth d a ∷ []) a.process ≡ true
-    by true e = any_weaker (λ r. same_at (item_of r) a) (is_of a.process) found (λ r t. (and_parts (nat_eq r.process a.process) _ t).0) e
+    by true e = any_weaker (λ r. is_item (item_of r) a) (is_of a.process) found (λ r t. (and_parts (nat_eq r.process a.process) _ t).0) e
     by false e = any_end (is_of a.process) found (at_depth d a) (eq-eqb a.process a.process refl)
 
 has_found : (as' : List ItemAt) (found : List Reached) (d : ℕ) (b : ItemAt) → IsIn b as'

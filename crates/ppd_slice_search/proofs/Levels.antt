@@ -83,17 +83,17 @@ filtered_in t (y ∷ ys) x (inr m) e = by (t y) (filtered_in t ys x m e)
 
 -- ---- items
 
-item_same : (a b : ItemAt) → is_item a b ≡ true → a ≡ b
+pub item_same : (a b : ItemAt) → is_item a b ≡ true → a ≡ b
 item_same a b e =
-    let outer = and_parts (nat_eq a.process b.process && nat_eq a.interval b.interval) (nat_eq a.item b.item) e in
-    let inner = and_parts (nat_eq a.process b.process) (nat_eq a.interval b.interval) outer.0 in
-    ap₂ (λ p k. at p k a.item) (eqb-true a.process b.process inner.0) (eqb-true a.interval b.interval inner.1)
-    ∙ ap (at b.process b.interval) (eqb-true a.item b.item outer.1)
+    let outer = and_parts (nat_eq a.process b.process) (nat_eq a.interval b.interval && nat_eq a.item b.item) e in
+    let inner = and_parts (nat_eq a.interval b.interval) (nat_eq a.item b.item) outer.1 in
+    ap₂ (λ p k. at p k a.item) (eqb-true a.process b.process outer.0) (eqb-true a.interval b.interval inner.0)
+    ∙ ap (at b.process b.interval) (eqb-true a.item b.item inner.1)
 
-same_item : (a b : ItemAt) → a ≡ b → is_item a b ≡ true
+pub same_item : (a b : ItemAt) → a ≡ b → is_item a b ≡ true
 same_item a b e =
     subst (λ c. is_item a c ≡ true) e
-    (ap₂ (λ x y. x && y) (ap₂ (λ x y. x && y) (eq-eqb a.process a.process refl) (eq-eqb a.interval a.interval refl)) (eq-eqb a.item a.item refl))
+    (ap₂ (λ x y. x && y) (eq-eqb a.process a.process refl) (ap₂ (λ x y. x && y) (eq-eqb a.interval a.interval refl) (eq-eqb a.item a.item refl)))
 
 among_in : (xs : List ItemAt) (a : ItemAt) → is_among xs a ≡ true → IsIn a xs
 among_in [] a e = absurd (true≢false (sym e))

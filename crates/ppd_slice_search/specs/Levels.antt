@@ -6,7 +6,7 @@ use Rattle.ppd_slice_search.specs.declared.reached.Reached.{Reached}
 
 -- item a is item b
 abbrev pub is_item : ItemAt → ItemAt → Bool
-is_item a b = nat_eq a.process b.process && nat_eq a.interval b.interval && nat_eq a.item b.item
+is_item a b = nat_eq a.process b.process && (nat_eq a.interval b.interval && nat_eq a.item b.item)
 
 -- item a comes before item b: by process, then interval, then number
 abbrev pub is_sooner : ItemAt → ItemAt → Bool
