@@ -31,7 +31,8 @@ pub record Took (old new : Option (List ℕ)) (held all : List ℕ) : Type 0 whe
   pub takes : Takes old new read
   pub whole : held ++ read ≡ all
 
--- no whole line was at hand when the last read began: what was held, with what the source gave before it, has no newline
+-- no whole line was at hand when the last read began: what was held, with what the source gave before it, has no
+-- newline
 pub record IsAtNeed (old last : Option (List ℕ)) (held : List ℕ) : Type 0 where
   pub all : List ℕ
   pub took : Took old last held all
@@ -71,17 +72,24 @@ EndsLine old new held now =
 -- what one call gives before the end was met: the next line of what was held and read; at the end none; a front of
 -- more than 4,096 bytes without newline; where a read failed, a front without newline
 abbrev pub GivesLine : Option (List ℕ) → Option (List ℕ) → List ℕ → Lined → Result Bool LineError → Type 0
-GivesLine old new held now (Ok true) = LacksByte 10 now.line × (length now.line ≤ MOST_LINE_BYTES) × EndsLine old new held now
+GivesLine old new held now (Ok true) =
+    LacksByte 10 now.line × (length now.line ≤ MOST_LINE_BYTES) × EndsLine old new held now
 GivesLine old new held now (Ok false) = Took old new held [] × (now.line ≡ []) × IsAtLinesEnd new now
-GivesLine old new held now (Err LongLine) = LacksByte 10 now.line × (MOST_LINE_BYTES < length now.line) × Took old new held (now.line ++ now.held)
-GivesLine old new held now (Err Failed) = LacksByte 10 now.line × (length now.line ≤ MOST_LINE_BYTES) × Took old new held now.line × (now.held ≡ [])
+GivesLine old new held now (Err LongLine) =
+    LacksByte 10 now.line × (MOST_LINE_BYTES < length now.line) × Took old new held (now.line ++ now.held)
+GivesLine old new held now (Err Failed) =
+    LacksByte 10 now.line × (length now.line ≤ MOST_LINE_BYTES) × Took old new held now.line × (now.held ≡ [])
 
 -- the bytes that were put into a line, and how that ended: at the end of the source or not, or by an error
 abbrev pub Fills : Option (List ℕ) → Option (List ℕ) → (held line rest : List ℕ) → Result Bool LineError → Type 0
-Fills old new held line rest (Ok true) = LacksByte 10 line × (length line ≤ MOST_LINE_BYTES) × Took old new held line × (rest ≡ []) × IsAtEnd new
-Fills old new held line rest (Ok false) = LacksByte 10 line × (length line ≤ MOST_LINE_BYTES) × Took old new held (line ++ 10 ∷ rest)
-Fills old new held line rest (Err LongLine) = LacksByte 10 line × (MOST_LINE_BYTES < length line) × Took old new held (line ++ rest)
-Fills old new held line rest (Err Failed) = LacksByte 10 line × (length line ≤ MOST_LINE_BYTES) × Took old new held line × (rest ≡ [])
+Fills old new held line rest (Ok true) =
+    LacksByte 10 line × (length line ≤ MOST_LINE_BYTES) × Took old new held line × (rest ≡ []) × IsAtEnd new
+Fills old new held line rest (Ok false) =
+    LacksByte 10 line × (length line ≤ MOST_LINE_BYTES) × Took old new held (line ++ 10 ∷ rest)
+Fills old new held line rest (Err LongLine) =
+    LacksByte 10 line × (MOST_LINE_BYTES < length line) × Took old new held (line ++ rest)
+Fills old new held line rest (Err Failed) =
+    LacksByte 10 line × (length line ≤ MOST_LINE_BYTES) × Took old new held line × (rest ≡ [])
 
 -- the first line is longer than a line may be
 abbrev pub IsLong : List (List ℕ) → Type 0

@@ -58,7 +58,8 @@ impl ByteReader {
     /// Reads, where nothing is held, and answers whether there was anything to read.
     fn refill<I: Source>(&mut self, source: &mut I) -> Result<bool, Failed>
         requires { self.old ≡ [] }
-        ensures ok { IfOk result (λ some. Took (I.left source.old) (I.left source.new) [] self.new × IsFilled some (I.left source.new) self.new) }
+        ensures ok { IfOk result (λ some.
+            Took (I.left source.old) (I.left source.new) [] self.new × IsFilled some (I.left source.new) self.new) }
         ensures err { OnErr result ((self.new ≡ []) × (I.left source.new ≡ I.left source.old)) }
         ensures last { I.before_last source.new ≡ I.left source.old }
         ensures cause { HasCause (I.faults source.old) (I.faults source.new) result }
@@ -79,7 +80,9 @@ impl ByteReader {
     /// The next byte; none at the end. `Failed` comes only where the source's count of faults rose. Where bytes
     /// are held, nothing is read.
     pub(crate) fn next<I: Source>(&mut self, source: &mut I) -> Result<Option<u8>, Failed>
-        ensures byte { IfOk result (λ b. MatchOption b (Took (I.left source.old) (I.left source.new) self.old [] × (self.new ≡ []) × IsAtEnd (I.left source.new)) (λ byte. Took (I.left source.old) (I.left source.new) self.old (byte ∷ self.new))) }
+        ensures byte { IfOk result (λ b. MatchOption b
+            (Took (I.left source.old) (I.left source.new) self.old [] × (self.new ≡ []) × IsAtEnd (I.left source.new))
+            (λ byte. Took (I.left source.old) (I.left source.new) self.old (byte ∷ self.new))) }
         ensures err { OnErr result (Took (I.left source.old) (I.left source.new) self.old [] × (self.new ≡ [])) }
         ensures cause { HasCause (I.faults source.old) (I.faults source.new) result }
         ensures last { self.old ≡ [] → I.before_last source.new ≡ I.left source.old }

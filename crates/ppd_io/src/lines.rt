@@ -93,8 +93,10 @@ impl LineReader {
 
     /// Goes to the next line, and answers whether there is one.
     fn advance<I: Source>(&mut self, source: &mut I) -> Result<bool, LineError>
-        ensures given { self.old.ended ≡ false → GivesLine (I.left source.old) (I.left source.new) self.old.held self.new result }
-        ensures over { self.old.ended ≡ true → (result ≡ Ok false) × (source.new ≡ source.old) × StaysOver self.old self.new }
+        ensures given { self.old.ended ≡ false
+            → GivesLine (I.left source.old) (I.left source.new) self.old.held self.new result }
+        ensures over { self.old.ended ≡ true
+            → (result ≡ Ok false) × (source.new ≡ source.old) × StaysOver self.old self.new }
         ensures failed { IsErrOf result LineError.Failed → Rose (I.faults source.old) (I.faults source.new) }
         ensures later { I.faults source.old ≤ I.faults source.new }
         ensures quiet { HasNewline self.old.held → source.new ≡ source.old }
@@ -119,9 +121,12 @@ impl LineReader {
     /// something is read, what is held and what was read before the last read have no newline.
     /// After an error the lines that follow mean nothing.
     pub fn next<I: Source>(&mut self, source: &mut I) -> Result<bool, LineError>
-        ensures given { self.old.ended ≡ false → GivesLine (I.left source.old) (I.left source.new) self.old.held self.new result }
-        ensures told { self.old.ended ≡ false → TellsLine (I.left source.old) (I.left source.new) self.old.held self.new result }
-        ensures over { self.old.ended ≡ true → (result ≡ Ok false) × (source.new ≡ source.old) × StaysOver self.old self.new }
+        ensures given { self.old.ended ≡ false
+            → GivesLine (I.left source.old) (I.left source.new) self.old.held self.new result }
+        ensures told { self.old.ended ≡ false
+            → TellsLine (I.left source.old) (I.left source.new) self.old.held self.new result }
+        ensures over { self.old.ended ≡ true
+            → (result ≡ Ok false) × (source.new ≡ source.old) × StaysOver self.old self.new }
         ensures failed { IsErrOf result LineError.Failed → Rose (I.faults source.old) (I.faults source.new) }
         ensures later { I.faults source.old ≤ I.faults source.new }
         ensures quiet { HasNewline self.old.held → source.new ≡ source.old }

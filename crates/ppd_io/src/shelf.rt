@@ -55,7 +55,8 @@ pub trait Shelf {
         ensures bound { IfOk result (λ v. vec_len v ≤ most) }
         ensures bytes { IfOk result (λ v. Loads (held self.old) name.now most v.items) }
         ensures same { held self.new ≡ held self.old }
-        ensures failed { IsErrOf result ShelfError.Failed → Rose (failed_loads self.old name.now) (failed_loads self.new name.now) }
+        ensures failed { IsErrOf result ShelfError.Failed
+            → Rose (failed_loads self.old name.now) (failed_loads self.new name.now) }
         ensures later { (n : List ℕ) → failed_loads self.old n ≤ failed_loads self.new n }
         ensures stores { (n : List ℕ) → failed_stores self.new n ≡ failed_stores self.old n };
 
@@ -66,7 +67,8 @@ pub trait Shelf {
         ensures bytes { OnOk result (Stores (held self.old) (held self.new) name.now bytes.now) }
         ensures others { StoreFails (held self.old) (held self.new) name.now }
         ensures memory { IsErrOf result ShelfError.Memory → held self.new ≡ held self.old }
-        ensures failed { IsErrOf result ShelfError.Failed → Rose (failed_stores self.old name.now) (failed_stores self.new name.now) }
+        ensures failed { IsErrOf result ShelfError.Failed
+            → Rose (failed_stores self.old name.now) (failed_stores self.new name.now) }
         ensures later { (n : List ℕ) → failed_stores self.old n ≤ failed_stores self.new n }
         ensures loads { (n : List ℕ) → failed_loads self.new n ≡ failed_loads self.old n };
 }

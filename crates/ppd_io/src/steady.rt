@@ -22,7 +22,8 @@ impl Model for SteadySource {
 
     ghost Value = { Feed };
 
-    ghost view = { λ s. record { left = drop s.at s.bytes.items; before = drop s.began s.bytes.items; chunk = s.chunk } };
+    ghost view = { λ s.
+        record { left = drop s.at s.bytes.items; before = drop s.began s.bytes.items; chunk = s.chunk } };
 
     ghost invariant = { λ s. (s.at ≤ vec_len s.bytes) × (0 < s.chunk) };
 }

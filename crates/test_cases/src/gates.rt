@@ -7,9 +7,9 @@ use std::alloc::Global;
 use std::sync::atomic::{AtomicU64, Ordering};
 use std::thread;
 
-/// Holds two workers at some of their passes. Each hold is three numbers: the worker, the number of the pass, from 0, at
-/// which it is held, and to how many passes the other worker must have come by then. Each waits for 1,000,000 yields at
-/// most.
+/// Holds two workers at some of their passes. Each hold is three numbers: the worker, the number of the pass, from 0,
+/// at which it is held, and to how many passes the other worker must have come by then. Each waits for 1,000,000 yields
+/// at most.
 #[derive(Drop)]
 pub(crate) struct HoldingGate {
     holds: Vec<u32>,

@@ -1,5 +1,5 @@
-//! Runs the cases of its files: calls over devices in memory, and what each must come to. It writes a line for each file
-//! and what differs, so a case that differs shows in what it writes.
+//! Runs the cases of its files: calls over devices in memory, and what each must come to. It writes a line for each
+//! file and what differs, so a case that differs shows in what it writes.
 #![tactic(auto)]
 
 mod asking;

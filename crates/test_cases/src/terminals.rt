@@ -5,8 +5,8 @@ use std::io;
 use std::io::{Read, Write};
 use std::sync::atomic::{AtomicU64, Ordering};
 
-/// What is typed, a byte in each read, with how many bytes must be shown before each line and, last, before the end. A read
-/// before that fails, and so does one after all of it.
+/// What is typed, a byte in each read, with how many bytes must be shown before each line and, last, before the end. A
+/// read before that fails, and so does one after all of it.
 #[derive(Drop)]
 pub(crate) struct Keys<'a> {
     bytes: &'a [u8],

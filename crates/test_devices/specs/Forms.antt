@@ -66,7 +66,12 @@ abbrev pub after_faulty_write : FaultyTank → List ℕ → FaultyTank
 after_faulty_write t piece =
     if fails_write t piece
     then (record { kept = t.kept; room = t.room; calls = after_call t.calls; faults = one_more t.faults })
-    else (record { kept = t.kept ++ take (write_size t piece) piece; room = t.room; calls = after_call t.calls; faults = t.faults })
+    else (record {
+      kept = t.kept ++ take (write_size t piece) piece;
+      room = t.room;
+      calls = after_call t.calls;
+      faults = t.faults;
+    })
 
 -- the entries of a shelf, its listed calls, and the counts of failed loads and of failed stores
 pub record FaultyShelf : Type 0 where
@@ -81,9 +86,19 @@ fails_load s name = fails_next s.calls || is_none (find_entry s.entries name)
 
 abbrev pub after_load : FaultyShelf → List ℕ → FaultyShelf
 after_load s name =
-    record { entries = s.entries; calls = after_call s.calls; failed_loads = if fails_load s name then one_more s.failed_loads else s.failed_loads; failed_stores = s.failed_stores }
+    record {
+      entries = s.entries;
+      calls = after_call s.calls;
+      failed_loads = if fails_load s name then one_more s.failed_loads else s.failed_loads;
+      failed_stores = s.failed_stores;
+    }
 
 -- what a store leaves, where `kept` says whether the bytes were kept
 abbrev pub after_store : FaultyShelf → Bool → List ℕ → List ℕ → FaultyShelf
 after_store s kept name bytes =
-    record { entries = if kept then put_entry s.entries name bytes else s.entries; calls = after_call s.calls; failed_loads = s.failed_loads; failed_stores = if fails_next s.calls then one_more s.failed_stores else s.failed_stores }
+    record {
+      entries = if kept then put_entry s.entries name bytes else s.entries;
+      calls = after_call s.calls;
+      failed_loads = s.failed_loads;
+      failed_stores = if fails_next s.calls then one_more s.failed_stores else s.failed_stores;
+    }

@@ -34,7 +34,11 @@ impl MemorySource {
     /// from 0, are listed.
     pub fn new(bytes: Vec<u8>, chunk: usize, fails: Vec<u32>) -> MemorySource
         requires { 0 < chunk }
-        ensures { result ≡ record { feed = new_feed bytes.items chunk; calls = record { fails = fails.items; next = 0 }; faults = 0 } }
+        ensures { result ≡ record {
+          feed = new_feed bytes.items chunk;
+          calls = record { fails = fails.items; next = 0 };
+          faults = 0;
+        } }
     {
         MemorySource {
             source: SteadySource::new(bytes, chunk),
@@ -96,7 +100,8 @@ impl MemorySink {
     /// Reserves room for that many bytes. The calls whose numbers, from 0, are listed will fail.
     /// `Memory` is want of memory.
     pub fn new(alloc: Global, room: usize, fails: Vec<u32>) -> Result<MemorySink, Memory>
-        ensures { IfOk result (λ s. s ≡ record { kept = []; room = room; calls = record { fails = fails.items; next = 0 }; faults = 0 }) }
+        ensures { IfOk result (λ s.
+            s ≡ record { kept = []; room = room; calls = record { fails = fails.items; next = 0 }; faults = 0 }) }
     {
         let kept = Vec::with_capacity(alloc, room)?;
         Ok(MemorySink {
@@ -163,13 +168,23 @@ impl Model for MemoryShelf {
 
     ghost Value = { FaultyShelf };
 
-    ghost view = { λ s. record { entries = s.entries; calls = s.calls; failed_loads = s.failed_loads; failed_stores = s.failed_stores } };
+    ghost view = { λ s. record {
+      entries = s.entries;
+      calls = s.calls;
+      failed_loads = s.failed_loads;
+      failed_stores = s.failed_stores;
+    } };
 }
 
 impl MemoryShelf {
     /// An empty shelf. Loads and stores are numbered together from 0, and the listed ones fail.
     pub fn new(alloc: Global, fails: Vec<u32>) -> MemoryShelf
-        ensures { result ≡ record { entries = []; calls = record { fails = fails.items; next = 0 }; failed_loads = 0; failed_stores = 0 } }
+        ensures { result ≡ record {
+          entries = [];
+          calls = record { fails = fails.items; next = 0 };
+          failed_loads = 0;
+          failed_stores = 0;
+        } }
     {
         MemoryShelf {
             alloc,
@@ -183,7 +198,8 @@ impl MemoryShelf {
     /// Sets the bytes of that name, and counts as no call. `Memory` is want of memory: the shelf is
     /// as before.
     pub fn put(&mut self, name: &str, bytes: &[u8]) -> Result<(), Memory>
-        ensures ok { OnOk result (self.new ≡ record self.old { entries = put_entry self.old.entries name.now bytes.now }) }
+        ensures ok { OnOk result
+            (self.new ≡ record self.old { entries = put_entry self.old.entries name.now bytes.now }) }
         ensures err { OnErr result (self.new ≡ self.old) }
     {
         self.entries.put(self.alloc, name, bytes)
@@ -224,9 +240,11 @@ impl Shelf for MemoryShelf {
 
     /// Fails exactly at the listed calls. After an error the shelf holds what it held.
     fn store(&mut self, alloc: Global, name: &str, bytes: &[u8]) -> Result<(), ShelfError>
-        ensures bytes { OnOk result (Stores (Some (find_entry self.old.entries)) (Some (find_entry self.new.entries)) name.now bytes.now) }
+        ensures bytes { OnOk result
+            (Stores (Some (find_entry self.old.entries)) (Some (find_entry self.new.entries)) name.now bytes.now) }
         ensures others { StoreFails (Some (find_entry self.old.entries)) (Some (find_entry self.new.entries)) name.now }
-        ensures memory { IsErrOf result ShelfError.Memory → Some (find_entry self.new.entries) ≡ Some (find_entry self.old.entries) }
+        ensures memory { IsErrOf result ShelfError.Memory
+            → Some (find_entry self.new.entries) ≡ Some (find_entry self.old.entries) }
         ensures failed { IsErrOf result ShelfError.Failed → Rose self.old.failed_stores self.new.failed_stores }
         ensures later { (n : List ℕ) → self.old.failed_stores ≤ self.new.failed_stores }
         ensures loads { (n : List ℕ) → self.new.failed_loads ≡ self.old.failed_loads }
