@@ -40,7 +40,7 @@ HEADLINE = [
             ("ppd_model/specs/World.antt", "enabled", "World::enabled"),
             ("ppd_model/specs/World.antt", "step", "World::step"),
             ("ppd_model/specs/Schedule.antt", "run", "World::drive"),
-            ("ppd_model/specs/Schedule.antt", "IsWhole", "run of ppd_run"),
+            ("ppd_model/specs/Schedule.antt", "IsWhole", "run of ppd_top_runs"),
             ("ppd_top_commands/specs/Commands.antt", "IsWholeRun", "ppd"),
         ],
     ),
@@ -61,7 +61,7 @@ HEADLINE = [
         "every schedule agreeing with that synchronization",
         [
             ("ppd_model/specs/Agreement.antt", "Agree", "agreeing_schedules"),
-            ("law_agreement/specs/Agreeing.antt", "AgreeingSchedulesHaveOneHistory", "agreeing_schedules"),
+            ("law_steps/specs/Agreeing.antt", "AgreeingSchedulesHaveOneHistory", "agreeing_schedules"),
             ("ppd_top/specs/Top.antt", "IsOfAgreeing", "ppd"),
         ],
     ),

@@ -5,3 +5,6 @@ pub mod Control
 pub mod Locals
 pub mod Loops
 pub mod Vocabulary
+mod EdgeEvents
+mod RecordedWrites
+pub mod MissingWrites

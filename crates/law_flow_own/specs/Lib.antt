@@ -5,3 +5,4 @@ pub mod Places
 pub mod Control
 pub mod Locals
 pub mod Loops
+pub mod Missing

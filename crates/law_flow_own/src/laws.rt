@@ -3,4 +3,5 @@
 pub mod control;
 pub mod locals;
 pub mod loops;
+pub mod missing;
 pub mod places;

@@ -8,7 +8,7 @@ use Rattle.ppd_model.specs.Laws.{IsTestOfEdges, ProcessesFollowTheirSteps}
 use Rattle.ppd_model.specs.Prefixes.{ObjectsStay}
 use Rattle.ppd_model.specs.RecordedSets.{AccessesAreOfCells}
 use Rattle.ppd_session.specs.Laws.{LogsTellRuns, RunsAreAnswered}
-use Rattle.law_agreement.specs.Agreeing.{AgreeingSchedulesHaveNoRace, AgreeingSchedulesHaveOneStory}
+use Rattle.law_steps.specs.Agreeing.{AgreeingSchedulesHaveNoRace, AgreeingSchedulesHaveOneStory}
 use Rattle.law_flow_own.specs.Loops.AllOwnParts.{AllOwnPartsAreFound}
 use Rattle.law_flow_shared.specs.Costs.Bounds.{EdgesCostLittle, LastCostsLittle}
 use Rattle.law_flow_shared.specs.Edges.Assembled.{EdgesAreFound}

@@ -3,3 +3,7 @@ pub mod Units
 pub mod Policies
 pub mod OpenBlocks
 pub mod StaticEdges
+pub mod Machine
+pub mod Instance
+pub mod Schedules
+pub mod Agreeing

@@ -11,7 +11,7 @@ use Rattle.ppd_parse.specs.Limits.{IsTree}
 use Rattle.ppd_check_names.specs.Names.{Scope}
 use Rattle.ppd_check.specs.Read.{IsTreeOf, IsRead}
 use Rattle.ppd_check_names.specs.Reading.{source_of}
-use Rattle.ppd_check_bodies.specs.Sources.{heads, head_frame, head_code, vars, core_of, faults_in}
+use Rattle.ppd_check.specs.Sources.{heads, head_frame, head_code, vars, core_of, faults_in}
 use Rattle.ppd_check_names.specs.Globals.{Head, globals}
 use Rattle.ppd_check.proofs.Valid.Core.{core_valid}
 use Rattle.ppd_check.proofs.Named.Accepted.{IsNamedHead, accepted_heads, accepted_counted, accepted_cells}

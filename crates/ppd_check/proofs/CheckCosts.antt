@@ -8,18 +8,18 @@ use Rattle.ppd_check_names.specs.Cost.{nodes_at, total, heads_nodes}
 use Rattle.ppd_check_names.specs.declared.frame.Variable.{Variable}
 use Rattle.ppd_check_names.proofs.Declared.Costs.{heads_apart}
 use Rattle.ppd_check_names.specs.Reading.{source_of}
-use Rattle.ppd_check_bodies.specs.Sources.{codes, all_stmts, past_statements}
+use Rattle.ppd_check.specs.Sources.{codes, all_stmts, past_statements}
 use Rattle.ppd_check_names.specs.Globals.{globals, no_globals, items_faults, count_faults}
-use Rattle.ppd_check_bodies.proofs.HeadCosts.{elements_some}
+use Rattle.ppd_check.proofs.HeadCosts.{elements_some}
 use Rattle.ppd_check.proofs.Linear.{core_few}
 use Rattle.ppd_check.proofs.LinearNodes.{tree_within}
-use Rattle.ppd_check_bodies.proofs.Tables.{length_vars}
+use Rattle.ppd_check.proofs.Tables.{length_vars}
 use Rattle.ppd_ast.specs.declared.program.Body.{Body}
 use Rattle.ppd_ast.specs.declared.program.Expr.{Expr}
 use Rattle.ppd_check_names.specs.declared.fault.Cause.TheVariants.{NoProcess}
 use Rattle.ppd_check_names.specs.declared.fault.Fault.{Fault}
 use Rattle.ppd_check_names.specs.declared.writer.Writer.{Writer}
-use Rattle.ppd_check_bodies.specs.Bodies.{WroteHeads}
+use Rattle.ppd_check.specs.Bodies.{WroteHeads}
 use Rattle.ppd_check_names.specs.Faults.{first, first_of_both, if_so}
 use Rattle.ppd_check_names.specs.Holding.{head_at, Holds}
 use Rattle.ppd_check_names.specs.Names.{innermost}

@@ -16,7 +16,7 @@ use Rattle.ppd_check.specs.declared.error.SourceError.TheVariants as S
 use Rattle.ppd_check_names.specs.declared.fault.Fault.{Fault}
 use Rattle.ppd_check_names.specs.Faults.{first}
 use Rattle.ppd_check.specs.Read.{IsTreeOf, IsRead, IsRefused}
-use Rattle.ppd_check_bodies.specs.Sources.{core_of, faults_in}
+use Rattle.ppd_check.specs.Sources.{core_of, faults_in}
 use Rattle.ppd_check_names.specs.Reading.{source_of}
 
 abbrev head_or : Shape → List Shape → Shape

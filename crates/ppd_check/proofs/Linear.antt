@@ -23,15 +23,15 @@ use Rattle.ppd_check_stmts.specs.Statements.{row_code}
 use Rattle.ppd_check_names.specs.Frames.{variable_of}
 use Rattle.ppd_check_names.specs.Syntax.{Item, shared, shared_array, semaphore, channel, function, process}
 use Rattle.ppd_check_stmts.specs.Table.{terms}
-use Rattle.ppd_check_bodies.specs.Sources.{entered, entry, ends_with_return, head_code, head_frame, heads, codes, core_of, faults_in, close_code}
+use Rattle.ppd_check.specs.Sources.{entered, entry, ends_with_return, head_code, head_frame, heads, codes, core_of, faults_in, close_code}
 use Rattle.ppd_check_names.specs.Globals.{Head, Globals, no_globals, with_item, globals, sem, chan}
 use Rattle.ppd_check_names.specs.Holding.{with_items}
-use Rattle.ppd_check_bodies.proofs.Filling.{params_count}
+use Rattle.ppd_check.proofs.Filling.{params_count}
 use Rattle.ppd_check_stmts.proofs.Table.Writing.{length_flats}
 use Rattle.ppd_check_stmts.specs.Elements.{elements_of}
 use Rattle.ppd_check.proofs.LinearNodes.{tree_within}
 use Rattle.ppd_check_stmts.proofs.Costs.Tables.{load}
-use Rattle.ppd_check_bodies.proofs.Tables.{length_vars, heads_load, heads_hold}
+use Rattle.ppd_check.proofs.Tables.{length_vars, heads_load, heads_hold}
 use Rattle.ppd_check_stmts.proofs.Costs.Rows.{row_size, load_join, row_load}
 use Rattle.ppd_check_stmts.proofs.Costs.Phrases.{item_size, items_size, items_few}
 

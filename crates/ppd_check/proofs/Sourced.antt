@@ -22,7 +22,7 @@ use Rattle.ppd_check_names.specs.declared.fault.Limit.TheVariants as L
 use Rattle.ppd_check_names.specs.declared.frame.Variable.{Variable}
 use Rattle.ppd_check_names.specs.declared.globals.Globals.{Globals}
 use Rattle.ppd_check_names.specs.declared.writer.Writer.{Writer}
-use Rattle.ppd_check_bodies.specs.Bodies.{WroteHeads}
+use Rattle.ppd_check.specs.Bodies.{WroteHeads}
 use Rattle.ppd_check_stmts.specs.Code.{Code}
 use Rattle.ppd_check_names.specs.Faults.{at, if_so, first, first_of_both, order}
 use Rattle.ppd_check_names.proofs.Words.{head_name, object_name}
@@ -30,7 +30,7 @@ use Rattle.ppd_check_names.specs.Fitted.{fitted}
 use Rattle.ppd_check_names.specs.Holding.{head_at, Holds}
 use Rattle.ppd_check_names.specs.Names.{innermost}
 use Rattle.ppd_check_names.specs.Globals as S
-use Rattle.ppd_check_bodies.specs.Sources.{past_statements, head_faults, heads, codes, faults_in, vars, bodies, all_stmts, core_of}
+use Rattle.ppd_check.specs.Sources.{past_statements, head_faults, heads, codes, faults_in, vars, bodies, all_stmts, core_of}
 use Rattle.ppd_check_names.specs.Reading.{source_of}
 use Rattle.ppd_check_names.specs.Globals.{no_globals, globals, with_item, items_faults, count_faults, past, past_cells, sem}
 use Rattle.ppd_check_names.specs.Holding.{with_items}

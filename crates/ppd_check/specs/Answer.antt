@@ -5,7 +5,7 @@ use Rattle.ppd_ast.specs.Valid.{IsValid}
 use Rattle.ppd_parse.specs.declared.node.Node.{Node}
 use Rattle.ppd_parse.specs.Tree.{tree_of}
 use Rattle.ppd_check_stmts.specs.Elements.{elements_of}
-use Rattle.ppd_check_bodies.specs.Sources.{core_of, faults_in}
+use Rattle.ppd_check.specs.Sources.{core_of, faults_in}
 use Rattle.ppd_check_names.specs.Reading.{source_of}
 use Rattle.ppd_check.specs.declared.error.CheckError.{CheckError}
 use Rattle.ppd_check.specs.Read.{IsTreeOf}

@@ -15,7 +15,7 @@ use Rattle.ppd_check.specs.declared.error.CheckError.{CheckError}
 use Rattle.ppd_check.specs.declared.error.CheckError.TheVariants as C
 use Rattle.ppd_check.specs.declared.error.SourceError.{SourceError}
 use Rattle.ppd_check.specs.declared.error.SourceError.TheVariants as S
-use Rattle.ppd_check_bodies.specs.Sources.{core_of, faults_in}
+use Rattle.ppd_check.specs.Sources.{core_of, faults_in}
 use Rattle.ppd_check_names.specs.Reading.{source_of}
 use Rattle.ppd_check.specs.Refused as Checking
 

@@ -6,7 +6,7 @@ use Rattle.ppd_check.specs.declared.error.CheckError.TheVariants as E
 use Rattle.ppd_check_names.specs.declared.fault.Cause.TheVariants.{Twice, Unknown, WrongKind, Arity, ReturnPlace, VoidValue, NoProcess, TooMany, BadSize}
 use Rattle.ppd_check_names.specs.declared.fault.Fault.{Fault}
 use Rattle.ppd_check_names.specs.Faults.{at, first}
-use Rattle.ppd_check_bodies.specs.Sources.{faults_in}
+use Rattle.ppd_check.specs.Sources.{faults_in}
 use Rattle.ppd_check_names.specs.Reading.{source_of}
 
 -- Why a tree is refused: the first rule that it breaks, with its place. Want of memory may come at any.

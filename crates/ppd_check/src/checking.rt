@@ -4,22 +4,22 @@ ghost use Rattle.ppd_check.specs.Answer.{IsCheckOf};
 ghost use Rattle.std.specs.List.{All};
 ghost use Rattle.ppd_parse.specs.Grammar.{Shape};
 ghost use Rattle.ppd_parse.specs.Tree.{tree_of, IsTable};
-ghost use Rattle.ppd_check_bodies.specs.Bodies.{WroteHeads};
+ghost use Rattle.ppd_check.specs.Bodies.{WroteHeads};
 ghost use Rattle.ppd_check_names.specs.declared.fault.Cause.TheVariants.{NoProcess};
 ghost use Rattle.ppd_check_names.specs.Faults.{first, first_of_both, if_so};
 ghost use Rattle.ppd_check_names.specs.Globals.{globals as declared_by, no_globals, items_faults, count_faults};
 ghost use Rattle.ppd_check_names.specs.Holding.{head_at, Holds, IsHeadAt};
 ghost use Rattle.ppd_check_names.specs.Names.{innermost};
-ghost use Rattle.ppd_check_bodies.specs.Sources.{vars, core_of, faults_in};
+ghost use Rattle.ppd_check.specs.Sources.{vars, core_of, faults_in};
 ghost use Rattle.ppd_check_names.specs.Fitted.{fitted};
 ghost use Rattle.ppd_check.specs.Refused.{IsTreeRefused};
 ghost use Rattle.ppd_check_names.specs.Cost.{heads_nodes, nodes_at, total};
 ghost use Rattle.ppd_check_names.specs.Reading.{source_of};
 
+use crate::bodies::{Heads, vars_of, write_heads};
 use crate::error::CheckError;
 use crate::places::note_statements;
 use ppd_ast::{Body, Memory, Program, Seq, Steps, Var};
-use ppd_check_bodies::{Heads, vars_of, write_heads};
 use ppd_check_names::{
     Cause, Fault, Globals, Output, Scopes, Source, Writer, as_short, globals_of, note_no_process,
 };

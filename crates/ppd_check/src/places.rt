@@ -1,7 +1,7 @@
 // The statements past the most that there may be.
 ghost use Rattle.std.specs.Prelude.{◌≡◌, map, List, OnOk, IfOk, ◌≤◌, ◌+◌, ◌*◌, length};
 ghost use Rattle.ppd_check_names.specs.Faults.{first, first_of_both};
-ghost use Rattle.ppd_check_bodies.specs.Sources.{past_statements, all_stmts};
+ghost use Rattle.ppd_check.specs.Sources.{past_statements, all_stmts};
 ghost use Rattle.ppd_check_stmts.specs.Code.{Code};
 ghost use Rattle.ppd_check.specs.Placed.{place_of};
 

@@ -4,8 +4,8 @@ use Rattle.ppd_model.specs.Setting.{Setting}
 use Rattle.law_clean.specs.Answers.{is_reached, no_item, unclean, unclean_or, unwritten}
 use Rattle.law_clean.specs.Pasts.{first_raced, left_edge}
 use Rattle.law_clean.specs.Search as sought
-use Rattle.law_flow_missing.proofs.MissingWrites.{missing_writes_are_told}
-use Rattle.law_flow_missing.specs.Missing.{AreIndexed, IsMissingWrite, write_at}
+use Rattle.law_flow_own.proofs.MissingWrites.{missing_writes_are_told}
+use Rattle.law_flow_own.specs.Missing.{AreIndexed, IsMissingWrite, write_at}
 use Rattle.ppd_clean.specs.Answers.{IsCleanBy}
 use Rattle.ppd_clean.specs.Missing.{IsCauseOfSets}
 use Rattle.ppd_clean.specs.declared.clean.Clean.{Clean}

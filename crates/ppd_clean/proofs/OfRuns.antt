@@ -13,7 +13,7 @@ use Rattle.law_clean.specs.Laws.{AnswersAreOfRuns}
 use Rattle.law_clean.specs.Ordered.{IsUnracedIn}
 use Rattle.law_clean.specs.Pasts.{any_raced, first_raced, is_clean, is_past, is_raced, is_same_edge, left_edge, lies}
 use Rattle.law_clean.specs.Search as sought
-use Rattle.law_flow_missing.specs.Missing.{write_at}
+use Rattle.law_flow_own.specs.Missing.{write_at}
 use Rattle.law_logs.specs.Graph.Accepted.{LogsOfRunsAreOrdered}
 use Rattle.ppd_ast.specs.Valid.{IsValid}
 use Rattle.ppd_ast.specs.declared.plan.Plan.{Plan}

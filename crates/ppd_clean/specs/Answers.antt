@@ -4,7 +4,7 @@ use Rattle.law_clean.specs.Answers.{CleanOr, clean, is_reached, no_item, unclean
 use Rattle.law_clean.specs.Cuts.{cut_logs}
 use Rattle.law_clean.specs.Pasts.{first_raced, left_edge}
 use Rattle.law_clean.specs.Search.{clean_by, last_wanted}
-use Rattle.law_flow_missing.specs.Missing.{write_at}
+use Rattle.law_flow_own.specs.Missing.{write_at}
 use Rattle.ppd_clean.specs.ByOrder.{cut_for, is_unclean}
 use Rattle.ppd_clean.specs.declared.clean.Clean.{Clean}
 use Rattle.ppd_clean.specs.declared.clean_error.CleanError.{CleanError}

@@ -2,7 +2,7 @@
 use Rattle.law_steps.specs.Policies.{setting_by}
 use Rattle.ppd_model.specs.Setting.{setting_of}
 use Rattle.std.proofs.Common.{◌≡◌, ℕ, List, None, sym, subst, ◌∙◌, ap}
-use Rattle.law_agreement.proofs.Agreeing.{agreeing_stories}
+use Rattle.law_steps.proofs.Agreeing.{agreeing_stories}
 use Rattle.ppd_ast.specs.Valid.{IsValid}
 use Rattle.ppd_ast.specs.declared.plan.Plan.{Plan}
 use Rattle.ppd_ast.specs.declared.program.Program.{Program}

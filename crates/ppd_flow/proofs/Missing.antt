@@ -10,8 +10,8 @@ use Rattle.ppd_flow_past.specs.declared.past.Past.{Past}
 use Rattle.ppd_flow_shared.specs.SharedCells.{IsLastFound, answer_of, seens_in}
 use Rattle.ppd_flow.specs.Answers.{IsEdges, answer_if}
 use Rattle.ppd_flow.specs.Missing.{IsCauseOfSets}
-use Rattle.law_flow_missing.specs.Missing.{write_at}
-use Rattle.law_flow_missing.proofs.MissingWrites.{missing_writes_are_told}
+use Rattle.law_flow_own.specs.Missing.{write_at}
+use Rattle.law_flow_own.proofs.MissingWrites.{missing_writes_are_told}
 
 module _ (q n c : ℕ) where
   same_write : (m : Missing) → m.process ≡ q → m.entry ≡ n → m.cell ≡ c → m ≡ write_at q n c

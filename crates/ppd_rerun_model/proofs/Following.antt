@@ -2,10 +2,10 @@
 -- comes to the same, where the other is final and has no race.
 use Rattle.std.proofs.Common.{◌≡◌, ℕ, zero, suc, ◌<◌, ◌≤◌, refl, sym, ap, ◌∙◌, subst, ⊎_elim, arith}
 use Rattle.std.proofs.lemmas.Bool.{cases_eq, cases_lt}
-use Rattle.law_agreement.proofs.Machine.Model.{Want, Stop, Local, Read, Write, Sync, Scene, Machine, wants_of, Enabled, Run, IsFinal, want_at, tick, Record, HasRecord, Follows, IsOrdered}
-use Rattle.law_agreement.proofs.Machine.Runs.{climb, hist_other, count_step, counts, count_taken, syncs_step, syncs_grow, syncs_own, follows, later, FirstStep}
-use Rattle.law_agreement.proofs.Machine.Cut.{Fits}
-use Rattle.law_agreement.proofs.Machine.Meeting.{Agrees, complete, end_fits}
+use Rattle.law_steps.proofs.Machine.Model.{Want, Stop, Local, Read, Write, Sync, Scene, Machine, wants_of, Enabled, Run, IsFinal, want_at, tick, Record, HasRecord, Follows, IsOrdered}
+use Rattle.law_steps.proofs.Machine.Runs.{climb, hist_other, count_step, counts, count_taken, syncs_step, syncs_grow, syncs_own, follows, later, FirstStep}
+use Rattle.law_steps.proofs.Machine.Cut.{Fits}
+use Rattle.law_steps.proofs.Machine.Meeting.{Agrees, complete, end_fits}
 
 -- each synchronization that the run takes is the next one of its process in the record
 pub record Takes {H L V : Type 0} {M : Machine H L V} {first : Scene H L V} (R : Run M first) (r : Record L) : Type 0 where

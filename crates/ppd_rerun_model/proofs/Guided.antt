@@ -14,12 +14,12 @@ use Rattle.ppd_model.specs.Synchronizations as s
 use Rattle.ppd_model.specs.World.{World, enabled, need}
 use Rattle.ppd_model.proofs.Prefixes.{good_to}
 use Rattle.ppd_model.proofs.Stories.{stories_are_of_runs}
-use Rattle.law_agreement.proofs.Machine.Model.{Enabled, IsFinal, Run, Want}
-use Rattle.law_agreement.proofs.Instance.Wants.{Line, Tagged, machine, view}
-use Rattle.law_agreement.proofs.Instance.Given.{enabled_there}
-use Rattle.law_agreement.proofs.Schedules.Records.{sheet}
-use Rattle.law_agreement.proofs.Schedules.Steps.{run_of, want_is}
-use Rattle.law_agreement.proofs.Agreeing.{final, fresh, recorded, run_ordered, story_by}
+use Rattle.law_steps.proofs.Machine.Model.{Enabled, IsFinal, Run, Want}
+use Rattle.law_steps.proofs.Instance.Wants.{Line, Tagged, machine, view}
+use Rattle.law_steps.proofs.Instance.Given.{enabled_there}
+use Rattle.law_steps.proofs.Schedules.Records.{sheet}
+use Rattle.law_steps.proofs.Schedules.Steps.{run_of, want_is}
+use Rattle.law_steps.proofs.Agreeing.{final, fresh, recorded, run_ordered, story_by}
 use Rattle.ppd_rerun_model.specs.Guided.{guided}
 use Rattle.ppd_rerun_model.specs.Laws.{EndsGuided, GuidedSchedulesAgree, IsGuidedAlike, guided_end}
 use Rattle.ppd_rerun_model.proofs.Ending.{ends_guided}

@@ -17,9 +17,9 @@ use Rattle.ppd_model.specs.Synchronizations as s
 use Rattle.ppd_model.proofs.Changes.{some}
 use Rattle.ppd_model.proofs.Numbers.{are_counted}
 use Rattle.ppd_model.proofs.SameSyncs.{same_is, same_self}
-use Rattle.law_agreement.proofs.Instance.Wants.{Line, has_room, machine, ready}
-use Rattle.law_agreement.proofs.Instance.Wants.{declared}
-use Rattle.law_agreement.proofs.Schedules.Records.{line_in, number_at, sheet}
+use Rattle.law_steps.proofs.Instance.Wants.{Line, has_room, machine, ready}
+use Rattle.law_steps.proofs.Instance.Wants.{declared}
+use Rattle.law_steps.proofs.Schedules.Records.{line_in, number_at, sheet}
 use Rattle.ppd_rerun_model.specs.Guided.{is_let}
 use Rattle.ppd_rerun_model.proofs.Following.{IsMonotone, IsOnce}
 

@@ -18,13 +18,13 @@ use Rattle.ppd_model.specs.Synchronizations.{sync_of}
 use Rattle.ppd_model.specs.World.{World, change, enabled, need, step}
 use Rattle.ppd_model.proofs.Changes.{own-else}
 use Rattle.ppd_model.proofs.Prefixes.{enabled_at, goes_at, good_to}
-use Rattle.law_agreement.proofs.Machine.Model.{Want, Stop, Local, Read, Write, Sync, Enabled, answer_for, number_for, tick, wants_of}
-use Rattle.law_agreement.proofs.Instance.Wants.{Line, Tagged, machine, made, sorted, synced_in, view}
-use Rattle.law_agreement.proofs.Instance.Given.{enabled_back, taken_is}
-use Rattle.law_agreement.proofs.Instance.Lawful.{lawful, one_more, sync_made}
-use Rattle.law_agreement.proofs.Schedules.Records.{line_in, number_at, sheet}
-use Rattle.law_agreement.proofs.Schedules.Steps.{is_step, run_of, want_is}
-use Rattle.law_agreement.proofs.Agreeing.{fresh}
+use Rattle.law_steps.proofs.Machine.Model.{Want, Stop, Local, Read, Write, Sync, Enabled, answer_for, number_for, tick, wants_of}
+use Rattle.law_steps.proofs.Instance.Wants.{Line, Tagged, machine, made, sorted, synced_in, view}
+use Rattle.law_steps.proofs.Instance.Given.{enabled_back, taken_is}
+use Rattle.law_steps.proofs.Instance.Lawful.{lawful, one_more, sync_made}
+use Rattle.law_steps.proofs.Schedules.Records.{line_in, number_at, sheet}
+use Rattle.law_steps.proofs.Schedules.Steps.{is_step, run_of, want_is}
+use Rattle.law_steps.proofs.Agreeing.{fresh}
 use Rattle.ppd_rerun_model.specs.Guided.{Guiding, chosen, guide, guided, guided_from, guiding, is_let, may_step, sync_of_next}
 use Rattle.ppd_rerun_model.specs.Laws.{EndsGuided, guided_end}
 use Rattle.ppd_rerun_model.proofs.Ending.{chosen_at, chosen_can, chosen_let, ends_guided, fold_at}

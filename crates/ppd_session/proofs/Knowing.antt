@@ -1,8 +1,8 @@
 -- What is known of logs that the index accepts: what is found, and why something is not.
 use Rattle.ppd_model.specs.Setting.{Setting}
 use Rattle.std.specs.Result.{result_err}
-use Rattle.law_flow_missing.proofs.MissingWrites.{missing_writes_are_told}
-use Rattle.law_flow_missing.specs.Missing.{AreIndexed, IsMissingWrite, write_at}
+use Rattle.law_flow_own.proofs.MissingWrites.{missing_writes_are_told}
+use Rattle.law_flow_own.specs.Missing.{AreIndexed, IsMissingWrite, write_at}
 use Rattle.ppd_ast.proofs.ValidLaws.{slice_get_there}
 use Rattle.ppd_emul_model.specs.declared.trace.BlockTrace.{BlockTrace}
 use Rattle.ppd_emul_model.specs.declared.trace.EmulError.{EmulError}

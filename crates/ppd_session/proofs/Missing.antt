@@ -27,8 +27,8 @@ use Rattle.ppd_session.specs.declared.question.Question.{Question}
 use Rattle.ppd_session.specs.declared.question.Question.TheVariants.{Nothing, Unknown, Races, Final, Blocks, Open, Why, Deps, Quit}
 use Rattle.ppd_session.specs.declared.reply.SessionError.{SessionError}
 use Rattle.ppd_session.specs.declared.reply.SessionError.TheVariants.{Diverged, Sets, Memory}
-use Rattle.law_flow_missing.specs.Missing.{AreIndexed, IsMissingWrite, write_at}
-use Rattle.law_flow_missing.proofs.MissingWrites.{missing_writes_are_told}
+use Rattle.law_flow_own.specs.Missing.{AreIndexed, IsMissingWrite, write_at}
+use Rattle.law_flow_own.proofs.MissingWrites.{missing_writes_are_told}
 use Rattle.ppd_session.proofs.KnownWords.{of_cells, of_intervals, item_failure}
 
 -- ---- what holds of all that is found holds of what is looked up

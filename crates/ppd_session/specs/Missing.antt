@@ -11,7 +11,7 @@ use Rattle.ppd_session.specs.Sessions.{error_of}
 use Rattle.ppd_session.specs.Texts.{failure_of, flow_at}
 use Rattle.ppd_session.specs.declared.reply.SessionError.{SessionError}
 use Rattle.ppd_session.specs.declared.reply.SessionError.TheVariants.{Sets}
-use Rattle.law_flow_missing.specs.Missing.{AreIndexed, IsMissingWrite, write_at}
+use Rattle.law_flow_own.specs.Missing.{AreIndexed, IsMissingWrite, write_at}
 
 -- a write that the entry records is missing, where this is seen of the processes
 abbrev pub IsMissingAt : Logs → List Seen → At → Type 0

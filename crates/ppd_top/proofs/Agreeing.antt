@@ -2,7 +2,7 @@
 use Rattle.law_steps.specs.Policies.{setting_by}
 use Rattle.std.proofs.Common.{◌≡◌, ℕ, List, ap, ◌∙◌}
 use Rattle.ppd_ast.specs.declared.program.Program.{Program}
-use Rattle.law_agreement.proofs.Agreeing.{agreeing_histories, agreeing_stories}
+use Rattle.law_steps.proofs.Agreeing.{agreeing_histories, agreeing_stories}
 use Rattle.ppd_model.specs.Logs.{close}
 use Rattle.ppd_session.specs.Known.{Known, known_of_story}
 use Rattle.ppd_top_commands.specs.Commands.{known_of, summary_of_run}

@@ -4,8 +4,8 @@ use Rattle.std.proofs.Common.{◌≡◌, ℕ, ◌<◌, List, [], ◌∷◌, fals
 use Rattle.ppd_io.specs.Content.{StoreFails}
 use Rattle.ppd_ast.specs.declared.program.Program.{Program}
 use Rattle.ppd_codec.specs.declared.recording.Header.{Header}
-use Rattle.ppd_top_query.specs.OfRuns.{AnswersAreOfRuns}
-use Rattle.ppd_top_query.specs.Recordings.{IsRunRecorded}
+use Rattle.ppd_top.specs.OfRuns.{AnswersAreOfRuns}
+use Rattle.ppd_codec_runs.specs.Recordings.{IsRunRecorded}
 use Rattle.ppd_top_requests.specs.declared.options.Options.{Options}
 use Rattle.ppd_top.specs.Call.{Call, HasFailedLoad, HasFailedWrite, LeftShelf, Wrote}
 use Rattle.ppd_top.specs.Clauses.{IsOutcome, IsPromised, IsPromisedAnswers, IsTaken, MemoryRanOut, RanWhole, ReadFailed, RecordingRefused, WasAnswered, WasDone, WasRefused, WriteFailed}

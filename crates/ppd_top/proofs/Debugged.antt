@@ -1,6 +1,6 @@
 -- What `debug` comes to, by its status.
 use Rattle.law_steps.specs.Policies.{setting_by}
-use Rattle.ppd_top_query.specs.Recordings.{recorded_setting}
+use Rattle.ppd_codec_runs.specs.Recordings.{recorded_setting}
 use Rattle.ppd_top.specs.declared.loads.TheConstants.{MOST_RECORDING}
 use Rattle.ppd_ast.specs.declared.program.Program.{Program}
 use Rattle.ppd_codec.specs.declared.recording.Header.{Header}
@@ -31,9 +31,9 @@ use Rattle.ppd_top.specs.Top.{IsRecalledFrom}
 use Rattle.ppd_top.specs.Top.Writes.{for_recording, refused_recording}
 use Rattle.ppd_top_requests.specs.Words.{Asks}
 use Rattle.ppd_top_requests.specs.Words.Request.{on_recording}
-use Rattle.ppd_top_query.proofs.Runs.{no_run_is_refused, runs_are_recalled}
-use Rattle.ppd_top_query.proofs.Same.{refused_or_accepted}
-use Rattle.ppd_top_query.specs.Recordings.{IsAccepted, IsRunRecorded, known_of as known_of_recording}
+use Rattle.ppd_codec_runs.proofs.Runs.{no_run_is_refused, runs_are_recalled}
+use Rattle.ppd_codec_runs.proofs.Same.{refused_or_accepted}
+use Rattle.ppd_codec_runs.specs.Recordings.{IsAccepted, IsRunRecorded, known_of as known_of_recording}
 use Rattle.ppd_top_commands.proofs.Conversing.{same_input}
 use Rattle.ppd_top_commands.specs.Debugging.{Debugs}
 use Rattle.ppd_top_commands.specs.Debugging.Debugs.{no_recall, recalled, recording_refused}

@@ -10,3 +10,16 @@ pub mod Unloaded
 pub mod Inputs
 pub mod Clauses
 pub mod Promises
+pub mod QueryWords
+pub mod CleanOfRuns
+pub mod CleanTold
+pub mod Ends
+pub mod RecordedQuery
+pub mod OfPast
+pub mod OfRuns
+pub mod Replied
+pub mod SlicesOfRuns
+pub mod WholeTraces
+pub mod Missing
+pub mod Firsts
+pub mod Determined

@@ -1,5 +1,5 @@
 -- What a query comes to, by its status.
-use Rattle.ppd_top_query.specs.Recordings.{recorded_setting}
+use Rattle.ppd_codec_runs.specs.Recordings.{recorded_setting}
 use Rattle.ppd_top.specs.declared.loads.TheConstants.{MOST_RECORDING}
 use Rattle.ppd_ast.specs.declared.limits.TheConstants.{MOST_BUDGET}
 use Rattle.ppd_ast.specs.declared.program.Program.{Program}
@@ -26,19 +26,19 @@ use Rattle.ppd_top.specs.Top.{IsRecalledFrom}
 use Rattle.ppd_top.specs.Top.Writes.{for_query, refused_recording}
 use Rattle.ppd_top_requests.specs.Words.{Asks, AsksRecording, Command, asked}
 use Rattle.ppd_top_requests.specs.Words.Request.{on_number, on_query, on_recording, on_source}
-use Rattle.ppd_top_query.proofs.Determined.{answers_are_determined, failed_are_missing}
-use Rattle.ppd_top_query.proofs.Ends.{queries_end, runs_are_told}
-use Rattle.ppd_top_query.proofs.Runs.{no_run_is_refused, runs_are_recalled}
-use Rattle.ppd_top_query.proofs.Same.{refused_or_accepted}
-use Rattle.ppd_top_query.specs.Determined.{GivesBy}
-use Rattle.ppd_top_query.specs.OfRuns.{AnswersAreOfRuns}
-use Rattle.ppd_top_query.specs.Queries.{Gives, IsAnswer}
+use Rattle.ppd_top.proofs.Determined.{answers_are_determined, failed_are_missing}
+use Rattle.ppd_top.proofs.Ends.{queries_end, runs_are_told}
+use Rattle.ppd_codec_runs.proofs.Runs.{no_run_is_refused, runs_are_recalled}
+use Rattle.ppd_codec_runs.proofs.Same.{refused_or_accepted}
+use Rattle.ppd_top.specs.Determined.{GivesBy}
+use Rattle.ppd_top.specs.OfRuns.{AnswersAreOfRuns}
+use Rattle.ppd_top.specs.Queries.{Gives, IsAnswer}
 use Rattle.ppd_top_requests.specs.Questions.{Query}
-use Rattle.ppd_top_query.specs.Queries.IsWritten.{answers, fails, refuses}
+use Rattle.ppd_top.specs.Queries.IsWritten.{answers, fails, refuses}
 use Rattle.ppd_top_requests.specs.Questions.Query.{Clean, Rerun, Slice, Whole}
-use Rattle.ppd_top_query.specs.Recalled.{Recalled}
-use Rattle.ppd_top_query.specs.Recordings.{IsAccepted, IsRecalled, IsRunRecorded, known_of}
-use Rattle.ppd_top_query.specs.Replies.{IsAskable, IsError}
+use Rattle.ppd_codec_runs.specs.declared.recalling.Recalled.{Recalled}
+use Rattle.ppd_codec_runs.specs.Recordings.{IsAccepted, IsRecalled, IsRunRecorded, known_of}
+use Rattle.ppd_top.specs.Replies.{IsAskable, IsError}
 use Rattle.ppd_top_commands.proofs.Conversing.{same_input}
 use Rattle.ppd_top_commands.specs.Asking.{IsFailed}
 use Rattle.ppd_top_commands.specs.Output.{Finished, IsUnread}

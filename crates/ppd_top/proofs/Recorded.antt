@@ -1,6 +1,6 @@
 -- What `run` comes to, by its status.
 use Rattle.ppd_top.specs.declared.loads.TheConstants.{MOST_BYTES}
-use Rattle.ppd_top_query.specs.Recordings.{IsRunRecorded}
+use Rattle.ppd_codec_runs.specs.Recordings.{IsRunRecorded}
 use Rattle.std.specs.Prelude.{Option, Some, None, ◌⊎◌}
 use Rattle.std.proofs.Common.{◌≡◌, ℕ, List, [], ◌∷◌, arith, inl, inr, refl, subst, sym}
 use Rattle.ppd_ast.specs.declared.program.Program.{Program}

@@ -1,5 +1,5 @@
 -- The clauses of the top call, each over the call: what it came to by its status, and when it succeeds.
-use Rattle.ppd_top_query.specs.Recordings.{recorded_setting}
+use Rattle.ppd_codec_runs.specs.Recordings.{recorded_setting}
 use Rattle.ppd_top.specs.declared.loads.TheConstants.{MOST_BYTES, MOST_RECORDING}
 use Rattle.ppd_blocks.specs.Blocks.{plan_of}
 use Rattle.ppd_io.specs.Causes.{Rose}
@@ -23,12 +23,12 @@ use Rattle.ppd_session.specs.Missing.{IsMissingAt}
 use Rattle.ppd_session.specs.Sessions.{error_of}
 use Rattle.ppd_session.specs.Texts.{failure_of}
 use Rattle.ppd_session.specs.declared.reply.SessionError.TheVariants.{Sets}
-use Rattle.ppd_top_query.specs.Determined.{GivesBy, IsFailedBy}
-use Rattle.ppd_top_query.specs.Missing.{IsMissingFor}
-use Rattle.ppd_top_query.specs.OfRuns.{IsOfRuns}
+use Rattle.ppd_top.specs.Determined.{GivesBy, IsFailedBy}
+use Rattle.ppd_top.specs.Missing.{IsMissingFor}
+use Rattle.ppd_top.specs.OfRuns.{IsOfRuns}
 use Rattle.ppd_top_requests.specs.Questions.{Query}
 use Rattle.ppd_top_requests.specs.Questions.Query.{Rerun}
-use Rattle.ppd_top_query.specs.Recordings.{IsAccepted, IsRefusedBy, IsRunRecorded}
+use Rattle.ppd_codec_runs.specs.Recordings.{IsAccepted, IsRefusedBy, IsRunRecorded}
 use Rattle.ppd_top_commands.specs.Commands.{IsWholeRun, header_of, known_of, summary_of_run}
 use Rattle.ppd_top_requests.specs.declared.options.Options.{Options}
 use Rattle.ppd_top.specs.Call.{Call, HasFailedLoad, HasFailedWrite, Wrote}

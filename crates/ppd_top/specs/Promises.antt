@@ -1,7 +1,7 @@
 -- What calls of the program tell of runs: of each of them the headline holds.
 use Rattle.ppd_top.specs.declared.loads.TheConstants.{MOST_BYTES, MOST_RECORDING}
 use Rattle.std.specs.Prelude.{◌≡◌, ◌⊎◌, ℕ, List, ◌++◌}
-use Rattle.ppd_top_query.specs.Recordings.{IsRunRecorded}
+use Rattle.ppd_codec_runs.specs.Recordings.{IsRunRecorded}
 use Rattle.ppd_io.specs.Content.{Loads, Stores}
 use Rattle.ppd_model.specs.Logs.{close}
 use Rattle.ppd_session.specs.Known.{Known}

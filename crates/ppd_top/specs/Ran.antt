@@ -15,13 +15,13 @@ use Rattle.ppd_top.specs.Call.{Call, Devices, HasFailedLoad, LeftShelf}
 use Rattle.ppd_top_commands.specs.Output.{AppendsFront, Finished, IsUnread}
 use Rattle.ppd_text_refusals.specs.Sources.{refused}
 use Rattle.ppd_top.specs.Top.{drill_options, out_of, usage}
-use Rattle.ppd_top_query.specs.Queries.{Gives}
+use Rattle.ppd_top.specs.Queries.{Gives}
 use Rattle.ppd_top_requests.specs.Questions.{Query}
 use Rattle.ppd_top_requests.specs.Words.{Asks, AsksRecording, Command, asked}
 use Rattle.ppd_top_requests.specs.Words.Request.{on_source, on_recording, on_number, on_query}
 use Rattle.ppd_top_requests.specs.Words.Command.{Flow, Run, Show}
 use Rattle.ppd_codec.specs.declared.recording.Recording.{Recording}
-use Rattle.ppd_top_query.specs.Recordings.{IsAccepted, IsRefusedBy}
+use Rattle.ppd_codec_runs.specs.Recordings.{IsAccepted, IsRefusedBy}
 use Rattle.ppd_top_commands.specs.Debugging.{Debugs}
 
 -- ---- a command

@@ -1,6 +1,6 @@
 -- What is written for the words, the source, the run and the commands, and with which status.
 use Rattle.law_steps.specs.Policies.{setting_by}
-use Rattle.ppd_top_query.specs.Recordings.{recorded_setting}
+use Rattle.ppd_codec_runs.specs.Recordings.{recorded_setting}
 use Rattle.ppd_top.specs.declared.loads.TheConstants.{MOST_BYTES, MOST_RECORDING}
 use Rattle.ppd_blocks.specs.Blocks.{plan_of}
 use Rattle.std.specs.Prelude.{◌≡◌, ◌≢◌, ℕ, List, [], codes, None}
@@ -25,11 +25,11 @@ use Rattle.ppd_top_requests.specs.Words.Command.{Flow, Run, Show}
 use Rattle.ppd_codec.specs.declared.recording.Recording.{Recording}
 use Rattle.ppd_session.specs.Known.{Known}
 use Rattle.ppd_session.specs.Knowing.{IsKnownOfLogs}
-use Rattle.ppd_top_query.specs.Determined.{GivesBy}
-use Rattle.ppd_top_query.specs.OfRuns.{IsOfRuns}
+use Rattle.ppd_top.specs.Determined.{GivesBy}
+use Rattle.ppd_top.specs.OfRuns.{IsOfRuns}
 use Rattle.ppd_top_requests.specs.Questions.{Query}
-use Rattle.ppd_top_query.specs.CodecRunsLaws.{IsKnownOfRuns}
-use Rattle.ppd_top_query.specs.Recordings.{IsAccepted, IsRefusedBy}
+use Rattle.ppd_codec_runs.specs.Laws.{IsKnownOfRuns}
+use Rattle.ppd_codec_runs.specs.Recordings.{IsAccepted, IsRefusedBy}
 
 -- ---- the run of a program
 

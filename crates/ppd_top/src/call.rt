@@ -13,13 +13,13 @@ ghost use Rattle.ppd_top_requests.specs.Words.Command.{Flow};
 
 use crate::drilling::drill;
 use crate::loads::{MOST_BYTES, MOST_RECORDING};
+use crate::query_laws::answers_are_of_runs;
 use crate::querying::tell_query;
 use ppd_ast::{Memory, Seq};
 use ppd_check::{SourceError, read_source};
 use ppd_io::{Gate, Shelf, ShelfError, Sink, Source};
 use ppd_text_refusals::refusal_line;
 use ppd_top_commands::{RecordTask, debug, finish, flow, record_run, show};
-use ppd_top_query::answers_are_of_runs;
 use ppd_top_requests::{Command, Query, Request, SourceRequest, asked};
 use ppd_top_runs::{Means, Outcome, Task, ended};
 use std::alloc::Global;

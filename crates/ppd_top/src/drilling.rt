@@ -5,13 +5,12 @@ ghost use Rattle.ppd_ast.specs.declared.limits.TheConstants.{MOST_DRILL};
 ghost use Rattle.ppd_top.specs.Ran.{Drilled, Drills};
 
 use crate::call::refuse;
-use law_drill::drills_are_read;
 use ppd_ast::limits::MOST_BUDGET;
 use ppd_ast::{Policy, Program};
 use ppd_check::read_source;
 use ppd_io::{CHUNK_BYTES, Gate, Sink, SteadySource};
 use ppd_top_commands::flow;
-use ppd_top_drill::generate;
+use ppd_top_drill::{drills_are_read, generate};
 use ppd_top_requests::Options;
 use ppd_top_runs::{Means, Outcome, Task, ended};
 use std::sync::Wait;

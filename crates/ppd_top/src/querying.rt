@@ -1,12 +1,13 @@
 // What is asked of a recording without an input.
 ghost use Rattle.ppd_top_requests.specs.Questions.{query_of};
-ghost use Rattle.ppd_top_query.specs.Replies.{IsAskable};
+ghost use Rattle.ppd_top.specs.Replies.{IsAskable};
 ghost use Rattle.ppd_top.specs.Ran.{IsTold, Queries};
 
+use crate::answering::answer;
 use ppd_ast::Seq;
+use ppd_codec_runs::{NoRecall, Recalled, recall};
 use ppd_io::Sink;
 use ppd_top_commands::{finish, refuse_replay};
-use ppd_top_query::{NoRecall, Recalled, answer, recall};
 use ppd_top_requests::Query;
 use ppd_top_runs::{Outcome, ended};
 use std::alloc::Global;

@@ -1,2 +1,3 @@
 -- The sources that drills run.
 pub mod Drills
+pub mod Drilled

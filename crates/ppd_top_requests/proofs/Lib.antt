@@ -1,1 +1,6 @@
 pub mod Requested
+pub mod Clap
+pub mod Uses
+pub mod Late
+pub mod Numbers
+pub mod Fit

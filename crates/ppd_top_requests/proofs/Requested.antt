@@ -1,7 +1,7 @@
 -- What the words ask for, by the request that was read of them.
 use Rattle.std.specs.Prelude.{Option, Some, option_map}
 use Rattle.std.proofs.Common.{◌≡◌, ℕ, List, sym, ◌∙◌, ap}
-use Rattle.ppd_top_words.specs.Words.{Text}
+use Rattle.ppd_top_requests.specs.GivenWords.{Text}
 use Rattle.ppd_top_requests.specs.declared.words.Request.{Request as GivenRequest}
 use Rattle.ppd_top_requests.specs.declared.words.Request.TheVariants.{Source, Recording, Drill, Query as query}
 use Rattle.ppd_top_requests.specs.declared.query.Query.{Query as GivenQuery}

@@ -11,10 +11,10 @@ use Rattle.ppd_top_requests.specs.declared.words.Request.TheVariants.{Drill, Rec
 use Rattle.ppd_top_requests.specs.Questions.{ItemAsked, Query, query_of}
 use Rattle.ppd_top_requests.specs.Questions.Query.{Clean, Rerun, Slice, Whole}
 use Rattle.ppd_top_requests.specs.declared.options.Options.{Options}
-use Rattle.ppd_top_words.specs.Commands.{command_gives}
-use Rattle.ppd_top_words.specs.Words.{Text, texts, value_of}
-use Rattle.ppd_top_words.specs.declared.commands.Command.{Command as Word}
-use Rattle.ppd_top_words.specs.declared.commands.Command.TheVariants as word
+use Rattle.ppd_top_requests.specs.Commands.{command_gives}
+use Rattle.ppd_top_requests.specs.GivenWords.{Text, texts, value_of}
+use Rattle.ppd_top_requests.specs.declared.commands.Command.{Command as Word}
+use Rattle.ppd_top_requests.specs.declared.commands.Command.TheVariants as word
 use Rattle.std.specs.Borrow.{Bor}
 use Rattle.std.specs.Prelude.{List, None, Option, Some, [], codes, if◌then◌else◌, nat_le, option_and_then, option_map, ℕ, ⊤, ◌&&◌, ◌∷◌, ◌≡◌, ◌≤◌, ◌⊎◌}
 

@@ -5,15 +5,15 @@ ghost use Rattle.ppd_top_requests.specs.Words.Command.{Run as run_asked};
 ghost use Rattle.ppd_top_requests.specs.Questions.{asked_of, query_of};
 ghost use Rattle.ppd_top_requests.specs.Questions.Query.{Clean as clean_asked, Slice as slice_asked, Whole as whole_asked};
 ghost use Rattle.ppd_top_requests.specs.Words.{AreInRange};
-ghost use Rattle.ppd_top_words.specs.declared.commands.Command.TheVariants as word;
+ghost use Rattle.ppd_top_requests.specs.declared.commands.Command.TheVariants as word;
 ghost use Rattle.std.specs.Prelude.{IfOk, IfSome, None, Some, codes, option_map, ◌≡◌, ◌≤◌};
 
+use crate::commands::{Command as Word, CommandWords, read_command};
 use crate::options::Options;
 use crate::query::{AskedItem, Query};
 use ppd_ast::limits::{DEFAULT_BUDGET, MOST_BUDGET, MOST_DRILL, MOST_POLICY};
 use ppd_ast::{Memory, Policy};
 use ppd_text::number_in;
-use ppd_top_words::{Command as Word, CommandWords, read_command};
 use std::alloc::Global;
 
 /// The greatest number of 9 digits.

@@ -1,5 +1,5 @@
-//! A run by threads from its start to its end, with the index of its logs and the graph of its synchronization, and how
-//! its processes ended, as a text.
+//! A run by threads, one for each process, over one book, from its start to its end, with the index of its logs and the
+//! graph of its synchronization, and how its processes ended, as a text.
 #![tactic(auto)]
 
 mod ends;
@@ -7,6 +7,7 @@ mod logs;
 mod outcome;
 mod run;
 mod text;
+mod threads;
 
 pub use ends::put_ends;
 pub use logs::{graph_of, index_of};

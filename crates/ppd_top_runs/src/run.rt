@@ -4,11 +4,11 @@ ghost use Rattle.ppd_ast.specs.ValidPlan.{IsValidPolicy};
 ghost use Rattle.ppd_ast.specs.declared.limits.TheConstants.{MOST_BUDGET};
 ghost use Rattle.ppd_top_runs.specs.Runs.{IsRunOf};
 
+use crate::threads::run;
 use ppd_ast::{Bytes, Memory, Plan, Program};
 use ppd_blocks::partition;
 use ppd_io::Gate;
 use ppd_model::Closed;
-use ppd_run::run;
 use ppd_top_requests::Options;
 use std::alloc::Global;
 use std::sync::Wait;

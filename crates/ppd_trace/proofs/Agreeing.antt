@@ -5,7 +5,7 @@ use Rattle.std.specs.Prelude.{Result}
 use Rattle.ppd_model.specs.declared.trace.DriveError.{DriveError}
 use Rattle.ppd_model.specs.declared.trace.Trace.{Trace}
 use Rattle.ppd_model.specs.FullTrace.{full_trace}
-use Rattle.law_agreement.proofs.Agreeing.{agreeing_stories}
+use Rattle.law_steps.proofs.Agreeing.{agreeing_stories}
 use Rattle.ppd_trace.specs.Traced.{IsTraceOf, IsTraceOfAgreeing}
 
 pub of_agreeing : (setting : Setting) (h : List ℕ) (r : Result Trace DriveError) → IsTraceOf setting h r → IsTraceOfAgreeing setting h r

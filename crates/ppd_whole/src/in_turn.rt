@@ -16,13 +16,14 @@ use crate::laws::wholes_are_of_runs;
 use crate::lines::put_process;
 use crate::marks::marks_in_turn;
 use crate::processes::{are_few, events_in_turn};
+use crate::replays_in_turn::all_items_in;
 use ppd_ast::{Memory, Seq, Steps};
 use ppd_flow_past::Past;
 use ppd_model::Item;
 use ppd_sem::Event;
+use ppd_whole_intervals::WholeError;
 use ppd_whole_link::{linkers_are_linked, marks_are_writers};
 use ppd_whole_origins::{LinkedPast, writing_edges};
-use ppd_whole_replays::{WholeError, all_items_in};
 use std::alloc::Global;
 use std::sync::ledger::Ledger;
 

@@ -2,10 +2,10 @@
 ghost use Rattle.std.specs.Prelude.{◌≡◌, ◌<◌, [], get_or, length, map, IfOk};
 ghost use Rattle.ppd_whole_link.specs.Marks.{marks_after};
 
+use crate::shares::share;
 use ppd_ast::Memory;
 use ppd_sem::Event;
 use ppd_whole_link::{Marks, marks_of};
-use ppd_whole_replays::share;
 use rayon::prelude::*;
 use std::alloc::{AllocError, Global};
 use std::thread::Threads;

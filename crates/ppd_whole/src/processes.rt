@@ -5,12 +5,12 @@ ghost use Rattle.law_whole.specs.Joined.{events_in};
 ghost use Rattle.ppd_flow_past.specs.Pasts.{IsPast};
 ghost use Rattle.ppd_flow.specs.SharedCells.{seens_in};
 
+use crate::shares::share;
 use ppd_ast::{Memory, Seq};
 use ppd_flow_past::{Past, count_of};
 use ppd_model::Item;
 use ppd_sem::Event;
 use ppd_whole_link::events_of;
-use ppd_whole_replays::share;
 use rayon::prelude::*;
 use std::alloc::{AllocError, Global};
 use std::thread::Threads;

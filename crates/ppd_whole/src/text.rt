@@ -6,10 +6,10 @@ ghost use Rattle.ppd_whole_origins.specs.LinkedPasts.{IsLinked};
 ghost use Rattle.ppd_whole.specs.Told.{told_at};
 
 use crate::lines::put_process;
+use crate::shares::share;
 use ppd_ast::{Bytes, Memory, Seq, Steps};
 use ppd_sem::Event;
 use ppd_whole_origins::LinkedPast;
-use ppd_whole_replays::share;
 use rayon::prelude::*;
 use std::alloc::{AllocError, Global};
 use std::marker::Brand;

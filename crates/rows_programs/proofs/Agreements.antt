@@ -19,7 +19,7 @@ use Rattle.rows_programs.proofs.Runs.RendezvousOrder as rendezvous
 use Rattle.rows_programs.proofs.Runs.Showing.{synced}
 use Rattle.rows_programs.proofs.Runs.UnguardedIncrement as racy
 use Rattle.rows_programs.proofs.Runs.UnreadSnapshot as snapshot
-use Rattle.law_agreement.proofs.Agreeing.{agreeing_stories}
+use Rattle.law_steps.proofs.Agreeing.{agreeing_stories}
 
 -- ---- two schedules that agree
 

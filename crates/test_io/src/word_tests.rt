@@ -1,4 +1,5 @@
-use ppd_top_words::{Command, read_command, read_words};
+use ppd_top_requests::commands::Command;
+use ppd_top_requests::{read_command, read_words};
 use std::alloc::Global;
 
 /// Words, and which command they are read as, with the value of an option or a name.

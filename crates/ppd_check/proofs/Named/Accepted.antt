@@ -11,7 +11,7 @@ use Rattle.ppd_parse.specs.Limits.{IsTree}
 use Rattle.ppd_check_names.specs.Names.{Scope}
 use Rattle.ppd_check_names.specs.Reading.{source_of}
 use Rattle.ppd_check_names.specs.Syntax.{Source}
-use Rattle.ppd_check_bodies.specs.Sources.{heads, head_faults, head_code, head_frame, vars, core_of, faults_in}
+use Rattle.ppd_check.specs.Sources.{heads, head_faults, head_code, head_frame, vars, core_of, faults_in}
 use Rattle.ppd_check_names.specs.Globals.{Head, globals}
 use Rattle.ppd_check.proofs.Named.Rightly.{AreThere, AreNamedRightly}
 use Rattle.ppd_check.proofs.Named.Terms.{nil_left, nil_right}

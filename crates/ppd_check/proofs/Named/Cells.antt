@@ -16,7 +16,7 @@ use Rattle.ppd_check_names.specs.Faults.{if_so}
 use Rattle.ppd_check_names.specs.Fitted.{fitted}
 use Rattle.ppd_check_names.specs.Syntax.{Name}
 use Rattle.ppd_check_names.specs.Frames.{after_cells, variable_of}
-use Rattle.ppd_check_bodies.specs.Sources.{vars}
+use Rattle.ppd_check.specs.Sources.{vars}
 use Rattle.ppd_check_names.specs.Globals.{past_cells}
 use Rattle.ppd_check_names.proofs.Declared.Counted.{end_cells}
 use Rattle.ppd_check.proofs.Named.Terms.{nil_left, nil_right, if_so_false}

@@ -13,7 +13,7 @@ use Rattle.ppd_check_names.specs.declared.fault.Limit.TheVariants as L
 use Rattle.ppd_check_names.specs.Faults.{at}
 use Rattle.ppd_check_names.specs.Syntax.{Name}
 use Rattle.ppd_check.proofs.PastMost.{up_to_itself, count_all}
-use Rattle.ppd_check_bodies.specs.Sources.{past_statements}
+use Rattle.ppd_check.specs.Sources.{past_statements}
 use Rattle.ppd_check.proofs.Vocabulary.{is_up_to}
 use Rattle.ppd_check_names.specs.Globals.{past}
 

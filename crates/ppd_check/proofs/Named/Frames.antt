@@ -15,7 +15,7 @@ use Rattle.ppd_check_stmts.specs.Statements.{opened, with_scopes_of, goal_name, 
 use Rattle.ppd_check_stmts.proofs.Vocabulary.{hidden_if, after_any}
 use Rattle.ppd_check_names.specs.Frames.{after_cells, variable_of, declared, with_hidden}
 use Rattle.ppd_check_names.proofs.Declared.Counted.{end_cells, end_cells_more}
-use Rattle.ppd_check_bodies.specs.Sources.{vars}
+use Rattle.ppd_check.specs.Sources.{vars}
 use Rattle.ppd_check.proofs.Named.Rightly.{IsThere, AreAllThere}
 use Rattle.ppd_check.proofs.Named.Terms.{innermost_there}
 

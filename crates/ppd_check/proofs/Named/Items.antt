@@ -4,7 +4,7 @@ use Rattle.ppd_ast.specs.declared.program.Program.{Program}
 use Rattle.ppd_check.proofs.Named.Cells.{cells_total, cells_within, total}
 use Rattle.ppd_check.proofs.Named.Frames.{LeadsTo, leads_further, leads_itself, leads_on, row_leads}
 use Rattle.ppd_check.proofs.Named.Terms.{nil_left, nil_right}
-use Rattle.ppd_check_bodies.specs.Sources.{all_stmts, bodies, body, codes, entered, entry, head_code, head_faults, head_frame, heads, params_faults, return_faults, vars}
+use Rattle.ppd_check.specs.Sources.{all_stmts, bodies, body, codes, entered, entry, head_code, head_faults, head_frame, heads, params_faults, return_faults, vars}
 use Rattle.ppd_check_names.proofs.Declared.Counted.{end_cells, end_cells_more}
 use Rattle.ppd_check_names.specs.Fitted.{fitted}
 use Rattle.ppd_check_names.specs.Frames.{after_cells, declared, variable_of}

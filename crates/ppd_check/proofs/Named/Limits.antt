@@ -15,8 +15,8 @@ use Rattle.ppd_check_names.specs.Fitted.{fitted}
 use Rattle.ppd_check_names.specs.declared.nodes.Number.{Number}
 use Rattle.ppd_check_names.specs.Syntax.{Item, shared, shared_array, semaphore, channel, function, process, Source}
 use Rattle.ppd_check_names.specs.Frames.{twice_faults, size_faults}
-use Rattle.ppd_check_bodies.specs.Sources.{past_statements, head_faults, heads, codes, vars, bodies, core_of, faults_in, all_stmts}
-use Rattle.ppd_check_bodies.proofs.Heading.{length_bodies}
+use Rattle.ppd_check.specs.Sources.{past_statements, head_faults, heads, codes, vars, bodies, core_of, faults_in, all_stmts}
+use Rattle.ppd_check.proofs.Heading.{length_bodies}
 use Rattle.ppd_check_names.specs.Globals.{Object, Globals, no_globals, item_name, item_size_faults, with_item, globals, items_faults, past, past_cells, count_faults, sem, chan}
 use Rattle.ppd_check_names.specs.Holding.{with_items}
 use Rattle.ppd_check_names.proofs.Words.{head_name, object_name}

@@ -21,7 +21,7 @@ use Rattle.ppd_check_stmts.specs.Expressions.{term_of, name_faults, formula_faul
 use Rattle.ppd_check_stmts.specs.Statements.{opened, with_scopes_of, goal_name, spot_of, via_hidden, after, after_row, put, store_acts, place_of, acts_of, code_of, row_code, value_faults, faults_of, row_faults, code_of_any, faults_of_any}
 use Rattle.ppd_check_stmts.proofs.Vocabulary.{hidden_if, after_any}
 use Rattle.ppd_check_names.specs.Frames.{declared, twice_faults}
-use Rattle.ppd_check_bodies.specs.Sources.{vars}
+use Rattle.ppd_check.specs.Sources.{vars}
 use Rattle.ppd_check.proofs.Named.Rightly.{IsNamedRightly, AreNamedRightly}
 use Rattle.ppd_check.proofs.Named.Terms.{nil_left, nil_right, formula_whole}
 use Rattle.ppd_check.proofs.Named.Acts.{IsWholeSpot, spot_whole, set_rightly, clear_rightly, back_rightly, bare_back_rightly, print_rightly, assert_rightly, take_rightly, give_rightly, send_rightly, call_rightly, put_rightly}

@@ -18,7 +18,7 @@ use Rattle.ppd_check_stmts.specs.Code.{act, done}
 use Rattle.ppd_check_names.specs.Syntax.{Name, Item, shared, shared_array, semaphore, channel, function, process}
 use Rattle.ppd_check_stmts.specs.Statements.{row_code, row_faults}
 use Rattle.ppd_check_names.specs.Frames.{variable_of, declared}
-use Rattle.ppd_check_bodies.specs.Sources.{params_faults, entered, entry, ends_with_return, head_code, head_frame, head_faults, heads, vars, body, bodies, close_code, return_faults}
+use Rattle.ppd_check.specs.Sources.{params_faults, entered, entry, ends_with_return, head_code, head_frame, head_faults, heads, vars, body, bodies, close_code, return_faults}
 use Rattle.ppd_check_names.specs.Globals.{Head, Globals, no_globals, with_item, past_cells, sem, chan}
 use Rattle.ppd_check_names.specs.Holding.{with_items}
 use Rattle.ppd_check_names.proofs.Declared.Counted.{end_cells}

@@ -13,7 +13,7 @@ use Rattle.ppd_parse.specs.Limits.{IsTree}
 use Rattle.ppd_check_names.specs.declared.nodes.Number.{Number}
 use Rattle.ppd_check_names.specs.Syntax.{Name, Row, stop, simple, block, choice, repeat, count, Item, shared, shared_array, semaphore, channel, function, process}
 use Rattle.ppd_check_names.specs.Reading.{Phrase, token, formula, goal, value, calling, changing, row, body, names, items, phrase, last, as_row, as_block, as_items, kind, same_kind, beyond, changed, followed, rows, locals, some_change, for_row, worded, statement, shared_item, numbered, made, said, all_said, source_of}
-use Rattle.ppd_check_bodies.specs.Sources.{heads}
+use Rattle.ppd_check.specs.Sources.{heads}
 use Rattle.ppd_check_names.specs.Globals.{Head, Globals, no_globals, with_item, globals}
 use Rattle.ppd_check_names.specs.Holding.{with_items}
 use Rattle.ppd_check.proofs.Named.Trees.{is_item, NoItem, NoItems, OwnPlain, IsPlain, ArePlain, program_plain}

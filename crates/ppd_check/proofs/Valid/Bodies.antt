@@ -18,7 +18,7 @@ use Rattle.ppd_check_names.specs.Fitted.{fitted}
 use Rattle.ppd_check_names.specs.Names.{Scope}
 use Rattle.ppd_check_stmts.specs.Code.{Code, Act, done, act, choice, loop, count}
 use Rattle.ppd_check_stmts.specs.Table.{weight, weights, root, roots, flats, terms, act_terms, kind, numbers, stmts}
-use Rattle.ppd_check_bodies.specs.Sources.{head_code, head_frame, vars, body, bodies, all_stmts, return_faults}
+use Rattle.ppd_check.specs.Sources.{head_code, head_frame, vars, body, bodies, all_stmts, return_faults}
 use Rattle.ppd_check_names.specs.Globals.{Head}
 use Rattle.ppd_check_stmts.proofs.Table.Joined.{flats_append}
 use Rattle.ppd_check_stmts.proofs.Table.Writing.{length_flats, length_stmts}

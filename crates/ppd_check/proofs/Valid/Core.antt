@@ -18,11 +18,11 @@ use Rattle.ppd_check_stmts.specs.Code.{Code}
 use Rattle.ppd_check_names.specs.Reading.{source_of}
 use Rattle.ppd_check_stmts.specs.Table.{terms}
 use Rattle.ppd_check_stmts.specs.Statements.{row_faults}
-use Rattle.ppd_check_bodies.specs.Sources.{head_faults, params_faults, past_statements, heads, codes, bodies, all_stmts, entered, entry, core_of, faults_in, return_faults}
+use Rattle.ppd_check.specs.Sources.{head_faults, params_faults, past_statements, heads, codes, bodies, all_stmts, entered, entry, core_of, faults_in, return_faults}
 use Rattle.ppd_check_names.specs.Globals.{Head, Globals, no_globals, globals, items_faults, count_faults}
 use Rattle.ppd_check.proofs.Vocabulary.Sizes.{SourceFits}
 use Rattle.ppd_check_stmts.proofs.Table.Writing.{length_flats}
-use Rattle.ppd_check_bodies.proofs.Heading.{length_bodies}
+use Rattle.ppd_check.proofs.Heading.{length_bodies}
 use Rattle.ppd_check.proofs.Valid.Facts.{HeadNames, SourceNames}
 use Rattle.ppd_check.proofs.Valid.Items.{IsFunction, IsProcess, AreSorted, tree_sorted, AreFit, source_fit, within_limits}
 use Rattle.ppd_check.proofs.Valid.Lists.{EachFrom, all_parts, each_append, each_at, nil_parts, stands_all}

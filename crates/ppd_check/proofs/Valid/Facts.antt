@@ -14,7 +14,7 @@ use Rattle.ppd_check_names.specs.Names.{Scope}
 use Rattle.ppd_check_stmts.specs.Code.{Act, Code, done, act, choice, loop}
 use Rattle.ppd_check_names.specs.Reading.{source_of}
 use Rattle.ppd_check_stmts.specs.Table.{terms, kind}
-use Rattle.ppd_check_bodies.specs.Sources.{head_code, head_frame, vars, heads, core_of}
+use Rattle.ppd_check.specs.Sources.{head_code, head_frame, vars, heads, core_of}
 use Rattle.ppd_check_names.specs.Globals.{Head, globals}
 
 -- the statements that have none inside them, in order

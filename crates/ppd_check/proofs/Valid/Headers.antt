@@ -10,7 +10,7 @@ use Rattle.ppd_parse.specs.Grammar.{Shape, leaf, node, Shapes, no_shapes, shape_
 use Rattle.ppd_check_names.specs.declared.nodes.Number.{Number}
 use Rattle.ppd_check_names.specs.Syntax.{Simple, Row, stop, simple, block, choice, repeat, count, Item, shared, shared_array, semaphore, channel, function, process, Name}
 use Rattle.ppd_check_names.specs.Reading.{Phrase, token, formula, goal, value, calling, changing, row, body, names, items, phrase, as_row, as_block, as_items, before, beyond, same_kind, kind, followed, rows, locals, some_change, for_start, for_row, worded, statement, local_item, changed, shared_item, numbered, number_behind, name_of, as_token, made, said, all_said, last}
-use Rattle.ppd_check_bodies.specs.Sources.{simple_returns}
+use Rattle.ppd_check.specs.Sources.{simple_returns}
 use Rattle.ppd_check.proofs.Limits.Said.{all_join}
 
 -- a statement that is no `return`

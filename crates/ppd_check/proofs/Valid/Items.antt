@@ -9,7 +9,7 @@ use Rattle.ppd_ast.specs.Valid.{IsName, AreWithinLimits}
 use Rattle.ppd_parse.specs.Grammar.{Shape}
 use Rattle.ppd_check_names.specs.Syntax.{Source, Item, shared, shared_array, semaphore, channel, function, process}
 use Rattle.ppd_check_names.specs.Reading.{source_of, said, as_items}
-use Rattle.ppd_check_bodies.specs.Sources.{vars, core_of}
+use Rattle.ppd_check.specs.Sources.{vars, core_of}
 use Rattle.ppd_check_names.specs.Globals.{Head, Object, Globals, no_globals, with_item, globals, sem, chan}
 use Rattle.ppd_check_names.specs.Holding.{with_items}
 use Rattle.ppd_check.proofs.Vocabulary.Sizes.{IsShort, ItemFits, SourceFits}

@@ -20,7 +20,7 @@ use Rattle.ppd_check_stmts.proofs.Vocabulary.{after_any}
 use Rattle.ppd_check_names.specs.Frames.{declared}
 use Rattle.ppd_check_names.specs.Syntax as S
 use Rattle.ppd_check_names.specs.Syntax.{Simple, Row, Value}
-use Rattle.ppd_check_bodies.specs.Sources.{simple_returns, returns, last_return, ends_with_return, head_code, entry, return_faults}
+use Rattle.ppd_check.specs.Sources.{simple_returns, returns, last_return, ends_with_return, head_code, entry, return_faults}
 use Rattle.ppd_check_names.specs.Globals.{Head}
 use Rattle.ppd_check_stmts.proofs.Table.Joined.{numbers_join, stmts_join}
 use Rattle.ppd_check_stmts.proofs.Rows.Nested.{join_done}

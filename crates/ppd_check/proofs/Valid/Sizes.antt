@@ -8,7 +8,7 @@ use Rattle.ppd_ast.specs.declared.program.Place.{Place}
 use Rattle.ppd_check.proofs.Limits.Said.{all_join}
 use Rattle.ppd_check.proofs.Valid.Facts.{HeadSizes, TermSmall, nesting}
 use Rattle.ppd_check.proofs.Vocabulary.Sizes.{AreSmall, GoalFits, IsShort, IsSmall, RowFits, SimpleFits, SimpleFitsIfAny, ValueFits, depth_in, nested, operators_in}
-use Rattle.ppd_check_bodies.specs.Sources.{close_code, ends_with_return, entered, entry, head_code, head_frame, vars}
+use Rattle.ppd_check.specs.Sources.{close_code, ends_with_return, entered, entry, head_code, head_frame, vars}
 use Rattle.ppd_check_names.proofs.Words.{hidden_name}
 use Rattle.ppd_check_names.specs.Fitted.{fitted}
 use Rattle.ppd_check_names.specs.Frames.{after_cells, declared}

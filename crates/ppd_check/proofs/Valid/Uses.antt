@@ -14,7 +14,7 @@ use Rattle.ppd_check_stmts.specs.Code.{Code, Act, done, act, choice, loop, count
 use Rattle.ppd_check_stmts.specs.Code as C
 use Rattle.ppd_check_names.specs.Fitted.{fitted}
 use Rattle.ppd_check_stmts.specs.Table.{weight, weights, root, roots, flat, flats, terms, act_terms, kind, stmts}
-use Rattle.ppd_check_bodies.specs.Sources.{all_stmts}
+use Rattle.ppd_check.specs.Sources.{all_stmts}
 use Rattle.ppd_check_stmts.proofs.Table.Writing.{roots_append}
 use Rattle.ppd_check.proofs.Valid.Order.{range_join}
 

@@ -8,7 +8,7 @@ use Rattle.ppd_parse.specs.Tree.{tree_of}
 use Rattle.ppd_check_names.specs.declared.fault.Cause.TheVariants.{Twice, Unknown, WrongKind, Arity, NoProcess, TooMany}
 use Rattle.ppd_check_names.specs.declared.fault.Limit.TheVariants as L
 use Rattle.ppd_check_names.specs.Faults.{at, first}
-use Rattle.ppd_check_bodies.specs.Sources.{faults_in}
+use Rattle.ppd_check.specs.Sources.{faults_in}
 use Rattle.ppd_check_names.specs.Reading.{source_of}
 use Rattle.rows_programs.proofs.CoreForm.RowTables.{place, node, tok}
 

@@ -9,7 +9,7 @@ use Rattle.ppd_lex.specs.declared.token.TokenKind.TheVariants as T
 use Rattle.ppd_parse.specs.declared.symbol.Rule.TheVariants as R
 use Rattle.ppd_parse.specs.declared.node.Node.{Node}
 use Rattle.ppd_parse.specs.Tree.{tree_of}
-use Rattle.ppd_check_bodies.specs.Sources.{core_of, faults_in}
+use Rattle.ppd_check.specs.Sources.{core_of, faults_in}
 use Rattle.ppd_check_names.specs.Reading.{source_of}
 use Rattle.rows_programs.proofs.CoreForm.RowTables.{place, node, tok, stmt}
 

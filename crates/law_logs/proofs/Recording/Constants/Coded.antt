@@ -21,7 +21,7 @@ use Rattle.ppd_check_stmts.specs.Code.{done, act}
 use Rattle.ppd_check_names.specs.Fitted.{fitted}
 use Rattle.ppd_check_names.specs.Names.{Scope}
 use Rattle.ppd_check_names.specs.Reading.{said, source_of, as_items, value_of}
-use Rattle.ppd_check_bodies.specs.Sources.{codes, ends_with_return, entry, head_code, heads, close_code}
+use Rattle.ppd_check.specs.Sources.{codes, ends_with_return, entry, head_code, heads, close_code}
 use Rattle.ppd_check_names.specs.Globals.{Globals, Head, globals, no_globals, with_item}
 use Rattle.ppd_check_names.specs.Holding.{with_items}
 use Rattle.ppd_check_stmts.specs.Statements.{row_code}

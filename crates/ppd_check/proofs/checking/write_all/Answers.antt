@@ -1,9 +1,9 @@
 use Rattle.std.proofs.Common.{subst, [], List, map}
 use Rattle.ppd_ast.specs.declared.program.Body.{Body}
-use Rattle.ppd_check_bodies.specs.Bodies.{WroteHeads}
+use Rattle.ppd_check.specs.Bodies.{WroteHeads}
 use Rattle.ppd_check_names.specs.Holding.{head_at}
 use Rattle.ppd_check_names.specs.Names.{innermost, Scope}
-use Rattle.ppd_check_bodies.proofs.Heading.{heads_join}
+use Rattle.ppd_check.proofs.Heading.{heads_join}
 use Rattle.ppd_check.proofs.checking.write_all.Goals as goal
 
 pub returns-clause-wrote : goal.returns-clause-wrote

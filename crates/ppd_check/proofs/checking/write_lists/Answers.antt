@@ -1,5 +1,5 @@
 use Rattle.std.proofs.Common.{subst, ◌++◌, [], List, ℕ, map, arith, ap, length}
-use Rattle.ppd_check_bodies.specs.Bodies.{WroteHeads}
+use Rattle.ppd_check.specs.Bodies.{WroteHeads}
 use Rattle.ppd_check_names.specs.Cost.{nodes_at, total}
 use Rattle.ppd_check_names.specs.Holding.{head_at}
 use Rattle.ppd_check_names.specs.Names.{innermost, Scope}

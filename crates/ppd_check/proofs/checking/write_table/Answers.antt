@@ -2,7 +2,7 @@ use Rattle.std.proofs.Common.{◌∙◌, ap, refl, subst, arith, List, [], ◌++
 use Rattle.std.proofs.lemmas.Result.{on_ok_weaker}
 use Rattle.ppd_ast.specs.declared.program.Program.{Program}
 use Rattle.ppd_parse.specs.Tree.{tree_of}
-use Rattle.ppd_check_bodies.specs.Bodies.{WroteHeads}
+use Rattle.ppd_check.specs.Bodies.{WroteHeads}
 use Rattle.ppd_check_names.specs.declared.fault.Cause.TheVariants.{NoProcess}
 use Rattle.ppd_check_names.specs.declared.fault.Fault.{Fault}
 use Rattle.ppd_check_names.specs.declared.frame.Variable.{Variable}

@@ -1,6 +1,6 @@
 use Rattle.std.proofs.Common.{◌∙◌, ap, map}
 use Rattle.ppd_check_names.specs.Faults.{first, first_of_both}
-use Rattle.ppd_check_bodies.specs.Sources.{past_statements}
+use Rattle.ppd_check.specs.Sources.{past_statements}
 use Rattle.ppd_check.specs.Placed.{place_of}
 use Rattle.ppd_check.proofs.places.note_statements.Goals as goal
 

@@ -1,6 +1,6 @@
 use Rattle.std.proofs.Common.{◌≡◌, subst}
 use Rattle.ppd_top_requests.specs.Questions.{query_of}
-use Rattle.ppd_top_query.specs.Recordings.{IsNotRecalled, IsRefusedBy}
+use Rattle.ppd_codec_runs.specs.Recordings.{IsNotRecalled, IsRefusedBy}
 use Rattle.ppd_top.specs.Ran.Queries.{query_refused}
 use Rattle.ppd_top_commands.specs.Output.{Finished}
 use Rattle.ppd_top.proofs.Queried.{askable, told_by}

@@ -1,9 +1,9 @@
 use Rattle.std.proofs.Common.{◌≡◌, ℕ, List, None, MatchOption, subst, sym, ap, ◌∙◌}
 use Rattle.std.specs.Prelude.{option_and_then}
-use Rattle.ppd_top_words.specs.declared.commands.Command.{Command as Word}
-use Rattle.ppd_top_words.specs.Words.{Uses, texts, value_of}
-use Rattle.ppd_top_words.specs.Reads.{ReadsCommand}
-use Rattle.ppd_top_words.specs.Commands.{command_gives}
+use Rattle.ppd_top_requests.specs.declared.commands.Command.{Command as Word}
+use Rattle.ppd_top_requests.specs.GivenWords.{Uses, texts, value_of}
+use Rattle.ppd_top_requests.specs.Reads.{ReadsCommand}
+use Rattle.ppd_top_requests.specs.Commands.{command_gives}
 use Rattle.ppd_top_requests.specs.Words.{asked_by_word}
 use Rattle.ppd_top_requests.proofs.words.asked.Goals as goal
 

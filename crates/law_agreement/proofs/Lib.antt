@@ -1,4 +1,0 @@
-pub mod Machine
-pub mod Instance
-pub mod Schedules
-pub mod Agreeing

@@ -1,2 +1,0 @@
--- The sources of drills are sources of the language.
-pub mod Drilled

@@ -1,5 +1,0 @@
-use Rattle.law_flow_missing.proofs.MissingWrites.{missing_writes_are_told}
-use Rattle.law_flow_missing.proofs.laws.missing_writes_are_told.Goals as goal
-
-pub returns : goal.returns
-returns c = missing_writes_are_told

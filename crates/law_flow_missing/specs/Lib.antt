@@ -1,2 +1,0 @@
--- Writes that are missing.
-pub mod Missing

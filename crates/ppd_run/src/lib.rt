@@ -1,6 +1,0 @@
-//! Threads that run the processes of a program over one book.
-#![tactic(auto)]
-
-mod threads;
-
-pub use threads::run;

@@ -1,5 +1,0 @@
-use Rattle.ppd_top_query.proofs.OfRuns.{answers_of_runs}
-use Rattle.ppd_top_query.proofs.laws.answers_are_of_runs.Goals as goal
-
-pub returns : goal.returns
-returns c = answers_of_runs c.items_are_whole.ensures

@@ -1,0 +1,163 @@
+ghost use Rattle.std.specs.Prelude.{◌≡◌, None, IfOk, MatchOption, option_map};
+ghost use Rattle.clap.specs.Matches.{first_value, found_of};
+ghost use Rattle.ppd_top_requests.specs.Commands.{command_gives, command_of as command_named, longs_of, names_of};
+ghost use Rattle.ppd_top_requests.specs.Spelling.{words_give};
+ghost use Rattle.ppd_top_requests.specs.Reads.{Reads, ReadsCommand};
+ghost use Rattle.ppd_top_requests.specs.GivenWords.{texts};
+
+use crate::read::read_words;
+use clap::ArgMatches;
+use ppd_ast::Memory;
+use std::alloc::Global;
+
+/// What the first word asks for.
+#[derive(Clone, Copy)]
+pub enum Command {
+    /// A source is run, its summary written, and the lines of the input are answered.
+    Flow,
+    /// A source is run, its recording stored, and its summary written.
+    Run,
+    /// The lines of the input are answered on a recording.
+    Debug,
+    /// The static tables of a source are written.
+    Show,
+    /// A source made from a number is run.
+    Drill,
+    /// What an item of a recording came from is written.
+    Slice,
+    /// A recording is run again under its own synchronization.
+    Rerun,
+    /// An item of a recording is answered whose past touches no race.
+    Clean,
+    /// The whole trace of a recording is written.
+    Whole,
+}
+
+/// What the words give: the command, and the words of its options and its names.
+#[derive(Drop)]
+pub struct CommandWords<'a> {
+    /// What the first word asks for.
+    pub command: Command,
+    /// The words of the options that were used, by their long names, and of the names, by their ids.
+    pub matches: ArgMatches<'a>,
+}
+
+impl<'a> CommandWords<'a> {
+    /// The word of an option of the command, by its long name, or of a name, by its id; `None` where the option
+    /// was not used or the command has none such.
+    pub fn value(&self, id: &str) -> Option<&'a str>
+        ensures { option_map (λ s. s.now) result ≡ first_value (found_of self.now.matches) id.now }
+    {
+        self.matches.get_str(id)
+    }
+}
+
+/// The command that a word names: `flow`, `run`, `debug`, `show`, `drill`, `slice`, `rerun`, `clean` or `whole`; `None`
+/// for any other word.
+pub fn command_of(word: &str) -> Option<Command>
+    ensures { result ≡ command_named word.now }
+{
+    if word == "flow" {
+        Some(Command::Flow)
+    } else if word == "run" {
+        Some(Command::Run)
+    } else if word == "debug" {
+        Some(Command::Debug)
+    } else if word == "show" {
+        Some(Command::Show)
+    } else if word == "drill" {
+        Some(Command::Drill)
+    } else if word == "slice" {
+        Some(Command::Slice)
+    } else if word == "rerun" {
+        Some(Command::Rerun)
+    } else if word == "clean" {
+        Some(Command::Clean)
+    } else if word == "whole" {
+        Some(Command::Whole)
+    } else {
+        None
+    }
+}
+
+/// The words after the command's own.
+fn read_rest<'a>(
+    alloc: Global,
+    command: Command,
+    words: &'a [&'a str],
+) -> Result<Option<ArgMatches<'a>>, Memory>
+    ensures { IfOk result
+        (λ r. MatchOption r (words_give (longs_of command) (names_of command) (texts words.entry.now) ≡ None)
+        (Reads (longs_of command) (names_of command) (texts words.entry.now))) }
+{
+    match command {
+        Command::Flow => read_words(
+            alloc,
+            "flow",
+            &["budget", "leaf", "loops"],
+            &["source"],
+            words,
+        ),
+        Command::Run => read_words(
+            alloc,
+            "run",
+            &["budget", "leaf", "loops"],
+            &["source", "recording"],
+            words,
+        ),
+        Command::Debug => read_words(alloc, "debug", &[], &["recording"], words),
+        Command::Show => read_words(alloc, "show", &["leaf", "loops"], &["source"], words),
+        Command::Drill => read_words(alloc, "drill", &[], &["number"], words),
+        Command::Slice => read_words(
+            alloc,
+            "slice",
+            &[],
+            &["recording", "process", "interval", "item"],
+            words,
+        ),
+        Command::Rerun => read_words(alloc, "rerun", &[], &["recording"], words),
+        Command::Clean => read_words(
+            alloc,
+            "clean",
+            &[],
+            &["recording", "process", "interval", "item"],
+            words,
+        ),
+        Command::Whole => read_words(alloc, "whole", &["workers"], &["recording"], words),
+    }
+}
+
+/// Reads the words after the program's name by clap: the first names a command, and the others are its options
+/// and its names, as `read_words` says.
+///
+/// | Command | Options | Names |
+/// |---|---|---|
+/// | `flow` | `budget`, `leaf`, `loops` | `source` |
+/// | `run` | `budget`, `leaf`, `loops` | `source`, `recording` |
+/// | `debug` | | `recording` |
+/// | `show` | `leaf`, `loops` | `source` |
+/// | `drill` | | `number` |
+/// | `slice`, `clean` | | `recording`, `process`, `interval`, `item` |
+/// | `rerun` | | `recording` |
+/// | `whole` | `workers` | `recording` |
+///
+/// `None` exactly where the words give none of them. Numbers, limits and empty names are not tested. The error is
+/// want of memory, and may come whatever the words after the first are.
+pub fn read_command<'a>(
+    alloc: Global,
+    words: &'a [&'a str],
+) -> Result<Option<CommandWords<'a>>, Memory>
+    ensures { IfOk result (λ r. MatchOption r (command_gives (texts words.entry.now) ≡ None)
+        (ReadsCommand (texts words.entry.now))) }
+{
+    let [word, rest @ ..] = words else {
+        return Ok(None);
+    };
+    let Some(command) = command_of(word) else {
+        return Ok(None);
+    };
+    match read_rest(alloc, command, rest)? {
+        Some(matches) => Ok(Some(CommandWords { command, matches })),
+        None => Ok(None),
+    }
+}

@@ -1,5 +1,0 @@
-pub mod Clap
-pub mod Uses
-pub mod Late
-pub mod Numbers
-pub mod Fit
