@@ -1,3 +1,4 @@
+// Which bodies and statements a policy numbers.
 ghost use Rattle.std.specs.Prelude.{◌≡◌, ◌-◌, length};
 ghost use Rattle.std.specs.List.{flat_map};
 ghost use Rattle.ppd_ast.specs.Numbered.{in_while, is_block_loop, has_call, is_block_body};
