@@ -50,6 +50,24 @@ def crates_below(name):
     return below
 
 
+def read_ahead(below):
+    """Has the system read what the kit has of all that these crates stand on: a program, which is built last, reads the
+    whole of it, and the proofs before it read little of it."""
+    kit = os.path.join(os.path.dirname(os.path.dirname(os.path.realpath(shutil.which("rt")))), "rlibs")
+    with open(os.path.join(TOP, "crates.txt"), encoding="utf-8") as file:
+        lines = [line.split("#")[0].partition(":") for line in file]
+    todo = ["std"] + [name for head, _, names in lines if head.split()[:1] and head.split()[0] in below for name in names.split()]
+    met, files = set(below), []
+    while todo:
+        name = todo.pop()
+        library = os.path.join(kit, f"{name}.rlib")
+        if name not in met and os.path.isdir(library):
+            met.add(name)
+            todo += re.findall(r"^dep (\w+)$", text_of(os.path.join(library, "format")), re.MULTILINE)
+            files += [os.path.join(at, each) for at, _, names in os.walk(library) for each in names]
+    subprocess.Popen(["cat", "--", *files], stdin=subprocess.DEVNULL, stdout=subprocess.DEVNULL, stderr=subprocess.DEVNULL)
+
+
 def files_of(folder):
     """The sources below a folder, by their names from it."""
     return {

@@ -1,7 +1,7 @@
 use crate::lists::{Cells, Seq};
 
 /// What an e-block is the code of, by number.
-#[derive(Clone, Copy, PartialEq)]
+#[derive(Clone, Copy)]
 pub enum BlockKind {
     /// A function's body.
     Function(u16),
@@ -22,7 +22,7 @@ pub struct Block {
 }
 
 /// Where a synchronization unit starts.
-#[derive(Clone, Copy, PartialEq)]
+#[derive(Clone, Copy)]
 pub enum Start {
     /// A body's entry.
     Entry(u16),

@@ -6,7 +6,7 @@ ghost use Rattle.ppd_ast.specs.Numbered.{is_while, is_call, is_left};
 use crate::lists::{Bytes, Ids, Nums, Seq};
 
 /// A place in the source: a line and a column in bytes, both from 1. Places are ordered as in the source.
-#[derive(Clone, Copy, PartialEq, Eq, PartialOrd, Ord, Debug)]
+#[derive(Clone, Copy, PartialEq, Eq, PartialOrd, Ord)]
 pub struct Place {
     pub line: u32,
     pub column: u32,

@@ -1,5 +1,5 @@
 /// Why a process ends before its time: a step that it could not take.
-#[derive(Clone, Copy, PartialEq, Debug)]
+#[derive(Clone, Copy, PartialEq)]
 pub enum Trap {
     /// A result outside the 64-bit numbers.
     Overflow,
@@ -14,7 +14,7 @@ pub enum Trap {
 }
 
 /// How a process ended.
-#[derive(Clone, Copy, PartialEq, Debug)]
+#[derive(Clone, Copy, PartialEq)]
 pub enum Status {
     /// It came to its closing brace.
     Ended,
@@ -27,7 +27,7 @@ pub enum Status {
 }
 
 /// The kinds of synchronization.
-#[derive(Clone, Copy, Debug)]
+#[derive(Clone, Copy)]
 pub enum SyncKind {
     P,
     V,

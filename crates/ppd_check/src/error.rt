@@ -6,10 +6,11 @@ use ppd_ast::Place;
 use ppd_check_names::Limit;
 use ppd_lex::LexError;
 use ppd_parse::SyntaxError;
+use std::fmt;
 use thiserror::Error;
 
 /// Why a source has no core form: the first rule that it breaks, with its place.
-#[derive(Clone, Copy, Debug, Drop, Error)]
+#[derive(Clone, Copy, Drop, Error)]
 pub enum CheckError {
     /// The second name: it is declared before in the same scope.
     #[error("this name is declared twice")]
@@ -46,7 +47,7 @@ pub enum CheckError {
 
 /// Why a source has no program: its first lexical fault, else the first token that breaks the grammar or
 /// one of its limits, else the first rule that it breaks. Want of memory is the outer `Memory` alone.
-#[derive(Clone, Copy, Debug, Drop, Error)]
+#[derive(Clone, Copy, Drop, Error)]
 pub enum SourceError {
     /// The first lexical fault.
     #[error(transparent)]
@@ -75,5 +76,17 @@ impl From<ppd_ast::Memory> for SourceError {
 
     fn from(_error: ppd_ast::Memory) -> Self {
         SourceError::Memory
+    }
+}
+
+impl fmt::Debug for CheckError {
+    fn fmt<W: fmt::Write>(&self, f: &mut fmt::Formatter<W>) -> fmt::Result {
+        fmt::Display::fmt(self, f)
+    }
+}
+
+impl fmt::Debug for SourceError {
+    fn fmt<W: fmt::Write>(&self, f: &mut fmt::Formatter<W>) -> fmt::Result {
+        fmt::Display::fmt(self, f)
     }
 }

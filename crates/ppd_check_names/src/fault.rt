@@ -6,7 +6,7 @@ ghost use Rattle.ppd_check_names.specs.Faults.{order, first, first_of_both, if_s
 use ppd_ast::Place;
 
 /// What a source can have too many of, in the order in which they are answered at one place.
-#[derive(Clone, Copy, PartialEq, Eq, PartialOrd, Ord, Debug)]
+#[derive(Clone, Copy, PartialEq, Eq, PartialOrd, Ord)]
 pub enum Limit {
     /// More than 4,096 core statements.
     Statements,

@@ -3,6 +3,7 @@ ghost use Rattle.ppd_lex.specs.declared.token.LexError.TheVariants.{Memory};
 
 use ppd_ast::{Bytes, Place};
 use std::alloc::{AllocError, AllocFailed};
+use std::fmt;
 use thiserror::Error;
 
 /// What a token is to the grammar: its sort, without a name's bytes or a number's value.
@@ -82,7 +83,7 @@ pub struct Token {
 }
 
 /// Why a source has no tokens: the first lexical fault, with its place.
-#[derive(Clone, Copy, Debug, Error)]
+#[derive(Clone, Copy, Error)]
 pub enum LexError {
     /// A byte that starts no token.
     #[error("this byte starts no token")]
@@ -117,5 +118,11 @@ impl<T: Drop> From<AllocFailed<T>> for LexError {
 
     fn from(_error: AllocFailed<T>) -> Self {
         LexError::Memory
+    }
+}
+
+impl fmt::Debug for LexError {
+    fn fmt<W: fmt::Write>(&self, f: &mut fmt::Formatter<W>) -> fmt::Result {
+        fmt::Display::fmt(self, f)
     }
 }

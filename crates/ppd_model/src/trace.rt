@@ -1,5 +1,6 @@
 use ppd_ast::{Memory, Seq};
 use ppd_sem::Event;
+use std::fmt;
 use thiserror::Error;
 
 /// An event of a run by its process and its number among that process's events, both from 0.
@@ -28,7 +29,7 @@ pub struct Trace {
 }
 
 /// Why a schedule could not be taken.
-#[derive(Clone, Copy, Debug, Error)]
+#[derive(Clone, Copy, Error)]
 pub enum DriveError {
     /// The number at this place of the schedule, from 0, names no enabled process, and it is the
     /// first such.
@@ -47,5 +48,11 @@ impl From<Memory> for DriveError {
 
     fn from(_memory: Memory) -> DriveError {
         DriveError::Memory
+    }
+}
+
+impl fmt::Debug for DriveError {
+    fn fmt<W: fmt::Write>(&self, f: &mut fmt::Formatter<W>) -> fmt::Result {
+        fmt::Display::fmt(self, f)
     }
 }

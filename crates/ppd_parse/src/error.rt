@@ -3,10 +3,11 @@ ghost use Rattle.ppd_parse.specs.declared.error.SyntaxError.TheVariants.{Memory}
 
 use ppd_ast::Place;
 use std::alloc::AllocError;
+use std::fmt;
 use thiserror::Error;
 
 /// Why tokens are no program within the limits: the first token that breaks the grammar or a limit.
-#[derive(Clone, Copy, Debug, Drop, Error)]
+#[derive(Clone, Copy, Drop, Error)]
 pub enum SyntaxError {
     /// No program begins with the tokens through this one.
     #[error("no program goes on with this token")]
@@ -27,5 +28,11 @@ impl From<AllocError> for SyntaxError {
 
     fn from(_error: AllocError) -> Self {
         SyntaxError::Memory
+    }
+}
+
+impl fmt::Debug for SyntaxError {
+    fn fmt<W: fmt::Write>(&self, f: &mut fmt::Formatter<W>) -> fmt::Result {
+        fmt::Display::fmt(self, f)
     }
 }

@@ -5,7 +5,7 @@ use crate::fault::Fault;
 use crate::said::schedule_of;
 use crate::worlds::{drive, drive_lowest};
 use ppd_ast::limits::MOST_POLICY;
-use ppd_ast::{Plan, Program, SyncKind};
+use ppd_ast::{Plan, Program, Status, SyncKind, Trap};
 use ppd_blocks::partition;
 use ppd_check::read_source;
 use ppd_entry::{Entry, Logs};
@@ -56,6 +56,29 @@ fn run(alloc: Global, source: &[u8], options: &Options, how: &str) -> Result<Clo
 
 // ---- entries
 
+fn told_kind(kind: SyncKind) -> &'static str {
+    match kind {
+        SyncKind::P => "P",
+        SyncKind::V => "V",
+        SyncKind::Send => "Send",
+        SyncKind::Recv => "Recv",
+        SyncKind::Done => "Done",
+    }
+}
+
+fn told_status(status: Status) -> &'static str {
+    match status {
+        Status::Ended => "Ended",
+        Status::Trap(Trap::Overflow) => "Trap(Overflow)",
+        Status::Trap(Trap::Zero) => "Trap(Zero)",
+        Status::Trap(Trap::Index) => "Trap(Index)",
+        Status::Trap(Trap::Assert) => "Trap(Assert)",
+        Status::Trap(Trap::Depth) => "Trap(Depth)",
+        Status::Budget => "Budget",
+        Status::Blocked => "Blocked",
+    }
+}
+
 /// A synchronization: its kind, object, number and value, and the cells read and written before it.
 fn told_sync(
     alloc: Global,
@@ -64,8 +87,9 @@ fn told_sync(
     value: i64,
     [reads, writes]: [&[u16]; 2],
 ) -> Result<String, AllocError> {
+    let kind = told_kind(kind);
     format!(in alloc;
-        "{kind:?} {object} {number} value {value} reads {reads:?} writes {writes:?}\n"
+        "{kind} {object} {number} value {value} reads {reads:?} writes {writes:?}\n"
     )
 }
 
@@ -97,7 +121,8 @@ fn told_entry(alloc: Global, entry: &Entry) -> Result<String, AllocError> {
             writes,
         } => {
             let (reads, writes) = (reads.as_slice(), writes.as_slice());
-            format!(in alloc; "{status:?} {rest} reads {reads:?} writes {writes:?}\n")
+            let status = told_status(*status);
+            format!(in alloc; "{status} {rest} reads {reads:?} writes {writes:?}\n")
         }
     }
 }
@@ -155,7 +180,8 @@ pub(crate) fn logged(
 fn told_ends(alloc: Global, ends: &[ProcEnd]) -> Result<String, AllocError> {
     let mut text = String::new(alloc);
     for end in ends {
-        let told = format!(in alloc; "{:?} {} steps {}\n", end.status, end.stmt, end.steps)?;
+        let status = told_status(end.status);
+        let told = format!(in alloc; "{status} {} steps {}\n", end.stmt, end.steps)?;
         text.push_str(&told)?;
     }
     Ok(text)

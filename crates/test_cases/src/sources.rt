@@ -1,7 +1,10 @@
 // What sources are read to, and why they are refused, as text.
 
-use ppd_ast::{Body, Expr, Kind, Op, Place, Program, Stmt, Target, Var};
-use ppd_check::{CheckError, SourceError, read_source};
+use crate::tokens::{told_at, told_error};
+use ppd_ast::{Body, Expr, Kind, Op, Program, Stmt, Target, Var};
+use ppd_check::{CheckError, Limit, SourceError, read_source};
+use ppd_lex::LexError;
+use ppd_parse::SyntaxError;
 use std::alloc::{AllocError, Global};
 use test_valid::is_valid_program;
 
@@ -249,24 +252,46 @@ fn bodies(alloc: Global, program: &Program) -> Result<String, AllocError> {
     Ok(text)
 }
 
-fn at(alloc: Global, word: &str, place: Place) -> Result<String, AllocError> {
-    format!(in alloc; "{word} {}:{}", place.line, place.column)
+fn told_limit(limit: Limit) -> &'static str {
+    match limit {
+        Limit::Statements => "Statements",
+        Limit::Functions => "Functions",
+        Limit::Processes => "Processes",
+        Limit::Semaphores => "Semaphores",
+        Limit::Channels => "Channels",
+        Limit::Shared => "Shared",
+        Limit::Locals => "Locals",
+    }
+}
+
+fn told_lex(alloc: Global, error: LexError) -> Result<String, AllocError> {
+    let told = told_error(alloc, error)?;
+    format!(in alloc; "lex {told}")
+}
+
+fn told_syntax(alloc: Global, error: SyntaxError) -> Result<String, AllocError> {
+    match error {
+        SyntaxError::Unexpected(place) => told_at(alloc, "syntax Unexpected", place),
+        SyntaxError::Deep(place) => told_at(alloc, "syntax Deep", place),
+        SyntaxError::Wide(place) => told_at(alloc, "syntax Wide", place),
+        SyntaxError::Memory => format!(in alloc; "inner memory"),
+    }
 }
 
 fn refusal(alloc: Global, error: CheckError) -> Result<String, AllocError> {
     match error {
-        CheckError::Twice(place) => at(alloc, "Twice", place),
-        CheckError::Unknown(place) => at(alloc, "Unknown", place),
-        CheckError::WrongKind(place) => at(alloc, "WrongKind", place),
-        CheckError::Arity(place) => at(alloc, "Arity", place),
-        CheckError::ReturnPlace(place) => at(alloc, "ReturnPlace", place),
-        CheckError::VoidValue(place) => at(alloc, "VoidValue", place),
-        CheckError::NoProcess(place) => at(alloc, "NoProcess", place),
+        CheckError::Twice(place) => told_at(alloc, "Twice", place),
+        CheckError::Unknown(place) => told_at(alloc, "Unknown", place),
+        CheckError::WrongKind(place) => told_at(alloc, "WrongKind", place),
+        CheckError::Arity(place) => told_at(alloc, "Arity", place),
+        CheckError::ReturnPlace(place) => told_at(alloc, "ReturnPlace", place),
+        CheckError::VoidValue(place) => told_at(alloc, "VoidValue", place),
+        CheckError::NoProcess(place) => told_at(alloc, "NoProcess", place),
         CheckError::TooMany(place, limit) => {
-            let told = at(alloc, "TooMany", place)?;
-            format!(in alloc; "{told} {limit:?}")
+            let told = told_at(alloc, "TooMany", place)?;
+            format!(in alloc; "{told} {}", told_limit(limit))
         }
-        CheckError::BadSize(place) => at(alloc, "BadSize", place),
+        CheckError::BadSize(place) => told_at(alloc, "BadSize", place),
         CheckError::Memory => format!(in alloc; "inner memory"),
     }
 }
@@ -305,8 +330,8 @@ pub(crate) fn told_source(
 ) -> Result<String, AllocError> {
     match read_source(alloc, source) {
         Ok(program) => told_program(alloc, &program, is_table),
-        Err(SourceError::Lex(error)) => format!(in alloc; "lex {error:?}"),
-        Err(SourceError::Syntax(error)) => format!(in alloc; "syntax {error:?}"),
+        Err(SourceError::Lex(error)) => told_lex(alloc, error),
+        Err(SourceError::Syntax(error)) => told_syntax(alloc, error),
         Err(SourceError::Check(error)) => refusal(alloc, error),
         Err(SourceError::Memory) => format!(in alloc; "memory"),
     }

@@ -1,5 +1,6 @@
 // The tokens of sources, as text.
 
+use ppd_ast::Place;
 use ppd_lex::{Kind, LexError, Token, TokenKind, lex};
 use std::alloc::{AllocError, Global};
 
@@ -83,8 +84,20 @@ fn told_list(alloc: Global, tokens: &[Token]) -> Result<String, AllocError> {
     Ok(text)
 }
 
-fn told_error(alloc: Global, error: LexError) -> Result<String, AllocError> {
-    format!(in alloc; "{error:?}")
+/// A fault and its place.
+pub(crate) fn told_at(alloc: Global, word: &str, place: Place) -> Result<String, AllocError> {
+    format!(in alloc; "{word} {}:{}", place.line, place.column)
+}
+
+pub(crate) fn told_error(alloc: Global, error: LexError) -> Result<String, AllocError> {
+    match error {
+        LexError::BadByte(place) => told_at(alloc, "BadByte", place),
+        LexError::BadNumber(place) => told_at(alloc, "BadNumber", place),
+        LexError::OpenComment(place) => told_at(alloc, "OpenComment", place),
+        LexError::TooLong(place) => told_at(alloc, "TooLong", place),
+        LexError::LongName(place) => told_at(alloc, "LongName", place),
+        LexError::Memory => format!(in alloc; "inner memory"),
+    }
 }
 
 /// The tokens of a source with blanks between them, or why it has none.

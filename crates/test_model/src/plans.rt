@@ -7,7 +7,7 @@ use ppd_ast::{Block, BlockKind, Cells, Memory, Plan, Policy, Program, Seq, Start
 use ppd_blocks::{bare_plan, partition};
 use ppd_check::read_source;
 use std::alloc::Global;
-use test_valid::{is_valid_plan, is_valid_program};
+use test_valid::{is_same_kind, is_same_start, is_valid_plan, is_valid_program};
 
 const LOOP: &str =
     "shared int x; process a { int i; while (i < 3) { x = x + i; i = i + 1; } print(x); }";
@@ -225,7 +225,7 @@ fn has_policies(program: &Program, plan: &mut Plan) -> bool {
 
 fn are_bare_blocks(blocks: &[Block], others: &[Block]) -> bool {
     for (block, other) in blocks.iter().zip(others.iter()) {
-        if block.kind != other.kind || block.value != other.value {
+        if !is_same_kind(block.kind, other.kind) || block.value != other.value {
             return false;
         }
         if block.prelog.len() != 0 || block.postlog.len() != 0 {
@@ -237,7 +237,7 @@ fn are_bare_blocks(blocks: &[Block], others: &[Block]) -> bool {
 
 fn are_bare_units(units: &[Unit], others: &[Unit]) -> bool {
     for (unit, other) in units.iter().zip(others.iter()) {
-        if unit.start != other.start || unit.cells.len() != 0 {
+        if !is_same_start(unit.start, other.start) || unit.cells.len() != 0 {
             return false;
         }
     }

@@ -8,5 +8,6 @@ mod uses;
 mod valid;
 mod valid_plan;
 
+pub use numbered::{is_same_kind, is_same_start};
 pub use valid::is_valid_program;
 pub use valid_plan::is_valid_plan;

@@ -48,13 +48,38 @@ pub(crate) trait Numbered: Sized {
         ensures { Begins result (map key list.now) place (own stmts.now policy number body.now) };
 }
 
+/// Whether two units start at the same place.
+pub fn is_same_start(one: Start, other: Start) -> bool
+    ensures { IsTrue result ↔ (one ≡ other) }
+{
+    match (one, other) {
+        (Start::Entry(body), Start::Entry(number)) => body == number,
+        (Start::After(stmt), Start::After(number))
+        | (Start::Enter(stmt), Start::Enter(number))
+        | (Start::Exit(stmt), Start::Exit(number)) => stmt == number,
+        _ => false,
+    }
+}
+
+/// Whether two e-blocks are of the same code.
+pub fn is_same_kind(one: BlockKind, other: BlockKind) -> bool
+    ensures { IsTrue result ↔ (one ≡ other) }
+{
+    match (one, other) {
+        (BlockKind::Function(body), BlockKind::Function(number))
+        | (BlockKind::Process(body), BlockKind::Process(number)) => body == number,
+        (BlockKind::Loop(stmt), BlockKind::Loop(number)) => stmt == number,
+        _ => false,
+    }
+}
+
 fn start_at(units: &[Unit], place: usize, start: Start) -> Option<usize>
     ensures { Begins result (map (λ unit. unit.start) units.now) place (start ∷ []) }
 {
     match units.get(place) {
         None => None,
         Some(unit) => {
-            if unit.start == start {
+            if is_same_start(unit.start, start) {
                 Some(place + 1)
             } else {
                 None
@@ -128,7 +153,7 @@ fn loop_at(blocks: &[Block], place: usize, number: u32) -> Option<usize>
     match blocks.get(place) {
         None => None,
         Some(block) => {
-            if block.kind == BlockKind::Loop(number) {
+            if is_same_kind(block.kind, BlockKind::Loop(number)) {
                 Some(place + 1)
             } else {
                 None

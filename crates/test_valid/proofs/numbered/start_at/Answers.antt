@@ -1,14 +1,14 @@
-use Rattle.std.proofs.Common.{◌≡◌, rules}
+use Rattle.std.proofs.Common.{◌≡◌, true}
 use Rattle.ppd_ast.specs.declared.plan.Unit.{Unit}
 use Rattle.test_valid.proofs.Beginnings.{begins_here, begins_not}
 use Rattle.test_valid.proofs.numbered.start_at.Goals as goal
 
-pub returns-then-eq : goal.returns-then-eq
-returns-then-eq c =
-    let same : c.in-Some.unit.now.start ≡ c.args.start = search rules in
-    begins_here (λ (u : Unit). u.start) c.args.units.now c.args.place c.in-Some.unit.now c.args.start c.in-Some.ensures.lookup.3.0 c.in-Some.ensures.lookup.1 same
+pub returns-then-is_same_start : goal.returns-then-is_same_start
+returns-then-is_same_start c =
+    begins_here (λ (u : Unit). u.start) c.args.units.now c.args.place c.in-Some.unit.now c.args.start c.in-Some.ensures.lookup.3.0 c.in-Some.ensures.lookup.1 (c.is_same_start.ensures.0 c.if-is_same_start.true)
 
-pub returns-else-eq : goal.returns-else-eq
-returns-else-eq c =
-    let other : c.in-Some.unit.now.start ≡ c.args.start → ⊥ = search rules in
-    begins_not (λ (u : Unit). u.start) c.args.units.now c.args.place c.in-Some.unit.now c.args.start c.in-Some.ensures.lookup.3.0 c.in-Some.ensures.lookup.1 other
+pub returns-else-is_same_start : goal.returns-else-is_same_start
+returns-else-is_same_start c =
+    begins_not (λ (u : Unit). u.start) c.args.units.now c.args.place c.in-Some.unit.now c.args.start c.in-Some.ensures.lookup.3.0 c.in-Some.ensures.lookup.1 (λ e.
+    let yes : c.is_same_start.result ≡ true = c.is_same_start.ensures.1 e in
+    cc)
