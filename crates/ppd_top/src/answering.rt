@@ -82,7 +82,7 @@ fn slice_answer(
 /// by process and number; `Sets` only where the write set of the entry has a cell that the replays write nowhere and an
 /// answer needs; neither where a refusal applies, neither of the recording of a whole run, and neither of a run again.
 /// `Memory` is want of memory.
-pub fn answer(
+pub fn answer_query(
     rt: &(impl Threads + Sync),
     alloc: Global,
     recalled: &Recalled,

@@ -1,3 +1,4 @@
+// Laws of the top call.
 ghost use Rattle.ppd_top.specs.Promises.{AcceptedProgramsAreTold, DebugTellsOfRuns, FlowTellsOfRuns};
 ghost use Rattle.ppd_top.specs.Promises.{RecordedRunsAreTold, RunTellsOfRuns, SourcesAreRecorded};
 

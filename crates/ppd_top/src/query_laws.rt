@@ -1,3 +1,4 @@
+// Laws of the answers to what is asked of a recording.
 ghost use Rattle.ppd_top.specs.Determined.{AnswersAreDetermined, FailedAreMissing};
 ghost use Rattle.ppd_top.specs.QueryLaws.{QueriesEnd, RunsAreTold};
 ghost use Rattle.ppd_top.specs.Missing.{FailuresAreMissing};

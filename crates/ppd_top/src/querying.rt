@@ -3,7 +3,7 @@ ghost use Rattle.ppd_top_requests.specs.Questions.{query_of};
 ghost use Rattle.ppd_top.specs.Replies.{IsAskable};
 ghost use Rattle.ppd_top.specs.Ran.{IsTold, Queries};
 
-use crate::answering::answer;
+use crate::answering::answer_query;
 use ppd_ast::Seq;
 use ppd_codec_runs::{NoRecall, Recalled, recall};
 use ppd_io::Sink;
@@ -25,7 +25,7 @@ fn tell<O: Sink>(
     ensures { IsTold recalled.now.recording (query_of query.now) result.schedule (O.written output.old)
         (O.written output.new) (O.faults output.old) (O.faults output.new) result.status }
 {
-    match answer(rt, alloc, recalled, query) {
+    match answer_query(rt, alloc, recalled, query) {
         Ok(reply) => Outcome {
             status: finish(output, &reply.text, 0),
             schedule: reply.schedule,

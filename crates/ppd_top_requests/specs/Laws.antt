@@ -1,7 +1,7 @@
 -- The laws of the words of a command.
 use Rattle.std.specs.Prelude.{◌≡◌, ℕ, Bool, List}
 use Rattle.std.specs.Borrow.{Bor}
-use Rattle.ppd_top_requests.specs.declared.commands.Command.TheVariants.{Flow, Show}
+use Rattle.ppd_top_requests.specs.declared.commands.CommandName.TheVariants.{Flow, Show}
 use Rattle.ppd_top_requests.specs.GivenWords.{Text, nothing_given, texts}
 use Rattle.ppd_top_requests.specs.Spelling.{spelled, words_give}
 use Rattle.ppd_top_requests.specs.Commands.{longs_of, names_of}

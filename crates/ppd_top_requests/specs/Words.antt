@@ -13,8 +13,8 @@ use Rattle.ppd_top_requests.specs.Questions.Query.{Clean, Rerun, Slice, Whole}
 use Rattle.ppd_top_requests.specs.declared.options.Options.{Options}
 use Rattle.ppd_top_requests.specs.Commands.{command_gives}
 use Rattle.ppd_top_requests.specs.GivenWords.{Text, texts, value_of}
-use Rattle.ppd_top_requests.specs.declared.commands.Command.{Command as Word}
-use Rattle.ppd_top_requests.specs.declared.commands.Command.TheVariants as word
+use Rattle.ppd_top_requests.specs.declared.commands.CommandName.{CommandName}
+use Rattle.ppd_top_requests.specs.declared.commands.CommandName.TheVariants as word
 use Rattle.std.specs.Borrow.{Bor}
 use Rattle.std.specs.Prelude.{List, None, Option, Some, [], codes, if◌then◌else◌, nat_le, option_and_then, option_map, ℕ, ⊤, ◌&&◌, ◌∷◌, ◌≡◌, ◌≤◌, ◌⊎◌}
 
@@ -89,7 +89,7 @@ abbrev pub query_by : (Text → Option Text) → Option Query → Option Request
 query_by v query = option_and_then (λ q. option_map (λ name. on_query name q) (name_in (v (codes "recording")))) query
 
 -- what each command asks for: `whole` by 1 to 64 workers, and by 8 where the option was not given
-abbrev pub asked_by_word : Word → (Text → Option Text) → Option Request
+abbrev pub asked_by_word : CommandName → (Text → Option Text) → Option Request
 asked_by_word word.Flow v = asked_by (Some Flow) v
 asked_by_word word.Run v = asked_by (option_map Run (name_in (v (codes "recording")))) v
 asked_by_word word.Debug v = option_map on_recording (name_in (v (codes "recording")))

@@ -12,7 +12,7 @@ use std::alloc::Global;
 
 /// What the first word asks for.
 #[derive(Clone, Copy)]
-pub enum Command {
+pub enum CommandName {
     /// A source is run, its summary written, and the lines of the input are answered.
     Flow,
     /// A source is run, its recording stored, and its summary written.
@@ -37,7 +37,7 @@ pub enum Command {
 #[derive(Drop)]
 pub struct CommandWords<'a> {
     /// What the first word asks for.
-    pub command: Command,
+    pub command: CommandName,
     /// The words of the options that were used, by their long names, and of the names, by their ids.
     pub matches: ArgMatches<'a>,
 }
@@ -54,27 +54,27 @@ impl<'a> CommandWords<'a> {
 
 /// The command that a word names: `flow`, `run`, `debug`, `show`, `drill`, `slice`, `rerun`, `clean` or `whole`; `None`
 /// for any other word.
-pub fn command_of(word: &str) -> Option<Command>
+pub fn command_of(word: &str) -> Option<CommandName>
     ensures { result ≡ command_named word.now }
 {
     if word == "flow" {
-        Some(Command::Flow)
+        Some(CommandName::Flow)
     } else if word == "run" {
-        Some(Command::Run)
+        Some(CommandName::Run)
     } else if word == "debug" {
-        Some(Command::Debug)
+        Some(CommandName::Debug)
     } else if word == "show" {
-        Some(Command::Show)
+        Some(CommandName::Show)
     } else if word == "drill" {
-        Some(Command::Drill)
+        Some(CommandName::Drill)
     } else if word == "slice" {
-        Some(Command::Slice)
+        Some(CommandName::Slice)
     } else if word == "rerun" {
-        Some(Command::Rerun)
+        Some(CommandName::Rerun)
     } else if word == "clean" {
-        Some(Command::Clean)
+        Some(CommandName::Clean)
     } else if word == "whole" {
-        Some(Command::Whole)
+        Some(CommandName::Whole)
     } else {
         None
     }
@@ -83,7 +83,7 @@ pub fn command_of(word: &str) -> Option<Command>
 /// The words after the command's own.
 fn read_rest<'a>(
     alloc: Global,
-    command: Command,
+    command: CommandName,
     words: &'a [&'a str],
 ) -> Result<Option<ArgMatches<'a>>, Memory>
     ensures { IfOk result
@@ -91,39 +91,39 @@ fn read_rest<'a>(
         (Reads (longs_of command) (names_of command) (texts words.entry.now))) }
 {
     match command {
-        Command::Flow => read_words(
+        CommandName::Flow => read_words(
             alloc,
             "flow",
             &["budget", "leaf", "loops"],
             &["source"],
             words,
         ),
-        Command::Run => read_words(
+        CommandName::Run => read_words(
             alloc,
             "run",
             &["budget", "leaf", "loops"],
             &["source", "recording"],
             words,
         ),
-        Command::Debug => read_words(alloc, "debug", &[], &["recording"], words),
-        Command::Show => read_words(alloc, "show", &["leaf", "loops"], &["source"], words),
-        Command::Drill => read_words(alloc, "drill", &[], &["number"], words),
-        Command::Slice => read_words(
+        CommandName::Debug => read_words(alloc, "debug", &[], &["recording"], words),
+        CommandName::Show => read_words(alloc, "show", &["leaf", "loops"], &["source"], words),
+        CommandName::Drill => read_words(alloc, "drill", &[], &["number"], words),
+        CommandName::Slice => read_words(
             alloc,
             "slice",
             &[],
             &["recording", "process", "interval", "item"],
             words,
         ),
-        Command::Rerun => read_words(alloc, "rerun", &[], &["recording"], words),
-        Command::Clean => read_words(
+        CommandName::Rerun => read_words(alloc, "rerun", &[], &["recording"], words),
+        CommandName::Clean => read_words(
             alloc,
             "clean",
             &[],
             &["recording", "process", "interval", "item"],
             words,
         ),
-        Command::Whole => read_words(alloc, "whole", &["workers"], &["recording"], words),
+        CommandName::Whole => read_words(alloc, "whole", &["workers"], &["recording"], words),
     }
 }
 

@@ -5,10 +5,10 @@ ghost use Rattle.ppd_top_requests.specs.Words.Command.{Run as run_asked};
 ghost use Rattle.ppd_top_requests.specs.Questions.{asked_of, query_of};
 ghost use Rattle.ppd_top_requests.specs.Questions.Query.{Clean as clean_asked, Slice as slice_asked, Whole as whole_asked};
 ghost use Rattle.ppd_top_requests.specs.Words.{AreInRange};
-ghost use Rattle.ppd_top_requests.specs.declared.commands.Command.TheVariants as word;
+ghost use Rattle.ppd_top_requests.specs.declared.commands.CommandName.TheVariants as word;
 ghost use Rattle.std.specs.Prelude.{IfOk, IfSome, None, Some, codes, option_map, ◌≡◌, ◌≤◌};
 
-use crate::commands::{Command as Word, CommandWords, read_command};
+use crate::commands::{CommandName, CommandWords, read_command};
 use crate::options::Options;
 use crate::query::{AskedItem, Query};
 use ppd_ast::limits::{DEFAULT_BUDGET, MOST_BUDGET, MOST_DRILL, MOST_POLICY};
@@ -217,15 +217,15 @@ fn request_in<'a>(given: &CommandWords<'a>) -> Option<Request<'a>>
     ensures range { IfSome result IsInRange }
 {
     match given.command {
-        Word::Flow => on_source(Some(Command::Flow), given),
-        Word::Run => on_source(run_of(given), given),
-        Word::Debug => on_recording(given),
-        Word::Show => on_source(Some(Command::Show), given),
-        Word::Drill => on_number(given),
-        Word::Slice => on_query(given, slice_of(given)),
-        Word::Rerun => on_query(given, Some(Query::Rerun)),
-        Word::Clean => on_query(given, clean_of(given)),
-        Word::Whole => on_query(given, whole_of(given)),
+        CommandName::Flow => on_source(Some(Command::Flow), given),
+        CommandName::Run => on_source(run_of(given), given),
+        CommandName::Debug => on_recording(given),
+        CommandName::Show => on_source(Some(Command::Show), given),
+        CommandName::Drill => on_number(given),
+        CommandName::Slice => on_query(given, slice_of(given)),
+        CommandName::Rerun => on_query(given, Some(Query::Rerun)),
+        CommandName::Clean => on_query(given, clean_of(given)),
+        CommandName::Whole => on_query(given, whole_of(given)),
     }
 }
 

@@ -1,3 +1,4 @@
+// The threads of a run: one for each process.
 ghost use Rattle.ppd_model.specs.Setting.{setting_of};
 ghost use Rattle.std.specs.Prelude.{◌≡◌, ◌≤◌, [], IfOk};
 ghost use Rattle.ppd_ast.specs.Valid.{IsValid};

@@ -9,7 +9,7 @@ use Rattle.ppd_top_requests.specs.Laws.{FlowTestsNumbersLast, ShowTestsNumbersLa
 use Rattle.ppd_top_requests.specs.Numbers.{Asked, Choice, asked_of, good}
 use Rattle.ppd_top_requests.specs.GivenWords.{Uses, texts}
 use Rattle.ppd_top_requests.specs.Tested.{only_good}
-use Rattle.ppd_top_requests.specs.declared.commands.Command.TheVariants.{Flow, Show}
+use Rattle.ppd_top_requests.specs.declared.commands.CommandName.TheVariants.{Flow, Show}
 
 abbrev tested_of : (Choice → ℕ → Bool) → Option Uses → Option Asked
 tested_of allowed g = asked_of (only_good (good allowed) g)

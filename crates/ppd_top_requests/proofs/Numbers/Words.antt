@@ -8,7 +8,7 @@ use Rattle.ppd_top_requests.proofs.Clap.Kinds.{clap_spelled}
 use Rattle.ppd_top_requests.proofs.Clap.Lookups.{same-equal}
 use Rattle.ppd_top_requests.proofs.Clap.Spelled.{spelled_alike}
 use Rattle.ppd_top_requests.specs.Commands.{longs_of}
-use Rattle.ppd_top_requests.specs.declared.commands.Command.TheVariants.{Flow}
+use Rattle.ppd_top_requests.specs.declared.commands.CommandName.TheVariants.{Flow}
 use Rattle.ppd_top_requests.specs.Numbers.{Ends, Name, Other, Sets, Waits, Word, budget, choice_of, leaf, loops, spelled_word}
 use Rattle.ppd_top_requests.specs.Spelling.{HaveNoEquals, is_dashed, spelled}
 use Rattle.ppd_top_requests.specs.GivenWords.{Kind, Text, ends, name, other, sets, waits}
