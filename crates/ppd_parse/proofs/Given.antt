@@ -46,9 +46,18 @@ cons {a} {p} {ps} {ts} {rest = rest} {t = t} {u = u} (given g) (rows h) = rows (
 pub rows_as : {a : At} {ps : List Part} {ts rest : List Marked} {t u : List Shape} → t ≡ u → Rows a ps ts t rest → Rows a ps ts u rest
 rows_as {a} {ps} {ts} {rest} e h = subst (λ z. Rows a ps ts z rest) e h
 
+-- parts after parts
+pub join_rows : {a : At} {ps qs : List Part} {ts mid rest : List Marked} {t u : List Shape} → Rows a ps ts t mid → Rows a qs mid u rest → Rows a (ps ++ qs) ts (t ++ u) rest
+join_rows {a} {ps} {qs} {ts} {rest = rest} {t = t} {u = u} (rows g) (rows h) =
+    rows (λ s b. subst (λ ws. ReadsAll ws s ts (s ++ (t ++ u)) rest) (sym (map-append (want_in a b) ps qs)) (subst (λ z. ReadsAll (wants_in a b ps ++ wants_in a b qs) s ts z rest) (append_assoc s t u) (join (g s b) (h (s ++ t) b))))
+
 -- the first two belong together
 pub cons_two : {a : At} {p q : Part} {ps : List Part} {ts mid more rest : List Marked} {t u v : List Shape} → Given a p ts t mid → Given a q mid u more → Rows a ps more v rest → Rows a (p ∷ q ∷ ps) ts ((t ++ u) ++ v) rest
-cons_two {t = t} {u = u} {v = v} g h r = rows_as (sym (append_assoc t u v)) (cons g (cons h r))
+cons_two g h r = join_rows (cons g (one h)) r
+
+-- the first three belong together
+pub cons_three : {a : At} {p q r : Part} {ps : List Part} {ts low high more rest : List Marked} {t u v w : List Shape} → Given a p ts t low → Given a q low u high → Given a r high v more → Rows a ps more w rest → Rows a (p ∷ q ∷ r ∷ ps) ts ((t ++ (u ++ v)) ++ w) rest
+cons_three g h i r = join_rows (cons g (cons h (one i))) r
 
 pub free : {y : Symbol} (p : Production y) → ((k : Kind) → Stands p k) → (ts : List Marked) → MayStand p ts
 free p h [] = tt
