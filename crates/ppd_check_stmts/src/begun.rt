@@ -5,12 +5,11 @@ ghost use Rattle.ppd_check_names.specs.Nodes.{operand_formula, IsOperand};
 ghost use Rattle.ppd_check_stmts.specs.Statements.{opened};
 ghost use Rattle.ppd_check_stmts.specs.Writing.{Began};
 ghost use Rattle.ppd_check_names.specs.Cost.{operand_nodes};
-ghost use Rattle.ppd_check_stmts.specs.Outputs.{Keeps};
 
 use crate::formulas::write_term;
-use crate::lowering::Lowering;
+use crate::held::hold;
 use ppd_ast::{Memory, Place, Steps};
-use ppd_check_names::{Frame, Level, Operand};
+use ppd_check_names::{Frame, Level, Operand, Output};
 use std::sync::ledger::Ledger;
 
 // The numbers of a statement whose place is held and of its test's expression.
@@ -20,29 +19,27 @@ pub struct Begun {
     pub test: u32,
 }
 
-impl<L: Ledger> Lowering<'_, L> {
-    // Adds the test of a statement, then the statement, whose place is held.
-    pub fn begin(
-        &mut self,
-        level: Level<'_>,
-        operand: Operand,
-        place: Place,
-    ) -> Result<Begun, Memory>
-        requires within { IsOperand level.source.nodes.now operand }
-        ensures kept { Keeps self.old self.new }
-        ensures frame { self.new.frame.now ≡ self.old.frame.now }
-        ensures began { IfOk result (λ begun. Began level.entry.site place (term_of self.old.frame.now.scopes
-            (operand_formula level.entry.source.nodes.now operand)) (formula_faults self.old.frame.now.scopes
-            (operand_formula level.entry.source.nodes.now operand)) self.old.out.now.table self.new.out.now.table
-            begun.at begun.test self.old.out.now.row self.new.out.now.row) }
-        ensures cost { self.new.steps.now ≤ self.old.steps.now + 6 * operand_nodes level.entry.source.nodes.now
-            operand + 5 }
-    {
-        let table = &mut self.out.table;
-        let test = write_term(level.source, self.frame, operand, table, self.steps)?;
-        let at = self.hold(level.site, place)?;
-        Ok(Begun { at, test })
-    }
+// Adds the test of a statement, then the statement, whose place is held.
+pub fn begin<L: Ledger>(
+    level: Level<'_>,
+    frame: &Frame,
+    operand: Operand,
+    place: Place,
+    out: &mut Output,
+    steps: &mut Steps<L>,
+) -> Result<Begun, Memory>
+    requires within { IsOperand level.source.nodes.now operand }
+    ensures began { IfOk result (λ begun. Began level.entry.site place (term_of frame.now.scopes
+        (operand_formula level.entry.source.nodes.now operand)) (formula_faults frame.now.scopes
+        (operand_formula level.entry.source.nodes.now operand)) out.old.table out.new.table
+        begun.at begun.test out.old.row out.new.row) }
+    ensures cost { steps.new ≤ steps.old + 6 * operand_nodes level.entry.source.nodes.now
+        operand + 5 }
+{
+    let table = &mut out.table;
+    let test = write_term(level.source, frame, operand, table, steps)?;
+    let at = hold(level.site, place, out, steps)?;
+    Ok(Begun { at, test })
 }
 
 // Opens a scope.

@@ -10,6 +10,7 @@ ghost use Rattle.ppd_check_stmts.specs.Outputs.{Keeps, Puts, Walks};
 
 use crate::lowering::Lowering;
 use crate::parts::{part_of, past_semicolon, semicolon_from, test_among};
+use crate::stores::write_fresh;
 use crate::values::Value;
 use ppd_ast::{Memory, Steps};
 use ppd_check_names::{Level, Operand, Source, children_of, kind_at, label_at, operand_at};
@@ -44,7 +45,7 @@ impl<L: Ledger> Lowering<'_, L> {
                     id,
                     part_of(level.source, id, 2, end, 3),
                 ));
-                self.lower_fresh(level, name, value)
+                write_fresh(level, name, value, self.frame, self.out, self.steps)
             }
             _ => self.lower_changing(level, id, first),
         }

@@ -10,15 +10,15 @@ ghost use Rattle.ppd_check_names.specs.Frames.{with_hidden};
 ghost use Rattle.ppd_check_stmts.specs.Values.{goal_said, value_said_by, IsGoal, IsValue, local_cell, through_acts, through_frame, goal_nodes, value_nodes};
 ghost use Rattle.ppd_ast.specs.Term as T;
 ghost use Rattle.ppd_check_stmts.specs.Code as C;
-ghost use Rattle.ppd_check_stmts.specs.Outputs.{Keeps, Puts, PutsSimple, PutsAct};
+ghost use Rattle.ppd_check_stmts.specs.Writing.{Wrote, WroteSimple, WroteAct};
 
-use crate::changes::place_of;
+use crate::arrays::write_return_of;
+use crate::changes::{place_of, write_assign};
 use crate::formulas::put;
-use crate::lowering::Lowering;
-use crate::stores::write_spot;
+use crate::stores::{write_spot, write_value};
 use crate::values::{Goal, Value};
 use ppd_ast::{Expr, Kind, Memory, Place, Steps};
-use ppd_check_names::{Here, Level, Meaning, Scopes, Site, hide, put_stmt};
+use ppd_check_names::{Frame, Here, Level, Meaning, Output, Scopes, Site, hide, put_stmt};
 use std::sync::ledger::Ledger;
 
 // The cell of a local scalar.
@@ -42,162 +42,178 @@ fn local_cell<L: Ledger>(scopes: &Scopes, goal: Goal<'_>, steps: &mut Steps<L>) 
     }
 }
 
-impl<L: Ledger> Lowering<'_, L> {
-    // The value of a local scalar into a place.
-    fn lower_move(&mut self, here: Here<'_>, goal: Goal<'_>, cell: u16) -> Result<(), Memory>
-        requires within { IsGoal here.level.source.nodes.now goal }
-        ensures kept { Keeps self.old self.new }
-        ensures frame { self.new.frame.now ≡ self.old.frame.now }
-        ensures wrote { OnOk result (PutsAct here.entry.level.site here.entry.place (C.set (spot_of
-            self.old.frame.now.scopes (goal_said here.entry.level.source.nodes.now goal.entry)) (T.local cell))
-            (formula_faults self.old.frame.now.scopes (goal_formula (goal_said here.entry.level.source.nodes.now
-            goal.entry))) self.old self.new) }
-        ensures cost { self.new.steps.now ≤ self.old.steps.now + 6 * goal_nodes here.entry.level.source.nodes.now
-            goal.entry + 7 }
-    {
-        let table = &mut self.out.table;
-        let target = write_spot(here.level.source, self.frame, goal, table, self.steps)?;
-        let number = put(&mut self.out.table.exprs, Expr::Local(cell), self.steps)?;
-        put_stmt(
-            self.out,
-            here.level.site,
-            here.place,
-            Kind::Set(target, number),
-            self.steps,
-        )
-    }
+// The value of a local scalar into a place.
+fn write_move<L: Ledger>(
+    here: Here<'_>,
+    frame: &Frame,
+    goal: Goal<'_>,
+    cell: u16,
+    out: &mut Output,
+    steps: &mut Steps<L>,
+) -> Result<(), Memory>
+    requires within { IsGoal here.level.source.nodes.now goal }
+    ensures wrote { OnOk result (WroteAct here.entry.level.site here.entry.place (C.set (spot_of
+        frame.now.scopes (goal_said here.entry.level.source.nodes.now goal.entry)) (T.local cell))
+        (formula_faults frame.now.scopes (goal_formula (goal_said here.entry.level.source.nodes.now
+        goal.entry))) out.old.table out.new.table out.old.row out.new.row) }
+    ensures cost { steps.new ≤ steps.old + 6 * goal_nodes here.entry.level.source.nodes.now
+        goal.entry + 7 }
+{
+    let table = &mut out.table;
+    let target = write_spot(here.level.source, frame, goal, table, steps)?;
+    let number = put(&mut out.table.exprs, Expr::Local(cell), steps)?;
+    put_stmt(
+        out,
+        here.level.site,
+        here.place,
+        Kind::Set(target, number),
+        steps,
+    )
+}
 
-    // The value of a call or a channel into a hidden local scalar, and from there into a place.
-    fn lower_hidden(
-        &mut self,
-        here: Here<'_>,
-        goal: Goal<'_>,
-        value: Value<'_>,
-    ) -> Result<(), Memory>
-        requires goal { IsGoal here.level.source.nodes.now goal }
-        requires within { IsValue here.level.source.nodes.now value }
-        ensures kept { Keeps self.old self.new }
-        ensures wrote { OnOk result (Puts here.entry.level.site.body here.entry.level.site.parent (acts
-            here.entry.place (put self.old.frame.now.scopes self.old.frame.now.cells (value_said_by
-            here.entry.level.source.nodes.now value.entry) ∷ C.set (spot_of self.old.frame.now.scopes (goal_said
-            here.entry.level.source.nodes.now goal.entry)) (T.local self.old.frame.now.cells) ∷ [])) (formula_faults
-            self.old.frame.now.scopes (goal_formula (goal_said here.entry.level.source.nodes.now goal.entry)) ++
-            value_faults self.old.frame.now.scopes (value_said_by here.entry.level.source.nodes.now value.entry))
-            self.old self.new) }
-        ensures frame { OnOk result (self.new.frame.now ≡ with_hidden here.entry.place self.old.frame.now) }
-        ensures cost { self.new.steps.now ≤ self.old.steps.now + 6 * goal_nodes here.entry.level.source.nodes.now
-            goal.entry + 11 * value_nodes here.entry.level.source.nodes.now value.entry + 14 }
-    {
-        let cell = hide(self.frame, here.place, self.steps)?;
-        self.lower_put(here, value, cell)?;
-        self.lower_move(here, goal, cell)
-    }
+// The value of a call or a channel into a hidden local scalar, and from there into a place.
+fn write_hidden<L: Ledger>(
+    here: Here<'_>,
+    goal: Goal<'_>,
+    value: Value<'_>,
+    frame: &mut Frame,
+    out: &mut Output,
+    steps: &mut Steps<L>,
+) -> Result<(), Memory>
+    requires goal { IsGoal here.level.source.nodes.now goal }
+    requires within { IsValue here.level.source.nodes.now value }
+    ensures wrote { OnOk result (Wrote here.entry.level.site.body here.entry.level.site.parent (acts
+        here.entry.place (put frame.old.scopes frame.old.cells (value_said_by
+        here.entry.level.source.nodes.now value.entry) ∷ C.set (spot_of frame.old.scopes (goal_said
+        here.entry.level.source.nodes.now goal.entry)) (T.local frame.old.cells) ∷ [])) (formula_faults
+        frame.old.scopes (goal_formula (goal_said here.entry.level.source.nodes.now goal.entry)) ++
+        value_faults frame.old.scopes (value_said_by here.entry.level.source.nodes.now value.entry))
+        out.old.table out.new.table out.old.row out.new.row) }
+    ensures frame { OnOk result (frame.new ≡ with_hidden here.entry.place frame.old) }
+    ensures cost { steps.new ≤ steps.old + 6 * goal_nodes here.entry.level.source.nodes.now
+        goal.entry + 11 * value_nodes here.entry.level.source.nodes.now value.entry + 14 }
+{
+    let cell = hide(frame, here.place, steps)?;
+    write_value(here, frame, value, cell, out, steps)?;
+    write_move(here, frame, goal, cell, out, steps)
+}
 
-    // The value of a call or a channel into a place.
-    fn lower_through(
-        &mut self,
-        level: Level<'_>,
-        goal: Goal<'_>,
-        value: Value<'_>,
-    ) -> Result<(), Memory>
-        requires goal { IsGoal level.source.nodes.now goal }
-        requires within { IsValue level.source.nodes.now value }
-        ensures kept { Keeps self.old self.new }
-        ensures wrote { OnOk result (Puts level.entry.site.body level.entry.site.parent (acts (goal_name (goal_said
-            level.entry.source.nodes.now goal.entry)).place (through_acts (local_cell (spot_of
-            self.old.frame.now.scopes (goal_said level.entry.source.nodes.now goal.entry))) (spot_of
-            self.old.frame.now.scopes (goal_said level.entry.source.nodes.now goal.entry)) (value_said_by
-            level.entry.source.nodes.now value.entry) self.old.frame.now)) (formula_faults self.old.frame.now.scopes
-            (goal_formula (goal_said level.entry.source.nodes.now goal.entry)) ++ value_faults
-            self.old.frame.now.scopes (value_said_by level.entry.source.nodes.now value.entry)) self.old self.new) }
-        ensures frame { OnOk result (self.new.frame.now ≡ through_frame (local_cell (spot_of self.old.frame.now.scopes
-            (goal_said level.entry.source.nodes.now goal.entry))) (goal_name (goal_said level.entry.source.nodes.now
-            goal.entry)).place self.old.frame.now) }
-        ensures cost { self.new.steps.now ≤ self.old.steps.now + 6 * goal_nodes level.entry.source.nodes.now
-            goal.entry + 11 * value_nodes level.entry.source.nodes.now value.entry + 15 }
-    {
-        let place = place_of(goal);
-        match local_cell(&self.frame.scopes, goal, self.steps) {
-            Some(cell) => self.lower_put(Here { level, place }, value, cell),
-            None => self.lower_hidden(Here { level, place }, goal, value),
+// The value of a call or a channel into a place.
+fn write_through<L: Ledger>(
+    level: Level<'_>,
+    goal: Goal<'_>,
+    value: Value<'_>,
+    frame: &mut Frame,
+    out: &mut Output,
+    steps: &mut Steps<L>,
+) -> Result<(), Memory>
+    requires goal { IsGoal level.source.nodes.now goal }
+    requires within { IsValue level.source.nodes.now value }
+    ensures wrote { OnOk result (Wrote level.entry.site.body level.entry.site.parent (acts (goal_name (goal_said
+        level.entry.source.nodes.now goal.entry)).place (through_acts (local_cell (spot_of frame.old.scopes (goal_said
+        level.entry.source.nodes.now goal.entry))) (spot_of frame.old.scopes (goal_said level.entry.source.nodes.now
+        goal.entry)) (value_said_by level.entry.source.nodes.now value.entry) frame.old)) (formula_faults
+        frame.old.scopes (goal_formula (goal_said level.entry.source.nodes.now goal.entry)) ++ value_faults
+        frame.old.scopes (value_said_by level.entry.source.nodes.now value.entry)) out.old.table out.new.table
+        out.old.row out.new.row) }
+    ensures frame { OnOk result (frame.new ≡ through_frame (local_cell (spot_of frame.old.scopes
+        (goal_said level.entry.source.nodes.now goal.entry))) (goal_name (goal_said level.entry.source.nodes.now
+        goal.entry)).place frame.old) }
+    ensures cost { steps.new ≤ steps.old + 6 * goal_nodes level.entry.source.nodes.now
+        goal.entry + 11 * value_nodes level.entry.source.nodes.now value.entry + 15 }
+{
+    let place = place_of(goal);
+    match local_cell(&frame.scopes, goal, steps) {
+        Some(cell) => write_value(Here { level, place }, frame, value, cell, out, steps),
+        None => write_hidden(Here { level, place }, goal, value, frame, out, steps),
+    }
+}
+
+// `p = v`
+pub fn write_store<L: Ledger>(
+    level: Level<'_>,
+    goal: Goal<'_>,
+    value: Value<'_>,
+    frame: &mut Frame,
+    out: &mut Output,
+    steps: &mut Steps<L>,
+) -> Result<(), Memory>
+    requires goal { IsGoal level.source.nodes.now goal }
+    requires within { IsValue level.source.nodes.now value }
+    ensures wrote { OnOk result (WroteSimple level.entry.site (store (goal_said level.entry.source.nodes.now
+        goal.entry) (value_said_by level.entry.source.nodes.now value.entry)) frame.old out.old.table out.new.table
+        out.old.row out.new.row) }
+    ensures frame { OnOk result (frame.new ≡ after (store (goal_said level.entry.source.nodes.now
+        goal.entry) (value_said_by level.entry.source.nodes.now value.entry)) frame.old) }
+    ensures cost { steps.new ≤ steps.old + 6 * goal_nodes level.entry.source.nodes.now
+        goal.entry + 11 * value_nodes level.entry.source.nodes.now value.entry + 15 }
+{
+    match value {
+        Value::Plain(operand) => write_assign(level, frame, goal, operand, out, steps),
+        Value::Result(_) => write_through(level, goal, value, frame, out, steps),
+        Value::Received(_) => write_through(level, goal, value, frame, out, steps),
+    }
+}
+
+// The value of a local scalar, returned.
+fn write_return_cell<L: Ledger>(
+    site: Site,
+    place: Place,
+    cell: u16,
+    out: &mut Output,
+    steps: &mut Steps<L>,
+) -> Result<(), Memory>
+    ensures wrote { OnOk result (WroteAct site place (C.give_back (Some (T.local cell))) [] out.old.table out.new.table
+        out.old.row out.new.row) }
+    ensures cost { steps.new ≤ steps.old + 3 }
+{
+    let number = put(&mut out.table.exprs, Expr::Local(cell), steps)?;
+    put_stmt(out, site, place, Kind::Return(Some(number)), steps)
+}
+
+// The value of a call or a channel into a hidden local scalar, which is returned.
+fn write_return_hidden<L: Ledger>(
+    here: Here<'_>,
+    value: Value<'_>,
+    frame: &mut Frame,
+    out: &mut Output,
+    steps: &mut Steps<L>,
+) -> Result<(), Memory>
+    requires within { IsValue here.level.source.nodes.now value }
+    ensures wrote { OnOk result (Wrote here.entry.level.site.body here.entry.level.site.parent (acts
+        here.entry.place (put frame.old.scopes frame.old.cells (value_said_by
+        here.entry.level.source.nodes.now value.entry) ∷ C.give_back (Some (T.local frame.old.cells)) ∷
+        [])) (value_faults frame.old.scopes (value_said_by here.entry.level.source.nodes.now
+        value.entry)) out.old.table out.new.table out.old.row out.new.row) }
+    ensures frame { OnOk result (frame.new ≡ with_hidden here.entry.place frame.old) }
+    ensures cost { steps.new ≤ steps.old + 11 * value_nodes here.entry.level.source.nodes.now
+        value.entry + 10 }
+{
+    let cell = hide(frame, here.place, steps)?;
+    write_value(here, frame, value, cell, out, steps)?;
+    write_return_cell(here.level.site, here.place, cell, out, steps)
+}
+
+// `return v;`
+pub fn write_return_value<L: Ledger>(
+    here: Here<'_>,
+    value: Value<'_>,
+    frame: &mut Frame,
+    out: &mut Output,
+    steps: &mut Steps<L>,
+) -> Result<(), Memory>
+    requires within { IsValue here.level.source.nodes.now value }
+    ensures wrote { OnOk result (WroteSimple here.entry.level.site (give_back here.entry.place (Some (value_said_by
+        here.entry.level.source.nodes.now value.entry))) frame.old out.old.table out.new.table out.old.row out.new.row)
         }
-    }
-
-    // `p = v`
-    pub fn lower_store(
-        &mut self,
-        level: Level<'_>,
-        goal: Goal<'_>,
-        value: Value<'_>,
-    ) -> Result<(), Memory>
-        requires goal { IsGoal level.source.nodes.now goal }
-        requires within { IsValue level.source.nodes.now value }
-        ensures kept { Keeps self.old self.new }
-        ensures wrote { OnOk result (PutsSimple level.entry.site (store
-            (goal_said level.entry.source.nodes.now goal.entry)
-            (value_said_by level.entry.source.nodes.now value.entry)) self.old self.new) }
-        ensures frame { OnOk result (self.new.frame.now ≡ after (store (goal_said level.entry.source.nodes.now
-            goal.entry) (value_said_by level.entry.source.nodes.now value.entry)) self.old.frame.now) }
-        ensures cost { self.new.steps.now ≤ self.old.steps.now + 6 * goal_nodes level.entry.source.nodes.now
-            goal.entry + 11 * value_nodes level.entry.source.nodes.now value.entry + 15 }
-    {
-        match value {
-            Value::Plain(operand) => self.lower_assign(level, goal, operand),
-            Value::Result(_) => self.lower_through(level, goal, value),
-            Value::Received(_) => self.lower_through(level, goal, value),
-        }
-    }
-
-    // The value of a local scalar, returned.
-    fn lower_return_cell(&mut self, site: Site, place: Place, cell: u16) -> Result<(), Memory>
-        ensures kept { Keeps self.old self.new }
-        ensures frame { self.new.frame.now ≡ self.old.frame.now }
-        ensures wrote { OnOk result (PutsAct site place (C.give_back (Some (T.local cell))) [] self.old self.new) }
-        ensures cost { self.new.steps.now ≤ self.old.steps.now + 3 }
-    {
-        let number = put(&mut self.out.table.exprs, Expr::Local(cell), self.steps)?;
-        put_stmt(
-            self.out,
-            site,
-            place,
-            Kind::Return(Some(number)),
-            self.steps,
-        )
-    }
-
-    // The value of a call or a channel into a hidden local scalar, which is returned.
-    fn lower_return_hidden(&mut self, here: Here<'_>, value: Value<'_>) -> Result<(), Memory>
-        requires within { IsValue here.level.source.nodes.now value }
-        ensures kept { Keeps self.old self.new }
-        ensures wrote { OnOk result (Puts here.entry.level.site.body here.entry.level.site.parent (acts
-            here.entry.place (put self.old.frame.now.scopes self.old.frame.now.cells (value_said_by
-            here.entry.level.source.nodes.now value.entry) ∷ C.give_back (Some (T.local self.old.frame.now.cells)) ∷
-            [])) (value_faults self.old.frame.now.scopes (value_said_by here.entry.level.source.nodes.now
-            value.entry)) self.old self.new) }
-        ensures frame { OnOk result (self.new.frame.now ≡ with_hidden here.entry.place self.old.frame.now) }
-        ensures cost { self.new.steps.now ≤ self.old.steps.now + 11 * value_nodes here.entry.level.source.nodes.now
-            value.entry + 10 }
-    {
-        let cell = hide(self.frame, here.place, self.steps)?;
-        self.lower_put(here, value, cell)?;
-        self.lower_return_cell(here.level.site, here.place, cell)
-    }
-
-    // `return v;`
-    pub fn lower_return_value(&mut self, here: Here<'_>, value: Value<'_>) -> Result<(), Memory>
-        requires within { IsValue here.level.source.nodes.now value }
-        ensures kept { Keeps self.old self.new }
-        ensures wrote { OnOk result (PutsSimple here.entry.level.site (give_back here.entry.place (Some
-            (value_said_by here.entry.level.source.nodes.now value.entry))) self.old self.new) }
-        ensures frame { OnOk result (self.new.frame.now ≡ after (give_back here.entry.place (Some (value_said_by
-            here.entry.level.source.nodes.now value.entry))) self.old.frame.now) }
-        ensures cost { self.new.steps.now ≤ self.old.steps.now + 11 * value_nodes here.entry.level.source.nodes.now
-            value.entry + 10 }
-    {
-        match value {
-            Value::Plain(operand) => self.lower_return_of(here, operand),
-            Value::Result(_) => { self.lower_return_hidden(here, value) }
-            Value::Received(_) => { self.lower_return_hidden(here, value) }
-        }
+    ensures frame { OnOk result (frame.new ≡ after (give_back here.entry.place (Some (value_said_by
+        here.entry.level.source.nodes.now value.entry))) frame.old) }
+    ensures cost { steps.new ≤ steps.old + 11 * value_nodes here.entry.level.source.nodes.now
+        value.entry + 10 }
+{
+    match value {
+        Value::Plain(operand) => write_return_of(here, frame, operand, out, steps),
+        Value::Result(_) => { write_return_hidden(here, value, frame, out, steps) }
+        Value::Received(_) => { write_return_hidden(here, value, frame, out, steps) }
     }
 }

@@ -6,7 +6,6 @@ ghost use Rattle.ppd_check_stmts.specs.Statements.{after_row};
 ghost use Rattle.ppd_check_names.specs.Cost.{plain_at, nested_below, plain_below};
 ghost use Rattle.ppd_check_stmts.specs.Outputs.{Keeps, PutsRow, Walks};
 
-use crate::changes::Change;
 use crate::lowering::Lowering;
 use ppd_ast::Memory;
 use ppd_check_names::{Level, children_of, rule_of};

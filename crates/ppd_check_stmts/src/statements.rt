@@ -7,7 +7,10 @@ ghost use Rattle.ppd_check_names.specs.Cost.{nested_below, plain_below};
 ghost use Rattle.ppd_check_stmts.specs.Outputs.{Keeps, PutsSimple};
 ghost use Rattle.ppd_check_names.specs.Nodes.{below};
 
+use crate::arrays::{write_array, write_return};
+use crate::hidden::write_return_value;
 use crate::lowering::Lowering;
+use crate::stores::{write_call, write_fresh};
 use crate::values::{Value, value_at};
 use ppd_ast::Memory;
 use ppd_check_names::{Here, Level, Operand, kind_at, label_at, place_at, size_at};
@@ -30,13 +33,13 @@ impl<L: Ledger> Lowering<'_, L> {
         match kind_at(level.source, id, 1) {
             Kind::LeftBracket => {
                 let size = size_at(level.source, id, 2);
-                self.lower_array(level.site, name, size)
+                write_array(level.site, name, size, self.frame, self.out, self.steps)
             }
             Kind::AssignMark => {
                 let value = value_at(level.source, id, 2);
-                self.lower_fresh(level, name, value)
+                write_fresh(level, name, value, self.frame, self.out, self.steps)
             }
-            _ => self.lower_fresh(level, name, zero),
+            _ => write_fresh(level, name, zero, self.frame, self.out, self.steps),
         }
     }
 
@@ -52,10 +55,16 @@ impl<L: Ledger> Lowering<'_, L> {
     {
         let place = place_at(level.source, id, 0);
         match kind_at(level.source, id, 1) {
-            Kind::Semicolon => self.lower_return(level.site, place),
+            Kind::Semicolon => write_return(level.site, place, self.out, self.steps),
             _ => {
                 let value = value_at(level.source, id, 1);
-                self.lower_return_value(Here { level, place }, value)
+                write_return_value(
+                    Here { level, place },
+                    value,
+                    self.frame,
+                    self.out,
+                    self.steps,
+                )
             }
         }
     }
@@ -71,6 +80,13 @@ impl<L: Ledger> Lowering<'_, L> {
             * nested_below level.entry.source.nodes.now id + 3 }
     {
         let place = label_at(level.source, id, 0).place;
-        self.lower_call(Here { level, place }, id, None)
+        write_call(
+            Here { level, place },
+            self.frame,
+            id,
+            None,
+            self.out,
+            self.steps,
+        )
     }
 }

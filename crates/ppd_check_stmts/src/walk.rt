@@ -7,7 +7,7 @@ ghost use Rattle.ppd_check_stmts.specs.Writing.{Walked, inside};
 ghost use Rattle.ppd_check_names.specs.Cost.{nested_at, nested_child, nested_below, plain_below};
 ghost use Rattle.ppd_check_stmts.specs.Outputs.{Keeps, Walks};
 
-use crate::begun::{close, open};
+use crate::begun::{begin, close, open};
 use crate::counts::{last_of, test_of};
 use crate::held::set_stmt;
 use crate::lowering::Lowering;
@@ -106,7 +106,7 @@ impl<L: Ledger> Lowering<'_, L> {
         self.steps.tick();
         let place = place_at(level.source, id, 0);
         let test = operand_at(level.source, id, 2);
-        let begun = self.begin(level, test, place)?;
+        let begun = begin(level, self.frame, test, place, self.out, self.steps)?;
         let yes = self.lower_inside(level, begun.at, id, 4)?;
         let no = self.lower_inside(level, begun.at, id, 6)?;
         set_stmt(
@@ -133,7 +133,7 @@ impl<L: Ledger> Lowering<'_, L> {
         self.steps.tick();
         let place = place_at(level.source, id, 0);
         let test = operand_at(level.source, id, 2);
-        let begun = self.begin(level, test, place)?;
+        let begun = begin(level, self.frame, test, place, self.out, self.steps)?;
         let turn = self.lower_inside(level, begun.at, id, 4)?;
         set_stmt(
             &mut self.out.table,
@@ -161,7 +161,7 @@ impl<L: Ledger> Lowering<'_, L> {
         let last = last_of(level.source, id);
         open(self.frame, self.steps)?;
         self.lower_start(level, id)?;
-        let begun = self.begin(level, test, place)?;
+        let begun = begin(level, self.frame, test, place, self.out, self.steps)?;
         let site = Site {
             parent: Some(begun.at),
             ..level.site

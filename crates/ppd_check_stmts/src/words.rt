@@ -7,9 +7,9 @@ ghost use Rattle.ppd_check_names.specs.Cost.{plain_below};
 ghost use Rattle.ppd_check_stmts.specs.Outputs.{Keeps, PutsRow};
 ghost use Rattle.ppd_check_names.specs.Nodes.{below};
 
-use crate::changes::Change;
+use crate::hidden::write_store;
 use crate::lowering::Lowering;
-use crate::simple::{Showing, Signal};
+use crate::simple::{Showing, Signal, write_send, write_shown, write_signal};
 use crate::values::{goal_at, value_at};
 use ppd_ast::Memory;
 use ppd_check_names::{Level, child_at, kind_at, rule_of};
@@ -29,11 +29,39 @@ impl<L: Ledger> Lowering<'_, L> {
     {
         match kind_at(level.source, id, 0) {
             Kind::ReturnWord => self.lower_returned(level, id),
-            Kind::TakeWord => self.lower_signal(level, id, Signal::Take),
-            Kind::GiveWord => self.lower_signal(level, id, Signal::Give),
-            Kind::SendWord => self.lower_send(level, id),
-            Kind::PrintWord => self.lower_shown(level, id, Showing::Print),
-            Kind::AssertWord => self.lower_shown(level, id, Showing::Assert),
+            Kind::TakeWord => write_signal(
+                level,
+                self.frame,
+                id,
+                Signal::Take,
+                self.out,
+                self.steps,
+            ),
+            Kind::GiveWord => write_signal(
+                level,
+                self.frame,
+                id,
+                Signal::Give,
+                self.out,
+                self.steps,
+            ),
+            Kind::SendWord => write_send(level, self.frame, id, self.out, self.steps),
+            Kind::PrintWord => write_shown(
+                level,
+                self.frame,
+                id,
+                Showing::Print,
+                self.out,
+                self.steps,
+            ),
+            Kind::AssertWord => write_shown(
+                level,
+                self.frame,
+                id,
+                Showing::Assert,
+                self.out,
+                self.steps,
+            ),
             _ => Ok(()),
         }
     }
@@ -54,7 +82,7 @@ impl<L: Ledger> Lowering<'_, L> {
                 Rule::Place => {
                     let goal = goal_at(level.source, id, 0);
                     let value = value_at(level.source, id, 2);
-                    self.lower_store(level, goal, value)
+                    write_store(level, goal, value, self.frame, self.out, self.steps)
                 }
                 Rule::Call => self.lower_called(level, child),
                 Rule::Change => self.lower_changed(level, child),

@@ -46,10 +46,6 @@ walked_stop site r f u a e = walked_as site stop r f f u u a a (sym e) (walked_n
 pub walked_alone : (site : Site) (r : Row) (f g : Frame) (u v : Writer) (a b : List ℕ) → a ≡ [] → Walked site r f g u v a b → Walked site r f g u v [] b
 walked_alone site r f g u v a b e x = subst (λ (l : List ℕ). Walked site r f g u v l b) e x
 
--- a row from another frame that is the same
-pub walked_from : (site : Site) (r : Row) (f g h : Frame) (u v : Writer) (a b : List ℕ) → g ≡ f → Walked site r g h u v a b → Walked site r f h u v a b
-walked_from site r f g h u v a b e x = subst (λ (k : Frame). Walked site r k h u v a b) e x
-
 -- what two calls keep, one after the other
 pub keeps_both : {L : Type 0} (x y z : Lowering L) → Keeps x y → Keeps y z → Keeps x z
 keeps_both x y z a b = (b.0 ∙ a.0, b.1 ∙ a.1, b.2 ∙ a.2)

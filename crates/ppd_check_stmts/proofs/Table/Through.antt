@@ -34,13 +34,6 @@ put_old site p old new cell v u w r s e d a =
     subst (λ k. WroteAct site p (put old.scopes k v) (value_faults old.scopes v) u w r s) d
     (subst (λ l. WroteAct site p (put l cell v) (value_faults l v) u w r s) (ap (λ f. f.scopes) e) a)
 
--- a local scalar into a place, in another frame that is the same
-pub moved_from : (site : Site) (p : Place) (f h : Frame) (g : Goal) (cell : ℕ) (u v : Writer) (a b : List ℕ) → h ≡ f
-    → WroteAct site p (C.set (spot_of h.scopes g) (T.local cell)) (formula_faults h.scopes (goal_formula g)) u v a b
-    → WroteAct site p (C.set (spot_of f.scopes g) (T.local cell)) (formula_faults f.scopes (goal_formula g)) u v a b
-moved_from site p f h g cell u v a b e x =
-    subst (λ (k : Frame). WroteAct site p (C.set (spot_of k.scopes g) (T.local cell)) (formula_faults k.scopes (goal_formula g)) u v a b) e x
-
 -- a value into a hidden local scalar, and from there into a place
 pub hidden_store : (site : Site) (p : Place) (old new : Frame) (cell : ℕ) (g : Goal) (v : Value) (u w x : Writer) (r s t : List ℕ) → new ≡ with_hidden p old → cell ≡ old.cells
     → WroteAct site p (put new.scopes cell v) (value_faults new.scopes v) u w r s

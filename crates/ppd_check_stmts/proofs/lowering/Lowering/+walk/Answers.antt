@@ -6,7 +6,7 @@ use Rattle.ppd_check_stmts.specs.Plain.{plain_statement}
 use Rattle.ppd_check_stmts.proofs.Rows.Nested.{rows_more, walked_block}
 use Rattle.ppd_check_stmts.proofs.Rows.Steps.{row_walked}
 use Rattle.ppd_check_names.proofs.Found.Outcomes.{ok_map, both_ok}
-use Rattle.ppd_check_stmts.proofs.Rows.Whole.{keeps_both, walked_from, with_row, wrote_row, walked_below, walked_as, walked_stop, walked_alone, if_walked, while_walked, for_walked, worded_if, worded_while, worded_for, row_locals, statement_named}
+use Rattle.ppd_check_stmts.proofs.Rows.Whole.{keeps_both, with_row, wrote_row, walked_below, walked_as, walked_stop, walked_alone, if_walked, while_walked, for_walked, worded_if, worded_while, worded_for, row_locals, statement_named}
 use Rattle.ppd_check_names.proofs.Table.Costs.{nested_one, nested_two, parts_but}
 use Rattle.ppd_check_stmts.proofs.Costs.Children.{next_child, child_part, all_children}
 use Rattle.ppd_check_stmts.proofs.lowering.Lowering.+walk.Goals as goal
@@ -53,10 +53,10 @@ lower_if-returns-clause-walked g t c =
     let ps = phrases_below c.args.level.source.nodes.now c.args.id in
     with_row _ _ _ _ _ _ _ _ _ (c.in_ok-no.ensures.row ∙ c.in_ok-yes.ensures.row)
     (if_walked c.args.level.site (place_at ps 0) c.place_at-place.result (formula_at ps 2) _ (as_row (phrase ps 4)) (as_row (phrase ps 6))
-    c.args.self.now.frame.now c.lower_inside.new.self.frame.now c.lower_inside-2.new.self.frame.now c.args.self.now.out.now.table c.begin.new.self.out.now.table c.lower_inside.new.self.out.now.table c.lower_inside-2.new.self.out.now.table c.set_stmt.new.out
-    c.in_ok-begun.begun.at c.in_ok-begun.begun.test c.in_ok-yes.yes c.in_ok-no.no c.args.self.now.out.now.row c.begin.new.self.out.now.row
+    c.args.self.now.frame.now c.lower_inside.new.self.frame.now c.lower_inside-2.new.self.frame.now c.args.self.now.out.now.table c.begin.new.out.table c.lower_inside.new.self.out.now.table c.lower_inside-2.new.self.out.now.table c.set_stmt.new.out
+    c.in_ok-begun.begun.at c.in_ok-begun.begun.test c.in_ok-yes.yes c.in_ok-no.no c.args.self.now.out.now.row c.begin.new.out.row
     c.place_at-place.ensures c.operand_at-test.ensures.formula
-    c.in_ok-begun.ensures.began (walked_from _ _ _ _ _ _ _ _ _ c.begin.ensures.frame c.in_ok-yes.ensures.walked) c.in_ok-no.ensures.walked
+    c.in_ok-begun.ensures.began c.in_ok-yes.ensures.walked c.in_ok-no.ensures.walked
     (record { exprs = c.set_stmt.ensures.exprs; found = c.set_stmt.ensures.found; stmts = c.set_stmt.ensures.stmts }))
 
 pub lower_while-returns-clause-walked : goal.lower_while-returns-clause-walked
@@ -64,10 +64,10 @@ lower_while-returns-clause-walked g t c =
     let ps = phrases_below c.args.level.source.nodes.now c.args.id in
     with_row _ _ _ _ _ _ _ _ _ c.in_ok-turn.ensures.row
     (while_walked c.args.level.site (place_at ps 0) c.place_at-place.result (formula_at ps 2) _ (as_row (phrase ps 4))
-    c.args.self.now.frame.now c.lower_inside.new.self.frame.now c.args.self.now.out.now.table c.begin.new.self.out.now.table c.lower_inside.new.self.out.now.table c.set_stmt.new.out
-    c.in_ok-begun.begun.at c.in_ok-begun.begun.test c.in_ok-turn.turn c.args.self.now.out.now.row c.begin.new.self.out.now.row
+    c.args.self.now.frame.now c.lower_inside.new.self.frame.now c.args.self.now.out.now.table c.begin.new.out.table c.lower_inside.new.self.out.now.table c.set_stmt.new.out
+    c.in_ok-begun.begun.at c.in_ok-begun.begun.test c.in_ok-turn.turn c.args.self.now.out.now.row c.begin.new.out.row
     c.place_at-place.ensures c.operand_at-test.ensures.formula
-    c.in_ok-begun.ensures.began (walked_from _ _ _ _ _ _ _ _ _ c.begin.ensures.frame c.in_ok-turn.ensures.walked)
+    c.in_ok-begun.ensures.began c.in_ok-turn.ensures.walked
     (record { exprs = c.set_stmt.ensures.exprs; found = c.set_stmt.ensures.found; stmts = c.set_stmt.ensures.stmts }))
 
 pub lower_for-returns-clause-walked : goal.lower_for-returns-clause-walked
@@ -76,11 +76,11 @@ lower_for-returns-clause-walked g t c =
     with_row _ _ _ _ _ _ _ _ _ (c.replace-turn.ensures.after ∙ c.replace-outer.ensures.value)
     (for_walked c.args.level.site ps c.place_at-place.result _ (phrase ps c.last_of-last.result)
     c.args.self.now.frame.now c.open.new.frame c.lower_start.new.self.frame.now c.lower_child.new.self.frame.now c.lower_step.new.self.frame.now c.close.new.frame
-    c.args.self.now.out.now.table c.lower_start.new.self.out.now.table c.begin.new.self.out.now.table c.lower_child.new.self.out.now.table c.lower_step.new.self.out.now.table c.set_stmt.new.out
-    c.in_ok-begun.begun.at c.in_ok-begun.begun.test c.lower_child.new.self.out.now.row c.replace-turn.result c.args.self.now.out.now.row c.lower_start.new.self.out.now.row c.begin.new.self.out.now.row
+    c.args.self.now.out.now.table c.lower_start.new.self.out.now.table c.begin.new.out.table c.lower_child.new.self.out.now.table c.lower_step.new.self.out.now.table c.set_stmt.new.out
+    c.in_ok-begun.begun.at c.in_ok-begun.begun.test c.lower_child.new.self.out.now.row c.replace-turn.result c.args.self.now.out.now.row c.lower_start.new.self.out.now.row c.begin.new.out.row
     c.place_at-place.ensures c.test_of-test.ensures.formula c.last_of-last.ensures
     c.in_ok-open.ensures.opened c.in_ok-lower_start.ensures.walked c.in_ok-begun.ensures.began
-    (walked_from _ _ _ _ _ _ _ _ _ c.begin.ensures.frame (walked_alone _ _ c.begin.new.self.frame.now c.lower_child.new.self.frame.now c.begin.new.self.out.now.table c.lower_child.new.self.out.now.table c.replace-outer.new.dest c.lower_child.new.self.out.now.row (c.replace-outer.ensures.after ∙ c.new-row.ensures) c.in_ok-lower_child.ensures.walked))
+    (walked_alone _ _ c.lower_start.new.self.frame.now c.lower_child.new.self.frame.now c.begin.new.out.table c.lower_child.new.self.out.now.table c.replace-outer.new.dest c.lower_child.new.self.out.now.row (c.replace-outer.ensures.after ∙ c.new-row.ensures) c.in_ok-lower_child.ensures.walked)
     (wrote_row _ _ _ _ _ _ _ _ _ c.replace-turn.ensures.value c.in_ok-lower_step.ensures.wrote) c.in_ok-lower_step.ensures.frame
     (record { exprs = c.set_stmt.ensures.exprs; found = c.set_stmt.ensures.found; stmts = c.set_stmt.ensures.stmts })
     c.close.ensures)

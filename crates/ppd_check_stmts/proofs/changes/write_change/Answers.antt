@@ -15,12 +15,12 @@ use Rattle.ppd_check_stmts.proofs.Table.Flat.{added_over_two}
 use Rattle.ppd_check_names.proofs.Found.First.{found_in_both}
 use Rattle.ppd_check_stmts.proofs.Table.Writing.{wrote_put, added_after}
 use Rattle.ppd_check_names.proofs.Found.Outcomes.{both_ok}
-use Rattle.ppd_check_stmts.proofs.lowering.Lowering.lower_change.Goals as goal
+use Rattle.ppd_check_stmts.proofs.changes.write_change.Goals as goal
 
 pub returns-clause-wrote : goal.returns-clause-wrote
 returns-clause-wrote g c =
-    let s = c.args.self.now.frame.now.scopes in
-    let u = c.args.self.now.out.now.table in
+    let s = c.args.frame.now.scopes in
+    let u = c.args.out.now.table in
     let g = goal_said c.args.level.source.nodes.now c.args.goal in
     let e = operand_formula c.args.level.source.nodes.now c.args.update.operand in
     let v = T.two c.args.update.op (term_of s (goal_formula g)) (term_of s e) in
@@ -28,8 +28,8 @@ returns-clause-wrote g c =
     let fs = formula_faults s (goal_formula g) ++ formula_faults s e in
     let all = added_after u.exprs c.write_spot.new.table.exprs c.put.new.exprs (spot_terms (spot_of s g)) v c.in_ok-number.number c.in_ok-target.ensures.added value in
     both_ok c.put_stmt.result _ _ _ c.put_stmt.ensures.stmts c.put_stmt.ensures.row
-    (λ t o. subst (λ p. WroteAct c.args.level.site p (C.set (spot_of s g) v) fs u c.put_stmt.new.out.table c.args.self.now.out.now.row c.put_stmt.new.out.row) (sym (c.place_of-place.ensures c.args.level.source.nodes.now))
-    (wrote_put c.args.level.site.body c.args.level.site.parent c.place_of-place.result (C.set (spot_of s g) v) (K.Set c.in_ok-target.target c.in_ok-number.number) fs u c.put_stmt.new.out.table c.args.self.now.out.now.row c.put_stmt.new.out.row c.write_term.new.table.stmts (c.write_term.ensures.stmts ∙ c.write_goal.ensures.stmts ∙ c.write_spot.ensures.stmts)
+    (λ t o. subst (λ p. WroteAct c.args.level.site p (C.set (spot_of s g) v) fs u c.put_stmt.new.out.table c.args.out.now.row c.put_stmt.new.out.row) (sym (c.place_of-place.ensures c.args.level.source.nodes.now))
+    (wrote_put c.args.level.site.body c.args.level.site.parent c.place_of-place.result (C.set (spot_of s g) v) (K.Set c.in_ok-target.target c.in_ok-number.number) fs u c.put_stmt.new.out.table c.args.out.now.row c.put_stmt.new.out.row c.write_term.new.table.stmts (c.write_term.ensures.stmts ∙ c.write_goal.ensures.stmts ∙ c.write_spot.ensures.stmts)
     (c.put_stmt.ensures.exprs ∙ all.table)
     (ap (λ d. K.Set d c.in_ok-number.number) c.in_ok-target.ensures.target ∙ ap (λ n. K.Set (target (length u.exprs) (spot_of s g)) n) all.number)
     t o

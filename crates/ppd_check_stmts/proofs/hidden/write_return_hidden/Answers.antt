@@ -1,0 +1,11 @@
+use Rattle.ppd_check_stmts.specs.Values.{value_said_by}
+use Rattle.ppd_check_stmts.proofs.Table.Through.{hidden_return}
+use Rattle.ppd_check_names.proofs.Found.Outcomes.{ok_map}
+use Rattle.ppd_check_stmts.proofs.hidden.write_return_hidden.Goals as goal
+
+pub returns-clause-wrote : goal.returns-clause-wrote
+returns-clause-wrote g c =
+    ok_map c.write_return_cell.result _ _
+    (λ back. hidden_return c.args.here.level.site c.args.here.place c.args.frame.now c.hide.new.frame c.in_ok-cell.cell (value_said_by c.args.here.level.source.nodes.now c.args.value) c.args.out.now.table c.write_value.new.out.table c.write_return_cell.new.out.table c.args.out.now.row c.write_value.new.out.row c.write_return_cell.new.out.row
+    c.in_ok-cell.ensures.frame c.in_ok-cell.ensures.cell c.in_ok-write_value.ensures.wrote back)
+    c.write_return_cell.ensures.wrote
