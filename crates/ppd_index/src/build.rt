@@ -6,7 +6,7 @@ ghost use Rattle.ppd_index.specs.Indexes.{IsIndexOf};
 ghost use Rattle.ppd_index.specs.declared.refusal.BadLog.TheVariants.{NoEnd};
 ghost use Rattle.ppd_index.specs.Refusals.{IsRefused, first_bad, first_in_lists, refusal};
 ghost use Rattle.ppd_index.specs.Spending.{index_cost, index_least, still_open};
-ghost use Rattle.ppd_index.specs.Tables.{rows_of, standing_in, table_step, tabled};
+ghost use Rattle.ppd_index.specs.Tables.{begun_table, rows_of, standing_in, table_step, tabled};
 
 use crate::log_index::LogIndex;
 use crate::refusal::BadLog;
@@ -73,6 +73,38 @@ fn rows_in(table: Table) -> Vec<Row>
     table.rows
 }
 
+/// Takes a process's entries into a new table, or refuses one; and whether one of them was an End.
+fn take_all<L: Ledger>(
+    program: &Program,
+    plan: &Plan,
+    process: u8,
+    table: &mut Table,
+    entries: &[Entry],
+    steps: &mut Steps<L>,
+) -> Result<bool, BadLog>
+    requires { tabled 0 table.old ≡ begun_table }
+    ensures rows { OnOk result (table.new.rows.items ≡ rows_of plan.now entries.now) }
+    ensures passed { IfOk result (λ ended.
+        (if ended then None else Some (NoEnd (record { process = process; entry = length entries.now })))
+        ≡ first_bad program.now plan.now process entries.now) }
+    ensures refused { IfErr result (IsRefused (first_bad program.now plan.now process entries.now)) }
+    ensures cost { steps.new ≤ steps.old + 2 * length entries.now }
+    ensures least { OnOk result (steps.old + length entries.now ≤ steps.new) }
+{
+    let owner = Owner {
+        process,
+        body: program.functions as u32 + process as u32,
+    };
+    let mut ended = false;
+    for (i, entry) in entries.iter().enumerate() {
+        steps.tick();
+        let n = number(i)?;
+        take_entry(plan, owner, table, (n, ended), entry, steps)?;
+        ended = is_over(ended, entry);
+    }
+    Ok(ended)
+}
+
 /// The intervals of a process's entries, or the first refusal.
 fn own_rows<L: Ledger>(
     alloc: Global,
@@ -88,18 +120,8 @@ fn own_rows<L: Ledger>(
     ensures cost { steps.new ≤ steps.old + 2 * length entries.now }
     ensures least { OnOk result (steps.old + length entries.now ≤ steps.new) }
 {
-    let owner = Owner {
-        process,
-        body: program.functions as u32 + process as u32,
-    };
     let mut table = Table::new(alloc);
-    let mut ended = false;
-    for (i, entry) in entries.iter().enumerate() {
-        steps.tick();
-        let n = number(i)?;
-        take_entry(plan, owner, &mut table, (n, ended), entry, steps)?;
-        ended = is_over(ended, entry);
-    }
+    let ended = take_all(program, plan, process, &mut table, entries, steps)?;
     check_end(process, entries.len(), ended)?;
     Ok(rows_in(table))
 }

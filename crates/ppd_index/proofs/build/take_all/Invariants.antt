@@ -3,7 +3,7 @@ use Rattle.std.specs.Prelude.{fold}
 use Rattle.ppd_index.specs.Spending.{still_open}
 use Rattle.ppd_index.specs.Tables.{begun_table, table_step, tabled}
 use Rattle.ppd_index.proofs.Found.{first_by}
-use Rattle.ppd_index.proofs.build.own_rows.Given as goal
+use Rattle.ppd_index.proofs.build.take_all.Given as goal
 
 abbrev pub invariant-loop-i : goal.invariant-loop-i
 invariant-loop-i g l = record {
