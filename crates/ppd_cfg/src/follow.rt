@@ -1,5 +1,5 @@
 ghost use Rattle.std.specs.Option.{option_or};
-ghost use Rattle.std.specs.Prelude.{◌≡◌, IfOk, slice_get};
+ghost use Rattle.std.specs.Prelude.{◌≡◌, ◌++◌, IfOk, OnOk, option_to_list, slice_get};
 ghost use Rattle.ppd_ast.specs.Lookups.{kind_of, body_numbered};
 ghost use Rattle.ppd_cfg.specs.Lists.{rising};
 ghost use Rattle.ppd_cfg.specs.Flow.{next_in, follow_within, follow_at, successors};
@@ -77,26 +77,43 @@ pub(crate) fn follow(program: &Program, stmt: u32, depth: u32) -> Option<u32>
     }
 }
 
+// The numbers that are there, the lower one first, each once.
+fn in_order(a: Option<u32>, b: Option<u32>) -> (Option<u32>, Option<u32>)
+    ensures { option_to_list result.0 ++ option_to_list result.1 ≡ rising a b }
+{
+    match (a, b) {
+        (Some(x), Some(y)) => {
+            if x < y {
+                (Some(x), Some(y))
+            } else if x == y {
+                (Some(x), None)
+            } else {
+                (Some(y), Some(x))
+            }
+        }
+        (Some(x), None) => (Some(x), None),
+        (None, b) => (b, None),
+    }
+}
+
+// Appends the number, if it is there.
+fn push_some(ids: &mut Ids, number: Option<u32>) -> Result<(), Memory>
+    ensures { OnOk result (ids.new ≡ ids.old ++ option_to_list number) }
+{
+    match number {
+        Some(id) => ids.push(id),
+        None => Ok(()),
+    }
+}
+
 // The numbers, rising, each once.
 fn rising_list(alloc: Global, a: Option<u32>, b: Option<u32>) -> Result<Ids, Memory>
     ensures { IfOk result (λ ids. ids ≡ rising a b) }
 {
+    let (first, second) = in_order(a, b);
     let mut ids = Ids::new(alloc);
-    match (a, b) {
-        (None, None) => {}
-        (Some(x), None) | (None, Some(x)) => ids.push(x)?,
-        (Some(x), Some(y)) => {
-            if x < y {
-                ids.push(x)?;
-                ids.push(y)?;
-            } else if x == y {
-                ids.push(x)?;
-            } else {
-                ids.push(y)?;
-                ids.push(x)?;
-            }
-        }
-    }
+    push_some(&mut ids, first)?;
+    push_some(&mut ids, second)?;
     Ok(ids)
 }
 
