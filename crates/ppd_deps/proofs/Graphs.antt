@@ -7,12 +7,10 @@ use Rattle.std.proofs.lemmas.Grind.{flat_map-append}
 use Rattle.std.specs.List.{filter, flat_map, range_with_len}
 use Rattle.ppd_ast.specs.declared.program.Program.{Program}
 use Rattle.ppd_ast.proofs.Those.{counting_more}
-use Rattle.ppd_deps.specs.declared.edges.DepGraph.{DepGraph}
 use Rattle.ppd_deps.specs.declared.edges.StaticEdge.{StaticEdge}
 use Rattle.ppd_deps.specs.Edges.{edges_of}
 use Rattle.ppd_deps.proofs.Vocabulary.{data_from}
 use Rattle.ppd_deps.specs.Rows.{Adds, row_at}
-use Rattle.ppd_deps.specs.Tables.{IsDepGraph}
 
 abbrev Row : Type 0
 Row = List StaticEdge
@@ -34,15 +32,13 @@ none_at zero t = refl
 none_at (suc n) zero = refl
 none_at (suc n) (suc t) = none_at n t
 
-pub graph_is : (p : Program) (g : DepGraph) (none all : List Row) → none ≡ replicate (length p.stmts) [] → Adds none all (edges_of p) → g.rows ≡ all → IsDepGraph p g
-graph_is p g none all empty adds is =
+pub rows_are : (p : Program) (none all : List Row) → none ≡ replicate (length p.stmts) [] → Adds none all (edges_of p) → all ≡ map (edges_of p) (range_with_len 0 (length p.stmts))
+rows_are p none all empty adds =
     let n : ℕ = length p.stmts in
     let start : length none ≡ n = ap length empty ∙ length-replicate n [] in
     let long : length all ≡ n = adds.long ∙ start in
-    record {
-      rows = is ∙ by_rows (edges_of p) 0 n all long (λ t lt.
-          adds.each t (omega (arith, start, lt)) ∙ ap (λ rows. row_at rows t ++ edges_of p t) empty ∙ ap (λ r. r ++ edges_of p t) (none_at n t) ∙ ap (edges_of p) (let z : t ≡ 0 + t = omega arith in z));
-    }
+    by_rows (edges_of p) 0 n all long (λ t lt.
+    adds.each t (omega (arith, start, lt)) ∙ ap (λ rows. row_at rows t ++ edges_of p t) empty ∙ ap (λ r. r ++ edges_of p t) (none_at n t) ∙ ap (edges_of p) (let z : t ≡ 0 + t = omega arith in z))
 
 -- a front that was lent and given back as long leaves nothing of what stood there
 pub refilled : {A : Type 0} (old new : List A) (n : ℕ) → length new ≡ length old → n ≡ length old → take n (new ++ drop (length new) old) ≡ new

@@ -89,6 +89,11 @@ by_kind p b s k lt = if_below (length p.stmts) s (nat_eq (body_of p s) b) lt
 pub calls_below : (p : Program) (b f : ℕ) (ids : List ℕ) → ids ≡ filter (λ c. calls p c f) (stmts_at p b) → AreBelow (length p.stmts) ids
 calls_below p b f ids e = subst (AreBelow (length p.stmts)) (sym e) (λ x h. body_below p (slice_get p.bodies b) x (has_filter (λ c. calls p c f) (stmts_at p b) x h).0)
 
+-- the places of a `Return`
+pub return_places : (p : Program) (b s : ℕ) (x : Stmt) (v : Option ℕ) → slice_get p.stmts s ≡ Some x → x.kind ≡ K.Return v → filter (λ c. calls p c x.body) (stmts_at p b) ≡ places p b s
+return_places p b s x v at is =
+    ap (λ f. filter (λ c. calls p c f) (stmts_at p b)) (sym (ap (λ o. option_map_or (λ (x : Stmt). x.body) o 0) at)) ∙ sym (ap (places_by p b s) (ap kind_of_stmt at ∙ is))
+
 -- the places of a statement that writes at itself
 pub own_places : (p : Program) (b s : ℕ) (x : Stmt) (ids : List ℕ) → slice_get p.stmts s ≡ Some x → IsOwn p x.kind → ids ≡ (if nat_eq x.body b then s ∷ [] else []) → ids ≡ places p b s
 own_places p b s x ids at own e =

@@ -160,8 +160,7 @@ fn add_local_edges(
         return Ok(());
     }
     let marks = arrivals(alloc, program, tables, local, starts.as_slice())?;
-    add_local_edge(rows, program, tables, writer.stmt, local, marks.as_slice())?;
-    Ok(())
+    add_local_edge(rows, program, tables, writer.stmt, local, marks.as_slice())
 }
 
 // Adds the edges for what the statement writes to the local variables of the body.
@@ -193,6 +192,26 @@ fn add_locals(
     Ok(())
 }
 
+// Adds the edges for what the statement writes to the local variables of any body.
+fn add_locals_of_all(
+    rows: &mut [Seq<StaticEdge>],
+    alloc: Global,
+    program: &Program,
+    tables: &Tables,
+    stmt: u32,
+) -> Result<(), Memory>
+    requires valid { IsValid program.now }
+    requires tables { AreTables program.now tables.now }
+    requires long { length rows.old ≡ length program.now.stmts }
+    requires there { stmt < length program.now.stmts }
+    ensures { OnOk result (Adds rows.old rows.new (λ t. map (Data stmt false) (locals_from program.now stmt t))) }
+{
+    for body in 0..program.bodies.len() {
+        add_locals(rows, alloc, program, tables, stmt, body as u16)?;
+    }
+    Ok(())
+}
+
 // Adds the edges for what the statement writes to local variables: a `return` writes those of its
 // callers, a call those of the function, and another statement those of its own body.
 fn add_locals_from(
@@ -210,20 +229,9 @@ fn add_locals_from(
 {
     let found = &program.stmts.as_slice()[stmt as usize];
     match &found.kind {
-        Kind::Return(_) => {
-            for body in 0..program.bodies.len() {
-                add_locals(rows, alloc, program, tables, stmt, body as u16)?;
-            }
-            Ok(())
-        }
-        Kind::Call { function, .. } => {
-            add_locals(rows, alloc, program, tables, stmt, *function)?;
-            Ok(())
-        }
-        _ => {
-            add_locals(rows, alloc, program, tables, stmt, found.body)?;
-            Ok(())
-        }
+        Kind::Return(_) => add_locals_of_all(rows, alloc, program, tables, stmt),
+        Kind::Call { function, .. } => add_locals(rows, alloc, program, tables, stmt, *function),
+        _ => add_locals(rows, alloc, program, tables, stmt, found.body),
     }
 }
 

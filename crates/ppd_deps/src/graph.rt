@@ -1,11 +1,13 @@
-ghost use Rattle.std.specs.Prelude.{◌≡◌, replicate, [], IfOk};
+ghost use Rattle.std.specs.List.{range_with_len};
+ghost use Rattle.std.specs.Prelude.{◌≡◌, length, map, replicate, [], IfOk};
 ghost use Rattle.ppd_ast.specs.Valid.{IsValid};
 ghost use Rattle.ppd_sets.specs.SetsOf.{AreSetsOf};
-ghost use Rattle.ppd_deps.specs.Tables.{IsDepGraph};
+ghost use Rattle.ppd_deps.specs.Edges.{edges_of};
+ghost use Rattle.ppd_deps.specs.Tables.{AreTables, IsDepGraph};
 
 use crate::adding::fill;
 use crate::edges::{DepGraph, StaticEdge};
-use crate::tables::tables_of;
+use crate::tables::{Tables, tables_of};
 use ppd_ast::{Memory, Program, Seq};
 use ppd_sets::VarSets;
 use std::alloc::Global;
@@ -18,6 +20,22 @@ fn empty_rows(alloc: Global, count: usize) -> Result<Vec<Seq<StaticEdge>>, Memor
         rows.push(Seq::new(alloc))?;
     }
     Ok(rows.into_vec())
+}
+
+// The edges into each statement, by the tables.
+fn rows_of(
+    alloc: Global,
+    program: &Program,
+    tables: &Tables,
+) -> Result<Seq<Seq<StaticEdge>>, Memory>
+    requires valid { IsValid program.now }
+    requires tables { AreTables program.now tables.now }
+    ensures { IfOk result
+        (λ rows. rows ≡ map (edges_of program.now) (range_with_len 0 (length program.now.stmts))) }
+{
+    let mut rows = empty_rows(alloc, program.stmts.len())?;
+    fill(rows.as_mut_slice(), alloc, program, tables)?;
+    Ok(Seq::from_vec(rows))
 }
 
 /// The static edges of a program, by its sets of variables. A data edge for a shared variable leads
@@ -36,9 +54,6 @@ pub fn static_graph(alloc: Global, program: &Program, sets: &VarSets) -> Result<
     ensures { IfOk result (λ graph. IsDepGraph program.now graph) }
 {
     let tables = tables_of(alloc, program, sets)?;
-    let mut rows = empty_rows(alloc, program.stmts.len())?;
-    fill(rows.as_mut_slice(), alloc, program, &tables)?;
-    Ok(DepGraph {
-        rows: Seq::from_vec(rows),
-    })
+    let rows = rows_of(alloc, program, &tables)?;
+    Ok(DepGraph { rows })
 }

@@ -231,14 +231,8 @@ pub(crate) fn places(alloc: Global, program: &Program, stmt: u32, body: u16) -> 
     let found = &program.stmts.as_slice()[stmt as usize];
     match &found.kind {
         Kind::Call { .. } => Ok(Ids::new(alloc)),
-        Kind::Return(_) => {
-            let ids = calls_at(alloc, program, found.body, body)?;
-            Ok(ids)
-        }
-        _ => {
-            let ids = one_if(alloc, found.body == body, stmt)?;
-            Ok(ids)
-        }
+        Kind::Return(_) => calls_at(alloc, program, found.body, body),
+        _ => one_if(alloc, found.body == body, stmt),
     }
 }
 

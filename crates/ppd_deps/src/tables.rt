@@ -1,6 +1,6 @@
 // What the search for static edges is given: successors, bodies that run, and what is read.
 ghost use Rattle.ppd_sets.specs.Used.{reads_at, writes_at};
-ghost use Rattle.std.specs.Prelude.{◌≡◌, ◌-◌, ◌<◌, ◌^◌, length, true, false, IfOk};
+ghost use Rattle.std.specs.Prelude.{◌≡◌, ◌-◌, ◌<◌, ◌^◌, ◌++◌, ◌∷◌, [], length, true, false, IfOk, OnOk};
 ghost use Rattle.std.specs.List.{range_with_len};
 ghost use Rattle.ppd_ast.specs.Valid.{IsValid};
 ghost use Rattle.ppd_ast.specs.Members.{has};
@@ -26,7 +26,37 @@ pub(crate) struct Tables {
     pub(crate) written: Seq<Cells>,
 }
 
+// What the tables have for one statement.
+#[derive(Drop)]
+struct Row {
+    next: Ids,
+    shared: Cells,
+    local: Cells,
+    written: Cells,
+}
+
+// The local variables of its body that a statement may read, and those that are written there.
+#[derive(Drop)]
+struct Locals {
+    read: Cells,
+    written: Cells,
+}
+
 impl Tables {
+    // Appends what there is for the next statement.
+    fn push(&mut self, row: Row) -> Result<(), Memory>
+        ensures next { OnOk result (self.new.next ≡ self.old.next ++ row.next ∷ []) }
+        ensures running { OnOk result (self.new.running ≡ self.old.running) }
+        ensures shared { OnOk result (self.new.shared ≡ self.old.shared ++ row.shared ∷ []) }
+        ensures local { OnOk result (self.new.local ≡ self.old.local ++ row.local ∷ []) }
+        ensures written { OnOk result (self.new.written ≡ self.old.written ++ row.written ∷ []) }
+    {
+        self.next.push(row.next)?;
+        self.shared.push(row.shared)?;
+        self.local.push(row.local)?;
+        self.written.push(row.written)
+    }
+
     // The successors of a statement.
     pub(crate) fn next_at(&self, program: &Program, stmt: u32) -> &[u32]
         requires tables { AreTables program.now self.now }
@@ -126,32 +156,58 @@ fn written_row(alloc: Global, program: &Program, stmt: u32) -> Result<Cells, Mem
     Ok(ids)
 }
 
+// The local variables of its body that a statement may read, and those that are written there.
+fn locals_at(alloc: Global, program: &Program, stmt: u32) -> Result<Locals, Memory>
+    requires { IsValid program.now }
+    ensures read { IfOk result
+        (λ found. found.read ≡ own_vars program.now (reads_at false program.now) stmt) }
+    ensures written { IfOk result
+        (λ found. found.written ≡ own_vars program.now (writes_at false program.now) stmt) }
+{
+    let read = local_row(alloc, program, stmt)?;
+    let written = written_row(alloc, program, stmt)?;
+    Ok(Locals { read, written })
+}
+
+// What the tables have for the statement.
+fn row_of(alloc: Global, program: &Program, sets: &VarSets, stmt: u32) -> Result<Row, Memory>
+    requires valid { IsValid program.now }
+    requires sets { AreSetsOf program.now sets.now }
+    requires there { stmt < length program.now.stmts }
+    ensures next { IfOk result (λ row. row.next ≡ next_of program.now stmt) }
+    ensures shared { IfOk result (λ row. row.shared ≡ shared_reads program.now stmt) }
+    ensures local { IfOk result
+        (λ row. row.local ≡ own_vars program.now (reads_at false program.now) stmt) }
+    ensures written { IfOk result
+        (λ row. row.written ≡ own_vars program.now (writes_at false program.now) stmt) }
+{
+    let next = successors_of(alloc, program, stmt)?;
+    let shared = shared_row(alloc, program, sets, stmt)?;
+    let locals = locals_at(alloc, program, stmt)?;
+    Ok(Row {
+        next,
+        shared,
+        local: locals.read,
+        written: locals.written,
+    })
+}
+
 pub(crate) fn tables_of(alloc: Global, program: &Program, sets: &VarSets) -> Result<Tables, Memory>
     requires valid { IsValid program.now }
     requires sets { AreSetsOf program.now sets.now }
     ensures { IfOk result (λ t. AreTables program.now t) }
 {
     let running = running_bodies(alloc, program)?;
-    let mut next = Seq::new(alloc);
-    let mut shared = Seq::new(alloc);
-    let mut local = Seq::new(alloc);
-    let mut written = Seq::new(alloc);
-    for number in 0..program.stmts.len() {
-        let stmt = number as u32;
-        let after = successors_of(alloc, program, stmt)?;
-        let shared_vars = shared_row(alloc, program, sets, stmt)?;
-        let local_vars = local_row(alloc, program, stmt)?;
-        let written_vars = written_row(alloc, program, stmt)?;
-        next.push(after)?;
-        shared.push(shared_vars)?;
-        local.push(local_vars)?;
-        written.push(written_vars)?;
-    }
-    Ok(Tables {
-        next,
+    let mut tables = Tables {
+        next: Seq::new(alloc),
         running,
-        shared,
-        local,
-        written,
-    })
+        shared: Seq::new(alloc),
+        local: Seq::new(alloc),
+        written: Seq::new(alloc),
+    };
+    for number in 0..program.stmts.len() {
+        let row = row_of(alloc, program, sets, number as u32)?;
+        tables.push(row)?;
+    }
+    Ok(tables)
 }

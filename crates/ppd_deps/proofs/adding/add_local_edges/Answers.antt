@@ -1,5 +1,6 @@
 use Rattle.std.proofs.Common.{◌∙◌, ◌∷◌, [], sym, ap, subst, length}
 use Rattle.std.specs.Prelude.{slice_get, ◌&&◌, if◌then◌else◌}
+use Rattle.std.proofs.lemmas.Result.{on_ok_weaker}
 use Rattle.ppd_ast.specs.Members.{AreBelow}
 use Rattle.ppd_cfg.specs.Reach.{closure, leads}
 use Rattle.ppd_cfg.specs.WorkList.{is_marked}
@@ -27,7 +28,7 @@ returns c =
     let b = c.args.local.body in
     let s = c.args.writer.now.stmt in
     let v = c.args.local.var in
-    adds_as _ _ _ _
+    on_ok_weaker c.add_local_edge.result (λ added. adds_as _ _ _ _
     (λ t lt. ap (λ m. if is_reader p b v t && m then local_edge s v ∷ [] else [])
     (ap (λ ms. is_marked ms t) c.as_slice-2.ensures.value ∙ c.in_ok-marks.ensures.reached t ∙ ap (λ starts. leads (closure (kept_rows p b (slice_get (body_numbered p b).locals v))) starts t) (c.as_slice.ensures ∙ c.in_ok-starts.ensures)))
-    c.in_ok-add_local_edge.ensures
+    added) c.add_local_edge.ensures

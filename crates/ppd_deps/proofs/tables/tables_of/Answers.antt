@@ -1,4 +1,5 @@
 use Rattle.std.specs.Prelude.{false}
+use Rattle.std.proofs.Common.{◌∙◌}
 use Rattle.ppd_sets.specs.Used.{reads_at, writes_at}
 use Rattle.ppd_cfg.specs.Flow.{next_of}
 use Rattle.ppd_deps.specs.Named.{shared_reads, own_vars}
@@ -9,9 +10,13 @@ pub loop-number-preserved : goal.loop-number-preserved
 loop-number-preserved c =
     let p = c.args.program.now in
     let k = c.loop-number.number in
+    let old = c.loop-number.tables in
+    let new = c.push.new.self in
+    let row = c.in_ok-row.row in
     record {
-      next = map_more (next_of p) k c.loop-number.next c.push.new.self c.in_ok-after.after c.loop-number.invariant.next c.in_ok-after.ensures c.in_ok-push.ensures.ok;
-      shared = map_more (shared_reads p) k c.loop-number.shared c.push-in-loop-number.new.self c.in_ok-shared_vars.shared_vars c.loop-number.invariant.shared c.in_ok-shared_vars.ensures c.in_ok-push-2.ensures.ok;
-      local = map_more (own_vars p (reads_at false p)) k c.loop-number.local c.push-in-loop-number-2.new.self c.in_ok-local_vars.local_vars c.loop-number.invariant.local c.in_ok-local_vars.ensures c.in_ok-push-3.ensures.ok;
-      written = map_more (own_vars p (writes_at false p)) k c.loop-number.written c.push-in-loop-number-3.new.self c.in_ok-written_vars.written_vars c.loop-number.invariant.written c.in_ok-written_vars.ensures c.in_ok-push-4.ensures.ok;
+      next = map_more (next_of p) k old.next new.next row.next c.loop-number.invariant.next c.in_ok-row.ensures.next c.in_ok-push.ensures.next;
+      running = c.in_ok-push.ensures.running ∙ c.loop-number.invariant.running;
+      shared = map_more (shared_reads p) k old.shared new.shared row.shared c.loop-number.invariant.shared c.in_ok-row.ensures.shared c.in_ok-push.ensures.shared;
+      local = map_more (own_vars p (reads_at false p)) k old.local new.local row.local c.loop-number.invariant.local c.in_ok-row.ensures.local c.in_ok-push.ensures.local;
+      written = map_more (own_vars p (writes_at false p)) k old.written new.written row.written c.loop-number.invariant.written c.in_ok-row.ensures.written c.in_ok-push.ensures.written;
     }
