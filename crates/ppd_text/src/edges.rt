@@ -10,7 +10,7 @@ ghost use Rattle.ppd_text.specs.CellNames.{process_name as process_name_of};
 use crate::cell_names::process_name;
 use crate::items::{put_access, put_item};
 use crate::plans::{block_locals, locals_round};
-use crate::text::{put, put_number, put_value};
+use crate::text::{put, put_head, put_number, put_value};
 use ppd_ast::{Memory, Plan, Program, Var};
 use ppd_model::{EdgeKind, FlowEdge, Item, Origin};
 use ppd_sem::{Access, Spot};
@@ -28,9 +28,7 @@ fn put_place_of(
         ++ (process_name_of program.now process ++ codes " " ++ decimal interval ++ codes " " ++ decimal item)) }
 {
     put(text, process_name(program, process))?;
-    put(text, b" ")?;
-    put_number(text, interval)?;
-    put(text, b" ")?;
+    put_head(text, b" ", interval as usize)?;
     put_number(text, item)
 }
 

@@ -14,7 +14,7 @@ ghost use Rattle.ppd_ast.specs.Lookups.{body_numbered};
 use crate::cell_names::{put_cell, put_trap, put_what};
 use crate::event_kinds::put_event_kind;
 use crate::plans::{locals_of, locals_round};
-use crate::text::{put, put_count, put_number, put_place, put_value};
+use crate::text::{put, put_equal, put_head, put_number, put_stmt_head, put_value};
 use ppd_ast::{Block, BlockKind, Kind, Memory, Plan, Program, Stmt, Trap, Var};
 use ppd_model::Item;
 use ppd_sem::{Access, Event, Spot};
@@ -42,8 +42,7 @@ pub fn put_access(
 {
     put(text, word)?;
     put_spot(text, program, locals, access.spot)?;
-    put(text, b"=")?;
-    put_value(text, access.value)
+    put_equal(text, access.value)
 }
 
 /// Appends each of these accesses so.
@@ -92,10 +91,8 @@ fn put_accesses(
         (access_text (codes " write ") program.now (locals_written program.now stmt.now.body stmt.now.kind))
         event.now.writes)) }
 {
-    let (own, written) = (
-        locals_of(program, stmt.body),
-        written_locals(program, stmt.body, &stmt.kind),
-    );
+    let own = locals_of(program, stmt.body);
+    let written = written_locals(program, stmt.body, &stmt.kind);
     put_each_access(text, b" read ", program, own, event.reads.as_slice())?;
     put_each_access(text, b" write ", program, written, event.writes.as_slice())
 }
@@ -156,11 +153,7 @@ fn put_event(
 ) -> Result<(), Memory>
     ensures { OnOk result (text.new.items ≡ text.old.items ++ event_text program.now event.now stmt.now) }
 {
-    put(text, b"stmt ")?;
-    put_number(text, event.stmt)?;
-    put(text, b" ")?;
-    put_place(text, stmt.place)?;
-    put(text, b" ")?;
+    put_stmt_head(text, event.stmt, stmt.place)?;
     put_event_kind(text, program, event, &stmt.kind)?;
     put_accesses(text, program, event, stmt)?;
     put_outcome(text, event)
@@ -187,8 +180,7 @@ fn put_left_cell(text: &mut Vec<u8>, locals: &[Var], cell: u16, value: i64) -> R
 {
     put(text, b" ")?;
     put_cell(text, locals, cell)?;
-    put(text, b"=")?;
-    put_value(text, value)
+    put_equal(text, value)
 }
 
 fn put_left_cells(
@@ -281,9 +273,7 @@ fn put_nested(
         ++ (codes "block " ++ decimal interval ++ codes " "
         ++ at_number (λ x. block_what program.now x.kind) plan.now.blocks block)) }
 {
-    put(text, b"block ")?;
-    put_number(text, interval)?;
-    put(text, b" ")?;
+    put_head(text, b"block ", interval as usize)?;
     put_what(text, program, plan, block)
 }
 
@@ -345,9 +335,7 @@ pub fn put_item(
 ) -> Result<(), Memory>
     ensures { OnOk result (text.new.items ≡ text.old.items ++ item_line program.now plan.now number item.now) }
 {
-    put(text, b"item ")?;
-    put_count(text, number)?;
-    put(text, b" ")?;
+    put_head(text, b"item ", number)?;
     put_item_text(text, program, plan, item)?;
     put(text, b"\n")
 }

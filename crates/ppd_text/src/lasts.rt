@@ -4,7 +4,7 @@ ghost use Rattle.ppd_text.specs.Edges.{last_line};
 
 use crate::cell_names::put_cell;
 use crate::edges::put_from;
-use crate::text::{put, put_value};
+use crate::text::put_equal;
 use ppd_ast::{Memory, Program};
 use ppd_model::Origin;
 
@@ -19,7 +19,6 @@ pub fn put_last(
     ensures { OnOk result (text.new.items ≡ text.old.items ++ last_line program.now cell (value, origin)) }
 {
     put_cell(text, program.shared.as_slice(), cell)?;
-    put(text, b"=")?;
-    put_value(text, value)?;
+    put_equal(text, value)?;
     put_from(text, program, origin)
 }

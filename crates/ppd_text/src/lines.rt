@@ -12,7 +12,7 @@ ghost use Rattle.ppd_text.specs.Table.{body_line, body_lines, stmt_line, stmt_at
 use crate::kinds::put_kind;
 use crate::names::put_names;
 use crate::plans::put_lines;
-use crate::text::{put, put_number, put_place};
+use crate::text::{put, put_head, put_stmt_head};
 use ppd_ast::{Body, Memory, Plan, Program, Stmt, Var};
 use ppd_sets::{VarSets, end_of};
 use std::alloc::Global;
@@ -20,11 +20,7 @@ use std::alloc::Global;
 fn put_stmt(text: &mut Vec<u8>, program: &Program, number: u32, stmt: &Stmt) -> Result<(), Memory>
     ensures { OnOk result (text.new.items ≡ text.old.items ++ stmt_line program.now number stmt.now) }
 {
-    put(text, b"stmt ")?;
-    put_number(text, number)?;
-    put(text, b" ")?;
-    put_place(text, stmt.place)?;
-    put(text, b" ")?;
+    put_stmt_head(text, number, stmt.place)?;
     put_kind(text, program, &stmt.kind)?;
     put(text, b"\n")
 }
@@ -110,9 +106,7 @@ fn put_body(
     requires there { number < length program.now.bodies }
     ensures { OnOk result (text.new.items ≡ text.old.items ++ body_line program.now number body.now) }
 {
-    put(text, b"body ")?;
-    put_number(text, number as u32)?;
-    put(text, b" ")?;
+    put_head(text, b"body ", number as usize)?;
     put_what(text, body)?;
     put_sets(text, program, sets, number)?;
     put(text, b"\n")

@@ -8,7 +8,7 @@ ghost use Rattle.ppd_text.specs.Plans.{block_what, block_locals as locals_of_blo
 
 use crate::met::put_cells;
 use crate::names::function_name;
-use crate::text::{put, put_count, put_number, put_place};
+use crate::text::{put, put_head, put_number, put_place};
 use ppd_ast::{Block, BlockKind, Memory, Program, Start, Unit, Var};
 
 fn put_body(text: &mut Vec<u8>, word: &[u8], program: &Program, body: u16) -> Result<(), Memory>
@@ -112,9 +112,7 @@ impl Line for Block {
     ghost line = { block_line };
 
     fn put_line(&self, text: &mut Vec<u8>, program: &Program, number: usize) -> Result<(), Memory> {
-        put(text, b"block ")?;
-        put_count(text, number)?;
-        put(text, b" ")?;
+        put_head(text, b"block ", number)?;
         put_block_what(text, program, self.kind)?;
         put_logs(text, block_locals(program, self.kind), self)?;
         put(text, b"\n")
@@ -144,9 +142,7 @@ impl Line for Unit {
     ghost line = { unit_line };
 
     fn put_line(&self, text: &mut Vec<u8>, program: &Program, number: usize) -> Result<(), Memory> {
-        put(text, b"unit ")?;
-        put_count(text, number)?;
-        put(text, b" ")?;
+        put_head(text, b"unit ", number)?;
         put_start(text, program, self.start)?;
         put(text, b" reads")?;
         put_cells(text, program.shared.as_slice(), self.cells.as_slice())?;
