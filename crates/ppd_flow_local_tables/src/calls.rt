@@ -15,20 +15,16 @@ fn is_body_of(kind: BlockKind, function: u16) -> bool
     matches!(kind, BlockKind::Function(found) if found == function)
 }
 
-fn body_block(plan: &Plan, function: u16) -> Option<usize>
-    ensures { result ≡ block_of plan.now (block.Function function) }
-{
-    plan.blocks
-        .as_slice()
-        .iter()
-        .position(|block| is_body_of(block.kind, function))
-}
-
 /// Whether the body of a function is a block.
 fn is_block(plan: &Plan, function: u16) -> bool
     ensures { result ≡ is_some (block_of plan.now (block.Function function)) }
 {
-    body_block(plan, function).is_some()
+    for block in plan.blocks.as_slice() {
+        if is_body_of(block.kind, function) {
+            return true;
+        }
+    }
+    false
 }
 
 /// A call of a function that is no block.
