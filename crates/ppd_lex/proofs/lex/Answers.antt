@@ -130,3 +130,26 @@ pub returns-in_err-push : goal.returns-in_err-push
 returns-in_err-push c =
     let w = without_memory c.args.bytes.now (λ tokens. IsTokens c.args.bytes.now tokens.items) (λ tokens. AreFormed (length c.args.bytes.now) tokens.items) c.from_residual-in_err-push.result c.from_residual-in_err-push.ensures.0 c.from_residual-in_err-push.ensures.1 c.if-bytes-gt-MOST_SOURCE_BYTES.false in
     record { tokens = w.0; formed = w.1; fault = w.2; long = w.3 }
+
+pub overflow_add-at-in-Gap : goal.overflow_add-at-in-Gap
+overflow_add-at-in-Gap c =
+    let w = gap_within c.args.bytes.now c.loop-at.at c.loop-at-test.true c.in-Gap.n (sym c.in-Gap.is ∙ c.in_ok-n.ensures) in omega (arith, w.1)
+
+pub overflow_add-at-in-Read-3 : goal.overflow_add-at-in-Read-3
+overflow_add-at-in-Read-3 c =
+    let w = read_within c.args.bytes.now c.loop-at.at c.loop-at-test.true c.in-Read.n c.in-Read.kind (sym c.in-Read.is ∙ c.in_ok-n.ensures) in omega (arith, w.1)
+
+pub returns-in-Bad-clause-tokens : goal.returns-in-Bad-clause-tokens
+returns-in-Bad-clause-tokens c = tt
+
+pub returns-in-Bad-clause-formed : goal.returns-in-Bad-clause-formed
+returns-in-Bad-clause-formed c = tt
+
+pub returns-in-Bad-clause-long : goal.returns-in-Bad-clause-long
+returns-in-Bad-clause-long c = λ h. absurd (omega (arith, h, c.if-bytes-gt-MOST_SOURCE_BYTES.false))
+
+pub returns-clause-fault : goal.returns-clause-fault
+returns-clause-fault c = tt
+
+pub returns-clause-long : goal.returns-clause-long
+returns-clause-long c = λ h. absurd (omega (arith, h, c.if-bytes-gt-MOST_SOURCE_BYTES.false))
