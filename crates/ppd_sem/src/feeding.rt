@@ -9,7 +9,7 @@ ghost use Rattle.ppd_sem.specs.Runs.{IsHead, IsNumbered, IsRunnable, IsRunning};
 use crate::asking::Pause;
 use crate::cost::cost;
 use crate::effect::Effect;
-use crate::frame::{new_frame, push_values};
+use crate::frame::{new_frame, values_given};
 use crate::frames::{clear_top, return_from, write_top};
 use crate::looking::{head, head_effect, look, top_cells};
 use crate::proc::{Answer, Need, Proc, Todo};
@@ -35,15 +35,13 @@ pub(crate) fn argument_values(program: &Program, todo: Todo, proc: &Proc) -> Res
         ≡ given program.now.exprs (arguments_of (kind_of program.now todo.stmt))
         (top_frame proc.now.frames).cells proc.now.answers) }
 {
-    let mut values = Nums::new(proc.frames.allocator());
-    push_values(
-        &mut values,
+    values_given(
+        proc.frames.allocator(),
         program.exprs.as_slice(),
         arguments_in(kind_at(program, todo.stmt)),
         top_cells(&proc.frames),
         proc.answers.as_slice(),
-    )?;
-    Ok(values)
+    )
 }
 
 /// Begins a function, before what is left to do after the call.

@@ -8,9 +8,10 @@ ghost use Rattle.ppd_sem.specs.Runs.{IsUse, size_of};
 use crate::asking::ask;
 use crate::proc::Frame;
 use ppd_ast::{Expr, Memory, Nums, Program};
+use std::alloc::Global;
 
 /// Appends the arguments' values, left to right, up to the first that is not there.
-pub(crate) fn push_values(
+fn push_values(
     values: &mut Nums,
     exprs: &[Expr],
     arguments: &[u32],
@@ -32,6 +33,24 @@ pub(crate) fn push_values(
             Err(_) => Ok(()),
         },
     }
+}
+
+/// The arguments' values, left to right, up to the first that is not there.
+pub(crate) fn values_given(
+    alloc: Global,
+    exprs: &[Expr],
+    arguments: &[u32],
+    cells: &[i64],
+    answers: &[i64],
+) -> Result<Nums, Memory>
+    requires children { EachAt AreChildrenBelow exprs.now }
+    requires limit { length cells.now < 2 ^ 16 }
+    requires uses { All (IsUse exprs.now (length cells.now)) arguments.now }
+    ensures { IfOk result (λ values. values ≡ given exprs.now arguments.now cells.now answers.now) }
+{
+    let mut values = Nums::new(alloc);
+    push_values(&mut values, exprs, arguments, cells, answers)?;
+    Ok(values)
 }
 
 /// Appends zeros up to this size.
