@@ -7,11 +7,9 @@ ghost use Rattle.ppd_check_names.specs.Syntax.{store, change, plain};
 ghost use Rattle.ppd_check_stmts.specs.Statements.{goal_name};
 ghost use Rattle.ppd_check_stmts.specs.Values.{goal_said, IsGoal, goal_nodes};
 ghost use Rattle.ppd_check_names.specs.Cost.{plain_below, operand_nodes};
-ghost use Rattle.ppd_check_stmts.specs.Outputs.{Keeps, PutsSimple};
 ghost use Rattle.ppd_check_stmts.specs.Writing.{WroteSimple};
 
 use crate::formulas::{put, write_term};
-use crate::lowering::Lowering;
 use crate::stores::{write_goal, write_spot};
 use crate::values::{Goal, goal_at};
 use ppd_ast::{Expr, Kind, Memory, Op, Place, Steps};
@@ -119,23 +117,25 @@ fn change_at(source: Source<'_>, id: u32) -> Option<Change>
     }
 }
 
-impl<L: Ledger> Lowering<'_, L> {
-    // What a node of changes says.
-    pub fn lower_changed(&mut self, level: Level<'_>, id: u32) -> Result<(), Memory>
-        requires within { id < length level.source.nodes.now }
-        ensures kept { Keeps self.old self.new }
-        ensures frame { self.new.frame.now ≡ self.old.frame.now }
-        ensures wrote { OnOk result (PutsSimple level.entry.site (changed
-            (below level.entry.source id)) self.old self.new) }
-        ensures cost { self.new.steps.now ≤ self.old.steps.now + 18 * plain_below level.entry.source.nodes.now id + 15 }
-    {
-        let goal = goal_at(level.source, id, 0);
-        match change_at(level.source, id) {
-            Some(change) => write_change(level, self.frame, goal, change, self.out, self.steps),
-            None => {
-                let operand = operand_at(level.source, id, 2);
-                write_assign(level, self.frame, goal, operand, self.out, self.steps)
-            }
+// What a node of changes says.
+pub fn write_changed<L: Ledger>(
+    level: Level<'_>,
+    frame: &Frame,
+    id: u32,
+    out: &mut Output,
+    steps: &mut Steps<L>,
+) -> Result<(), Memory>
+    requires within { id < length level.source.nodes.now }
+    ensures wrote { OnOk result (WroteSimple level.entry.site (changed
+        (below level.entry.source id)) frame.now out.old.table out.new.table out.old.row out.new.row) }
+    ensures cost { steps.new ≤ steps.old + 18 * plain_below level.entry.source.nodes.now id + 15 }
+{
+    let goal = goal_at(level.source, id, 0);
+    match change_at(level.source, id) {
+        Some(change) => write_change(level, frame, goal, change, out, steps),
+        None => {
+            let operand = operand_at(level.source, id, 2);
+            write_assign(level, frame, goal, operand, out, steps)
         }
     }
 }

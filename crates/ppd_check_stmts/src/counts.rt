@@ -6,14 +6,16 @@ ghost use Rattle.ppd_check_names.specs.Nodes.{operand_formula, IsOperand, below}
 ghost use Rattle.ppd_check_stmts.specs.Plain.{row_any};
 ghost use Rattle.ppd_check_names.specs.Reading.{phrase, before, beyond, last, formulas, for_start, some_change};
 ghost use Rattle.ppd_check_names.specs.Cost.{plain_below, operand_nodes};
-ghost use Rattle.ppd_check_stmts.specs.Outputs.{Keeps, Puts, Walks};
+ghost use Rattle.ppd_check_stmts.specs.Writing.{Wrote, Walked};
 
-use crate::lowering::Lowering;
 use crate::parts::{part_of, past_semicolon, semicolon_from, test_among};
 use crate::stores::write_fresh;
+use crate::turns::write_changing;
 use crate::values::Value;
 use ppd_ast::{Memory, Steps};
-use ppd_check_names::{Level, Operand, Source, children_of, kind_at, label_at, operand_at};
+use ppd_check_names::{
+    Frame, Level, Operand, Output, Source, children_of, kind_at, label_at, operand_at,
+};
 use ppd_parse::Kind;
 use std::sync::ledger::Ledger;
 
@@ -26,43 +28,52 @@ pub fn last_of(source: Source<'_>, id: u32) -> usize
     children_of(source, id).len().saturating_sub(1)
 }
 
-impl<L: Ledger> Lowering<'_, L> {
-    // The first part, up to the child `end`: a declared variable, or a change.
-    fn lower_first(&mut self, level: Level<'_>, id: u32, end: usize) -> Result<(), Memory>
-        requires within { id < length level.source.nodes.now }
-        requires past { 2 ≤ end }
-        ensures kept { Keeps self.old self.new }
-        ensures walked { OnOk result (Walks level.entry.site (row_any (for_start (take (end - 2) (drop 2
-            (below level.entry.source id))))) self.old self.new) }
-        ensures cost { self.new.steps.now ≤ self.old.steps.now + 18 * plain_below level.entry.source.nodes.now id + 10 }
-    {
-        let first = part_of(level.source, id, 2, end, 0);
-        match kind_at(level.source, id, first) {
-            Kind::IntWord => {
-                let name = label_at(level.source, id, part_of(level.source, id, 2, end, 1));
-                let value = Value::Plain(operand_at(
-                    level.source,
-                    id,
-                    part_of(level.source, id, 2, end, 3),
-                ));
-                write_fresh(level, name, value, self.frame, self.out, self.steps)
-            }
-            _ => self.lower_changing(level, id, first),
+// The first part, up to the child `end`: a declared variable, or a change.
+fn write_first<L: Ledger>(
+    level: Level<'_>,
+    id: u32,
+    end: usize,
+    frame: &mut Frame,
+    out: &mut Output,
+    steps: &mut Steps<L>,
+) -> Result<(), Memory>
+    requires within { id < length level.source.nodes.now }
+    requires past { 2 ≤ end }
+    ensures walked { OnOk result (Walked level.entry.site (row_any (for_start (take (end - 2) (drop 2
+        (below level.entry.source id))))) frame.old frame.new out.old.table out.new.table out.old.row out.new.row) }
+    ensures cost { steps.new ≤ steps.old + 18 * plain_below level.entry.source.nodes.now id + 10 }
+{
+    let first = part_of(level.source, id, 2, end, 0);
+    match kind_at(level.source, id, first) {
+        Kind::IntWord => {
+            let name = label_at(level.source, id, part_of(level.source, id, 2, end, 1));
+            let value = Value::Plain(operand_at(
+                level.source,
+                id,
+                part_of(level.source, id, 2, end, 3),
+            ));
+            write_fresh(level, name, value, frame, out, steps)
         }
+        _ => write_changing(level, id, first, frame, out, steps),
     }
+}
 
-    // What a `for` says before its first turn.
-    pub fn lower_start(&mut self, level: Level<'_>, id: u32) -> Result<(), Memory>
-        requires within { id < length level.source.nodes.now }
-        ensures kept { Keeps self.old self.new }
-        ensures walked { OnOk result (Walks level.entry.site (row_any (for_start (before (drop 2
-            (below level.entry.source id))))) self.old self.new) }
-        ensures cost { self.new.steps.now ≤ self.old.steps.now + length (below level.entry.source id) + 18 *
-            plain_below level.entry.source.nodes.now id + 10 }
-    {
-        let end = semicolon_from(level.source, id, 2, self.steps);
-        self.lower_first(level, id, end)
-    }
+// What a `for` says before its first turn.
+pub fn write_start<L: Ledger>(
+    level: Level<'_>,
+    id: u32,
+    frame: &mut Frame,
+    out: &mut Output,
+    steps: &mut Steps<L>,
+) -> Result<(), Memory>
+    requires within { id < length level.source.nodes.now }
+    ensures walked { OnOk result (Walked level.entry.site (row_any (for_start (before (drop 2
+        (below level.entry.source id))))) frame.old frame.new out.old.table out.new.table out.old.row out.new.row) }
+    ensures cost { steps.new ≤ steps.old + length (below level.entry.source id) + 18 *
+        plain_below level.entry.source.nodes.now id + 10 }
+{
+    let end = semicolon_from(level.source, id, 2, steps);
+    write_first(level, id, end, frame, out, steps)
 }
 
 // The test of a `for`.
@@ -90,44 +101,53 @@ fn step_of<L: Ledger>(source: Source<'_>, id: u32, steps: &mut Steps<L>) -> usiz
     past_semicolon(source, id, from, steps)
 }
 
-impl<L: Ledger> Lowering<'_, L> {
-    // What a child says that is no variable of the scope afterwards.
-    fn lower_undeclared(&mut self, level: Level<'_>, id: u32, k: usize) -> Result<(), Memory>
-        requires within { id < length level.source.nodes.now }
-        ensures kept { Keeps self.old self.new }
-        ensures wrote { OnOk result (Puts level.entry.site.body level.entry.site.parent (code_of_any (some_change
-            (phrase (below level.entry.source id) k)) self.old.frame.now) (faults_of_any (some_change (phrase
-            (below level.entry.source id) k)) self.old.frame.now) self.old self.new) }
-        ensures frame { OnOk result
-            (record self.new.frame.now { scopes = drop 1 self.new.frame.now.scopes }
-            ≡ record self.old.frame.now { scopes = drop 1 self.old.frame.now.scopes }) }
-        ensures cost { self.new.steps.now ≤ self.old.steps.now + 18 * plain_below level.entry.source.nodes.now id }
-    {
-        let before = self.frame.variables.len();
-        let cells = self.frame.cells;
-        let hidden = self.frame.hidden;
-        self.lower_changing(level, id, k)?;
-        self.frame.variables.truncate(before);
-        self.frame.cells = cells;
-        self.frame.hidden = hidden;
-        Ok(())
-    }
+// What a child says that is no variable of the scope afterwards.
+fn write_undeclared<L: Ledger>(
+    level: Level<'_>,
+    id: u32,
+    k: usize,
+    frame: &mut Frame,
+    out: &mut Output,
+    steps: &mut Steps<L>,
+) -> Result<(), Memory>
+    requires within { id < length level.source.nodes.now }
+    ensures wrote { OnOk result (Wrote level.entry.site.body level.entry.site.parent (code_of_any (some_change
+        (phrase (below level.entry.source id) k)) frame.old) (faults_of_any (some_change (phrase
+        (below level.entry.source id) k)) frame.old) out.old.table out.new.table out.old.row out.new.row) }
+    ensures frame { OnOk result
+        (record frame.new { scopes = drop 1 frame.new.scopes }
+        ≡ record frame.old { scopes = drop 1 frame.old.scopes }) }
+    ensures cost { steps.new ≤ steps.old + 18 * plain_below level.entry.source.nodes.now id }
+{
+    let before = frame.variables.len();
+    let cells = frame.cells;
+    let hidden = frame.hidden;
+    write_changing(level, id, k, frame, out, steps)?;
+    frame.variables.truncate(before);
+    frame.cells = cells;
+    frame.hidden = hidden;
+    Ok(())
+}
 
-    // What a `for` says after each turn. The variables and cells that this would declare are none of the body's.
-    pub fn lower_step(&mut self, level: Level<'_>, id: u32) -> Result<(), Memory>
-        requires within { id < length level.source.nodes.now }
-        ensures kept { Keeps self.old self.new }
-        ensures wrote { OnOk result (Puts level.entry.site.body level.entry.site.parent (code_of_any (some_change
-            (phrase (beyond (beyond (drop 2 (below level.entry.source id)))) 0)) self.old.frame.now) (faults_of_any
-            (some_change (phrase (beyond (beyond (drop 2 (below level.entry.source id)))) 0)) self.old.frame.now)
-            self.old self.new) }
-        ensures frame { OnOk result
-            (record self.new.frame.now { scopes = drop 1 self.new.frame.now.scopes }
-            ≡ record self.old.frame.now { scopes = drop 1 self.old.frame.now.scopes }) }
-        ensures cost { self.new.steps.now ≤ self.old.steps.now + 2 * length (below level.entry.source id) + 18 *
-            plain_below level.entry.source.nodes.now id }
-    {
-        let step = step_of(level.source, id, self.steps);
-        self.lower_undeclared(level, id, step)
-    }
+// What a `for` says after each turn. The variables and cells that this would declare are none of the body's.
+pub fn write_step<L: Ledger>(
+    level: Level<'_>,
+    id: u32,
+    frame: &mut Frame,
+    out: &mut Output,
+    steps: &mut Steps<L>,
+) -> Result<(), Memory>
+    requires within { id < length level.source.nodes.now }
+    ensures wrote { OnOk result (Wrote level.entry.site.body level.entry.site.parent (code_of_any (some_change
+        (phrase (beyond (beyond (drop 2 (below level.entry.source id)))) 0)) frame.old) (faults_of_any
+        (some_change (phrase (beyond (beyond (drop 2 (below level.entry.source id)))) 0)) frame.old)
+        out.old.table out.new.table out.old.row out.new.row) }
+    ensures frame { OnOk result
+        (record frame.new { scopes = drop 1 frame.new.scopes }
+        ≡ record frame.old { scopes = drop 1 frame.old.scopes }) }
+    ensures cost { steps.new ≤ steps.old + 2 * length (below level.entry.source id) + 18 *
+        plain_below level.entry.source.nodes.now id }
+{
+    let step = step_of(level.source, id, steps);
+    write_undeclared(level, id, step, frame, out, steps)
 }

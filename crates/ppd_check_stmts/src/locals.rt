@@ -4,45 +4,54 @@ ghost use Rattle.ppd_check_names.specs.Nodes.{children_of, phrase_of, phrases_of
 ghost use Rattle.ppd_check_names.specs.Reading.{locals};
 ghost use Rattle.ppd_check_stmts.specs.Statements.{after_row};
 ghost use Rattle.ppd_check_names.specs.Cost.{plain_at, nested_below, plain_below};
-ghost use Rattle.ppd_check_stmts.specs.Outputs.{Keeps, PutsRow, Walks};
+ghost use Rattle.ppd_check_stmts.specs.Writing.{WroteRow, Walked};
 
-use crate::lowering::Lowering;
-use ppd_ast::Memory;
-use ppd_check_names::{Level, children_of, rule_of};
+use crate::changes::write_changed;
+use crate::statements::write_local_item;
+use ppd_ast::{Memory, Steps};
+use ppd_check_names::{Frame, Level, Output, children_of, rule_of};
 use ppd_parse::Rule;
 use std::sync::ledger::Ledger;
 
-impl<L: Ledger> Lowering<'_, L> {
-    // What a child of a declaration declares.
-    pub fn lower_local(&mut self, level: Level<'_>, id: u32) -> Result<(), Memory>
-        requires within { id < length level.source.nodes.now }
-        ensures kept { Keeps self.old self.new }
-        ensures wrote { OnOk result (PutsRow level.entry.site (locals (phrase_of level.entry.source.nodes.now id ∷
-            [])) self.old self.new) }
-        ensures frame { OnOk result (self.new.frame.now ≡ after_row (locals (phrase_of level.entry.source.nodes.now id
-            ∷ [])) self.old.frame.now) }
-        ensures cost { self.new.steps.now ≤ self.old.steps.now + 18 * plain_at level.entry.source.nodes.now id }
-    {
-        match rule_of(level.source, id) {
-            Rule::Litem => self.lower_local_item(level, id),
-            Rule::Change => self.lower_changed(level, id),
-            _ => Ok(()),
-        }
+// What a child of a declaration declares.
+pub fn write_local<L: Ledger>(
+    level: Level<'_>,
+    id: u32,
+    frame: &mut Frame,
+    out: &mut Output,
+    steps: &mut Steps<L>,
+) -> Result<(), Memory>
+    requires within { id < length level.source.nodes.now }
+    ensures wrote { OnOk result (WroteRow level.entry.site (locals (phrase_of level.entry.source.nodes.now id ∷
+        [])) frame.old out.old.table out.new.table out.old.row out.new.row) }
+    ensures frame { OnOk result (frame.new ≡ after_row (locals (phrase_of level.entry.source.nodes.now id
+        ∷ [])) frame.old) }
+    ensures cost { steps.new ≤ steps.old + 18 * plain_at level.entry.source.nodes.now id }
+{
+    match rule_of(level.source, id) {
+        Rule::Litem => write_local_item(level, id, frame, out, steps),
+        Rule::Change => write_changed(level, frame, id, out, steps),
+        _ => Ok(()),
     }
+}
 
-    // The variables of a declaration, one after another.
-    pub fn lower_locals(&mut self, level: Level<'_>, id: u32) -> Result<(), Memory>
-        requires within { id < length level.source.nodes.now }
-        ensures kept { Keeps self.old self.new }
-        ensures walked { OnOk result (Walks level.entry.site (locals (phrases_of level.entry.source.nodes.now
-            (children_of level.entry.source.nodes.now id))) self.old self.new) }
-        ensures cost { self.new.steps.now ≤ self.old.steps.now + 19 * plain_below level.entry.source.nodes.now id + 19
-            * nested_below level.entry.source.nodes.now id }
-    {
-        for child in children_of(level.source, id) {
-            self.steps.tick();
-            self.lower_local(level, *child)?;
-        }
-        Ok(())
+// The variables of a declaration, one after another.
+pub fn write_locals<L: Ledger>(
+    level: Level<'_>,
+    id: u32,
+    frame: &mut Frame,
+    out: &mut Output,
+    steps: &mut Steps<L>,
+) -> Result<(), Memory>
+    requires within { id < length level.source.nodes.now }
+    ensures walked { OnOk result (Walked level.entry.site (locals (phrases_of level.entry.source.nodes.now (children_of
+        level.entry.source.nodes.now id))) frame.old frame.new out.old.table out.new.table out.old.row out.new.row) }
+    ensures cost { steps.new ≤ steps.old + 19 * plain_below level.entry.source.nodes.now id + 19
+        * nested_below level.entry.source.nodes.now id }
+{
+    for child in children_of(level.source, id) {
+        steps.tick();
+        write_local(level, *child, frame, out, steps)?;
     }
+    Ok(())
 }

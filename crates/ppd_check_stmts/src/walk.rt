@@ -8,9 +8,11 @@ ghost use Rattle.ppd_check_names.specs.Cost.{nested_at, nested_child, nested_bel
 ghost use Rattle.ppd_check_stmts.specs.Outputs.{Keeps, Walks};
 
 use crate::begun::{begin, close, open};
-use crate::counts::{last_of, test_of};
+use crate::counts::{last_of, test_of, write_start, write_step};
 use crate::held::set_stmt;
+use crate::locals::write_locals;
 use crate::lowering::Lowering;
+use crate::words::{write_named, write_word};
 use ppd_ast::{Ids, Kind, Memory};
 use ppd_check_names::{Level, Site, child_at, children_of, kind_at, operand_at, place_at, rule_of};
 use ppd_parse::{Kind as Token, Rule};
@@ -160,7 +162,7 @@ impl<L: Ledger> Lowering<'_, L> {
         let test = test_of(level.source, id, self.steps);
         let last = last_of(level.source, id);
         open(self.frame, self.steps)?;
-        self.lower_start(level, id)?;
+        write_start(level, id, self.frame, self.out, self.steps)?;
         let begun = begin(level, self.frame, test, place, self.out, self.steps)?;
         let site = Site {
             parent: Some(begun.at),
@@ -170,7 +172,7 @@ impl<L: Ledger> Lowering<'_, L> {
         let row = Ids::new(self.frame.scopes.alloc());
         let outer = replace(&mut self.out.row, row);
         self.lower_child(inner, id, last)?;
-        self.lower_step(inner, id)?;
+        write_step(inner, id, self.frame, self.out, self.steps)?;
         let turn = replace(&mut self.out.row, outer);
         set_stmt(
             &mut self.out.table,
@@ -197,7 +199,7 @@ impl<L: Ledger> Lowering<'_, L> {
             Token::IfWord => self.lower_if(level, id),
             Token::WhileWord => self.lower_while(level, id),
             Token::ForWord => self.lower_for(level, id),
-            _ => self.lower_word(level, id),
+            _ => write_word(level, id, self.frame, self.out, self.steps),
         }
     }
 
@@ -217,7 +219,7 @@ impl<L: Ledger> Lowering<'_, L> {
             Some(child) => match rule_of(level.source, child) {
                 Rule::Leaf => self.lower_worded(level, id),
                 Rule::Block => self.lower_block(level, child),
-                _ => self.lower_named(level, id),
+                _ => write_named(level, id, self.frame, self.out, self.steps),
             },
         }
     }
@@ -234,7 +236,7 @@ impl<L: Ledger> Lowering<'_, L> {
     {
         self.steps.tick();
         match rule_of(level.source, id) {
-            Rule::Local => self.lower_locals(level, id),
+            Rule::Local => write_locals(level, id, self.frame, self.out, self.steps),
             Rule::Stmt => self.lower_stmt(level, id),
             _ => Ok(()),
         }

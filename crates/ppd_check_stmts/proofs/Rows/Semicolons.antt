@@ -1,7 +1,7 @@
 -- The first semicolon among phrases.
 use Rattle.std.proofs.Common.{pos, ◌≡◌, refl, sym, ap, ◌∙◌, ℕ, zero, suc, ◌+◌, ◌-◌, ◌<◌, ◌≤◌, arith, Bool, true, false, if◌then◌else◌, List, [], ◌∷◌, ◌++◌, take, drop, length, get_or, slice_index_or}
 use Rattle.ppd_lex.specs.declared.token.Kind.TheVariants as K
-use Rattle.std.proofs.lemmas.List.{take_more, drop_more, drop_all, get_or_past, get_or-drop, length-drop, append_assoc}
+use Rattle.std.proofs.lemmas.List.{take_more, drop_more, drop_all, get_or_past, get_or-drop, length-drop, append_assoc, append-nil}
 use Rattle.ppd_check_names.specs.Reading.{Phrase, token, nowhere, kind, phrase, before, beyond, same_kind, is_formula, as_formula, formulas}
 use Rattle.ppd_check_names.specs.Syntax.{Formula, number}
 
@@ -52,6 +52,40 @@ pub record Found (ps : List Phrase) (from at : ℕ) : Type 0 where
   pub past : from ≤ at
   pub before : before (drop from ps) ≡ take (at - from) (drop from ps)
   pub beyond : beyond (drop from ps) ≡ drop (at + 1) ps
+
+before_here : (p : Phrase) (ps : List Phrase) (b : Bool) → b ≡ true → (if b then [] else p ∷ ps) ≡ []
+before_here p ps true h = refl
+before_here p ps false h = absurd (grind (arith, h))
+
+beyond_here : (ps qs : List Phrase) (b : Bool) → b ≡ true → (if b then ps else qs) ≡ ps
+beyond_here ps qs true h = refl
+beyond_here ps qs false h = absurd (grind (arith, h))
+
+pub found_here : (ps : List Phrase) (from at : ℕ) → at < length ps → same_kind K.Semicolon (kind (phrase ps at)) ≡ true → Searched ps from at → Found ps from at
+found_here ps from at h here s =
+    let p : Phrase = phrase ps at in
+    let split : drop at ps ≡ p ∷ drop (at + 1) ps = drop_more ps at (token nowhere) h in
+    let part : List Phrase = take (at - from) (drop from ps) in
+    record {
+      past = s.past;
+      before =
+          s.before
+          ∙ ap (λ l. part ++ before l) split
+          ∙ ap (λ l. part ++ l) (before_here p (before (drop (at + 1) ps)) (same_kind K.Semicolon (kind p)) here)
+          ∙ append-nil part;
+      beyond = s.beyond ∙ ap beyond split ∙ beyond_here (drop (at + 1) ps) (beyond (drop (at + 1) ps)) (same_kind K.Semicolon (kind p)) here;
+    }
+
+pub found_none : (ps : List Phrase) (from at : ℕ) → length ps ≤ at → Searched ps from at → Found ps from at
+found_none ps from at h s =
+    let all : drop at ps ≡ [] = drop_all at ps h in
+    let after : drop (at + 1) ps ≡ [] = drop_all (at + 1) ps (omega (arith, h)) in
+    let part : List Phrase = take (at - from) (drop from ps) in
+    record {
+      past = s.past;
+      before = s.before ∙ ap (λ l. part ++ before l) all ∙ append-nil part;
+      beyond = s.beyond ∙ ap beyond all ∙ sym after;
+    }
 
 -- behind all, where no semicolon is found
 pub behind_all : (ps : List Phrase) (from at : ℕ) → length ps ≤ at → beyond (drop from ps) ≡ drop (at + 1) ps → drop (length ps) ps ≡ beyond (drop from ps)

@@ -1,13 +1,14 @@
 -- Statements without statements inside them, by their first child.
-use Rattle.std.proofs.Common.{◌≡◌, refl, sym, ap, ◌∙◌, List}
+use Rattle.std.proofs.Common.{◌≡◌, refl, sym, ap, ◌∙◌, List, pos, if◌then◌else◌}
 use Rattle.ppd_lex.specs.declared.token.Kind.{Kind}
 use Rattle.ppd_lex.specs.declared.token.Kind.TheVariants as K
 use Rattle.ppd_parse.specs.declared.symbol.Rule.{Rule}
 use Rattle.ppd_parse.specs.declared.symbol.Rule.TheVariants as R
 use Rattle.ppd_check_names.specs.Nodes.{SaysBy}
 use Rattle.ppd_check_stmts.specs.Plain.{plain_word, plain_statement}
-use Rattle.ppd_check_names.specs.Reading.{Phrase, statement}
-use Rattle.ppd_check_names.specs.Syntax.{stop, block}
+use Rattle.ppd_check_names.specs.Reading.{Phrase, as_value, kind, local_item, name_at, number_at, phrase, same_kind, statement}
+use Rattle.ppd_check_names.specs.Syntax.{Name, Simple, Value, array, block, fresh, number, plain, stop}
+use Rattle.ppd_check_names.specs.declared.nodes.Number.{Number}
 
 -- no word of a statement without statements inside it
 pub word_other : (k : Kind) (ps : List Phrase) → (k ≡ K.ReturnWord → ⊥) → (k ≡ K.TakeWord → ⊥) → (k ≡ K.GiveWord → ⊥) → (k ≡ K.SendWord → ⊥) → (k ≡ K.PrintWord → ⊥) → (k ≡ K.AssertWord → ⊥)
@@ -35,3 +36,25 @@ pub named_statement : (r : Rule) (qs : List Phrase) (p : Phrase) (ps : List Phra
 named_statement R.Leaf qs p ps a b e = absurd (a refl)
 named_statement R.Block qs p ps a b e = absurd (b refl)
 named_statement r qs p ps a b e = ap (λ q. statement q ps) e ∙ sym (ap (λ q. plain_statement q ps) e)
+
+-- What a declaration of a local variable says, by the token behind its name.
+
+abbrev said_after : List Phrase → Kind → Simple
+said_after ps j =
+    if same_kind K.LeftBracket j then array (name_at ps 0) (number_at ps 2)
+    else if same_kind K.AssignMark j then fresh (name_at ps 0) (as_value (phrase ps 2))
+    else fresh (name_at ps 0) (plain (number (pos 0)))
+
+pub item_array : (x : Name) (n : Number) (ps : List Phrase) → K.LeftBracket ≡ kind (phrase ps 1) → x ≡ name_at ps 0 → n ≡ number_at ps 2 → array x n ≡ local_item ps
+item_array x n ps k a b = ap (λ y. array y n) a ∙ ap (array (name_at ps 0)) b ∙ ap (said_after ps) k
+
+pub item_begun : (x : Name) (v : Value) (ps : List Phrase) → K.AssignMark ≡ kind (phrase ps 1) → x ≡ name_at ps 0 → v ≡ as_value (phrase ps 2) → fresh x v ≡ local_item ps
+item_begun x v ps k a b = ap (λ y. fresh y v) a ∙ ap (fresh (name_at ps 0)) b ∙ ap (said_after ps) k
+
+pub item_fresh : (k : Kind) (x : Name) (ps : List Phrase) → (k ≡ K.LeftBracket → ⊥) → (k ≡ K.AssignMark → ⊥) → k ≡ kind (phrase ps 1) → x ≡ name_at ps 0 → fresh x (plain (number (pos 0))) ≡ local_item ps
+item_fresh k x ps m n e a = ap (λ y. fresh y (plain (number (pos 0)))) a ∙ go k m n ∙ ap (said_after ps) e
+  where
+    go : (j : Kind) → (j ≡ K.LeftBracket → ⊥) → (j ≡ K.AssignMark → ⊥) → fresh (name_at ps 0) (plain (number (pos 0))) ≡ said_after ps j
+    go K.LeftBracket m n = absurd (m refl)
+    go K.AssignMark m n = absurd (n refl)
+    go j m n = refl

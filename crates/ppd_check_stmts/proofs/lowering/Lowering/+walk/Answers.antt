@@ -75,13 +75,13 @@ lower_for-returns-clause-walked g t c =
     let ps = phrases_below c.args.level.source.nodes.now c.args.id in
     with_row _ _ _ _ _ _ _ _ _ (c.replace-turn.ensures.after ∙ c.replace-outer.ensures.value)
     (for_walked c.args.level.site ps c.place_at-place.result _ (phrase ps c.last_of-last.result)
-    c.args.self.now.frame.now c.open.new.frame c.lower_start.new.self.frame.now c.lower_child.new.self.frame.now c.lower_step.new.self.frame.now c.close.new.frame
-    c.args.self.now.out.now.table c.lower_start.new.self.out.now.table c.begin.new.out.table c.lower_child.new.self.out.now.table c.lower_step.new.self.out.now.table c.set_stmt.new.out
-    c.in_ok-begun.begun.at c.in_ok-begun.begun.test c.lower_child.new.self.out.now.row c.replace-turn.result c.args.self.now.out.now.row c.lower_start.new.self.out.now.row c.begin.new.out.row
+    c.args.self.now.frame.now c.open.new.frame c.write_start.new.frame c.lower_child.new.self.frame.now c.write_step.new.frame c.close.new.frame
+    c.args.self.now.out.now.table c.write_start.new.out.table c.begin.new.out.table c.lower_child.new.self.out.now.table c.write_step.new.out.table c.set_stmt.new.out
+    c.in_ok-begun.begun.at c.in_ok-begun.begun.test c.lower_child.new.self.out.now.row c.replace-turn.result c.args.self.now.out.now.row c.write_start.new.out.row c.begin.new.out.row
     c.place_at-place.ensures c.test_of-test.ensures.formula c.last_of-last.ensures
-    c.in_ok-open.ensures.opened c.in_ok-lower_start.ensures.walked c.in_ok-begun.ensures.began
-    (walked_alone _ _ c.lower_start.new.self.frame.now c.lower_child.new.self.frame.now c.begin.new.out.table c.lower_child.new.self.out.now.table c.replace-outer.new.dest c.lower_child.new.self.out.now.row (c.replace-outer.ensures.after ∙ c.new-row.ensures) c.in_ok-lower_child.ensures.walked)
-    (wrote_row _ _ _ _ _ _ _ _ _ c.replace-turn.ensures.value c.in_ok-lower_step.ensures.wrote) c.in_ok-lower_step.ensures.frame
+    c.in_ok-open.ensures.opened c.in_ok-write_start.ensures.walked c.in_ok-begun.ensures.began
+    (walked_alone _ _ c.write_start.new.frame c.lower_child.new.self.frame.now c.begin.new.out.table c.lower_child.new.self.out.now.table c.replace-outer.new.dest c.lower_child.new.self.out.now.row (c.replace-outer.ensures.after ∙ c.new-row.ensures) c.in_ok-lower_child.ensures.walked)
+    (wrote_row _ _ _ _ _ _ _ _ _ c.replace-turn.ensures.value c.in_ok-write_step.ensures.wrote) c.in_ok-write_step.ensures.frame
     (record { exprs = c.set_stmt.ensures.exprs; found = c.set_stmt.ensures.found; stmts = c.set_stmt.ensures.stmts })
     c.close.ensures)
 
@@ -108,16 +108,16 @@ lower_stmt-returns-in_default-clause-walked g t c =
     let ns = c.args.level.source.nodes.now in
     let ps = phrases_below ns c.args.id in
     let p = phrase_of ns c.in-Some.child in
-    both_ok c.lower_named.result _ _ _ c.lower_named.ensures.wrote c.lower_named.ensures.frame
-    (λ w e. walked_as c.args.level.site (plain_statement (phrase ps 0) ps) (statement (phrase ps 0) ps) c.args.self.now.frame.now c.lower_named.new.self.frame.now c.args.self.now.out.now.table c.lower_named.new.self.out.now.table c.args.self.now.out.now.row c.lower_named.new.self.out.now.row
+    both_ok c.write_named.result _ _ _ c.write_named.ensures.wrote c.write_named.ensures.frame
+    (λ w e. walked_as c.args.level.site (plain_statement (phrase ps 0) ps) (statement (phrase ps 0) ps) c.args.self.now.frame.now c.write_named.new.frame c.args.self.now.out.now.table c.write_named.new.out.table c.args.self.now.out.now.row c.write_named.new.out.row
     (statement_named c.rule_of.result (phrases_below ns c.in-Some.child) (phrase ps 0) p ps c.in-Some.ensures.said c.in_default.not-Leaf c.in_default.not-Block c.rule_of.ensures.said)
-    (row_walked c.args.level.site (plain_statement (phrase ps 0) ps) c.args.self.now.frame.now c.lower_named.new.self.frame.now c.args.self.now.out.now.table c.lower_named.new.self.out.now.table c.args.self.now.out.now.row c.lower_named.new.self.out.now.row w e))
+    (row_walked c.args.level.site (plain_statement (phrase ps 0) ps) c.args.self.now.frame.now c.write_named.new.frame c.args.self.now.out.now.table c.write_named.new.out.table c.args.self.now.out.now.row c.write_named.new.out.row w e))
 
 pub lower_statement-returns-in-Local-clause-walked : goal.lower_statement-returns-in-Local-clause-walked
 lower_statement-returns-in-Local-clause-walked g t c =
-    ok_map c.lower_locals.result _ _ (λ x. walked_as c.args.level.site _ (as_row (phrase_of c.args.level.source.nodes.now c.args.id)) c.args.self.now.frame.now c.lower_locals.new.self.frame.now c.args.self.now.out.now.table c.lower_locals.new.self.out.now.table c.args.self.now.out.now.row c.lower_locals.new.self.out.now.row
+    ok_map c.write_locals.result _ _ (λ x. walked_as c.args.level.site _ (as_row (phrase_of c.args.level.source.nodes.now c.args.id)) c.args.self.now.frame.now c.write_locals.new.frame c.args.self.now.out.now.table c.write_locals.new.out.table c.args.self.now.out.now.row c.write_locals.new.out.row
     (row_locals c.args.level.source.nodes.now c.args.id c.in-Local.ensures.said) x)
-    c.lower_locals.ensures.walked
+    c.write_locals.ensures.walked
 
 pub lower_rows-returns-clause-cost : goal.lower_rows-returns-clause-cost
 lower_rows-returns-clause-cost g t c =
@@ -140,10 +140,10 @@ lower_for-returns-clause-cost g t c =
       c.test_of-test.ensures.cost,
       c.test_of-test.ensures.nodes,
       c.open.ensures.cost,
-      c.lower_start.ensures.cost,
+      c.write_start.ensures.cost,
       c.begin.ensures.cost,
       c.lower_child.ensures.cost,
-      c.lower_step.ensures.cost,
+      c.write_step.ensures.cost,
       parts_but c.args.level.source.nodes.now c.args.id c.last_of-last.result,
       nested_one c.args.level.source.nodes.now c.args.id c.last_of-last.result,
     )
@@ -156,17 +156,17 @@ lower_rows-returns-in_err-lower_statement-clause-cost g t c =
 pub lower_for-returns-in_err-open-clause-cost : goal.lower_for-returns-in_err-open-clause-cost
 lower_for-returns-in_err-open-clause-cost g t c = omega (arith, c.tick.ensures, c.test_of-test.ensures.cost, c.open.ensures.cost, parts_but c.args.level.source.nodes.now c.args.id c.last_of-last.result, nested_one c.args.level.source.nodes.now c.args.id c.last_of-last.result)
 
-pub lower_for-returns-in_err-lower_start-clause-cost : goal.lower_for-returns-in_err-lower_start-clause-cost
-lower_for-returns-in_err-lower_start-clause-cost g t c = omega (arith, c.tick.ensures, c.test_of-test.ensures.cost, c.open.ensures.cost, c.lower_start.ensures.cost, parts_but c.args.level.source.nodes.now c.args.id c.last_of-last.result, nested_one c.args.level.source.nodes.now c.args.id c.last_of-last.result)
+pub lower_for-returns-in_err-write_start-clause-cost : goal.lower_for-returns-in_err-write_start-clause-cost
+lower_for-returns-in_err-write_start-clause-cost g t c = omega (arith, c.tick.ensures, c.test_of-test.ensures.cost, c.open.ensures.cost, c.write_start.ensures.cost, parts_but c.args.level.source.nodes.now c.args.id c.last_of-last.result, nested_one c.args.level.source.nodes.now c.args.id c.last_of-last.result)
 
 pub lower_for-returns-in_err-begun-clause-cost : goal.lower_for-returns-in_err-begun-clause-cost
-lower_for-returns-in_err-begun-clause-cost g t c = omega (arith, c.tick.ensures, c.test_of-test.ensures.cost, c.open.ensures.cost, c.lower_start.ensures.cost, c.test_of-test.ensures.nodes, c.begin.ensures.cost, parts_but c.args.level.source.nodes.now c.args.id c.last_of-last.result, nested_one c.args.level.source.nodes.now c.args.id c.last_of-last.result)
+lower_for-returns-in_err-begun-clause-cost g t c = omega (arith, c.tick.ensures, c.test_of-test.ensures.cost, c.open.ensures.cost, c.write_start.ensures.cost, c.test_of-test.ensures.nodes, c.begin.ensures.cost, parts_but c.args.level.source.nodes.now c.args.id c.last_of-last.result, nested_one c.args.level.source.nodes.now c.args.id c.last_of-last.result)
 
 pub lower_for-returns-in_err-lower_child-clause-cost : goal.lower_for-returns-in_err-lower_child-clause-cost
-lower_for-returns-in_err-lower_child-clause-cost g t c = omega (arith, c.tick.ensures, c.test_of-test.ensures.cost, c.open.ensures.cost, c.lower_start.ensures.cost, c.test_of-test.ensures.nodes, c.begin.ensures.cost, c.lower_child.ensures.cost, parts_but c.args.level.source.nodes.now c.args.id c.last_of-last.result, nested_one c.args.level.source.nodes.now c.args.id c.last_of-last.result)
+lower_for-returns-in_err-lower_child-clause-cost g t c = omega (arith, c.tick.ensures, c.test_of-test.ensures.cost, c.open.ensures.cost, c.write_start.ensures.cost, c.test_of-test.ensures.nodes, c.begin.ensures.cost, c.lower_child.ensures.cost, parts_but c.args.level.source.nodes.now c.args.id c.last_of-last.result, nested_one c.args.level.source.nodes.now c.args.id c.last_of-last.result)
 
-pub lower_for-returns-in_err-lower_step-clause-cost : goal.lower_for-returns-in_err-lower_step-clause-cost
-lower_for-returns-in_err-lower_step-clause-cost g t c = omega (arith, c.tick.ensures, c.test_of-test.ensures.cost, c.open.ensures.cost, c.lower_start.ensures.cost, c.test_of-test.ensures.nodes, c.begin.ensures.cost, c.lower_child.ensures.cost, c.lower_step.ensures.cost, parts_but c.args.level.source.nodes.now c.args.id c.last_of-last.result, nested_one c.args.level.source.nodes.now c.args.id c.last_of-last.result)
+pub lower_for-returns-in_err-write_step-clause-cost : goal.lower_for-returns-in_err-write_step-clause-cost
+lower_for-returns-in_err-write_step-clause-cost g t c = omega (arith, c.tick.ensures, c.test_of-test.ensures.cost, c.open.ensures.cost, c.write_start.ensures.cost, c.test_of-test.ensures.nodes, c.begin.ensures.cost, c.lower_child.ensures.cost, c.write_step.ensures.cost, parts_but c.args.level.source.nodes.now c.args.id c.last_of-last.result, nested_one c.args.level.source.nodes.now c.args.id c.last_of-last.result)
 
 pub lower_if-returns-in_err-yes-clause-cost : goal.lower_if-returns-in_err-yes-clause-cost
 lower_if-returns-in_err-yes-clause-cost g t c = omega (arith, c.tick.ensures, c.operand_at-test.ensures.few, c.begin.ensures.cost, c.lower_inside.ensures.cost, nested_one c.args.level.source.nodes.now c.args.id 4)
