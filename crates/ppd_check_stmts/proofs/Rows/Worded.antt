@@ -1,12 +1,12 @@
 -- Statements without statements inside them, by their first child.
-use Rattle.std.proofs.Common.{◌≡◌, refl, sym, ap, ◌∙◌, List, pos, if◌then◌else◌}
+use Rattle.std.proofs.Common.{◌≡◌, refl, sym, ap, ◌∙◌, List, None, Option, Some, pos, if◌then◌else◌}
 use Rattle.ppd_lex.specs.declared.token.Kind.{Kind}
 use Rattle.ppd_lex.specs.declared.token.Kind.TheVariants as K
 use Rattle.ppd_parse.specs.declared.symbol.Rule.{Rule}
 use Rattle.ppd_parse.specs.declared.symbol.Rule.TheVariants as R
 use Rattle.ppd_check_names.specs.Nodes.{SaysBy}
 use Rattle.ppd_check_stmts.specs.Plain.{plain_word, plain_statement}
-use Rattle.ppd_check_names.specs.Reading.{Phrase, as_value, kind, local_item, name_at, number_at, phrase, same_kind, statement}
+use Rattle.ppd_check_names.specs.Reading.{Phrase, as_value, kind, local_item, name_at, number_at, phrase, returned, same_kind, statement}
 use Rattle.ppd_check_names.specs.Syntax.{Name, Simple, Value, array, block, fresh, number, plain, stop}
 use Rattle.ppd_check_names.specs.declared.nodes.Number.{Number}
 
@@ -58,3 +58,18 @@ item_fresh k x ps m n e a = ap (λ y. fresh y (plain (number (pos 0)))) a ∙ go
     go K.LeftBracket m n = absurd (m refl)
     go K.AssignMark m n = absurd (n refl)
     go j m n = refl
+
+-- What a `return` gives, by the token behind the word.
+
+abbrev given : Phrase → Kind → Option Value
+given p j = if same_kind K.Semicolon j then None else Some (as_value p)
+
+pub returned_none : (p : Phrase) → K.Semicolon ≡ kind p → None ≡ returned p
+returned_none p e = ap (given p) e
+
+pub returned_some : (k : Kind) (p : Phrase) → (k ≡ K.Semicolon → ⊥) → k ≡ kind p → Some (as_value p) ≡ returned p
+returned_some k p m e = go k m ∙ ap (given p) e
+  where
+    go : (j : Kind) → (j ≡ K.Semicolon → ⊥) → Some (as_value p) ≡ given p j
+    go K.Semicolon m = absurd (m refl)
+    go j m = refl

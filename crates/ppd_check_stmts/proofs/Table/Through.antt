@@ -1,5 +1,5 @@
 -- Values that come into places and returns through hidden local scalars.
-use Rattle.std.proofs.Common.{◌≡◌, ap, subst, ◌∙◌, ℕ, List, [], ◌∷◌, ◌++◌, Option, Some}
+use Rattle.std.proofs.Common.{◌≡◌, refl, sym, ap, subst, ◌∙◌, ℕ, List, [], ◌∷◌, ◌++◌, Option, Some}
 use Rattle.std.proofs.lemmas.List.{append-nil}
 use Rattle.ppd_ast.specs.declared.program.Place.{Place}
 use Rattle.ppd_ast.specs.Term as T
@@ -8,13 +8,14 @@ use Rattle.ppd_check_names.specs.declared.frame.Frame.{Frame}
 use Rattle.ppd_check_names.specs.declared.writer.Writer.{Writer}
 use Rattle.ppd_check_names.specs.declared.writer.Site.{Site}
 use Rattle.ppd_check_stmts.specs.Code as C
-use Rattle.ppd_check_stmts.specs.Code.{Code, act, acts, done}
+use Rattle.ppd_check_stmts.specs.Code.{Code, Spot, act, acts, done}
 use Rattle.ppd_check_names.specs.Faults.{first_of_both}
 use Rattle.ppd_check_stmts.specs.Expressions.{formula_faults}
 use Rattle.ppd_check_names.specs.Reading.{goal_formula}
-use Rattle.ppd_check_stmts.specs.Statements.{spot_of, put, value_faults}
+use Rattle.ppd_check_stmts.specs.Statements.{spot_of, put, store_acts, value_faults}
+use Rattle.ppd_check_stmts.specs.Values.{local_cell, through_acts}
 use Rattle.ppd_check_names.specs.Frames.{with_hidden}
-use Rattle.ppd_check_names.specs.Syntax.{Goal, Value}
+use Rattle.ppd_check_names.specs.Syntax.{Formula, Goal, Name, Value, received, result}
 use Rattle.ppd_check_stmts.specs.Writing.{Wrote, WroteAct}
 use Rattle.ppd_check_names.proofs.Found.First.{first-swap}
 use Rattle.ppd_check_stmts.proofs.Table.Writing.{wrote_join}
@@ -56,3 +57,23 @@ hidden_return site p old new cell v u w x r s t e d a b =
     (wrote_join site.body site.parent (act p (put old.scopes old.cells v) done) (act p (C.give_back (Some (T.local old.cells))) done) (value_faults old.scopes v) [] u w x r s t
     (put_old site p old new cell v u w r s e d a)
     (subst (λ k. WroteAct site p (C.give_back (Some (T.local k))) [] w x s t) d b))
+
+-- A call's value and what a channel gives come straight into a local scalar, or through a hidden one.
+
+pub through_result : (m : Spot) (v : Value) (x : Name) (args : List Formula) (f : Frame) → v ≡ result x args → through_acts (local_cell m) m v f ≡ store_acts m v f
+through_result m v x args f e = ap (λ (w : Value). through_acts (local_cell m) m w f) e ∙ go m ∙ sym (ap (λ (w : Value). store_acts m w f) e)
+  where
+    go : (n : Spot) → through_acts (local_cell n) n (result x args) f ≡ store_acts n (result x args) f
+    go (C.local c) = refl
+    go (C.local_at b l i) = refl
+    go (C.shared c) = refl
+    go (C.shared_at b l i) = refl
+
+pub through_received : (m : Spot) (v : Value) (x : Name) (f : Frame) → v ≡ received x → through_acts (local_cell m) m v f ≡ store_acts m v f
+through_received m v x f e = ap (λ (w : Value). through_acts (local_cell m) m w f) e ∙ go m ∙ sym (ap (λ (w : Value). store_acts m w f) e)
+  where
+    go : (n : Spot) → through_acts (local_cell n) n (received x) f ≡ store_acts n (received x) f
+    go (C.local c) = refl
+    go (C.local_at b l i) = refl
+    go (C.shared c) = refl
+    go (C.shared_at b l i) = refl
