@@ -204,7 +204,8 @@ pub fn write_return_value<L: Ledger>(
 ) -> Result<(), Memory>
     requires within { IsValue here.level.source.nodes.now value }
     ensures wrote { OnOk result (WroteSimple here.entry.level.site (give_back here.entry.place (Some (value_said_by
-        here.entry.level.source.nodes.now value.entry))) frame.old out.old.table out.new.table out.old.row out.new.row) }
+        here.entry.level.source.nodes.now value.entry))) frame.old out.old.table out.new.table out.old.row
+        out.new.row) }
     ensures frame { OnOk result (frame.new ≡ after (give_back here.entry.place (Some (value_said_by
         here.entry.level.source.nodes.now value.entry))) frame.old) }
     ensures cost { steps.new ≤ steps.old + 11 * value_nodes here.entry.level.source.nodes.now
