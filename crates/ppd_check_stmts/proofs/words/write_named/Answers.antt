@@ -1,4 +1,5 @@
-use Rattle.std.proofs.Common.{◌∙◌, sym, ap, subst, arith}
+use Rattle.std.proofs.Common.{◌≡◌, ◌∙◌, OnOk, sym, ap, subst, arith}
+use Rattle.ppd_check_names.specs.Reading.{Phrase}
 use Rattle.ppd_check_names.specs.Nodes.{phrase_of, phrases_below}
 use Rattle.ppd_check_stmts.specs.Plain.{plain_statement}
 use Rattle.ppd_check_stmts.specs.Statements.{after_row}
@@ -18,3 +19,27 @@ returns-in_default g c =
       frame = ap (λ r. after_row r c.args.frame.now) e;
       cost = omega arith;
     }
+
+pub returns-in-Change-clause-wrote : goal.returns-in-Change-clause-wrote
+returns-in-Change-clause-wrote g c =
+    let ns = c.args.level.source.nodes.now in
+    let ps = phrases_below ns c.args.id in
+    subst (λ (p : Phrase). OnOk c.write_changed.result (WroteRow c.args.level.site (plain_statement p ps) c.args.frame.now c.args.out.now.table c.write_changed.new.out.table c.args.out.now.row c.write_changed.new.out.row)) (sym (c.in-Some.ensures.said ∙ c.in-Change.ensures.said)) c.write_changed.ensures.wrote
+
+pub returns-in-Call-clause-wrote : goal.returns-in-Call-clause-wrote
+returns-in-Call-clause-wrote g c =
+    let ns = c.args.level.source.nodes.now in
+    let ps = phrases_below ns c.args.id in
+    subst (λ (p : Phrase). OnOk c.write_called.result (WroteRow c.args.level.site (plain_statement p ps) c.args.frame.now c.args.out.now.table c.write_called.new.out.table c.args.out.now.row c.write_called.new.out.row)) (sym (c.in-Some.ensures.said ∙ c.in-Call.ensures.said)) c.write_called.ensures.wrote
+
+pub returns-in-Litem-clause-wrote : goal.returns-in-Litem-clause-wrote
+returns-in-Litem-clause-wrote g c =
+    let ns = c.args.level.source.nodes.now in
+    let ps = phrases_below ns c.args.id in
+    subst (λ (p : Phrase). OnOk c.write_local_item.result (WroteRow c.args.level.site (plain_statement p ps) c.args.frame.now c.args.out.now.table c.write_local_item.new.out.table c.args.out.now.row c.write_local_item.new.out.row)) (sym (c.in-Some.ensures.said ∙ c.in-Litem.ensures.said)) c.write_local_item.ensures.wrote
+
+pub returns-in-Litem-clause-frame : goal.returns-in-Litem-clause-frame
+returns-in-Litem-clause-frame g c =
+    let ns = c.args.level.source.nodes.now in
+    let ps = phrases_below ns c.args.id in
+    subst (λ (p : Phrase). OnOk c.write_local_item.result (c.write_local_item.new.frame ≡ after_row (plain_statement p ps) c.args.frame.now)) (sym (c.in-Some.ensures.said ∙ c.in-Litem.ensures.said)) c.write_local_item.ensures.frame
