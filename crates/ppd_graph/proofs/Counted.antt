@@ -15,7 +15,7 @@ use Rattle.ppd_model.specs.Synchronizations.{Sync}
 use Rattle.ppd_ast.specs.declared.limits.TheConstants.{MOST_NAMED}
 use Rattle.ppd_graph.specs.declared.paired.Paired.{Paired}
 use Rattle.ppd_graph.specs.declared.placed.Placed.{Placed}
-use Rattle.ppd_graph.specs.Partners.{pairs_of, partner_of}
+use Rattle.ppd_graph.specs.Partners.{listed, pairs_of, partner_of}
 use Rattle.ppd_graph.specs.Refusals.{placed_from}
 use Rattle.ppd_graph.proofs.Vocabulary.{placed_lists}
 use Rattle.ppd_graph.specs.Spending.{entries_in, graph_cost, list_cost, pairing_cost, pass_cost, times_cost}
@@ -81,6 +81,19 @@ placed_more lists p d now new all lt h e =
 pub mapped_more : {A B : Type 0} (f : A → B) (xs : List A) (i : ℕ) (d : A) (now new all : List B) → i < length xs → now ++ map f (drop i xs) ≡ all → new ≡ now ++ f (get_or xs i d) ∷ [] → new ++ map f (drop (i + 1) xs) ≡ all
 mapped_more f xs i d now new all lt h e =
     ap (λ r. r ++ map f (drop (i + 1) xs)) e ∙ append_assoc now (f (get_or xs i d) ∷ []) (map f (drop (i + 1) xs)) ∙ ap (λ ys. now ++ map f ys) (sym (drop_more xs i d lt)) ∙ h
+
+-- the partners of one more entry
+pub paired_more : {B : Type 0} (g : Sync → B) (es : List Entry) (i : ℕ) (e : Entry) (now new all : List B) → i < length es → e ≡ get_or es i e → now ++ map g (filter_map sync_in (drop i es)) ≡ all → new ≡ now ++ map g (listed (sync_in e))
+    → new ++ map g (filter_map sync_in (drop (i + 1) es)) ≡ all
+paired_more g es i e now new all lt at h more =
+    let rest : List Entry = drop (i + 1) es in
+    ap (λ r. r ++ map g (filter_map sync_in rest)) more ∙ append_assoc now (map g (listed (sync_in e))) (map g (filter_map sync_in rest))
+    ∙ ap (λ r. now ++ r) (joined (sync_in e) (filter_map sync_in rest))
+    ∙ ap (λ ys. now ++ map g (filter_map sync_in ys)) (ap (λ x. x ∷ rest) at ∙ sym (drop_more es i e lt)) ∙ h
+  where
+    joined : (o : Option Sync) (ss : List Sync) → map g (listed o) ++ map g ss ≡ map g (cons_option o ss)
+    joined None ss = refl
+    joined (Some s) ss = refl
 
 pub mapped_twice : {A B C : Type 0} (g : B → C) (f : A → B) (xs : List A) (i : ℕ) (d : A) (now new all : List C) → i < length xs → now ++ map g (map f (drop i xs)) ≡ all → new ≡ now ++ g (f (get_or xs i d)) ∷ []
     → new ++ map g (map f (drop (i + 1) xs)) ≡ all

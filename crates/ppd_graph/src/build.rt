@@ -1,15 +1,15 @@
-ghost use Rattle.std.specs.Prelude.{◌≡◌, ◌<◌, ◌≤◌, ◌+◌, ◌*◌, [], None, length, IsTrue, IfNone, IfOk, OnOk, IfErr, ◌↔◌};
+ghost use Rattle.std.specs.Prelude.{◌≡◌, ◌<◌, ◌≤◌, ◌+◌, ◌*◌, [], None, length, map, IsTrue, IfNone, IfOk, OnOk, IfErr, ◌↔◌};
 ghost use Rattle.ppd_graph.specs.ByNumber.{KeepsAll};
 ghost use Rattle.ppd_graph.specs.Graphs.{IsGraphOf};
 ghost use Rattle.ppd_model.specs.RecordedSets.{record_in};
 ghost use Rattle.ppd_graph.specs.LogRecord.{AreFew};
 ghost use Rattle.ppd_graph.specs.Partners.{pairs_of};
 ghost use Rattle.ppd_graph.specs.Spending.{graph_cost, pairing_cost};
-ghost use Rattle.ppd_graph.specs.Refusals.{AreNumbered, AreOrdered, IsRefused, IsRefusedFor, has_object as has_object_in, placed as placed_in, twice_after, without_object};
+ghost use Rattle.ppd_graph.specs.Refusals.{AreNumbered, AreOrdered, IsRefused, IsRefusedFor, has_object as has_object_in, missing as missing_in, placed as placed_in, sync_placed, twice_after, without_object};
 
 use crate::by_number::{ByNumber, keep_all};
 use crate::greatest::Greatest;
-use crate::missing::Numbers;
+use crate::missing::{Missing, Numbers};
 use crate::paired::Paired;
 use crate::partners::all_pairs;
 use crate::placed::{Placed, all_placed};
@@ -57,6 +57,30 @@ fn first_without_object<L: Ledger>(
     None
 }
 
+// The first synchronization that is missing.
+fn missing_among<L: Ledger>(
+    alloc: Global,
+    program: &Program,
+    nodes: &ByNumber,
+    placed: &[Placed],
+    steps: &mut Steps<L>,
+) -> Result<Option<Missing>, Memory>
+    requires sems { length program.now.sems ≤ MOST_NAMED }
+    requires chans { length program.now.chans ≤ MOST_NAMED }
+    requires kept { KeepsAll nodes.now placed.now }
+    ensures cost { IfOk result (λ found. found ≡ None → steps.new
+        ≤ steps.old + 10 * length placed.now + 5 * MOST_NAMED + length program.now.sems + length program.now.chans) }
+    ensures found { IfOk result (λ found. found ≡ missing_in program.now (map sync_placed placed.now)) }
+{
+    let greatest = Greatest::among(alloc, placed, steps)?;
+    let numbers = Numbers {
+        program,
+        nodes,
+        greatest: &greatest,
+    };
+    Ok(numbers.missing(steps))
+}
+
 // The last of the three tests: whether a synchronization is missing. The maps are borrowed, so that each way
 // out has little to let go.
 fn check_complete<L: Ledger>(
@@ -77,13 +101,7 @@ fn check_complete<L: Ledger>(
     ensures passed { OnOk result (AreNumbered program.now placed.now) }
     ensures refused { IfErr result (IsRefusedFor program.now placed.now) }
 {
-    let greatest = Greatest::among(alloc, placed, steps)?;
-    let numbers = Numbers {
-        program,
-        nodes,
-        greatest: &greatest,
-    };
-    if let Some((kind, object, number)) = numbers.missing(steps) {
+    if let Some((kind, object, number)) = missing_among(alloc, program, nodes, placed, steps)? {
         return Err(BadSync::NumberMissing(kind, object, number));
     }
     Ok(())

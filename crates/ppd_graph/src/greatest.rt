@@ -19,7 +19,7 @@ pub(crate) struct Greatest {
     completions: Ids,
 }
 
-#[tactic(auto, using(crate::proofs::Searched::zero_more))]
+// So many numbers, all 0.
 fn no_numbers<L: Ledger>(alloc: Global, count: usize, steps: &mut Steps<L>) -> Result<Ids, Memory>
     ensures cost { steps.new ≤ steps.old + count }
     ensures taken { OnOk result (steps.new ≡ steps.old + count) }
@@ -69,6 +69,30 @@ fn greatest_of<L: Ledger>(
     Ok(numbers)
 }
 
+// The greatest numbers of two kinds of which each answers the other.
+#[derive(Drop)]
+struct Sides {
+    first: Ids,
+    second: Ids,
+}
+
+fn sides_of<L: Ledger>(
+    alloc: Global,
+    placed: &[Placed],
+    kind: SyncKind,
+    other: SyncKind,
+    steps: &mut Steps<L>,
+) -> Result<Sides, Memory>
+    ensures cost { steps.new ≤ steps.old + 2 * (MOST_NAMED + length placed.now) }
+    ensures taken { OnOk result (steps.new ≡ steps.old + 2 * (MOST_NAMED + length placed.now)) }
+    ensures first { IfOk result (λ sides. AreGreatest kind placed.now sides.first) }
+    ensures second { IfOk result (λ sides. AreGreatest other placed.now sides.second) }
+{
+    let first = greatest_of(alloc, placed, kind, steps)?;
+    let second = greatest_of(alloc, placed, other, steps)?;
+    Ok(Sides { first, second })
+}
+
 fn number_at(numbers: &Ids, object: u8) -> u32
     ensures { result ≡ get_or numbers.now object 0 }
 {
@@ -88,16 +112,14 @@ impl Greatest {
         ensures taken { OnOk result (steps.new ≡ steps.old + 5 * (MOST_NAMED + length placed.now)) }
         ensures greatest { IfOk result (AllGreatest placed.now) }
     {
-        let takes = greatest_of(alloc, placed, SyncKind::P, steps)?;
-        let gives = greatest_of(alloc, placed, SyncKind::V, steps)?;
-        let sends = greatest_of(alloc, placed, SyncKind::Send, steps)?;
-        let receives = greatest_of(alloc, placed, SyncKind::Recv, steps)?;
+        let sems = sides_of(alloc, placed, SyncKind::P, SyncKind::V, steps)?;
+        let chans = sides_of(alloc, placed, SyncKind::Send, SyncKind::Recv, steps)?;
         let completions = greatest_of(alloc, placed, SyncKind::Done, steps)?;
         Ok(Greatest {
-            takes,
-            gives,
-            sends,
-            receives,
+            takes: sems.first,
+            gives: sems.second,
+            sends: chans.first,
+            receives: chans.second,
             completions,
         })
     }
