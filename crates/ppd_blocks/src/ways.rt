@@ -112,12 +112,9 @@ pub(crate) fn unit_rows(alloc: Global, program: &Program, loops: &[u32]) -> Resu
 fn first_of(program: &Program, body: u16) -> Option<u32>
     ensures { result ≡ slice_get (body_numbered program.now body).top 0 }
 {
-    match program.bodies.as_slice().get(body as usize) {
+    match program.body(body) {
         None => None,
-        Some(found) => match found.top.as_slice().first() {
-            None => None,
-            Some(number) => Some(*number),
-        },
+        Some(found) => found.top.get(0).copied(),
     }
 }
 
