@@ -1,5 +1,6 @@
 -- The steps of a graph, added up.
-use Rattle.std.proofs.Common.{◌≡◌, ℕ, zero, suc, ◌+◌, ◌*◌, ◌<◌, ◌≤◌, List, [], ◌∷◌, ◌++◌, refl, ap, sym, ◌∙◌, arith, inl, inr, length, drop, filter_map, get_or, map, Option, Some, None}
+use Rattle.std.proofs.Common.{◌≡◌, ℕ, zero, suc, ◌+◌, ◌*◌, ◌<◌, ◌≤◌, List, [], ◌∷◌, ◌++◌, refl, ap, sym, ◌∙◌, arith, inl, inr, length, drop, filter_map, get_or, map, Option, Some, None, Bool, true, false}
+use Rattle.std.specs.Prelude.{if◌then◌else◌}
 use Rattle.std.proofs.lemmas.Bool.{cases_eq}
 use Rattle.std.specs.List.{cons_option, range_with_len, sum_by}
 use Rattle.std.proofs.Math.Nat.{add-mul, mul-add}
@@ -81,6 +82,11 @@ placed_more lists p d now new all lt h e =
 pub mapped_more : {A B : Type 0} (f : A → B) (xs : List A) (i : ℕ) (d : A) (now new all : List B) → i < length xs → now ++ map f (drop i xs) ≡ all → new ≡ now ++ f (get_or xs i d) ∷ [] → new ++ map f (drop (i + 1) xs) ≡ all
 mapped_more f xs i d now new all lt h e =
     ap (λ r. r ++ map f (drop (i + 1) xs)) e ∙ append_assoc now (f (get_or xs i d) ∷ []) (map f (drop (i + 1) xs)) ∙ ap (λ ys. now ++ map f ys) (sym (drop_more xs i d lt)) ∙ h
+
+-- one more, or none
+pub one_or_none : (b : Bool) (s n : ℕ) → n ≡ (if b then s + 1 else s) → n ≤ s + 1
+one_or_none true s n e = omega (arith, e)
+one_or_none false s n e = omega (arith, e)
 
 -- the partners of one more entry
 pub paired_more : {B : Type 0} (g : Sync → B) (es : List Entry) (i : ℕ) (e : Entry) (now new all : List B) → i < length es → e ≡ get_or es i e → now ++ map g (filter_map sync_in (drop i es)) ≡ all → new ≡ now ++ map g (listed (sync_in e))

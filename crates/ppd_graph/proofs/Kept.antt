@@ -2,7 +2,7 @@
 use Rattle.std.proofs.Common.{◌≡◌, ℕ, ◌+◌, ◌<◌, ◌≤◌, List, [], ◌∷◌, length, drop, get_or, Option, Some, None, Result, Ok, Err, OnOk, Bool, true, false, refl, ap, sym, subst, ◌∙◌, true≢false, ◌||◌}
 use Rattle.std.specs.Prelude.{IsTrue, is_some, if◌then◌else◌}
 use Rattle.std.specs.List.{list_any}
-use Rattle.std.proofs.lemmas.Bool.{or_parts}
+use Rattle.std.proofs.lemmas.Bool.{cond-false, cond-true, or_parts}
 use Rattle.std.proofs.lemmas.List.{drop_all, drop_more}
 use Rattle.ppd_ast.specs.declared.program.Program.{Program}
 use Rattle.ppd_ast.specs.declared.status.SyncKind.{SyncKind}
@@ -16,7 +16,7 @@ use Rattle.ppd_graph.specs.declared.by_number.ByNumber.{ByNumber}
 use Rattle.ppd_graph.specs.declared.placed.Placed.{Placed}
 use Rattle.ppd_graph.specs.ByNumber.{KeepsAll, KeepsMore, KeepsNone, is_kept, is_twice, node_among, node_kept}
 use Rattle.ppd_graph.proofs.Vocabulary.{twice_by}
-use Rattle.ppd_graph.specs.Refusals.{is_from_start, sync_placed, twice_after}
+use Rattle.ppd_graph.specs.Refusals.{has_object, is_from_start, sync_placed, twice_after, without_object}
 use Rattle.ppd_model.specs.SameSyncs.{same_sync}
 use Rattle.ppd_model.proofs.SameSyncs.{same_is, same_self}
 
@@ -129,3 +129,31 @@ module _ (program : Program) where
   unfolding KeepsFor
   kept_whole t i xs past kept kind o n =
       sym (or_none (node_kept t kind o n)) ∙ ap (λ ys. or_else (node_kept t kind o n) (node_among (sync kind o n) ys)) (sym (drop_all i xs past)) ∙ kept kind o n
+
+  -- one whose number stood before is the first of those
+  pub twice_here : (t : ByNumber) (i : ℕ) (xs : List Placed) (d : Placed) (all : Option At) (stood : Bool) → i < length xs → stood ≡ is_twice program t (get_or xs i d) → stood ≡ true → twice_by program (is_kept t) (drop i xs) ≡ all
+      → all ≡ Some (get_or xs i d).at
+  twice_here t i xs d all stood lt is twice inv =
+      let x = get_or xs i d in
+      sym inv ∙ ap (twice_by program (is_kept t)) (drop_more xs i d lt)
+      ∙ cond-true (is_twice program t x) (Some x.at) (twice_by program (λ s. same_sync (sync_placed x) s || is_kept t s) (drop (i + 1) xs)) (sym is ∙ twice)
+
+  pub twice_none : (t : ByNumber) (i : ℕ) (xs : List Placed) (all : Option At) → length xs ≤ i → twice_by program (is_kept t) (drop i xs) ≡ all → all ≡ None
+  twice_none t i xs all past inv = sym inv ∙ ap (twice_by program (is_kept t)) (drop_all i xs past)
+
+  -- ---- the first without its object
+
+  pub objects_more : (i : ℕ) (xs : List Placed) (d : Placed) (there : Bool) (all : Option At) → i < length xs → there ≡ has_object program (get_or xs i d).kind (get_or xs i d).object → there ≡ true → without_object program (drop i xs) ≡ all
+      → without_object program (drop (i + 1) xs) ≡ all
+  objects_more i xs d there all lt is found inv =
+      let x = get_or xs i d in
+      sym (cond-true (has_object program x.kind x.object) (without_object program (drop (i + 1) xs)) (Some x.at) (sym is ∙ found)) ∙ sym (ap (without_object program) (drop_more xs i d lt)) ∙ inv
+
+  pub objects_here : (i : ℕ) (xs : List Placed) (d : Placed) (there : Bool) (all : Option At) → i < length xs → there ≡ has_object program (get_or xs i d).kind (get_or xs i d).object → there ≡ false → without_object program (drop i xs) ≡ all
+      → Some (get_or xs i d).at ≡ all
+  objects_here i xs d there all lt is none inv =
+      let x = get_or xs i d in
+      sym (cond-false (has_object program x.kind x.object) (without_object program (drop (i + 1) xs)) (Some x.at) (sym is ∙ none)) ∙ sym (ap (without_object program) (drop_more xs i d lt)) ∙ inv
+
+  pub objects_all : (i : ℕ) (xs : List Placed) (all : Option At) → length xs ≤ i → without_object program (drop i xs) ≡ all → None ≡ all
+  objects_all i xs all past inv = sym (ap (without_object program) (drop_all i xs past)) ∙ inv

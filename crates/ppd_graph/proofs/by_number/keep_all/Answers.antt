@@ -1,5 +1,5 @@
 use Rattle.std.proofs.Common.{arith}
-use Rattle.ppd_graph.proofs.Kept.{kept_first, kept_more, kept_whole, twice_first}
+use Rattle.ppd_graph.proofs.Kept.{kept_first, kept_more, kept_whole, twice_first, twice_here, twice_none}
 use Rattle.ppd_graph.proofs.by_number.keep_all.Goals as goal
 
 pub loop-one-init : goal.loop-one-init
@@ -17,3 +17,9 @@ loop-one-preserved g c =
 
 pub returns-clause-kept : goal.returns-clause-kept
 returns-clause-kept g c = kept_whole c.args.program.now c.loop-one.numbers c.loop-one.one-index c.args.placed.now c.loop-one-test.false c.loop-one.invariant.kept
+
+pub returns-clause-once : goal.returns-clause-once
+returns-clause-once g c = twice_none c.args.program.now c.loop-one.numbers c.loop-one.one-index c.args.placed.now _ c.loop-one-test.false c.loop-one.invariant.twice
+
+pub returns-then-is_twice-clause-twice : goal.returns-then-is_twice-clause-twice
+returns-then-is_twice-clause-twice g c = twice_here c.args.program.now c.loop-one.numbers c.loop-one.one-index c.args.placed.now _ _ c.is_twice.result c.loop-one-test.true c.is_twice.ensures c.if-is_twice.true c.loop-one.invariant.twice
