@@ -43,6 +43,17 @@ pub ok_as : {X E : Type 0} (r : Result X E) (a b : X) → a ≡ b → IfOk r (λ
 ok_as (Ok x) a b e h = h ∙ e
 ok_as (Err x) a b e h = tt
 
+-- ---- what a test lets through
+
+pub taken_yes : (test : ℕ → Bool) (xs : List ℕ) (i : ℕ) → i < length xs → test (get_or xs i 0) ≡ true → filter test (take i xs) ++ get_or xs i 0 ∷ [] ≡ filter test (take (i + 1) xs)
+taken_yes test xs i lt e =
+    sym (ap (filter test) (take_more xs i 0 lt) ∙ filter-append test (take i xs) (get_or xs i 0 ∷ []) ∙ ap (λ b. filter test (take i xs) ++ cond b (get_or xs i 0 ∷ []) []) e)
+
+pub taken_no : (test : ℕ → Bool) (xs : List ℕ) (i : ℕ) → i < length xs → test (get_or xs i 0) ≡ false → filter test (take i xs) ≡ filter test (take (i + 1) xs)
+taken_no test xs i lt e =
+    sym (ap (filter test) (take_more xs i 0 lt) ∙ filter-append test (take i xs) (get_or xs i 0 ∷ []) ∙ ap (λ b. filter test (take i xs) ++ cond b (get_or xs i 0 ∷ []) []) e
+    ∙ append-nil (filter test (take i xs)))
+
 -- ---- ranges
 
 pub range_yes : (test : ℕ → Bool) (a k : ℕ) → a ≤ k → test k ≡ true → filter test (range_with_len a (k + 1 - a)) ≡ filter test (range_with_len a (k - a)) ++ k ∷ []

@@ -1,8 +1,11 @@
-use Rattle.std.proofs.Common.{◌∙◌, ap, false}
+use Rattle.std.proofs.Common.{◌∙◌, ap, false, subst, sym}
 use Rattle.ppd_ast.specs.Lookups.{body_of, body_numbered}
-use Rattle.ppd_sets.specs.Used.{reads_at, vars_met}
+use Rattle.ppd_sets.specs.Used.{AreSmall, reads_at, vars_met}
 use Rattle.ppd_deps.proofs.Naming.{locals_small, met_as}
 use Rattle.ppd_deps.proofs.tables.local_row.Goals as goal
+
+pub vars_in-requires : goal.vars_in-requires
+vars_in-requires c = subst AreSmall (sym c.locals.ensures) (locals_small c.args.program.now c.body_at.result c.requires)
 
 pub returns : goal.returns
 returns c =
