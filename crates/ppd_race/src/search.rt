@@ -210,8 +210,7 @@ pub fn races_in<L: Ledger>(
     ensures least { IfOk result (λ races. steps.old + search_least graph.now + length races ≤ steps.new) }
 {
     let rows = busy_in(alloc, graph, steps)?;
-    let races = all_races(alloc, graph, rows.as_slice(), steps)?;
-    Ok(races)
+    all_races(alloc, graph, rows.as_slice(), steps)
 }
 
 // The races that threads find, with steps that nobody reads.
@@ -229,8 +228,7 @@ fn races_from_blank<L: Ledger, R: Threads + Sync>(
     let mut steps: Steps<L> = Steps::new(blank);
     let rows = busy_in(alloc, graph, &mut steps)?;
     let parts = races_of_processes(rt, alloc, graph, rows.as_slice())?;
-    let races = joined(alloc, parts, &mut steps)?;
-    Ok(races)
+    joined(alloc, parts, &mut steps)
 }
 
 /// The races of a graph: every pair of internal edges of two processes, neither before the other, with each cell that

@@ -1,5 +1,6 @@
-use Rattle.std.proofs.Common.{ap, arith}
+use Rattle.std.proofs.Common.{◌≡◌, ap, arith, length, subst}
 use Rattle.std.proofs.lemmas.List.Sums.{sum_by-take-le, sum_by_more}
+use Rattle.ppd_race.specs.Busy.{IsBusyPart}
 use Rattle.ppd_race.specs.Spending.{set_cost}
 use Rattle.ppd_race.proofs.BusyRows.{part_more}
 use Rattle.ppd_race.proofs.rows.busy_row.Goals as goal
@@ -14,6 +15,11 @@ loop-edge-preserved g c =
       least = omega (arith, c.tick.ensures, c.in_ok-take_edge.ensures.on, c.loop-edge.invariant.least);
       spent = omega (arith, more, same, c.tick.ensures, c.in_ok-take_edge.ensures.cost, c.loop-edge.invariant.spent);
     }
+
+pub returns-clause-busy : goal.returns-clause-busy
+returns-clause-busy g c =
+    let all : c.loop-edge.edge ≡ length c.args.own.now = omega (arith, c.loop-edge-test.false, c.loop-edge.auto.edge-end) in
+    subst (λ n. IsBusyPart c.args.process c.args.own.now n c.loop-edge.row) all c.loop-edge.invariant.part
 
 pub returns-clause-size : goal.returns-clause-size
 returns-clause-size g c = let less = sum_by-take-le set_cost c.args.own.now c.loop-edge.edge in omega (arith, less, c.loop-edge.invariant.size)

@@ -1,11 +1,19 @@
-use Rattle.std.proofs.Common.{◌∙◌, ap, arith}
+use Rattle.std.proofs.Common.{◌≡◌, ◌<◌, ◌^◌, ◌∙◌, [], List, ap, arith, length, subst, sym}
 use Rattle.std.specs.List.{sum_by}
 use Rattle.std.proofs.lemmas.List.{take_all}
 use Rattle.std.proofs.lemmas.List.Sums.{sum_by-take-le, sum_by_more, sum_by_push}
+use Rattle.ppd_model.proofs.Lists.{get_or_any}
+use Rattle.ppd_race_found.specs.EdgeSets.{EdgeSets}
 use Rattle.ppd_race_found.specs.Search.{row_cost}
 use Rattle.ppd_race.specs.Spending.{sets_cost, sets_least}
 use Rattle.ppd_race.proofs.BusyRows.{rows_more}
 use Rattle.ppd_race.proofs.rows.busy_rows.Goals as goal
+
+pub busy_row-requires : goal.busy_row-requires
+busy_row-requires g c =
+    subst (λ (own : List EdgeSets). length own < 2 ^ 32)
+    (sym (c.as_slice.ensures ∙ c.index-sets-process.is ∙ get_or_any c.args.sets.now c.loop-process.process c.index-sets-process.result [] c.loop-process-test.true))
+    (c.requires.edges c.loop-process.process)
 
 pub loop-process-preserved : goal.loop-process-preserved
 loop-process-preserved g c =
@@ -23,6 +31,11 @@ loop-process-preserved g c =
       least = omega (arith, more_least, same_least, c.tick.ensures, c.in_ok-row.ensures.least, c.loop-process.invariant.least);
       spent = omega (arith, more, same, c.tick.ensures, c.in_ok-row.ensures.cost, c.loop-process.invariant.spent);
     }
+
+pub returns-clause-busy : goal.returns-clause-busy
+returns-clause-busy g c =
+    let all : c.loop-process.process ≡ length c.args.sets.now = omega (arith, c.loop-process-test.false, c.loop-process.auto.process-end) in
+    record { processes = c.loop-process.invariant.long ∙ all; row = λ q lt. c.loop-process.invariant.row q (subst (λ n. q < n) c.loop-process.invariant.long lt) }
 
 pub returns-clause-size : goal.returns-clause-size
 returns-clause-size g c = let less = sum_by-take-le sets_cost c.args.sets.now c.loop-process.process in omega (arith, less, c.loop-process.invariant.size)
