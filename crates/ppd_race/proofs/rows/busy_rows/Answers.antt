@@ -9,6 +9,18 @@ use Rattle.ppd_race.specs.Spending.{sets_cost, sets_least}
 use Rattle.ppd_race.proofs.BusyRows.{rows_more}
 use Rattle.ppd_race.proofs.rows.busy_rows.Goals as goal
 
+pub loop-process-init : goal.loop-process-init
+loop-process-init g c = record {
+  long = ap length c.new-rows.ensures;
+  row = λ q lt. absurd (omega (arith, lt));
+  size = (let none = ap (sum_by row_cost) c.new-rows.ensures in omega (arith, none));
+  least = omega arith;
+  spent = omega arith;
+}
+
+pub overflow_cast-process : goal.overflow_cast-process
+overflow_cast-process g c = omega (arith, c.loop-process-test.true, c.requires.processes)
+
 pub busy_row-requires : goal.busy_row-requires
 busy_row-requires g c =
     subst (λ (own : List EdgeSets). length own < 2 ^ 32)
