@@ -14,7 +14,7 @@ use ppd_model::EdgeId;
 fn writes_cell(writes: &[u16], cell: u16) -> bool
     ensures { result ≡ has writes.now cell }
 {
-    writes.iter().any(|written| *written == cell)
+    writes.contains(&cell)
 }
 
 fn is_earlier(a: EdgeId, b: EdgeId) -> bool

@@ -17,7 +17,10 @@ pub fn number(n: usize) -> Result<u32, Memory>
     ensures ok { IfOk result (λ small. small ≡ n) }
     ensures err { OnErr result (2 ^ 32 ≤ n) }
 {
-    u32::try_from(n).map_err(|_| Memory)
+    match u32::try_from(n) {
+        Ok(small) => Ok(small),
+        Err(_) => Err(Memory),
+    }
 }
 
 /// The items of an interval of a process, by the replay of that interval from its own log, whatever is kept. An
