@@ -59,11 +59,12 @@ fn receives(code: &Code, wanted: LocalCell, event: &Event, leaf: Option<LeafCall
 fn writes(wanted: LocalCell, event: &Event) -> bool
     ensures { result ≡ list_any (λ a. is_local_of wanted.frame wanted.cell a.spot) event.now.writes }
 {
-    event
-        .writes
-        .as_slice()
-        .iter()
-        .any(|access| is_local(wanted, access.spot))
+    for access in event.writes.as_slice() {
+        if is_local(wanted, access.spot) {
+            return true;
+        }
+    }
+    false
 }
 
 /// Whether the event begins the activation that the cell is of.
@@ -77,7 +78,12 @@ fn begins_frame(code: &Code, wanted: LocalCell, event: &Event) -> bool
 pub(crate) fn has_cell(cells: &[u16], cell: u16) -> bool
     ensures { result ≡ is_in cell cells.now }
 {
-    cells.iter().any(|found| cell == *found)
+    for found in cells {
+        if cell == *found {
+            return true;
+        }
+    }
+    false
 }
 
 /// Puts a loop behind these, which are seen from the last.
