@@ -65,3 +65,22 @@ returns-clause-tree g c =
     let a = state_of c.loop-token.wants.items c.loop-token.grove in
     let end : i ≡ length ts = search rules in
     whole ts i c.loop-token.count a (shapes_of c.finish.new.grove.nodes.items c.finish.new.grove.roots.items) end c.loop-token.invariant.read c.in_ok-finish.ensures.ends
+
+pub returns-in_err-wants-clause-cost : goal.returns-in_err-wants-clause-cost
+returns-in_err-wants-clause-cost g c = omega arith
+
+pub returns-in_err-wants-clause-room : goal.returns-in_err-wants-clause-room
+returns-in_err-wants-clause-room g c = omega arith
+
+pub returns-in_err-wants-clause-later : goal.returns-in_err-wants-clause-later
+returns-in_err-wants-clause-later g c = omega arith
+
+pub returns-in_err-count-clause-cost : goal.returns-in_err-count-clause-cost
+returns-in_err-count-clause-cost g c = omega (arith, c.in_err-count.ensures.cost, c.loop-token.invariant.spent, c.loop-token-test.true)
+
+pub returns-in_err-count-clause-room : goal.returns-in_err-count-clause-room
+returns-in_err-count-clause-room g c =
+    omega (arith, c.in_err-count.ensures.room, c.in_err-count.ensures.cost, c.loop-token.invariant.room, c.loop-token.invariant.spent, c.loop-token-test.true)
+
+pub returns-in_err-count-clause-later : goal.returns-in_err-count-clause-later
+returns-in_err-count-clause-later g c = omega (arith, c.in_err-count.ensures.later, c.loop-token.invariant.later)
