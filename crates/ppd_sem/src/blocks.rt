@@ -10,7 +10,7 @@ use ppd_ast::{BlockKind, Nums, Plan, Program, Start};
 pub fn block_kind(plan: &Plan, block: u16) -> BlockKind
     ensures { result ≡ kind_of_block plan.now block }
 {
-    match plan.blocks.as_slice().get(block as usize) {
+    match plan.blocks.get(block as usize) {
         Some(block) => block.kind,
         None => BlockKind::Process(0),
     }
@@ -35,7 +35,7 @@ pub(crate) fn block_body(program: &Program, kind: BlockKind) -> u16
     match kind {
         BlockKind::Function(body) => body,
         BlockKind::Process(body) => body,
-        BlockKind::Loop(stmt) => match program.stmts.as_slice().get(stmt as usize) {
+        BlockKind::Loop(stmt) => match program.stmts.get(stmt as usize) {
             Some(stmt) => stmt.body,
             None => 0,
         },
@@ -46,7 +46,7 @@ pub(crate) fn block_body(program: &Program, kind: BlockKind) -> u16
 pub fn prelog_cells(plan: &Plan, block: u16) -> &[u16]
     ensures { result.now ≡ prelog_cells_of plan.now block }
 {
-    match plan.blocks.as_slice().get(block as usize) {
+    match plan.blocks.get(block as usize) {
         Some(block) => block.prelog.as_slice(),
         None => &[],
     }
@@ -56,7 +56,7 @@ pub fn prelog_cells(plan: &Plan, block: u16) -> &[u16]
 pub fn postlog_cells(plan: &Plan, block: u16) -> &[u16]
     ensures { result.now ≡ postlog_cells_of plan.now block }
 {
-    match plan.blocks.as_slice().get(block as usize) {
+    match plan.blocks.get(block as usize) {
         Some(block) => block.postlog.as_slice(),
         None => &[],
     }

@@ -2,6 +2,7 @@ ghost use Rattle.std.specs.Prelude.{◌≡◌, ◌+◌, ◌<◌, ◌≤◌, ◌^
 ghost use Rattle.ppd_sem.specs.Process.{cost as cost_of, values_of, within_budget as within_budget_of};
 ghost use Rattle.ppd_sem.specs.Tables.{postlog_cells, prelog_cells, returned_length as returned_length_of, unit_length as unit_length_of};
 
+use crate::blocks::{postlog_cells, prelog_cells};
 use crate::proc::{Need, Proc};
 use ppd_ast::Plan;
 
@@ -11,27 +12,21 @@ fn prelog_length(plan: &Plan, block: u16) -> u128
     ensures is { result ≡ length (prelog_cells plan.now block) }
     ensures small { result < 2 ^ 64 }
 {
-    match plan.blocks.as_slice().get(block as usize) {
-        Some(block) => block.prelog.len() as u128,
-        None => 0,
-    }
+    prelog_cells(plan, block).len() as u128
 }
 
 fn postlog_length(plan: &Plan, block: u16) -> u128
     ensures is { result ≡ length (postlog_cells plan.now block) }
     ensures small { result < 2 ^ 64 }
 {
-    match plan.blocks.as_slice().get(block as usize) {
-        Some(block) => block.postlog.len() as u128,
-        None => 0,
-    }
+    postlog_cells(plan, block).len() as u128
 }
 
 fn unit_length(plan: &Plan, unit: u16) -> u128
     ensures is { result ≡ unit_length_of plan.now unit }
     ensures small { result < 2 ^ 64 }
 {
-    match plan.units.as_slice().get(unit as usize) {
+    match plan.units.get(unit as usize) {
         Some(unit) => unit.cells.len() as u128,
         None => 0,
     }
@@ -44,7 +39,7 @@ fn returned_length(plan: &Plan, block: Option<u16>) -> u128
     let Some(block) = block else {
         return 0;
     };
-    match plan.blocks.as_slice().get(block as usize) {
+    match plan.blocks.get(block as usize) {
         Some(block) => u128::from(block.value),
         None => 0,
     }

@@ -22,7 +22,7 @@ use std::alloc::Global;
 fn ends_body(program: &Program, stmt: u32) -> bool
     ensures { result ≡ ends_body_of (kind_of program.now stmt) }
 {
-    match program.stmts.as_slice().get(stmt as usize) {
+    match program.stmts.get(stmt as usize) {
         Some(stmt) => matches!(stmt.kind, Kind::Return(_) | Kind::End),
         None => true,
     }

@@ -68,7 +68,7 @@ fn pad(values: &mut Nums, size: u16) -> Result<(), Memory>
 pub fn size_at(program: &Program, body: u16) -> u16
     ensures { result ≡ size_of program.now body }
 {
-    match program.bodies.as_slice().get(body as usize) {
+    match program.bodies.get(body as usize) {
         Some(body) => body.cells,
         None => 0,
     }

@@ -40,7 +40,7 @@ pub(crate) fn clear_top(frames: &mut Stack<Frame>, base: u16, len: u16)
 pub(crate) fn into_at(program: &Program, call: u32) -> Option<u16>
     ensures { result ≡ into_of (kind_of program.now call) }
 {
-    match program.stmts.as_slice().get(call as usize) {
+    match program.stmts.get(call as usize) {
         Some(stmt) => match stmt.kind {
             Kind::Call { into, .. } => into,
             _ => None,

@@ -46,7 +46,6 @@ pub fn valid_is_numbered()
 {}
 
 /// Each step leaves fewer steps to take, within the budget.
-#[tactic(auto, using(crate::proofs::Lawful::ends))]
 pub fn steps_end()
     ensures { StepsEnd }
 {}
@@ -73,7 +72,6 @@ pub fn offers_are_completed()
 {}
 
 /// What a process needs and what its step does depend on nothing that it printed.
-#[tactic(auto, using(crate::proofs::Printed::not_read))]
 pub fn prints_are_not_read()
     ensures { PrintsAreNotRead }
 {}

@@ -135,7 +135,7 @@ fn ending_need(plan: &Plan, body: u16) -> Need
 pub fn capacity_of(program: &Program, chan: u8) -> u8
     ensures { result ≡ capacity_of program.now chan }
 {
-    match program.chans.as_slice().get(chan as usize) {
+    match program.chans.get(chan as usize) {
         Some(chan) => chan.capacity,
         None => 0,
     }

@@ -18,7 +18,7 @@ pub(crate) fn kind_at(program: &Program, stmt: u32) -> &Kind
 pub(crate) fn top_at(program: &Program, body: u16) -> &[u32]
     ensures { result.now ≡ (body_numbered program.now body).top }
 {
-    match program.bodies.as_slice().get(body as usize) {
+    match program.bodies.get(body as usize) {
         Some(body) => body.top.as_slice(),
         None => &[],
     }

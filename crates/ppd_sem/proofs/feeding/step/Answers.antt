@@ -1,5 +1,6 @@
 use Rattle.std.proofs.Common.{◌≡◌, ◌+◌, ◌≤◌, drop, sym, subst, arith}
 use Rattle.ppd_sem.specs.Process.{cost, head_deed}
+use Rattle.ppd_sem.specs.declared.proc.Need.{Need}
 use Rattle.ppd_sem.specs.declared.proc.Proc.{Proc}
 use Rattle.ppd_sem.proofs.Paid.{need-paid}
 use Rattle.ppd_sem.proofs.Progress.{SamePurse, asked_purse}
@@ -23,3 +24,35 @@ charge-requires-in_default c =
 pub act_on_head-requires : goal.act_on_head-requires
 act_on_head-requires c =
     head_is c.args.program.now c.args.proc.now c.args.todo c.requires.program c.requires.proc c.requires.head
+
+pub charge-requires-clause-paid : goal.charge-requires-clause-paid
+charge-requires-clause-paid c =
+    subst (λ (s : Proc). s.spent + cost c.args.plan.now c.args.need ≤ s.budget) (sym c.enter.ensures)
+    (need-paid c.args.program.now c.args.plan.now c.args.proc.now c.args.need (sym c.requires.need) (λ e. absurd (cc (c.in-Enter.is, e))) (λ e. absurd (cc (c.in-Enter.is, e))))
+
+pub charge-requires-clause-steps : goal.charge-requires-clause-steps
+charge-requires-clause-steps c = subst (λ (s : Proc). s.steps ≤ s.spent) (sym c.enter.ensures) c.requires.proc.steps
+
+pub charge-requires-in-Offer-clause-paid : goal.charge-requires-in-Offer-clause-paid
+charge-requires-in-Offer-clause-paid c =
+    subst (λ (s : Proc). s.spent + cost c.args.plan.now c.args.need ≤ s.budget) (sym c.offer.ensures)
+    (need-paid c.args.program.now c.args.plan.now c.args.proc.now c.args.need (sym c.requires.need) (λ e. absurd (cc (c.in-Offer.is, e))) (λ e. absurd (cc (c.in-Offer.is, e))))
+
+pub charge-requires-in-Offer-clause-steps : goal.charge-requires-in-Offer-clause-steps
+charge-requires-in-Offer-clause-steps c = subst (λ (s : Proc). s.steps ≤ s.spent) (sym c.offer.ensures) c.requires.proc.steps
+
+pub charge-requires-in-Done-clause-paid : goal.charge-requires-in-Done-clause-paid
+charge-requires-in-Done-clause-paid c =
+    subst (λ (s : Proc). s.spent + cost c.args.plan.now c.args.need ≤ s.budget) (sym c.finish.ensures)
+    (need-paid c.args.program.now c.args.plan.now c.args.proc.now c.args.need (sym c.requires.need) (λ e. absurd (cc (c.in-Done.is, e))) (λ e. absurd (cc (c.in-Done.is, e))))
+
+pub charge-requires-in-Done-clause-steps : goal.charge-requires-in-Done-clause-steps
+charge-requires-in-Done-clause-steps c = subst (λ (s : Proc). s.steps ≤ s.spent) (sym c.finish.ensures) c.requires.proc.steps
+
+pub charge-requires-in-Trap-clause-paid : goal.charge-requires-in-Trap-clause-paid
+charge-requires-in-Trap-clause-paid c =
+    subst (λ (n : Need). c.args.proc.now.spent + cost c.args.plan.now n ≤ c.args.proc.now.budget) c.in-Trap.is
+    (need-paid c.args.program.now c.args.plan.now c.args.proc.now c.args.need (sym c.requires.need) (λ e. absurd (cc (c.in-Trap.is, e))) (λ e. absurd (cc (c.in-Trap.is, e))))
+
+pub charge-requires-in-Trap-clause-steps : goal.charge-requires-in-Trap-clause-steps
+charge-requires-in-Trap-clause-steps c = c.requires.proc.steps
