@@ -9,7 +9,7 @@ use ppd_sem::Need;
 pub fn unit_cells(plan: &Plan, unit: u16) -> &[u16]
     ensures { result.now ≡ option_map_or (λ u. u.cells) (slice_get plan.now.units unit) [] }
 {
-    match plan.units.as_slice().get(unit as usize) {
+    match plan.units.get(unit as usize) {
         Some(unit) => unit.cells.as_slice(),
         None => &[],
     }
