@@ -1,5 +1,5 @@
 // Statements without statements inside them.
-ghost use Rattle.std.specs.Prelude.{◌≡◌, ◌<◌, OnOk, length, ◌≤◌, ◌+◌, ◌*◌};
+ghost use Rattle.std.specs.Prelude.{◌<◌, OnOk, length, ◌≤◌, ◌+◌, ◌*◌};
 ghost use Rattle.ppd_check_names.specs.Reading.{place_at, name_at, formula_at};
 ghost use Rattle.ppd_check_names.specs.Syntax.{send};
 ghost use Rattle.ppd_check_names.specs.Cost.{plain_below};
