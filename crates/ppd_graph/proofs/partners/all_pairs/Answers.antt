@@ -1,6 +1,6 @@
-use Rattle.std.proofs.Common.{◌+◌, ◌∙◌, ◌∷◌, ◌++◌, [], ap, arith, filter_map, map}
+use Rattle.std.proofs.Common.{◌+◌, ◌∙◌, ◌∷◌, ◌++◌, [], ap, arith, filter_map, map, sym}
 use Rattle.std.specs.List.{sum_by}
-use Rattle.std.proofs.lemmas.List.{take_all}
+use Rattle.std.proofs.lemmas.List.{append-nil, drop_all, take_all}
 use Rattle.std.proofs.lemmas.List.Sums.{sum_by-take-le, sum_by_more}
 use Rattle.ppd_model.specs.RecordedSets.{sync_in}
 use Rattle.ppd_graph.specs.ByNumber.{partner_kept}
@@ -46,3 +46,9 @@ returns-in_err-push-clause-cost g c =
     let same = ap list_cost (c.as_slice.ensures ∙ c.list-item.is) in
     let less = sum_by-take-le list_cost lists (i + 1) in
     omega (arith, more, same, less, c.tick.ensures, c.in_ok-pairs.ensures.cost, c.loop-list.invariant.spent)
+
+pub returns-clause-pairs : goal.returns-clause-pairs
+returns-clause-pairs g c =
+    let lists = c.args.lists.now in
+    sym (ap (λ rest. c.loop-list.all ++ map (map (partner_kept c.args.program.now c.args.nodes.now)) (map (filter_map sync_in) rest)) (drop_all c.loop-list.list-index lists c.loop-list-test.false) ∙ append-nil c.loop-list.all)
+    ∙ c.loop-list.invariant.holds
