@@ -19,7 +19,7 @@ fn add_at(set: &mut CellSet, program: &Program, stmt: u32)
     requires { IsValid program.now }
     ensures { Gains set.old set.new (reads_at true program.now stmt) }
 {
-    match program.stmts.as_slice().get(stmt as usize) {
+    match program.stmt(stmt) {
         None => {}
         Some(found) => add_shared_reads(set, program, &found.kind),
     }
