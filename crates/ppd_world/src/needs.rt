@@ -1,5 +1,6 @@
 ghost use Rattle.std.specs.Prelude.{◌≡◌, IfOk, slice_get, slice_set};
 ghost use Rattle.std.specs.List.{All};
+ghost use Rattle.ppd_sem.specs.Process.{need_of};
 ghost use Rattle.ppd_sem.specs.Runs.{IsNumbered, IsRunnable};
 ghost use Rattle.ppd_world.specs.Parts.{IsSmallLogging, need_of_logging, needs_of, or_stopped};
 
@@ -28,6 +29,16 @@ pub(crate) fn set_need(needs: &mut Vec<Need>, place: usize, need: Need)
     }
 }
 
+/// Looks at what a process needs.
+fn look_of(code: &Code, logging: &Logging) -> Need
+    requires program { IsRunnable code.now.program.now }
+    requires plan { IsNumbered code.now.plan.now }
+    requires logging { IsSmallLogging code.now.program.now logging.now }
+    ensures { result ≡ need_of code.now.program.now code.now.plan.now logging.now.proc }
+{
+    look(code.program, code.plan, &logging.proc)
+}
+
 /// Looks at what the process at this place needs.
 pub(crate) fn look_at(code: &Code, loggings: &[Logging], place: usize) -> Need
     requires program { IsRunnable code.now.program.now }
@@ -36,7 +47,7 @@ pub(crate) fn look_at(code: &Code, loggings: &[Logging], place: usize) -> Need
     ensures { result ≡ need_of_logging code.now.program.now code.now.plan.now (slice_get loggings.now place) }
 {
     match loggings.get(place) {
-        Some(logging) => look(code.program, code.plan, &logging.proc),
+        Some(logging) => look_of(code, logging),
         None => Need::Stopped,
     }
 }
@@ -54,7 +65,7 @@ pub(crate) fn start_needs(
 {
     let mut needs = Vec::new(alloc);
     for logging in loggings {
-        needs.push(look(code.program, code.plan, &logging.proc))?;
+        needs.push(look_of(code, logging))?;
     }
     Ok(needs)
 }

@@ -1,5 +1,5 @@
-use Rattle.std.proofs.Common.{rules, ◌≤◌, length, sym, arith}
-use Rattle.std.proofs.lemmas.Grind.{common_steps}
+use Rattle.std.proofs.Common.{rules, ◌∙◌, ◌<◌, ◌≤◌, ap, arith, length, sym}
+use Rattle.std.proofs.lemmas.Result.{on_ok_weaker}
 use Rattle.ppd_model.specs.Logs.{log_step}
 use Rattle.ppd_model.proofs.Lists.{change_past, set_is_change}
 use Rattle.ppd_world_steps.specs.Entries.{moment_with}
@@ -11,4 +11,8 @@ returns-then-place-len-clause-ok c =
     sym (change_past (λ l. log_step c.args.code.now.program.now c.args.code.now.plan.now l (moment_with c.args.code.now.plan.now c.args.shared.now c.args.taken)) c.args.place c.args.loggings.now.items past)
 
 pub returns-clause-ok : goal.returns-clause-ok
-returns-clause-ok c = grind (arith, common_steps, set_is_change)
+returns-clause-ok c =
+    let inside : c.args.place < length c.args.loggings.now.items = search rules in
+    on_ok_weaker c.step_one.result
+    (λ e. set_is_change (λ l. log_step c.args.code.now.program.now c.args.code.now.plan.now l (moment_with c.args.code.now.plan.now c.args.shared.now c.args.taken)) c.args.place c.args.loggings.now.items c.index_mut.result.now c.step_one.new.logging inside
+    (e ∙ ap (λ l. log_step c.args.code.now.program.now c.args.code.now.plan.now l (moment_with c.args.code.now.plan.now c.args.shared.now c.args.taken)) c.index_mut.ensures.value)) c.step_one.ensures.ok
