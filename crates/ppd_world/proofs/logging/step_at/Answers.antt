@@ -1,14 +1,27 @@
-use Rattle.std.proofs.Common.{rules, ◌∙◌, ◌<◌, ◌≤◌, ap, arith, length, sym}
+use Rattle.std.proofs.Common.{rules, ◌∙◌, ◌<◌, ◌≤◌, ap, arith, length, subst, sym}
 use Rattle.std.proofs.lemmas.Result.{on_ok_weaker}
+use Rattle.ppd_ast.proofs.Walks.{got_some}
+use Rattle.ppd_model.specs.declared.state.Logging.{Logging}
 use Rattle.ppd_model.specs.Logs.{log_step}
 use Rattle.ppd_model.proofs.Lists.{change_past, set_is_change}
 use Rattle.ppd_world_steps.specs.Entries.{moment_with}
+use Rattle.ppd_world.specs.Parts.{IsSmallLogging, need_of_logging}
 use Rattle.ppd_world.proofs.logging.step_at.Goals as goal
 
 pub returns-then-place-len-clause-ok : goal.returns-then-place-len-clause-ok
 returns-then-place-len-clause-ok c =
     let past : length c.args.loggings.now.items ≤ c.args.place = search rules in
     sym (change_past (λ l. log_step c.args.code.now.program.now c.args.code.now.plan.now l (moment_with c.args.code.now.plan.now c.args.shared.now c.args.taken)) c.args.place c.args.loggings.now.items past)
+
+pub step_one-requires-clause-logging : goal.step_one-requires-clause-logging
+step_one-requires-clause-logging c =
+    let inside : c.args.place < length c.args.loggings.now.items = search rules in
+    subst (λ (l : Logging). IsSmallLogging c.args.code.now.program.now l) (sym c.index_mut.ensures.value) (c.requires.loggings c.args.place c.index_mut.result.now inside)
+
+pub step_one-requires-clause-need : goal.step_one-requires-clause-need
+step_one-requires-clause-need c =
+    let inside : c.args.place < length c.args.loggings.now.items = search rules in
+    c.requires.need ∙ ap (λ o. need_of_logging c.args.code.now.program.now c.args.code.now.plan.now o) (got_some c.args.loggings.now.items c.args.place c.index_mut.result.now inside c.index_mut.ensures.value)
 
 pub returns-clause-ok : goal.returns-clause-ok
 returns-clause-ok c =
