@@ -1,9 +1,10 @@
 -- What is looked up in the tables.
-use Rattle.std.proofs.Common.{◌≡◌, ℕ, ◌+◌, ◌<◌, ◌≤◌, Bool, false, ◌&&◌, List, [], ◌∷◌, ◌++◌, Option, ap, ap₂, sym, ◌∙◌, arith, get_or, length, take}
+use Rattle.std.proofs.Common.{◌≡◌, ℕ, ◌+◌, ◌<◌, ◌≤◌, Bool, false, ◌&&◌, List, [], ◌∷◌, ◌++◌, Option, ap, ap₂, subst, sym, inl, inr, ◌∙◌, arith, get_or, length, take}
 use Rattle.ppd_model.specs.Extents.{extents}
 use Rattle.std.specs.Prelude.{nat_eq, slice_get, sum_by, unwrap_or}
-use Rattle.std.proofs.lemmas.List.{take_all, take_more}
-use Rattle.std.proofs.lemmas.List.Sums.{sum_by_push}
+use Rattle.std.proofs.lemmas.Bool.{cases_lt}
+use Rattle.std.proofs.lemmas.List.{get_or_append_left, get_or_push, take_all, take_more}
+use Rattle.std.proofs.lemmas.List.Sums.{sum_by_more, sum_by_push}
 use Rattle.ppd_entry.specs.declared.entry.Entry.{Entry}
 use Rattle.ppd_model.specs.declared.flow.Item.{Item}
 use Rattle.ppd_flow_model.specs.Ends.{ending, ends_edge, first_edge, is_sync_item, sync_item, syncs_before, syncs_of_item, innermost_from}
@@ -112,3 +113,33 @@ end_more entries counts place n d c d' e b are lt is is' ends =
     ap₂ (λ x y. x && nat_eq n y) ends (is ∙ get_or_any counts place d 0 (omega (arith, lt, long)) ∙ are.are place
     (omega (arith, lt)))
     ∙ one_passes (λ x. ends_edge x && nat_eq n (syncs_before entries place)) entries place d' e lt is'
+
+-- ---- the edges of an interval's places, one after another
+
+sums_more : (first before now edge next syncs : ℕ) → edge ≡ first + before → next ≡ edge + syncs → now ≡ before + syncs
+    → next ≡ first + now
+sums_more first before now edge next syncs last sum more = omega (arith, last, sum, more)
+
+module _ (entries : List Entry) (k : ℕ) (items : List Item) where
+  -- the edge of the next place
+  pub edge_next : (i edge next : ℕ) (x : Item) → i < length items → x ≡ get_or items i x
+      → edge ≡ edge_of entries k items i → next ≡ edge + syncs_of_item entries x
+      → next ≡ edge_of entries k items (i + 1)
+  edge_next i edge next x lt is last sum =
+      sums_more (first_edge entries k) (sum_by (syncs_of_item entries) (take i items))
+      (sum_by (syncs_of_item entries) (take (i + 1) items)) edge next (syncs_of_item entries x) last sum
+      (sum_by_more (syncs_of_item entries) items i x lt
+      ∙ ap (λ (y : Item). sum_by (syncs_of_item entries) (take i items) + syncs_of_item entries y) (sym is))
+
+  -- with it those of one more place
+  pub edges_more : (i next : ℕ) (numbers : List ℕ) → length numbers ≡ i + 1
+      → ((j : ℕ) → j < i + 1 → get_or numbers j 0 ≡ edge_of entries k items j)
+      → next ≡ edge_of entries k items (i + 1)
+      → (j : ℕ) → j < i + 1 + 1 → get_or (numbers ++ next ∷ []) j 0 ≡ edge_of entries k items j
+  edges_more i next numbers long are is j lt = elim (cases_lt j (i + 1)) [
+    | inl low ↦ get_or_append_left numbers (next ∷ []) 0 j (omega (arith, low, long)) ∙ are j low
+    | inr up ↦
+        let same : i + 1 ≡ j = omega (arith, up, lt) in
+        subst (λ n. get_or (numbers ++ next ∷ []) n 0 ≡ edge_of entries k items n) same
+        (get_or_push numbers next 0 (i + 1) long ∙ is)
+  ]

@@ -11,6 +11,13 @@ use Rattle.ppd_flow_tables.specs.Writing.{listed_in, times_in}
 
 -- ---- the lists of a process
 
+-- one more list of nothing changes none
+pub room_more : (lists : List (List ℕ)) (c : ℕ) → get_or (lists ++ [] ∷ []) c [] ≡ get_or lists c []
+room_more [] zero = refl
+room_more [] (suc c) = refl
+room_more (list ∷ lists) zero = refl
+room_more (list ∷ lists) (suc c) = room_more lists c
+
 -- one number more in one of them
 pub with_one : (lists : List (List ℕ)) (place edge c : ℕ) → place < length lists → get_or (change (λ list. list ++ edge ∷ []) place lists) c [] ≡ get_or lists c [] ++ one_at place edge c
 with_one lists place edge c there = elim (cases_eq place c) [

@@ -1,5 +1,5 @@
 // Look-ups in a past: by tables where they are at hand, else over items and entries.
-ghost use Rattle.std.specs.Prelude.{◌≡◌, IfOk, position, take, get_or, []};
+ghost use Rattle.std.specs.Prelude.{◌≡◌, IfOk, take, get_or, []};
 ghost use Rattle.ppd_flow_model.specs.Ends.{end_interval as end_interval_of, first_edge as first_edge_of, sync_item as sync_item_in};
 ghost use Rattle.ppd_flow_model.specs.Seen.{is_item_of, place_of as place_among};
 ghost use Rattle.ppd_flow_model.specs.Shared.{greatest_before as greatest_before_of};
@@ -29,16 +29,16 @@ fn is_interval(interval: u32, item: &Item) -> bool
     }
 }
 
-fn position_of(interval: u32, items: &[Item]) -> Option<usize>
-    ensures { result ≡ position (is_item_of interval) items.now }
-{
-    items.iter().position(|item| is_interval(interval, item))
-}
-
+/// The place of an interval among these items, and 0 where it is none of them.
 fn place_in(interval: u32, items: &[Item]) -> usize
     ensures { result ≡ place_among interval items.now }
 {
-    position_of(interval, items).unwrap_or(0)
+    for (place, item) in items.iter().enumerate() {
+        if is_interval(interval, item) {
+            return place;
+        }
+    }
+    0
 }
 
 /// The first items, so many, or all where there are fewer.
