@@ -8,5 +8,6 @@ loop-place-preserved c =
     let pushed = c.in_ok-push_none.ensures in
     record {
       long = ap length pushed ∙ length-append lists ([] ∷ []) ∙ ap (λ n. n + 1) c.loop-place.invariant.long;
-      same = λ n. ap (λ (xs : List (List ℕ)). get_or xs n []) pushed ∙ room_more lists n ∙ c.loop-place.invariant.same n;
+      same = λ n. ap (λ (xs : List (List ℕ)). get_or xs n []) pushed ∙ room_more lists n
+          ∙ c.loop-place.invariant.same n;
     }
