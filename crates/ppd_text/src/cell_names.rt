@@ -85,7 +85,7 @@ pub fn put_what(
     ensures { OnOk result
         (text.new.items ≡ text.old.items ++ at_number (λ b. block_what program.now b.kind) plan.now.blocks block) }
 {
-    match plan.blocks.as_slice().get(block as usize) {
+    match plan.blocks.get(block as usize) {
         Some(block) => put_block_what(text, program, block.kind),
         None => Ok(()),
     }

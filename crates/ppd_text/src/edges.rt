@@ -136,7 +136,7 @@ fn locals_if<'a>(program: &'a Program, plan: &Plan, block: u16) -> &'a [Var]
     ensures { result.now
         ≡ at_number (λ x. locals_of_block program.now x.kind) plan.now.blocks block }
 {
-    match plan.blocks.as_slice().get(block as usize) {
+    match plan.blocks.get(block as usize) {
         Some(block) => block_locals(program, block.kind),
         None => &[],
     }

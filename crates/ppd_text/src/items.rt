@@ -165,7 +165,7 @@ fn put_own(text: &mut Vec<u8>, program: &Program, event: &Event) -> Result<(), M
         ≡ text.old.items
         ++ at_number (event_text program.now event.now) program.now.stmts event.now.stmt) }
 {
-    match program.stmts.as_slice().get(event.stmt as usize) {
+    match program.stmts.get(event.stmt as usize) {
         Some(stmt) => put_event(text, program, event, stmt),
         None => Ok(()),
     }
@@ -253,7 +253,7 @@ fn put_closed_if(
         ≡ text.old.items
         ++ at_number (λ x. closed_text program.now x.kind x.postlog values.now) plan.now.blocks block) }
 {
-    match plan.blocks.as_slice().get(block as usize) {
+    match plan.blocks.get(block as usize) {
         Some(block) => put_closed(text, program, block, values),
         None => Ok(()),
     }

@@ -30,7 +30,7 @@ fn put_stmt(text: &mut Vec<u8>, program: &Program, number: u32, stmt: &Stmt) -> 
 pub fn put_stmt_at(text: &mut Vec<u8>, program: &Program, number: u32) -> Result<(), Memory>
     ensures { OnOk result (text.new.items ≡ text.old.items ++ stmt_at program.now number) }
 {
-    match program.stmts.as_slice().get(number as usize) {
+    match program.stmts.get(number as usize) {
         Some(stmt) => put_stmt(text, program, number, stmt),
         None => Ok(()),
     }
@@ -140,7 +140,7 @@ fn put_body_at(
     requires there { number < length program.now.bodies }
     ensures { OnOk result (text.new.items ≡ text.old.items ++ body_at program.now number) }
 {
-    match program.bodies.as_slice().get(number as usize) {
+    match program.bodies.get(number as usize) {
         Some(body) => put_body_lines(text, program, sets, number, body),
         None => Ok(()),
     }

@@ -11,7 +11,7 @@ use ppd_ast::{Memory, Program, Var};
 pub fn body_name(program: &Program, body: usize) -> &[u8]
     ensures { result.now ≡ (body_numbered program.now body).name }
 {
-    match program.bodies.as_slice().get(body) {
+    match program.bodies.get(body) {
         Some(body) => body.name.as_slice(),
         None => &[],
     }
@@ -27,7 +27,7 @@ pub(crate) fn function_name(program: &Program, function: u16) -> &[u8]
 pub fn sem_name(program: &Program, sem: u8) -> &[u8]
     ensures { result.now ≡ at_number (λ s. s.name) program.now.sems sem }
 {
-    match program.sems.as_slice().get(sem as usize) {
+    match program.sems.get(sem as usize) {
         Some(sem) => sem.name.as_slice(),
         None => &[],
     }
@@ -37,7 +37,7 @@ pub fn sem_name(program: &Program, sem: u8) -> &[u8]
 pub fn chan_name(program: &Program, chan: u8) -> &[u8]
     ensures { result.now ≡ at_number (λ c. c.name) program.now.chans chan }
 {
-    match program.chans.as_slice().get(chan as usize) {
+    match program.chans.get(chan as usize) {
         Some(chan) => chan.name.as_slice(),
         None => &[],
     }

@@ -24,7 +24,7 @@ fn put_stmt_place(text: &mut Vec<u8>, program: &Program, stmt: u32) -> Result<()
         (text.new.items
         ≡ text.old.items ++ at_number (λ x. place_text x.place) program.now.stmts stmt) }
 {
-    match program.stmts.as_slice().get(stmt as usize) {
+    match program.stmts.get(stmt as usize) {
         Some(stmt) => put_place(text, stmt.place),
         None => Ok(()),
     }
@@ -49,7 +49,7 @@ pub fn put_block_what(text: &mut Vec<u8>, program: &Program, kind: BlockKind) ->
 pub fn locals_of(program: &Program, body: u16) -> &[Var]
     ensures { result.now ≡ (body_numbered program.now body).locals }
 {
-    match program.bodies.as_slice().get(body as usize) {
+    match program.bodies.get(body as usize) {
         Some(body) => body.locals.as_slice(),
         None => &[],
     }
@@ -59,7 +59,7 @@ pub fn locals_of(program: &Program, body: u16) -> &[Var]
 pub fn locals_round(program: &Program, stmt: u32) -> &[Var]
     ensures { result.now ≡ at_number (λ x. (body_numbered program.now x.body).locals) program.now.stmts stmt }
 {
-    match program.stmts.as_slice().get(stmt as usize) {
+    match program.stmts.get(stmt as usize) {
         Some(stmt) => locals_of(program, stmt.body),
         None => &[],
     }
