@@ -88,9 +88,7 @@ fn told_sync(
     [reads, writes]: [&[u16]; 2],
 ) -> Result<String, AllocError> {
     let kind = told_kind(kind);
-    format!(in alloc;
-        "{kind} {object} {number} value {value} reads {reads:?} writes {writes:?}\n"
-    )
+    format!(in alloc; "{kind} {object} {number} value {value} reads {reads:?} writes {writes:?}\n")
 }
 
 /// An entry of a log. An end has its status and the rest, and the cells read and written before it.
