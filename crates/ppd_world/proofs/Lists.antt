@@ -1,6 +1,7 @@
 -- One element of a list changed, and what holds of each.
-use Rattle.std.proofs.Common.{◌≡◌, ℕ, zero, suc, ◌+◌, ◌<◌, List, [], ◌∷◌, ◌++◌, length, get_or, map, take, drop, Some, refl, ap, arith}
+use Rattle.std.proofs.Common.{◌≡◌, ℕ, zero, suc, ◌+◌, ◌<◌, ◌≤◌, List, [], ◌∷◌, ◌++◌, length, get_or, map, take, drop, Some, refl, ap, sym, ◌∙◌, arith}
 use Rattle.std.specs.Prelude.{slice_get}
+use Rattle.std.proofs.lemmas.List.{map-append, take_all, take_more}
 use Rattle.std.specs.List.{AllByRecursion as Each, All}
 use Rattle.ppd_model.specs.World.{change}
 use Rattle.ppd_model.proofs.Earlier.{each_more}
@@ -35,3 +36,11 @@ every_map P f (x ∷ xs) h = (h.0, every_map P f xs h.1)
 pub first_off : {A : Type 0} (xs ys : List A) (x : A) → 0 < length xs → x ≡ get_or xs 0 x → ys ≡ take 0 xs ++ drop (0 + 1) xs → xs ≡ x ∷ ys
 first_off [] ys x lt e f = absurd (omega arith)
 first_off (z ∷ zs) ys x lt e f = let same : x ≡ z = e in let rest : ys ≡ zs = f in cc
+
+-- one more of what a function gives of each
+pub mapped_more : {A B : Type 0} (f : A → B) (xs : List A) (i : ℕ) (x : A) (now new : List B) → i < length xs → x ≡ get_or xs i x → now ≡ map f (take i xs) → new ≡ now ++ f x ∷ [] → new ≡ map f (take (i + 1) xs)
+mapped_more f xs i x now new lt is inv more =
+    more ∙ ap (λ ys. ys ++ f x ∷ []) inv ∙ sym (map-append f (take i xs) (x ∷ [])) ∙ ap (λ y. map f (take i xs ++ y ∷ [])) is ∙ sym (ap (map f) (take_more xs i x lt))
+
+pub mapped_all : {A B : Type 0} (f : A → B) (xs : List A) (i : ℕ) (now : List B) → length xs ≤ i → now ≡ map f (take i xs) → now ≡ map f xs
+mapped_all f xs i now past inv = inv ∙ ap (map f) (take_all i xs past)
