@@ -1,5 +1,7 @@
-use Rattle.std.proofs.Common.{◌∙◌, ◌<◌, ◌≤◌, ap, arith, length, subst, sym}
-use Rattle.std.proofs.lemmas.Result.{on_ok_weaker}
+use Rattle.std.proofs.Common.{◌≡◌, ◌∙◌, ◌<◌, ◌≤◌, ℕ, zero, suc, List, [], ◌∷◌, Option, Some, IfOk, ap, arith, length, refl, slice_set, subst, sym}
+use Rattle.std.specs.Prelude.{slice_get}
+use Rattle.std.proofs.lemmas.List.{set-get_or}
+use Rattle.std.proofs.lemmas.Result.{on_err_weaker, on_ok_weaker}
 use Rattle.ppd_ast.proofs.Walks.{got_none, got_some}
 use Rattle.ppd_model.specs.declared.state.Logging.{Logging}
 use Rattle.ppd_model.specs.Logs.{log_step}
@@ -34,3 +36,18 @@ pub returns-then-place-len-clause-need : goal.returns-then-place-len-clause-need
 returns-then-place-len-clause-need c =
     let past : length c.args.loggings.now.items ≤ c.args.place = omega (arith, c.args.loggings.now.ok.0, c.len.ensures, c.if-place-len.true) in
     sym (ap (λ o. need_of_logging c.args.code.now.program.now c.args.code.now.plan.now o) (got_none c.args.loggings.now.items c.args.place past))
+
+set_here : {A : Type 0} (xs : List A) (i : ℕ) (x : A) → i < length xs → slice_get (slice_set xs i x) i ≡ Some x
+set_here [] i x lt = absurd (omega arith)
+set_here (y ∷ ys) zero x lt = refl
+set_here (y ∷ ys) (suc i) x lt = set_here ys i x (omega arith)
+
+pub returns-clause-need : goal.returns-clause-need
+returns-clause-need c =
+    let inside : c.args.place < length c.args.loggings.now.items = omega (arith, c.args.loggings.now.ok.0, c.len.ensures, c.if-place-len.false) in
+    subst (λ (o : Option Logging). IfOk c.step_one.result (λ need. need ≡ need_of_logging c.args.code.now.program.now c.args.code.now.plan.now o)) (sym (set_here c.args.loggings.now.items c.args.place c.step_one.new.logging inside)) c.step_one.ensures.need
+
+pub returns-clause-err : goal.returns-clause-err
+returns-clause-err c =
+    on_err_weaker c.step_one.result
+    (λ e. ap (slice_set c.args.loggings.now.items c.args.place) (e ∙ c.index_mut.ensures.value) ∙ set-get_or c.args.loggings.now.items c.args.place c.index_mut.result.now) c.step_one.ensures.err
