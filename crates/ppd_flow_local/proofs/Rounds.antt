@@ -1,6 +1,8 @@
 -- From an interval to the one round it.
-use Rattle.std.proofs.Common.{◌≡◌, ℕ, Bool, List, [], Result, Ok, Err, Option, Some, ap, sym, ◌∙◌, subst, take, length}
+use Rattle.std.proofs.Common.{◌≡◌, ℕ, ◌≤◌, Bool, List, [], Result, Ok, Err, Option, Some, ap, sym, ◌∙◌, subst, take, length}
+use Rattle.std.proofs.lemmas.Result.{err_from_is_err_and}
 use Rattle.std.specs.Prelude.{get_or, ◌-◌, if◌then◌else◌}
+use Rattle.std.specs.Result.{IsErrAnd}
 use Rattle.ppd_ast.specs.declared.plan.BlockKind.{BlockKind}
 use Rattle.ppd_ast.specs.declared.plan.BlockKind.TheVariants as block
 use Rattle.ppd_sem.specs.Blocks.{prelog_cells}
@@ -18,7 +20,11 @@ use Rattle.ppd_flow_model.specs.declared.writer.Writer.{Writer}
 use Rattle.ppd_flow_model.specs.declared.writer.Writer.TheVariants.{Of}
 use Rattle.ppd_flow_local.specs.declared.search.Search.{Search}
 use Rattle.ppd_flow_local.specs.Searches.{IsFound, plan_in, program_in, seen, written_in}
-use Rattle.ppd_flow_local.proofs.Joined.{and_so, failed_alone, is_given, joined}
+use Rattle.ppd_flow_local.proofs.Joined.{and_so, failed, failed_alone, is_given, joined}
+
+-- a place among items is one among the same items
+pub within_same : (j : ℕ) (items xs ys : List Item) → xs ≡ items → ys ≡ items → j ≤ length xs → j ≤ length ys
+within_same j items xs ys e f le = subst (λ (zs : List Item). j ≤ length zs) (e ∙ sym f) le
 
 module _ (s : Search) where
   -- what is found by a scan of the items before a place
@@ -58,6 +64,27 @@ module _ (s : Search) where
       → IsFound s (after_replay k (known (get_or (seen s).items k []))) n m (Ok items) → IsFound s a m o r
       → IsFound s (after_replay k a) n o r
   found_among k n m o items a r got f = joined s (after_replay k (known (get_or (seen s).items k []))) a items n m o r got f
+
+  -- these are the items that the replay gave
+  pub items_at : (k n m : ℕ) (items xs : List Item) → IsFound s (after_replay k (known (get_or (seen s).items k []))) n m (Ok items)
+      → xs ≡ items → xs ≡ get_or (seen s).items k []
+  items_at k n m items xs got e = e ∙ sym (is_given s (after_replay k (known (get_or (seen s).items k []))) items n m got)
+
+  -- the replay failed, and nothing is looked for after it
+  pub replay_fails : {A : Type 0} (k n m : ℕ) (a : Looked ℕ A) (e : FlowError) (r : Result A FlowError)
+      → IsFound s (after_replay k (known (get_or (seen s).items k []))) n m (Err e) → IsErrAnd r (λ x. x ≡ e)
+      → IsFound s (after_replay k a) n m r
+  replay_fails {A = A} k n m a e r got h =
+      let is = err_from_is_err_and r h in
+      subst (λ (z : Result A FlowError). IsFound s (after_replay k a) n m z) (sym (is.1 ∙ ap (λ x. Err x) is.2))
+      (failed s (after_replay k (known (get_or (seen s).items k []))) a n m e got)
+
+  -- the same of the interval round k
+  pub outer_fails : {A : Type 0} (k outer n m : ℕ) (a : Looked ℕ A) (e : FlowError) (r : Result A FlowError)
+      → outer ≡ outer_of (seen s) k → IsFound s (after_replay outer (known (get_or (seen s).items outer []))) n m (Err e)
+      → IsErrAnd r (λ x. x ≡ e) → IsFound s (after_replay (outer_of (seen s) k) a) n m r
+  outer_fails k outer n m a e r out got h =
+      subst (λ at. IsFound s (after_replay at a) n m r) out (replay_fails outer n m a e r got h)
 
   -- the writer is the last item of a function's interval
   pub function_written : (k f n m : ℕ) (w : Writer) (x : Origin) → w ≡ Of f
