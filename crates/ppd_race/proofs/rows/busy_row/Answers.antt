@@ -26,3 +26,6 @@ returns-clause-size g c = let less = sum_by-take-le set_cost c.args.own.now c.lo
 
 pub returns-clause-cost : goal.returns-clause-cost
 returns-clause-cost g c = let less = sum_by-take-le set_cost c.args.own.now c.loop-edge.edge in omega (arith, less, c.loop-edge.invariant.spent)
+
+pub returns-clause-least : goal.returns-clause-least
+returns-clause-least g c = omega (arith, c.loop-edge-test.false, c.loop-edge.invariant.least)

@@ -1,4 +1,4 @@
-use Rattle.std.proofs.Common.{◌≡◌, ◌+◌, ◌*◌, ◌≤◌, ◌∙◌, [], ◌++◌, ap, ap₂, arith, length}
+use Rattle.std.proofs.Common.{◌≡◌, ℕ, List, ◌+◌, ◌*◌, ◌≤◌, ◌∙◌, [], ◌++◌, ap, ap₂, arith, length}
 use Rattle.std.specs.List.{flat_map, range_with_len, sum_by}
 use Rattle.std.proofs.Math.Nat.{add-mul}
 use Rattle.std.proofs.lemmas.List.{length-append}
@@ -10,6 +10,9 @@ use Rattle.ppd_race_found.specs.Search.{row_cost}
 use Rattle.ppd_race.proofs.Over.{from_zero}
 use Rattle.ppd_race.proofs.search.all_races.Goals as goal
 
+found_on : {A : Type 0} (f : ℕ → List A) (p : ℕ) (before part taken after : List A) → after ≡ before ++ taken → taken ≡ part → before ≡ flat_map f (range_with_len 0 p) → part ≡ f p → after ≡ flat_map f (range_with_len 0 (p + 1))
+found_on f p before part taken after is same all one = is ∙ ap (λ xs. before ++ xs) same ∙ ap₂ (λ xs ys. xs ++ ys) all one ∙ from_zero f p
+
 pub loop-p-preserved : goal.loop-p-preserved
 loop-p-preserved g c =
     let rows = c.args.rows.now in
@@ -20,7 +23,7 @@ loop-p-preserved g c =
     let long = ap length (c.in_ok-append.ensures.ok ∙ ap (λ xs. c.loop-p.races ++ xs) c.into_vec.ensures) ∙ length-append c.loop-p.races c.in_ok-part.part in
     record {
       found = λ rising.
-          c.in_ok-append.ensures.ok ∙ ap (λ xs. c.loop-p.races ++ xs) c.into_vec.ensures ∙ ap₂ (λ xs ys. xs ++ ys) (c.loop-p.invariant.found rising) (c.in_ok-part.ensures.races rising) ∙ from_zero (races_from c.args.graph.now rows) p;
+          found_on (races_from c.args.graph.now rows) p c.loop-p.races c.in_ok-part.part c.into_vec.result.items c.append.new.self c.in_ok-append.ensures.ok c.into_vec.ensures (c.loop-p.invariant.found rising) (c.in_ok-part.ensures.races rising);
       least = omega (arith, long, c.tick.ensures, c.in_ok-part.ensures.least, c.loop-p.invariant.least);
       spent = omega (arith, more, times, long, c.tick.ensures, c.in_ok-part.ensures.cost, c.loop-p.invariant.spent);
     }
