@@ -6,6 +6,5 @@ pub mod Table
 pub mod Forms
 pub mod Values
 pub mod Writing
-pub mod Outputs
 pub mod Plain
 pub mod Elements

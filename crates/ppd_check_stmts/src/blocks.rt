@@ -3,7 +3,7 @@ ghost use Rattle.std.specs.Prelude.{◌<◌, ◌≤◌, ◌+◌, ◌*◌, IfSome
 ghost use Rattle.ppd_check_names.specs.Cost.{if_there, nested_at};
 ghost use Rattle.ppd_check_stmts.specs.Writing.{Walked, block_at};
 
-use crate::lowering::Lowering;
+use crate::walk::write_body;
 use ppd_ast::{Memory, Steps};
 use ppd_check_names::{Frame, Level, Output};
 use std::sync::ledger::Ledger;
@@ -24,6 +24,6 @@ pub fn write_block<L: Ledger>(
 {
     match block {
         None => Ok(()),
-        Some(block) => Lowering { frame, out, steps }.lower_body(level, block),
+        Some(block) => write_body(level, block, frame, out, steps),
     }
 }

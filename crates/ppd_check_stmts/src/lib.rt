@@ -12,7 +12,6 @@ mod formulas;
 mod held;
 mod hidden;
 mod locals;
-mod lowering;
 mod parts;
 mod simple;
 mod statements;

@@ -13,8 +13,6 @@ use Rattle.ppd_check_names.specs.declared.fault.Fault.{Fault}
 use Rattle.ppd_check_names.specs.declared.frame.Frame.{Frame}
 use Rattle.ppd_check_names.specs.declared.writer.Writer.{Writer}
 use Rattle.ppd_check_names.specs.declared.writer.Site.{Site}
-use Rattle.ppd_check_stmts.specs.declared.lowering.Lowering.{Lowering}
-use Rattle.ppd_check_stmts.specs.Outputs.{Keeps}
 use Rattle.ppd_check_stmts.specs.Expressions.{term_of, formula_faults}
 use Rattle.ppd_check_names.specs.Nodes.{phrase_of, phrases_of, phrases_below, children_of, SaysBy}
 use Rattle.ppd_check_names.specs.Reading.{Phrase, as_row, before, beyond, for_row, for_start, formula_at, formulas, kind, last, locals, phrase, place_at, rows, some_change, statement, worded}
@@ -45,10 +43,6 @@ walked_stop site r f u a e = walked_as site stop r f f u u a a (sym e) (walked_n
 -- a row of its own
 pub walked_alone : (site : Site) (r : Row) (f g : Frame) (u v : Writer) (a b : List ℕ) → a ≡ [] → Walked site r f g u v a b → Walked site r f g u v [] b
 walked_alone site r f g u v a b e x = subst (λ (l : List ℕ). Walked site r f g u v l b) e x
-
--- what two calls keep, one after the other
-pub keeps_both : {L : Type 0} (x y z : Lowering L) → Keeps x y → Keeps y z → Keeps x z
-keeps_both x y z a b = (b.0 ∙ a.0, b.1 ∙ a.1, b.2 ∙ a.2)
 
 -- a row's numbers under another name
 pub with_row : (site : Site) (r : Row) (f g : Frame) (u v : Writer) (ids a b : List ℕ) → b ≡ a → Walked site r f g u v ids a → Walked site r f g u v ids b
