@@ -1,11 +1,11 @@
-use ppd_top_requests::commands::Command;
+use ppd_top_requests::commands::CommandName;
 use ppd_top_requests::{read_command, read_words};
 use std::alloc::Global;
 
 /// Words, and which command they are read as, with the value of an option or a name.
 type Row = (
     &'static [&'static str],
-    Command,
+    CommandName,
     &'static str,
     Option<&'static str>,
 );
@@ -13,37 +13,42 @@ type Row = (
 const ROWS: [Row; 8] = [
     (
         &["flow", "--budget", "5", "maße.c"],
-        Command::Flow,
+        CommandName::Flow,
         "source",
         Some("maße.c"),
     ),
     (
         &["flow", "x.c", "--loops=3"],
-        Command::Flow,
+        CommandName::Flow,
         "loops",
         Some("3"),
     ),
     (
         &["run", "x.c", "--leaf", "1", "x.log"],
-        Command::Run,
+        CommandName::Run,
         "recording",
         Some("x.log"),
     ),
-    (&["run", "x.c", "x.log"], Command::Run, "budget", None),
+    (&["run", "x.c", "x.log"], CommandName::Run, "budget", None),
     (
         &["debug", "--", "--x"],
-        Command::Debug,
+        CommandName::Debug,
         "recording",
         Some("--x"),
     ),
     (
         &["show", "--loops", "2", "-"],
-        Command::Show,
+        CommandName::Show,
         "source",
         Some("-"),
     ),
-    (&["show", "--leaf=", ""], Command::Show, "leaf", Some("")),
-    (&["drill", "7"], Command::Drill, "number", Some("7")),
+    (
+        &["show", "--leaf=", ""],
+        CommandName::Show,
+        "leaf",
+        Some(""),
+    ),
+    (&["drill", "7"], CommandName::Drill, "number", Some("7")),
 ];
 
 fn is_read_as(alloc: Global, (words, command, id, value): &Row) -> bool {
