@@ -270,8 +270,9 @@ def minutes(seconds):
     return max(1, round(seconds / 60))
 
 
-def prove(below, copies):
-    """The copy in which the last crate was proved, or None where one is not proved."""
+def prove(below, copies, whole):
+    """The copy in which the last crate was proved, or None where one is not proved. What the whole stands on is read ahead
+    while the last is proved."""
     seconds, marks = {crate: seconds_of(crate) for crate in below}, marks_of(below)
     weights = weights_of(below, seconds)
     # what an earlier call kept stands in the first copy
@@ -294,6 +295,8 @@ def prove(below, copies):
             least = max(1 + functions_in(ready[0]) // 80, 2 + int((share - 1.2) / 0.5) if share > 1.2 else 1)
             jobs = max(spare // len(ready), min(least, spare))
             checks.append(Check(ready[0], free.pop(0), jobs, seconds[ready[0]]))
+            if not waiting:
+                read_ahead(whole)
             continue
         time.sleep(0.05)
         for each in [each for each in checks if each.process.poll() is not None]:
@@ -358,11 +361,12 @@ def main():
         return 0
     folder, crate = sys.argv[1:3]
     workers = int(sys.argv[3]) if len(sys.argv) > 3 else len(os.sched_getaffinity(0))
-    below = crates_below(crate)
-    copies = [Copy(os.path.join(folder, str(number)), below) for number in range(workers)]
+    whole = crates_below(crate)
+    copies = [Copy(os.path.join(folder, str(number)), whole) for number in range(workers)]
+    below = dict(whole)
     if os.path.isfile(os.path.join(TOP, "crates", crate, "src", "main.rt")):
         del below[crate]
-    last = prove(below, copies)
+    last = prove(below, copies, whole)
     if last is None:
         return 1
     print(last.crate(crate))
