@@ -49,7 +49,7 @@ fn passed_event(test: Option<Test>) -> Option<EventId>
 fn of_run(program: &Program, stmt: u32, test: Option<Test>) -> Option<EventId>
     ensures { result ≡ of_run_tests (kind_of program.now stmt) test }
 {
-    match program.stmts.as_slice().get(stmt as usize) {
+    match program.stmts.get(stmt as usize) {
         Some(stmt) => match stmt.kind {
             Kind::While(..) => passed_event(test),
             _ => None,
@@ -62,7 +62,7 @@ fn of_run(program: &Program, stmt: u32, test: Option<Test>) -> Option<EventId>
 fn outer_of(program: &Program, stmt: u32) -> Option<u32>
     ensures { result ≡ option_and_then (λ x. x.parent) (slice_get program.now.stmts stmt) }
 {
-    match program.stmts.as_slice().get(stmt as usize) {
+    match program.stmts.get(stmt as usize) {
         Some(stmt) => stmt.parent,
         None => None,
     }
@@ -156,7 +156,7 @@ fn set_test<L: Ledger>(
         event: me,
         passed: is_passed(event.value),
     };
-    match program.stmts.as_slice().get(event.stmt as usize) {
+    match program.stmts.get(event.stmt as usize) {
         Some(stmt) => match stmt.kind {
             Kind::If(..) => keep_test(tests, test, steps),
             Kind::While(..) => keep_test(tests, test, steps),

@@ -45,7 +45,7 @@ fn into_at_call(program: &Program, call: Option<u32>) -> Option<u16>
     ensures { result ≡ into_at program.now call }
 {
     let call = call?;
-    match program.stmts.as_slice().get(call as usize) {
+    match program.stmts.get(call as usize) {
         Some(stmt) => into_of(&stmt.kind),
         None => None,
     }

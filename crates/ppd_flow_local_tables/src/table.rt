@@ -113,7 +113,7 @@ impl LocalTable {
     fn point_at(&self, place: usize) -> Point
         ensures { result ≡ point_by self.now place }
     {
-        match self.points.as_slice().get(place) {
+        match self.points.get(place) {
             Some(point) => *point,
             None => Point {
                 leaf: None,

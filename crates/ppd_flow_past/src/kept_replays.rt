@@ -78,7 +78,7 @@ impl KeptReplays {
     fn count(&self, process: u8) -> usize
         ensures { result ≡ length (get_or self.now process []) }
     {
-        match self.processes.as_slice().get(process as usize) {
+        match self.processes.get(process as usize) {
             Some(rows) => rows.len(),
             None => 0,
         }

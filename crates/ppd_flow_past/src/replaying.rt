@@ -54,7 +54,7 @@ fn kept_items<'a>(past: &Past<'a>, process: u8, interval: u32) -> Option<&'a [It
     ensures { option_copied result ≡ items_kept past.now.kept.now process interval }
 {
     match past.kept.get(process as usize) {
-        Some(rows) => match rows.as_slice().get(interval as usize) {
+        Some(rows) => match rows.get(interval as usize) {
             Some(items) => Some(items.as_slice()),
             None => None,
         },

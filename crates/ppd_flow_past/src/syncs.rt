@@ -8,7 +8,7 @@ use ppd_entry::{Entry, Logs};
 pub fn entries_of(logs: &Logs, process: u8) -> &[Entry]
     ensures { result.now ≡ get_or logs.now.lists process [] }
 {
-    match logs.lists.as_slice().get(process as usize) {
+    match logs.lists.get(process as usize) {
         Some(entries) => entries.as_slice(),
         None => &[],
     }

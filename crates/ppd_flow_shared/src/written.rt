@@ -105,7 +105,7 @@ fn written_in<L: Ledger>(
 fn start_value(program: &Program, cell: u16) -> i64
     ensures { result ≡ get_or program.now.starts cell (pos 0) }
 {
-    match program.starts.as_slice().get(cell as usize) {
+    match program.starts.get(cell as usize) {
         Some(value) => *value,
         None => 0,
     }

@@ -18,11 +18,11 @@ use std::alloc::Global;
 fn locals_round(program: &Program, stmt: u32) -> &[Var]
     ensures { result.now ≡ (body_numbered program.now (body_of program.now stmt)).locals }
 {
-    let body = match program.stmts.as_slice().get(stmt as usize) {
+    let body = match program.stmts.get(stmt as usize) {
         Some(stmt) => stmt.body,
         None => 0,
     };
-    match program.bodies.as_slice().get(body as usize) {
+    match program.bodies.get(body as usize) {
         Some(body) => body.locals.as_slice(),
         None => &[],
     }

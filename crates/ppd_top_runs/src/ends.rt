@@ -14,7 +14,7 @@ fn place_at(program: &Program, stmt: u32) -> Place
     ensures { result
         ≡ option_map_or (λ s. s.place) (slice_get program.now.stmts stmt) (record { line = 1; column = 1 }) }
 {
-    match program.stmts.as_slice().get(stmt as usize) {
+    match program.stmts.get(stmt as usize) {
         Some(stmt) => stmt.place,
         None => Place { line: 1, column: 1 },
     }

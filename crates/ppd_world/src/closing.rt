@@ -15,7 +15,7 @@ use std::alloc::Global;
 fn last_stmt(program: &Program, body: usize) -> u32
     ensures { result ≡ option_map_or (λ b. b.end - 1) (slice_get program.now.bodies body) 0 }
 {
-    match program.bodies.as_slice().get(body) {
+    match program.bodies.get(body) {
         Some(body) => body.end.saturating_sub(1),
         None => 0,
     }
