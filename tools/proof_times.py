@@ -29,6 +29,15 @@ def named(crate):
     return next(names.split() for head, colon, names in lines if colon and head.split()[0] == crate)
 
 
+def build_below(crate):
+    """Builds the libraries of the repository that the crate names where they are not built."""
+    for each in named(crate):
+        folder = os.path.join(prove.TOP, "crates", each)
+        rt = [sys.executable, os.path.join(prove.TOP, "tools", "rt_once.py"), "lib"]
+        if os.path.isdir(folder) and subprocess.run(rt, cwd=folder, stdout=sys.stderr, check=False).returncode:
+            sys.exit(f"{os.path.basename(sys.argv[0])}: {each} is not built")
+
+
 def command_for(crate):
     """A check of the crate over built libraries, with nothing kept."""
     rlibs, below = os.path.join(KIT, "rlibs"), [each for each in prove.crates_below(crate) if each != crate]
@@ -81,11 +90,7 @@ def main():
     if len(sys.argv) not in (2, 3) or not prove.shutil.which("rt"):
         sys.exit(__doc__)
     crate, count = sys.argv[1], int(sys.argv[2]) if len(sys.argv) == 3 else 40
-    for each in named(crate):
-        folder = os.path.join(prove.TOP, "crates", each)
-        rt = [sys.executable, os.path.join(prove.TOP, "tools", "rt_once.py"), "lib"]
-        if os.path.isdir(folder) and subprocess.run(rt, cwd=folder, stdout=sys.stderr, check=False).returncode:
-            sys.exit(f"proof_times.py: {each} is not built")
+    build_below(crate)
     how = {"stdout": subprocess.PIPE, "stderr": subprocess.STDOUT, "text": True, "errors": "replace"}
     environment = {**os.environ, "ANTT_CACHE_DEBUG": "1", "MIMALLOC_PURGE_DELAY": "-1"}
     folder = os.path.join(prove.TOP, "crates", crate)

@@ -29,3 +29,18 @@ pub returns-in_err-declare_said-clause-cost : goal.returns-in_err-declare_said-c
 returns-in_err-declare_said-clause-cost g c =
     let part = child_part c.args.source.nodes.now c.args.id c.loop-child.child-index c.children_of-child-items.result.now c.children_of-child-items.ensures.children (omega (arith, c.loop-child-test.true)) in
     omega (arith, c.loop-child.invariant.cost, c.tick.ensures, c.declare_said.ensures.cost, part.0, part.1, part.2)
+
+pub bounds-child-items-child-index : goal.bounds-child-items-child-index
+bounds-child-items-child-index c = omega arith
+
+pub children_of-child-items-requires : goal.children_of-child-items-requires
+children_of-child-items-requires c = omega arith
+
+pub declare_said-requires : goal.declare_said-requires
+declare_said-requires c = omega arith
+
+pub loop-child-smaller : goal.loop-child-smaller
+loop-child-smaller c = omega arith
+
+pub offset_bounds-child-items-child-index : goal.offset_bounds-child-items-child-index
+offset_bounds-child-items-child-index c = omega arith

@@ -10,6 +10,7 @@ use Rattle.ppd_check_names.specs.Holding.{head_said}
 use Rattle.ppd_check.proofs.HeadCosts.{head_few, row_few, inside_few}
 use Rattle.ppd_check_stmts.proofs.Costs.Rows.{row_size}
 use Rattle.ppd_check.proofs.bodies.fill.Goals as goal
+use Rattle.std.proofs.lemmas.Grind.{common_steps}
 
 pub returns-clause-filled : goal.returns-clause-filled
 returns-clause-filled g c =
@@ -31,3 +32,18 @@ returns-clause-cost g c =
     let head : length (head_said c.args.process ps).params + row_size (as_block (last ps)).row ≤ 9 * plain_below ns c.args.id + 9 * nested_below ns c.args.id = head_few ns c.args.id c.args.process in
     let same : row_size (as_block (last ps)).row ≡ row_size r = ap (λ (b : Block). row_size b.row) c.block_of-block.ensures.said in
     omega (arith, c.write_block.ensures.cost, c.block_of-block.ensures.nodes, c.ending_of-ending.ensures.cost, c.note_body.ensures.cost, c.write_close.ensures.cost, inside, few, head, same)
+
+pub block_of-block-requires : goal.block_of-block-requires
+block_of-block-requires c = omega arith
+
+pub close_of-close-requires : goal.close_of-close-requires
+close_of-close-requires c = grind (arith, common_steps) steps 250000
+
+pub ending_of-ending-requires : goal.ending_of-ending-requires
+ending_of-ending-requires c = grind (arith, common_steps) steps 250000
+
+pub from_on-inside-requires : goal.from_on-inside-requires
+from_on-inside-requires c = omega arith
+
+pub returns-in_err-write_block : goal.returns-in_err-write_block
+returns-in_err-write_block c = grind (arith, common_steps) steps 250000

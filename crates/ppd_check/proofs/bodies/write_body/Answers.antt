@@ -54,3 +54,18 @@ pub returns-clause-cost : goal.returns-clause-cost
 returns-clause-cost g c =
     let few = body_few c.args.heads.source.nodes.now c.args.id c.args.heads.process (drop 1 c.args.frame.now.scopes) c.args.frame.now c.declare_params.new.frame c.fill.new.frame c.requires.entered c.in_ok-declare_params.ensures.declares.frame c.in_ok-fill.ensures.filled.frame in
     omega (arith, c.declare_params.ensures.cost, c.fill.ensures.cost, c.close_body.ensures.cost, nodes_step c.args.heads.source.nodes.now c.args.id c.args.heads.source.table c.requires.within, few.0, few.1)
+
+pub alloc-requires : goal.alloc-requires
+alloc-requires c = omega arith
+
+pub as_short-params-requires : goal.as_short-params-requires
+as_short-params-requires c = omega arith
+
+pub count_of-requires : goal.count_of-requires
+count_of-requires c = omega arith
+
+pub declare_params-requires : goal.declare_params-requires
+declare_params-requires c = omega arith
+
+pub fill-requires : goal.fill-requires
+fill-requires c = omega arith

@@ -43,3 +43,12 @@ returns-clause-cost g c =
 pub returns-in_err-scopes-clause-cost : goal.returns-in_err-scopes-clause-cost
 returns-in_err-scopes-clause-cost g c =
     omega (arith, c.loop-id.invariant.cost, c.tick.ensures, c.write_head.ensures.cost, total_part (nodes_at c.args.heads.source.nodes.now) c.args.ids.now c.loop-id.id-index 0 (omega (arith, c.loop-id-test.true)), some_nodes_at c.args.heads.source.nodes.now (get_or c.args.ids.now c.loop-id.id-index 0))
+
+pub bounds-ids-id-index : goal.bounds-ids-id-index
+bounds-ids-id-index c = omega arith
+
+pub loop-id-smaller : goal.loop-id-smaller
+loop-id-smaller c = omega arith
+
+pub offset_bounds-ids-id-index : goal.offset_bounds-ids-id-index
+offset_bounds-ids-id-index c = omega arith

@@ -5,6 +5,7 @@ use Rattle.std.proofs.Common.{arith, ap}
 use Rattle.ppd_check_names.specs.Cost.{starts_left, heads_nodes}
 use Rattle.ppd_check_names.proofs.Declared.Costs.{left_nothing, heads_nothing}
 use Rattle.ppd_check_names.proofs.collecting.declare_source.Goals as goal
+use Rattle.std.proofs.lemmas.Grind.{common_steps}
 
 pub returns-clause-faults : goal.returns-clause-faults
 returns-clause-faults g c =
@@ -22,3 +23,9 @@ returns-in_err-declare_node-clause-cost g c =
 pub returns-clause-heads : goal.returns-clause-heads
 returns-clause-heads g c =
     omega (arith, c.in_ok-declare_node.ensures.heads, ap (heads_nodes c.args.source.nodes.now) c.in_ok-globals.ensures.value, heads_nothing c.args.source.nodes.now)
+
+pub declare_node-requires : goal.declare_node-requires
+declare_node-requires c = omega arith
+
+pub returns-in_err-globals : goal.returns-in_err-globals
+returns-in_err-globals c = grind (arith, common_steps) steps 250000

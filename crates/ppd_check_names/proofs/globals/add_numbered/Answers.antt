@@ -11,3 +11,15 @@ returns-then-from-le-MOST_SHARED_CELLS-clause-cost g c =
     let cells : c.place_shared.new.globals.cells ≡ after_cells c.args.globals.now.cells (Some c.as_short-length.result) = ap (λ (x : Globals). x.cells) c.in_ok-place_shared-in-Array.ensures.globals in
     let few : c.place_shared.new.globals.cells ≤ MOST_SHARED_CELLS = omega arith in
     omega (arith, c.place_shared.ensures.cost, c.push_zeros.ensures.cost, left_filled c.args.globals.now h c.as_short-length.result cells few)
+
+pub alloc-alloc-requires : goal.alloc-alloc-requires
+alloc-alloc-requires c = omega arith
+
+pub from-requires : goal.from-requires
+from-requires c = omega arith
+
+pub next_channel-next-requires : goal.next_channel-next-requires
+next_channel-next-requires c = omega arith
+
+pub next_semaphore-next-requires : goal.next_semaphore-next-requires
+next_semaphore-next-requires c = omega arith

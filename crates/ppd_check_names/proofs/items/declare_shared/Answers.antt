@@ -18,3 +18,15 @@ returns-in_default-clause-declares g c =
 pub returns-in_default-clause-cost : goal.returns-in_default-clause-cost
 returns-in_default-clause-cost g c =
     omega (arith, c.declare_scalar.ensures.cost, left_less c.args.globals.now c.declare_scalar.new.globals c.declare_scalar.ensures.cells)
+
+pub kind_at-requires : goal.kind_at-requires
+kind_at-requires c = omega arith
+
+pub label_at-label-requires : goal.label_at-label-requires
+label_at-label-requires c = omega arith
+
+pub size_at-length-requires : goal.size_at-length-requires
+size_at-length-requires c = omega arith
+
+pub start_at-requires : goal.start_at-requires
+start_at-requires c = omega arith

@@ -35,3 +35,24 @@ loop-child-preserved g c =
       count = params_more ns cs k (get_or cs k 0) c.loop-child.count c.in_ok-count_said.field-0 c.in_ok-count.count here (get_or_default cs k 0 _ here) c.loop-child.invariant.count c.in_ok-count_said.ensures.value c.in_ok-count.ensures;
       cost = omega (arith, c.loop-child.invariant.cost, c.tick.ensures, c.count_said.ensures.cost);
     }
+
+pub bounds-child-items-child-index : goal.bounds-child-items-child-index
+bounds-child-items-child-index c = omega arith
+
+pub children_of-child-items-requires : goal.children_of-child-items-requires
+children_of-child-items-requires c = omega arith
+
+pub count_said-requires : goal.count_said-requires
+count_said-requires c = omega arith
+
+pub loop-child-init : goal.loop-child-init
+loop-child-init c = omega arith
+
+pub loop-child-smaller : goal.loop-child-smaller
+loop-child-smaller c = omega arith
+
+pub offset_bounds-child-items-child-index : goal.offset_bounds-child-items-child-index
+offset_bounds-child-items-child-index c = omega arith
+
+pub sum-requires : goal.sum-requires
+sum-requires c = omega arith

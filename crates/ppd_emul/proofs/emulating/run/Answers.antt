@@ -6,6 +6,7 @@ use Rattle.ppd_emul_values.specs.declared.replayer.Turned.{Turned}
 use Rattle.ppd_emul.proofs.Followed.{done_now, failed_so, more_next}
 use Rattle.ppd_emul.proofs.Spent.{none_back, one_more}
 use Rattle.ppd_emul.proofs.emulating.run.Goals as goal
+use Rattle.std.proofs.lemmas.Grind.{elements}
 
 pub returns-in_err-turn-clause-told : goal.returns-in_err-turn-clause-told
 returns-in_err-turn-clause-told g c =
@@ -63,3 +64,30 @@ loop-turn-preserved g c =
       ticks = omega (arith, c.in_ok-turn.ensures.ticks, c.loop-turn.invariant.ticks);
       turns = omega (arith, one, c.tick.ensures, c.loop-turn.invariant.turns);
     }
+
+pub fail-requires : goal.fail-requires
+fail-requires c = search rules depth 1 fits 30
+
+pub from-turn-end-requires : goal.from-turn-end-requires
+from-turn-end-requires c = search rules depth 1 fits 30
+
+pub loop-turn-init : goal.loop-turn-init
+loop-turn-init c = search rules depth 1 fits 30
+
+pub loop-turn-smaller : goal.loop-turn-smaller
+loop-turn-smaller c = search rules depth 1 fits 30
+
+pub returns : goal.returns
+returns c = grind (arith, elements) steps 250000
+
+pub returns-in-Done-clause-ticks : goal.returns-in-Done-clause-ticks
+returns-in-Done-clause-ticks c = search rules depth 1 fits 30
+
+pub returns-in_err-turn-clause-ticks : goal.returns-in_err-turn-clause-ticks
+returns-in_err-turn-clause-ticks c = search rules depth 1 fits 30
+
+pub tick-requires : goal.tick-requires
+tick-requires c = search rules depth 1 fits 30
+
+pub turn-requires : goal.turn-requires
+turn-requires c = search rules depth 1 fits 30

@@ -1,4 +1,4 @@
-use Rattle.std.proofs.Common.{Bool, Some, ap, subst, sym, ◌∙◌}
+use Rattle.std.proofs.Common.{Bool, Some, ap, subst, sym, ◌∙◌, rules, arith}
 use Rattle.std.specs.Prelude.{if◌then◌else◌}
 use Rattle.ppd_ast.specs.declared.status.Status.{Status}
 use Rattle.ppd_ast.specs.declared.status.Status.TheVariants as status
@@ -7,6 +7,7 @@ use Rattle.ppd_emul_model.specs.Replay.{Turn, finished, goes_on as goes_on_of, t
 use Rattle.ppd_emul_values.specs.Emulated.{IsTurn, replaying}
 use Rattle.ppd_sem.specs.declared.proc.Need.{Need}
 use Rattle.ppd_emul.proofs.turning.turn_at_end.Goals as goal
+use Rattle.std.proofs.lemmas.Grind.{common_steps}
 
 pub end_with_event-requires-clause-code : goal.end_with_event-requires-clause-code
 end_with_event-requires-clause-code g c = c.requires.next.sound
@@ -55,3 +56,27 @@ returns-in_default g c =
     stays c.args.code.now c.args.state.now c.args.steps.now c.goes_on-in_default.result (goes_on_of program plan c.args.need r) (turn_by_end_of program plan (Some c.args.status) c.args.need r)
     (no_trap program plan r c.in-Trap.trap c.args.need c.in_default.not-Trap c.requires.paid ∙ ap (λ (s : Status). turn_by_end_of program plan (Some s) c.args.need r) (sym c.in-Trap.is))
     c.goes_on-in_default.ensures
+
+pub end_with_event-requires-clause-event : goal.end_with_event-requires-clause-event
+end_with_event-requires-clause-event c = search rules depth 1 fits 30
+
+pub fail-requires : goal.fail-requires
+fail-requires c = search rules depth 1 fits 30
+
+pub goes_on-requires : goal.goes_on-requires
+goes_on-requires c = search rules depth 1 fits 30
+
+pub goes_on-requires-in-Ended : goal.goes_on-requires-in-Ended
+goes_on-requires-in-Ended c = search rules depth 1 fits 30
+
+pub goes_on-requires-in_default : goal.goes_on-requires-in_default
+goes_on-requires-in_default c = search rules depth 1 fits 30
+
+pub is_same_trap-requires : goal.is_same_trap-requires
+is_same_trap-requires c = search rules depth 1 fits 30
+
+pub is_sync-requires : goal.is_sync-requires
+is_sync-requires c = search rules depth 1 fits 30
+
+pub returns-else-is_same_trap : goal.returns-else-is_same_trap
+returns-else-is_same_trap c = grind (arith, common_steps) steps 250000

@@ -8,6 +8,7 @@ use Rattle.ppd_graph.specs.Spending.{list_cost, times_cost}
 use Rattle.ppd_graph.proofs.Counted.{graph_spent}
 use Rattle.ppd_graph.proofs.Built.{cycle_refused, few_of, graph_is, ordered, pairs_few, seen_both, times_few, waiting}
 use Rattle.ppd_graph.proofs.build.graph_in.Goals as goal
+use Rattle.std.proofs.lemmas.Grind.{common_steps, elements}
 
 pub all_times-requires : goal.all_times-requires
 all_times-requires g c =
@@ -91,3 +92,69 @@ returns-clause-cost g c =
     let third = ap (sum_by list_cost) c.as_slice-5.ensures in
     graph_spent c.args.program.now c.args.logs.now c.in_ok-pairs.pairs c.args.steps.now c.are_few.new.steps c.pair_all.new.steps c.all_times.new.steps c.first_stuck.new.steps _ c.in_ok-pairs.ensures.pairs
     (omega (arith, lists, c.are_few.ensures.cost)) c.in_ok-pairs.ensures.cost (omega (arith, first, c.in_ok-times.ensures.cost)) (omega (arith, second, c.first_stuck.ensures.cost)) (omega (arith, third, c.in_ok-edges.ensures.cost))
+
+pub all_sets-requires : goal.all_sets-requires
+all_sets-requires c = search rules depth 1 fits 30
+
+pub are_few-requires : goal.are_few-requires
+are_few-requires c = search rules depth 1 fits 30
+
+pub as_slice-requires : goal.as_slice-requires
+as_slice-requires c = search rules depth 1 fits 30
+
+pub as_slice-requires-2 : goal.as_slice-requires-2
+as_slice-requires-2 c = search rules depth 1 fits 30
+
+pub as_slice-requires-3 : goal.as_slice-requires-3
+as_slice-requires-3 c = search rules depth 1 fits 30
+
+pub as_slice-requires-5 : goal.as_slice-requires-5
+as_slice-requires-5 c = search rules depth 1 fits 30
+
+pub as_slice-requires-in-Some : goal.as_slice-requires-in-Some
+as_slice-requires-in-Some c = search rules depth 1 fits 30
+
+pub from_vec-requires : goal.from_vec-requires
+from_vec-requires c = search rules depth 1 fits 30
+
+pub pair_all-requires : goal.pair_all-requires
+pair_all-requires c = grind (arith, common_steps) steps 250000
+
+pub returns-in_err-edges : goal.returns-in_err-edges
+returns-in_err-edges c = grind (arith, common_steps) steps 250000
+
+pub returns-in_err-pairs : goal.returns-in_err-pairs
+returns-in_err-pairs c = grind (arith, elements) steps 250000
+
+pub returns-in_err-times : goal.returns-in_err-times
+returns-in_err-times c = grind (arith, common_steps) steps 250000
+
+pub returns-then-not-are_few : goal.returns-then-not-are_few
+returns-then-not-are_few c = grind (arith, common_steps) steps 250000
+
+pub cycle-requires-clause-start : goal.cycle-requires-clause-start
+cycle-requires-clause-start c = grind (arith, common_steps) steps 250000
+
+pub returns-clause-refused : goal.returns-clause-refused
+returns-clause-refused c = search rules depth 1 fits 30
+
+pub returns-in-Some-clause-cost : goal.returns-in-Some-clause-cost
+returns-in-Some-clause-cost c = grind (arith, common_steps) steps 250000
+
+pub returns-in-Some-clause-graph : goal.returns-in-Some-clause-graph
+returns-in-Some-clause-graph c = grind (arith, common_steps) steps 250000
+
+pub returns-in-Some-clause-passed : goal.returns-in-Some-clause-passed
+returns-in-Some-clause-passed c = grind (arith, common_steps) steps 250000
+
+pub returns-in_err-nodes-clause-cost : goal.returns-in_err-nodes-clause-cost
+returns-in_err-nodes-clause-cost c = grind (arith, common_steps) steps 250000
+
+pub returns-in_err-nodes-clause-graph : goal.returns-in_err-nodes-clause-graph
+returns-in_err-nodes-clause-graph c = grind (arith, common_steps) steps 250000
+
+pub returns-in_err-nodes-clause-passed : goal.returns-in_err-nodes-clause-passed
+returns-in_err-nodes-clause-passed c = grind (arith, common_steps) steps 250000
+
+pub returns-in_err-nodes-clause-refused : goal.returns-in_err-nodes-clause-refused
+returns-in_err-nodes-clause-refused c = grind (arith, common_steps) steps 250000

@@ -1,4 +1,4 @@
-use Rattle.std.proofs.Common.{◌+◌, ◌∙◌, ◌∷◌, ◌++◌, [], ap, arith, filter_map, map, sym}
+use Rattle.std.proofs.Common.{◌+◌, ◌∙◌, ◌∷◌, ◌++◌, [], ap, arith, filter_map, map, sym, rules}
 use Rattle.std.specs.List.{sum_by}
 use Rattle.std.proofs.lemmas.List.{append-nil, drop_all, take_all}
 use Rattle.std.proofs.lemmas.List.Sums.{sum_by-take-le, sum_by_more}
@@ -7,6 +7,7 @@ use Rattle.ppd_graph.specs.ByNumber.{partner_kept}
 use Rattle.ppd_graph.specs.Spending.{list_cost}
 use Rattle.ppd_graph.proofs.Counted.{mapped_twice}
 use Rattle.ppd_graph.proofs.partners.all_pairs.Goals as goal
+use Rattle.std.proofs.lemmas.Grind.{common_steps, elements}
 
 pub loop-list-preserved : goal.loop-list-preserved
 loop-list-preserved g c =
@@ -52,3 +53,36 @@ returns-clause-pairs g c =
     let lists = c.args.lists.now in
     sym (ap (λ rest. c.loop-list.all ++ map (map (partner_kept c.args.program.now c.args.nodes.now)) (map (filter_map sync_in) rest)) (drop_all c.loop-list.list-index lists c.loop-list-test.false) ∙ append-nil c.loop-list.all)
     ∙ c.loop-list.invariant.holds
+
+pub as_slice-requires : goal.as_slice-requires
+as_slice-requires c = search rules depth 1 fits 30
+
+pub loop-list-init : goal.loop-list-init
+loop-list-init c = search rules depth 1 fits 30
+
+pub loop-list-smaller : goal.loop-list-smaller
+loop-list-smaller c = search rules depth 1 fits 30
+
+pub new-all-requires : goal.new-all-requires
+new-all-requires c = search rules depth 1 fits 30
+
+pub own_pairs-requires : goal.own_pairs-requires
+own_pairs-requires c = search rules depth 1 fits 30
+
+pub push-requires : goal.push-requires
+push-requires c = search rules depth 1 fits 30
+
+pub same-all-in-loop-list : goal.same-all-in-loop-list
+same-all-in-loop-list c = search rules depth 1 fits 30
+
+pub tick-requires : goal.tick-requires
+tick-requires c = search rules depth 1 fits 30
+
+pub returns-in_err-pairs-clause-pairs : goal.returns-in_err-pairs-clause-pairs
+returns-in_err-pairs-clause-pairs c = grind (arith, common_steps) steps 250000
+
+pub returns-in_err-pairs-clause-taken : goal.returns-in_err-pairs-clause-taken
+returns-in_err-pairs-clause-taken c = grind (arith, common_steps) steps 250000
+
+pub returns-in_err-push-clause-pairs : goal.returns-in_err-push-clause-pairs
+returns-in_err-push-clause-pairs c = grind (arith, elements) steps 250000

@@ -1,4 +1,4 @@
-use Rattle.std.proofs.Common.{◌∙◌, ◌++◌, [], ap, sym, subst, arith, get_or, length}
+use Rattle.std.proofs.Common.{◌∙◌, ◌++◌, [], ap, sym, subst, arith, get_or, length, rules}
 use Rattle.std.specs.List.{sum_by}
 use Rattle.std.proofs.lemmas.List.{take_all}
 use Rattle.std.proofs.lemmas.List.Sums.{sum_by-take-le, sum_by_more}
@@ -11,6 +11,7 @@ use Rattle.ppd_race.specs.ByCell.{accessor, accessors_from, listed_in, listing_c
 use Rattle.ppd_race_found.specs.Search.{IsOfCells}
 use Rattle.ppd_race.proofs.Listed.{edge_listed, edges_listed, reads_listed, writes_listed}
 use Rattle.ppd_race.proofs.by_cell.list_by_cell.Goals as goal
+use Rattle.std.proofs.lemmas.Grind.{common_steps}
 
 pub loop-place-init : goal.loop-place-init
 loop-place-init g c = record {
@@ -61,3 +62,33 @@ pub returns-clause-least : goal.returns-clause-least
 returns-clause-least g c =
     let all = ap (sum_by listing_least) (take_all c.loop-place.place c.args.own.now c.loop-place-test.false) in
     omega (arith, all, c.loop-place.invariant.least)
+
+pub bounds-own-place : goal.bounds-own-place
+bounds-own-place c = grind (arith, common_steps) steps 250000
+
+pub branch-no_lists-requires : goal.branch-no_lists-requires
+branch-no_lists-requires c = search rules depth 1 fits 30
+
+pub from_residual-requires : goal.from_residual-requires
+from_residual-requires c = search rules depth 1 fits 30
+
+pub loop-place-smaller : goal.loop-place-smaller
+loop-place-smaller c = grind (arith, common_steps) steps 250000
+
+pub no_lists-requires : goal.no_lists-requires
+no_lists-requires c = search rules depth 1 fits 30
+
+pub returns-in_err-no_lists : goal.returns-in_err-no_lists
+returns-in_err-no_lists c = search rules depth 1 fits 30
+
+pub returns-in_err-no_lists-2 : goal.returns-in_err-no_lists-2
+returns-in_err-no_lists-2 c = grind (arith, common_steps) steps 250000
+
+pub tick-requires : goal.tick-requires
+tick-requires c = search rules depth 1 fits 30
+
+pub returns-in_err-list_edge-clause-least : goal.returns-in_err-list_edge-clause-least
+returns-in_err-list_edge-clause-least c = grind (arith, common_steps) steps 250000
+
+pub returns-in_err-list_edge-clause-lists : goal.returns-in_err-list_edge-clause-lists
+returns-in_err-list_edge-clause-lists c = grind (arith, common_steps) steps 250000

@@ -1,9 +1,10 @@
-use Rattle.std.proofs.Common.{◌≡◌, ap, arith, length, subst}
+use Rattle.std.proofs.Common.{◌≡◌, ap, arith, length, subst, rules}
 use Rattle.std.proofs.lemmas.List.Sums.{sum_by-take-le, sum_by_more}
 use Rattle.ppd_race.specs.Busy.{IsBusyPart}
 use Rattle.ppd_race.specs.Spending.{set_cost}
 use Rattle.ppd_race.proofs.BusyRows.{part_more}
 use Rattle.ppd_race.proofs.rows.busy_row.Goals as goal
+use Rattle.std.proofs.lemmas.Grind.{common_steps}
 
 pub loop-edge-preserved : goal.loop-edge-preserved
 loop-edge-preserved g c =
@@ -29,3 +30,24 @@ returns-clause-cost g c = let less = sum_by-take-le set_cost c.args.own.now c.lo
 
 pub returns-clause-least : goal.returns-clause-least
 returns-clause-least g c = omega (arith, c.loop-edge-test.false, c.loop-edge.invariant.least)
+
+pub bounds-own-edge : goal.bounds-own-edge
+bounds-own-edge c = grind (arith, common_steps) steps 250000
+
+pub loop-edge-init : goal.loop-edge-init
+loop-edge-init c = search rules depth 1 fits 30
+
+pub loop-edge-smaller : goal.loop-edge-smaller
+loop-edge-smaller c = search rules depth 1 fits 30
+
+pub new-row-requires : goal.new-row-requires
+new-row-requires c = search rules depth 1 fits 30
+
+pub take_edge-requires : goal.take_edge-requires
+take_edge-requires c = search rules depth 1 fits 30
+
+pub tick-requires : goal.tick-requires
+tick-requires c = search rules depth 1 fits 30
+
+pub returns-in_err-take_edge-clause-least : goal.returns-in_err-take_edge-clause-least
+returns-in_err-take_edge-clause-least c = grind (arith, common_steps) steps 250000

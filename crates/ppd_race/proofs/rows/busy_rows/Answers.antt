@@ -1,4 +1,4 @@
-use Rattle.std.proofs.Common.{◌≡◌, ◌<◌, ◌^◌, ◌∙◌, [], List, ap, arith, length, subst, sym}
+use Rattle.std.proofs.Common.{◌≡◌, ◌<◌, ◌^◌, ◌∙◌, [], List, ap, arith, length, subst, sym, rules}
 use Rattle.std.specs.List.{sum_by}
 use Rattle.std.proofs.lemmas.List.{take_all}
 use Rattle.std.proofs.lemmas.List.Sums.{sum_by-take-le, sum_by_more, sum_by_push}
@@ -8,6 +8,7 @@ use Rattle.ppd_race_found.specs.Search.{row_cost}
 use Rattle.ppd_race.specs.Spending.{sets_cost, sets_least}
 use Rattle.ppd_race.proofs.BusyRows.{rows_more}
 use Rattle.ppd_race.proofs.rows.busy_rows.Goals as goal
+use Rattle.std.proofs.lemmas.Grind.{common_steps}
 
 pub loop-process-init : goal.loop-process-init
 loop-process-init g c = record {
@@ -59,3 +60,42 @@ pub returns-clause-least : goal.returns-clause-least
 returns-clause-least g c =
     let all = ap (sum_by sets_least) (take_all c.loop-process.process c.args.sets.now c.loop-process-test.false) in
     omega (arith, all, c.loop-process.invariant.least)
+
+pub as_slice-requires : goal.as_slice-requires
+as_slice-requires c = search rules depth 1 fits 30
+
+pub bounds-sets-process : goal.bounds-sets-process
+bounds-sets-process c = grind (arith, common_steps) steps 250000
+
+pub loop-process-smaller : goal.loop-process-smaller
+loop-process-smaller c = search rules depth 1 fits 30
+
+pub new-rows-requires : goal.new-rows-requires
+new-rows-requires c = search rules depth 1 fits 30
+
+pub push-requires : goal.push-requires
+push-requires c = search rules depth 1 fits 30
+
+pub same-rows-in-loop-process : goal.same-rows-in-loop-process
+same-rows-in-loop-process c = search rules depth 1 fits 30
+
+pub tick-requires : goal.tick-requires
+tick-requires c = search rules depth 1 fits 30
+
+pub returns-in_err-push-clause-busy : goal.returns-in_err-push-clause-busy
+returns-in_err-push-clause-busy c = grind (arith, common_steps) steps 250000
+
+pub returns-in_err-push-clause-least : goal.returns-in_err-push-clause-least
+returns-in_err-push-clause-least c = grind (arith, common_steps) steps 250000
+
+pub returns-in_err-push-clause-size : goal.returns-in_err-push-clause-size
+returns-in_err-push-clause-size c = grind (arith, common_steps) steps 250000
+
+pub returns-in_err-row-clause-busy : goal.returns-in_err-row-clause-busy
+returns-in_err-row-clause-busy c = grind (arith, common_steps) steps 250000
+
+pub returns-in_err-row-clause-least : goal.returns-in_err-row-clause-least
+returns-in_err-row-clause-least c = grind (arith, common_steps) steps 250000
+
+pub returns-in_err-row-clause-size : goal.returns-in_err-row-clause-size
+returns-in_err-row-clause-size c = grind (arith, common_steps) steps 250000

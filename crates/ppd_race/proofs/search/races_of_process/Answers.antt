@@ -1,4 +1,4 @@
-use Rattle.std.proofs.Common.{arith, ◌≡◌, ◌∙◌, [], ap, sym, subst, get_or, length}
+use Rattle.std.proofs.Common.{arith, ◌≡◌, ◌∙◌, [], ap, sym, subst, get_or, length, rules}
 use Rattle.ppd_race_found.proofs.Rows.{length_replicated, none_at}
 use Rattle.ppd_race.specs.Busy.{IsBusyRow}
 use Rattle.ppd_race.proofs.Listed.{can_search}
@@ -7,6 +7,7 @@ use Rattle.ppd_race.proofs.Spent.{process_least, process_spent}
 use Rattle.ppd_race.proofs.Picked.{process_is}
 use Rattle.ppd_race.proofs.search.races_of_process.Goals as goal
 use Rattle.ppd_model.proofs.Lists.{get_or_any}
+use Rattle.std.proofs.lemmas.Grind.{common_steps}
 
 pub list_by_cell-requires : goal.list_by_cell-requires
 list_by_cell-requires g c = record {
@@ -44,3 +45,27 @@ returns-clause-least g c =
     let joined = c.in_ok-races.ensures.taken in
     process_least c.args.steps.now (length c.as_slice-own.result.now) c.list_by_cell.new.steps c.no_lists.new.steps c.add_later.new.steps _ c.in_ok-found.found.items c.add_later.new.found.items c.in_ok-races.races
     c.in_ok-found.ensures.none c.in_ok-races.ensures.races (omega (arith, listed)) (omega (arith, begun)) (omega (arith, later)) (omega (arith, joined))
+
+pub add_later-requires-clause-few : goal.add_later-requires-clause-few
+add_later-requires-clause-few c = search rules depth 1 fits 30
+
+pub add_later-requires-clause-rows : goal.add_later-requires-clause-rows
+add_later-requires-clause-rows c = grind (arith, common_steps) steps 250000
+
+pub add_later-requires-clause-there : goal.add_later-requires-clause-there
+add_later-requires-clause-there c = grind (arith, common_steps) steps 250000
+
+pub as_slice-own-requires : goal.as_slice-own-requires
+as_slice-own-requires c = search rules depth 1 fits 30
+
+pub branch-lists-requires : goal.branch-lists-requires
+branch-lists-requires c = search rules depth 1 fits 30
+
+pub joined-requires : goal.joined-requires
+joined-requires c = search rules depth 1 fits 30
+
+pub returns-in_err-found : goal.returns-in_err-found
+returns-in_err-found c = grind (arith, common_steps) steps 250000
+
+pub returns-in_err-lists : goal.returns-in_err-lists
+returns-in_err-lists c = grind (arith, common_steps) steps 250000

@@ -1,4 +1,4 @@
-use Rattle.std.proofs.Common.{◌≡◌, ◌<◌, ◌-◌, ◌∙◌, IfOk, length, map, ap, subst, arith}
+use Rattle.std.proofs.Common.{◌≡◌, ◌<◌, ◌-◌, ◌∙◌, IfOk, length, map, ap, subst, arith, rules}
 use Rattle.std.specs.List.{range_with_len}
 use Rattle.rayon.specs.Numbers.{nat_range}
 use Rattle.rayon.proofs.ToStd.{nat_range-All}
@@ -23,3 +23,12 @@ returns-in-Ok g c =
     let places = chain.1 ∙ (λ i. nat_range (ends.0 i) (ends.1 i)) ∙ ap (range_with_len 0) whole in
     subst (λ zs. IfOk c.in-Ok.parts (λ all. IsRising c.args.graph.now → all.items ≡ map (races_from c.args.graph.now c.args.rows.now) zs)) places
     (parts_in (IsRising c.args.graph.now) (races_from c.args.graph.now c.args.rows.now) (λ v. v.items) chain.0 h.0 c.in-Ok.parts chain.2 h.2)
+
+pub into_par_iter-requires : goal.into_par_iter-requires
+into_par_iter-requires c = search rules depth 1 fits 30
+
+pub returns-in-Err : goal.returns-in-Err
+returns-in-Err c = search rules depth 1 fits 30
+
+pub with_min_len-requires : goal.with_min_len-requires
+with_min_len-requires c = search rules depth 1 fits 30

@@ -1,5 +1,5 @@
 use Rattle.std.specs.Prelude.{Some}
-use Rattle.std.proofs.Common.{List, Ok, [], ap, inl, sym, ◌∙◌}
+use Rattle.std.proofs.Common.{List, Ok, [], ap, inl, sym, ◌∙◌, rules, arith}
 use Rattle.std.proofs.lemmas.Result.{err_from_is_err_and, IfErr-weaker, on_ok_weaker}
 use Rattle.ppd_model.specs.declared.flow.Item.{Item}
 use Rattle.ppd_session.specs.Sessions.{known_by}
@@ -7,6 +7,7 @@ use Rattle.ppd_session.specs.Texts.{told_at}
 use Rattle.ppd_session.proofs.Keeping.{kept_now, not_found, told_found}
 use Rattle.ppd_session.proofs.Replayed.{told_none, told_texts, told_why, why_failed}
 use Rattle.ppd_session.proofs.opening.put_block.Goals as goal
+use Rattle.std.proofs.lemmas.Grind.{common_steps}
 
 pub returns-in-Some-clause-text : goal.returns-in-Some-clause-text
 returns-in-Some-clause-text c =
@@ -78,3 +79,36 @@ put_told-requires-clause-told c =
     told_found (known_by c.args.past.now []) c.args.kept.now c.touch.new.self c.args.place c.find.result c.in-Some.items
     c.requires.kept c.touch.ensures c.find.ensures c.in-Some.is
     ∙ ap (λ (is : List Item). Some (Ok is)) (sym c.as_slice.ensures)
+
+pub as_slice-requires : goal.as_slice-requires
+as_slice-requires c = search rules depth 1 fits 30
+
+pub as_slice-requires-2 : goal.as_slice-requires-2
+as_slice-requires-2 c = search rules depth 1 fits 30
+
+pub find-requires : goal.find-requires
+find-requires c = search rules depth 1 fits 30
+
+pub from_residual-requires : goal.from_residual-requires
+from_residual-requires c = search rules depth 1 fits 30
+
+pub keep-requires : goal.keep-requires
+keep-requires c = search rules depth 1 fits 30
+
+pub put_told-requires-2 : goal.put_told-requires-2
+put_told-requires-2 c = grind (arith, common_steps) steps 250000
+
+pub replay-requires : goal.replay-requires
+replay-requires c = search rules depth 1 fits 30
+
+pub touch-requires : goal.touch-requires
+touch-requires c = search rules depth 1 fits 30
+
+pub put_told-requires-clause-past : goal.put_told-requires-clause-past
+put_told-requires-clause-past c = search rules depth 1 fits 30
+
+pub put_told-requires-clause-uncut : goal.put_told-requires-clause-uncut
+put_told-requires-clause-uncut c = search rules depth 1 fits 30
+
+pub returns-clause-error : goal.returns-clause-error
+returns-clause-error c = search rules depth 1 fits 30
