@@ -94,7 +94,8 @@ class Function:
                 file.write(self.text)
         elif os.path.exists(self.file):
             os.remove(self.file)
-            os.removedirs(os.path.dirname(self.file))
+            if not os.listdir(os.path.dirname(self.file)):
+                os.removedirs(os.path.dirname(self.file))
 
 
 class Checks:
@@ -125,10 +126,14 @@ class Checks:
         shutil.copytree(self.first, self.kept)
 
 
-def answer_cost(times, name, whole=False):
-    """The seconds that a function's answers take in a check, with its proof, or with all that was checked of it."""
-    own = times.get(name, {})
-    return sum(own.values()) if whole else own.get("Proof", 0) + own.get("Answers", 0)
+def answer_cost(times, name):
+    """The seconds that the answers of a function take in a check, with its proof."""
+    return times.get(name, {}).get("Proof", 0.0) + times.get(name, {}).get("Answers", 0.0)
+
+
+def checked_cost(times, name):
+    """The seconds of all that was checked of a function."""
+    return sum(sum(parts.values()) for each, parts in times.items() if f"{each}.".startswith(f"{name}."))
 
 
 def ask_names(checks, functions):
@@ -176,7 +181,7 @@ def keep_cheaper(checks, functions, before):
     times, others = checks.run()
     refused = {match[1].replace("/", ".") for match in map(REFUSED.match, others) if match}
     for each in functions:
-        less = answer_cost(before, each.name) - answer_cost(times, each.name, True)
+        less = answer_cost(before, each.name) - checked_cost(times, each.name)
         if each.found and (each.name in refused or less < SAVED):
             each.take_back()
         if each.found:
