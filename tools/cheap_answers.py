@@ -1,6 +1,6 @@
 #!/usr/bin/env python3
 """Writes answers for goals of a crate that the check answers too, but late. A goal without an answer of its own is
-searched for in several ways, one after another; where a late one finds it, the answer that names a way costs a tenth.
+searched for in several ways, one after another; where a late one finds it, an answer that names a short way costs less.
 
 Of each function whose proof costs LEAST processor seconds or more, the check is asked for the names of its goals, by
 answers with names that it does not know. Each of a few short ways is tried at each goal, and those that find an answer
@@ -13,7 +13,6 @@ times as long as the check of the crate. What is written may be taken away again
 import os
 import re
 import shutil
-import subprocess
 import sys
 import tempfile
 
@@ -107,11 +106,7 @@ class Checks:
 
     def run(self, *words):
         """The seconds of functions by parts, and what else the check told."""
-        how = {"stdout": subprocess.PIPE, "stderr": subprocess.STDOUT, "text": True, "errors": "replace"}
-        environment = {**os.environ, "ANTT_CACHE_DEBUG": "1", "MIMALLOC_PURGE_DELAY": "-1"}
-        command = [*proof_times.command_for(self.crate), "--incremental", self.kept, *words]
-        with subprocess.Popen(command, cwd=os.path.join(prove.TOP, "crates", self.crate), env=environment, **how) as process:
-            return proof_times.times_of(process)
+        return proof_times.checked(self.crate, "--incremental", self.kept, *words)[:2]
 
     def some(self, functions):
         """A check of these functions that goes on past goals without an answer."""

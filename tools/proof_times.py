@@ -86,23 +86,29 @@ def times_of(process):
     return times, others
 
 
+def checked(crate, *words):
+    """Checks the crate, with these words more: the seconds by functions and parts, the other lines, and the status."""
+    how = {"stdout": subprocess.PIPE, "stderr": subprocess.STDOUT, "text": True, "errors": "replace"}
+    environment = {**os.environ, "ANTT_CACHE_DEBUG": "1", "MIMALLOC_PURGE_DELAY": "-1"}
+    folder = os.path.join(prove.TOP, "crates", crate)
+    with subprocess.Popen([*command_for(crate), *words], cwd=folder, env=environment, **how) as process:
+        times, others = times_of(process)
+    return times, others, process.returncode
+
+
 def main():
     if len(sys.argv) not in (2, 3) or not prove.shutil.which("rt"):
         sys.exit(__doc__)
     crate, count = sys.argv[1], int(sys.argv[2]) if len(sys.argv) == 3 else 40
     build_below(crate)
-    how = {"stdout": subprocess.PIPE, "stderr": subprocess.STDOUT, "text": True, "errors": "replace"}
-    environment = {**os.environ, "ANTT_CACHE_DEBUG": "1", "MIMALLOC_PURGE_DELAY": "-1"}
-    folder = os.path.join(prove.TOP, "crates", crate)
-    with subprocess.Popen(command_for(crate), cwd=folder, env=environment, **how) as process:
-        times, others = times_of(process)
+    times, others, status = checked(crate)
     for name, parts in sorted(times.items(), key=lambda each: -sum(each[1].values()))[:count]:
         told = ", ".join(f"{part} {seconds:.2f}" for part, seconds in parts.most_common(4))
         print(f"{sum(parts.values()):7.2f} {name}: {told}")
     whole = sum((parts for parts in times.values()), collections.Counter())
     print(f"{sum(whole.values()):7.2f} in all: " + ", ".join(f"{part} {seconds:.1f}" for part, seconds in whole.most_common()))
     print(others[-1] if others else "nothing was told")
-    return process.returncode
+    return status
 
 
 if __name__ == "__main__":
