@@ -24,7 +24,7 @@ HEADLINE = [
     (
         "every accepted program",
         [
-            ("ppd_lex/specs/Tokens.antt", "IsTokens", "lex"),
+            ("ppd_parse/specs/Tokens.antt", "IsTokens", "lex"),
             ("ppd_parse/specs/Language.antt", "IsProgram", "parse"),
             ("ppd_check/specs/Read.antt", "IsRead", "read_source"),
             ("ppd_check/specs/Read.antt", "IsRefused", "read_source"),
@@ -81,9 +81,9 @@ HEADLINE = [
         "answered by re-executing single e-blocks",
         [
             ("ppd_model/specs/Logs.antt", "closed_logs", "World::close"),
-            ("ppd_emul_model/specs/Replay.antt", "replay", "emulate"),
+            ("ppd_model/specs/Replay.antt", "replay", "emulate"),
             ("law_rules/specs/Replays.antt", "Turns", "replays_follow_the_rules"),
-            ("law_replay/specs/Theorem/Laws.antt", "ReplaysGiveIntervals", "replays_give_intervals"),
+            ("law_steps/specs/Theorem/Laws.antt", "ReplaysGiveIntervals", "replays_give_intervals"),
             ("ppd_flow/specs/Runs.antt", "GivesEdges", "edges"),
             ("ppd_flow/specs/Runs.antt", "CostsEdges", "edges"),
             ("ppd_model/specs/NearIntervals.antt", "near_intervals", "edges"),

@@ -1,11 +1,11 @@
 -- Entries that the index accepts are accepted when they are cut off inside an interval.
 use Rattle.law_clean.specs.Cuts.{stop}
 use Rattle.ppd_ast.specs.declared.plan.Plan.{Plan}
-use Rattle.ppd_entry.specs.Entries.{is_end}
-use Rattle.ppd_entry.specs.IntervalLogs.{Indexing, index_step}
-use Rattle.ppd_entry.specs.declared.entry.Entry.{Entry}
-use Rattle.ppd_entry.specs.declared.entry.Entry.TheVariants as entry
-use Rattle.ppd_flow_model.proofs.Vocabulary.{is_sync}
+use Rattle.ppd_model.specs.Entries.{is_end}
+use Rattle.ppd_model.specs.IntervalLogs.{Indexing, index_step}
+use Rattle.ppd_model.specs.declared.entry.Entry.{Entry}
+use Rattle.ppd_model.specs.declared.entry.Entry.TheVariants as entry
+use Rattle.ppd_graph.proofs.FlowWords.{is_sync}
 use Rattle.ppd_index.proofs.Passed.{HasPassed, passed}
 use Rattle.ppd_index.proofs.Vocabulary.{innermost_of}
 use Rattle.ppd_index.specs.Refusals.{first_from, is_paired, refusal, standing}

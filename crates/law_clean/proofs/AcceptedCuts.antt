@@ -5,12 +5,12 @@ use Rattle.law_clean.specs.Cuts.{cut, cut_at, is_unit, stop}
 use Rattle.ppd_ast.specs.declared.plan.Plan.{Plan}
 use Rattle.ppd_ast.specs.declared.program.Program.{Program}
 use Rattle.ppd_ast.specs.declared.status.Status.TheVariants as status
-use Rattle.ppd_entry.specs.Entries.{is_end}
-use Rattle.ppd_entry.specs.IntervalLogs.{Indexing, begun_indexing, index_step}
-use Rattle.ppd_entry.specs.declared.entry.Entry.{Entry}
-use Rattle.ppd_entry.specs.declared.entry.Entry.TheVariants as entry
-use Rattle.ppd_flow_model.proofs.Vocabulary.{is_sync}
-use Rattle.ppd_flow_model.specs.Ends.{ending}
+use Rattle.ppd_model.specs.Entries.{is_end}
+use Rattle.ppd_model.specs.IntervalLogs.{Indexing, begun_indexing, index_step}
+use Rattle.ppd_model.specs.declared.entry.Entry.{Entry}
+use Rattle.ppd_model.specs.declared.entry.Entry.TheVariants as entry
+use Rattle.ppd_graph.proofs.FlowWords.{is_sync}
+use Rattle.ppd_graph.specs.Ends.{ending}
 use Rattle.ppd_index.specs.Refusals.{first_bad, first_from, first_in_lists, is_paired, refusal, standing}
 use Rattle.std.proofs.Common.{Bool, List, None, Option, Some, [], ap, append_assoc, arith, false, refl, subst, suc, sym, true, true≢false, zero, ℕ, ◌++◌, ◌+◌, ◌||◌, ◌∙◌, ◌∷◌, ◌≡◌}
 use Rattle.std.proofs.lemmas.Option.{none-some}

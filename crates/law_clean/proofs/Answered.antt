@@ -15,31 +15,31 @@ use Rattle.law_clean.proofs.SeenCut.{has_split, one_of}
 use Rattle.law_clean.specs.Answers.{CleanOr, answer_of, by_part, clean, is_reached, no_item, unclean, unclean_or}
 use Rattle.law_clean.specs.Pasts.{Lies, any_raced, first_raced, is_clean, is_past, is_same_edge, left_edge, lies}
 use Rattle.law_clean.specs.Search.{by_first, by_item, clean_by, edge_of_item, from_first, is_unclean, leads_from_race, seens, with_edges}
-use Rattle.law_flow_own.proofs.Places.LeafTells.{split_is}
-use Rattle.law_flow_shared.proofs.Edges.LogPlaces.EdgeEnds.{IsAt, at_place}
-use Rattle.law_flow_shared.proofs.Edges.LogPlaces.EdgePlaces.{count_below}
-use Rattle.law_flow_shared.proofs.Edges.Near.Nearby.{counted}
-use Rattle.law_flow_shared.proofs.Edges.Near.Tree.{IsParent, IsTree, has_tree}
-use Rattle.law_flow_shared.proofs.Edges.PartItems.{first_of, item_if}
-use Rattle.law_flow_shared.proofs.Edges.Spans.Facts.{count_to, syncs}
-use Rattle.law_flow_shared.proofs.Edges.Spans.Told.{IsPlaced}
-use Rattle.law_flow_shared.proofs.Edges.StepEvents.Processes.{Facts, facts}
-use Rattle.law_flow_shared.proofs.Edges.StepEvents.Timeline.{none_did}
-use Rattle.law_flow_shared.proofs.Edges.StepEvents.Writers.{edge_is_count}
-use Rattle.law_flow_shared.proofs.Vocabulary.Events.{synchronizes}
-use Rattle.law_flow_shared.specs.Edges.SharedEdges.{all_seen}
+use Rattle.law_flow.proofs.Places.LeafTells.{split_is}
+use Rattle.law_flow.proofs.Edges.LogPlaces.EdgeEnds.{IsAt, at_place}
+use Rattle.law_flow.proofs.Edges.LogPlaces.EdgePlaces.{count_below}
+use Rattle.law_flow.proofs.Edges.Near.Nearby.{counted}
+use Rattle.law_flow.proofs.Edges.Near.Tree.{IsParent, IsTree, has_tree}
+use Rattle.law_flow.proofs.Edges.PartItems.{first_of, item_if}
+use Rattle.law_flow.proofs.Edges.Spans.Facts.{count_to, syncs}
+use Rattle.law_flow.proofs.Edges.Spans.Told.{IsPlaced}
+use Rattle.law_flow.proofs.Edges.StepEvents.Processes.{Facts, facts}
+use Rattle.law_flow.proofs.Edges.StepEvents.Timeline.{none_did}
+use Rattle.law_flow.proofs.Edges.StepEvents.Writers.{edge_is_count}
+use Rattle.law_flow.proofs.Vocabulary.Events.{synchronizes}
+use Rattle.law_flow.specs.Edges.SharedEdges.{all_seen}
 use Rattle.ppd_ast.proofs.ValidLaws.{slice_get_below, slice_get_there as get_there}
 use Rattle.ppd_ast.specs.Valid.{IsValid}
 use Rattle.ppd_ast.specs.declared.plan.Plan.{Plan}
 use Rattle.ppd_ast.specs.declared.plan.Policy.{Policy}
 use Rattle.ppd_ast.specs.declared.program.Program.{Program}
 use Rattle.ppd_blocks.specs.Blocks.{plan_of}
-use Rattle.ppd_entry.specs.declared.entry.Entry.{Entry}
-use Rattle.ppd_entry.specs.declared.entry.Logs.{Logs}
-use Rattle.ppd_flow_model.specs.Ends.{edge_at, first_edge, is_sync_item}
-use Rattle.ppd_flow_model.specs.Found.{found_edges}
-use Rattle.ppd_flow_model.specs.Seen.{Seen, seen_of}
-use Rattle.ppd_flow_model.specs.Shared.{seen_at}
+use Rattle.ppd_model.specs.declared.entry.Entry.{Entry}
+use Rattle.ppd_model.specs.declared.entry.Logs.{Logs}
+use Rattle.ppd_graph.specs.Ends.{edge_at, first_edge, is_sync_item}
+use Rattle.ppd_graph.specs.Found.{found_edges}
+use Rattle.ppd_graph.specs.Seen.{Seen, seen_of}
+use Rattle.ppd_graph.specs.Shared.{seen_at}
 use Rattle.ppd_model.proofs.Accesses.{record_at}
 use Rattle.ppd_model.proofs.Changes.{some}
 use Rattle.ppd_model.proofs.EdgeWords.{edges_if, edges_in, part_in}

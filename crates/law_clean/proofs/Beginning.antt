@@ -12,8 +12,8 @@ use Rattle.ppd_ast.specs.declared.program.Program.{Program}
 use Rattle.ppd_ast.specs.Valid.{IsValid}
 use Rattle.ppd_ast.proofs.ValidLaws.{slice_get_there, valid_body}
 use Rattle.ppd_blocks.specs.Blocks.{plan_of}
-use Rattle.ppd_entry.specs.IntervalLogs.{LoggedInterval, Indexing, begun_indexing, index_step}
-use Rattle.ppd_entry.proofs.Vocabulary.{log_in, no_interval}
+use Rattle.ppd_model.specs.IntervalLogs.{LoggedInterval, Indexing, begun_indexing, index_step}
+use Rattle.ppd_model.proofs.EntryWords.{log_in, no_interval}
 use Rattle.ppd_sem.specs.Blocks.{block_todo}
 use Rattle.ppd_sem.specs.declared.proc.Proc.{Proc}
 use Rattle.ppd_sem.specs.Process.{new_frame, started}
@@ -28,21 +28,21 @@ use Rattle.law_steps.proofs.OpenBlocks.Planned.{process_found}
 use Rattle.law_steps.proofs.OpenBlocks.Stacks.{steps_move}
 use Rattle.law_steps.specs.OpenBlocks.Run.{IsGiven, IsRun}
 use Rattle.law_steps.specs.OpenBlocks.Stack.{IsInOrder, block_frames, functions_in, process_block, stack}
-use Rattle.law_replay.specs.Coming.Pieces.{unit_pieces}
-use Rattle.law_replay.proofs.Vocabulary.Nested.{IsNested}
-use Rattle.law_replay.specs.Coming.Openings.{AreAlike, IsLogOf, IsSpanOf, Opening, opening}
-use Rattle.law_replay.proofs.Coming.DeepOpenings.{deep_openings, frames_in}
-use Rattle.law_replay.proofs.Coming.Depths.{AreDeep, blocks_at, final_blocks}
-use Rattle.law_replay.proofs.Coming.Later.{finals}
-use Rattle.law_replay.proofs.Coming.Later as in_logs
-use Rattle.law_replay.proofs.Coming.LaterSteps.{comes}
-use Rattle.law_replay.proofs.Coming.Stacked.{nested}
-use Rattle.law_replay.proofs.Facts.State.{IsState, started_state}
-use Rattle.law_replay.proofs.Openings.AtBlocks.{IsAtBlock, openings_at}
-use Rattle.law_replay.proofs.Openings.Purses.{opening_purse}
-use Rattle.law_replay.proofs.Spans.SpanGoals.{IsLive}
-use Rattle.law_replay.proofs.Spans.SpanGoals as in_spans
-use Rattle.law_replay.proofs.Spans.SpansComing.{comes as spans_come}
+use Rattle.law_steps.specs.Coming.Pieces.{unit_pieces}
+use Rattle.law_steps.proofs.Vocabulary.Nested.{IsNested}
+use Rattle.law_steps.specs.Coming.Openings.{AreAlike, IsLogOf, IsSpanOf, Opening, opening}
+use Rattle.law_steps.proofs.Coming.DeepOpenings.{deep_openings, frames_in}
+use Rattle.law_steps.proofs.Coming.Depths.{AreDeep, blocks_at, final_blocks}
+use Rattle.law_steps.proofs.Coming.Later.{finals}
+use Rattle.law_steps.proofs.Coming.Later as in_logs
+use Rattle.law_steps.proofs.Coming.LaterSteps.{comes}
+use Rattle.law_steps.proofs.Coming.Stacked.{nested}
+use Rattle.law_steps.proofs.Facts.State.{IsState, started_state}
+use Rattle.law_steps.proofs.Openings.AtBlocks.{IsAtBlock, openings_at}
+use Rattle.law_steps.proofs.Openings.Purses.{opening_purse}
+use Rattle.law_steps.proofs.Spans.SpanGoals.{IsLive}
+use Rattle.law_steps.proofs.Spans.SpanGoals as in_spans
+use Rattle.law_steps.proofs.Spans.SpansComing.{comes as spans_come}
 use Rattle.law_clean.proofs.Logged.{raised_log}
 use Rattle.law_clean.proofs.Raised.{raised}
 use Rattle.law_clean.proofs.Spanned.{raised_split}

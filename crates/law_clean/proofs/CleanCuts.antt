@@ -8,13 +8,13 @@ use Rattle.law_clean.proofs.PastClear.{clear_before, clear_own}
 use Rattle.law_clean.proofs.PastsGrow.{before_back}
 use Rattle.law_clean.specs.Ordered.{IsUnracedIn}
 use Rattle.law_clean.specs.Pasts.{Lies, is_clean}
-use Rattle.law_replay.specs.Theorem.Laws.{modelled_of, replay_of}
+use Rattle.law_steps.specs.Theorem.Laws.{modelled_of, replay_of}
 use Rattle.ppd_ast.specs.Valid.{IsValid}
 use Rattle.ppd_ast.specs.declared.plan.Plan.{Plan}
 use Rattle.ppd_ast.specs.declared.plan.Policy.{Policy}
 use Rattle.ppd_ast.specs.declared.program.Program.{Program}
 use Rattle.ppd_blocks.specs.Blocks.{plan_of}
-use Rattle.ppd_entry.specs.IntervalLogs.{interval_log}
+use Rattle.ppd_model.specs.IntervalLogs.{interval_log}
 use Rattle.ppd_model.specs.HappenedBefore.{Before, EdgeBefore, across, earlier, edge, node}
 use Rattle.ppd_model.specs.Intervals.{Split, splits}
 use Rattle.ppd_model.specs.Record.{record_of}

@@ -19,25 +19,25 @@ use Rattle.law_clean.specs.Cuts.{cut}
 use Rattle.law_clean.specs.Ordered.{IsUnracedIn}
 use Rattle.law_clean.specs.Pasts.{any_raced, is_clean, is_past, is_raced, is_same_edge, left_edge, lies}
 use Rattle.law_clean.specs.Search.{is_wanted, last_wanted, leads_from_race, own_last, seens}
-use Rattle.law_flow_shared.proofs.Edges.LogPlaces.EdgeEnds.{IsAt, at_place}
-use Rattle.law_flow_shared.proofs.Edges.Near.Nearby.{counted}
-use Rattle.law_flow_shared.proofs.Edges.Spans.Facts.{count_to}
-use Rattle.law_flow_shared.proofs.Edges.StepEvents.Processes.{Facts, facts}
-use Rattle.law_flow_shared.proofs.Edges.StepEvents.Timeline.{none_did}
-use Rattle.law_flow_shared.proofs.Edges.StepEvents.Writers.{edge_is_count}
-use Rattle.law_flow_shared.specs.Edges.SharedEdges.{all_seen}
+use Rattle.law_flow.proofs.Edges.LogPlaces.EdgeEnds.{IsAt, at_place}
+use Rattle.law_flow.proofs.Edges.Near.Nearby.{counted}
+use Rattle.law_flow.proofs.Edges.Spans.Facts.{count_to}
+use Rattle.law_flow.proofs.Edges.StepEvents.Processes.{Facts, facts}
+use Rattle.law_flow.proofs.Edges.StepEvents.Timeline.{none_did}
+use Rattle.law_flow.proofs.Edges.StepEvents.Writers.{edge_is_count}
+use Rattle.law_flow.specs.Edges.SharedEdges.{all_seen}
 use Rattle.ppd_ast.specs.Valid.{IsValid}
 use Rattle.ppd_ast.specs.declared.plan.Plan.{Plan}
 use Rattle.ppd_ast.specs.declared.plan.Policy.{Policy}
 use Rattle.ppd_ast.specs.declared.program.Program.{Program}
 use Rattle.ppd_blocks.specs.Blocks.{plan_of}
-use Rattle.ppd_entry.specs.declared.entry.Entry.{Entry}
-use Rattle.ppd_entry.specs.declared.entry.Logs.{Logs}
-use Rattle.ppd_flow_model.specs.Ends.{edge_at}
-use Rattle.ppd_flow_model.specs.Found.{edges_if, found_edges}
-use Rattle.ppd_flow_model.specs.Own.{edges_of_nested}
-use Rattle.ppd_flow_model.specs.Seen.{Seen, seen_of}
-use Rattle.ppd_flow_model.specs.Shared.{seen_at}
+use Rattle.ppd_model.specs.declared.entry.Entry.{Entry}
+use Rattle.ppd_model.specs.declared.entry.Logs.{Logs}
+use Rattle.ppd_graph.specs.Ends.{edge_at}
+use Rattle.ppd_graph.specs.Found.{edges_if, found_edges}
+use Rattle.ppd_graph.specs.Own.{edges_of_nested}
+use Rattle.ppd_graph.specs.Seen.{Seen, seen_of}
+use Rattle.ppd_graph.specs.Shared.{seen_at}
 use Rattle.ppd_flow_past.specs.SeenBy.{seen_by}
 use Rattle.ppd_model.proofs.Accesses.{record_at}
 use Rattle.ppd_model.proofs.Changes.{some}

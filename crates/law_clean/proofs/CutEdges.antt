@@ -11,9 +11,9 @@ use Rattle.ppd_ast.specs.declared.program.Program.{Program}
 use Rattle.ppd_ast.specs.declared.status.Status.TheVariants as status
 use Rattle.ppd_ast.specs.Valid.{IsValid}
 use Rattle.ppd_blocks.specs.Blocks.{plan_of}
-use Rattle.ppd_entry.specs.declared.entry.Entry.{Entry}
-use Rattle.ppd_entry.specs.declared.entry.Entry.TheVariants as entry
-use Rattle.ppd_entry.specs.IntervalLogs.{interval_log}
+use Rattle.ppd_model.specs.declared.entry.Entry.{Entry}
+use Rattle.ppd_model.specs.declared.entry.Entry.TheVariants as entry
+use Rattle.ppd_model.specs.IntervalLogs.{interval_log}
 use Rattle.ppd_sem.specs.declared.proc.Proc.{Proc}
 use Rattle.ppd_sem.specs.Process.{act, need_of, started}
 use Rattle.ppd_model.specs.declared.state.Logging.{Logging}
@@ -30,7 +30,7 @@ use Rattle.ppd_model.proofs.Forward.{fewer, run_begins}
 use Rattle.ppd_model.proofs.Prefixes.{objects_stay}
 use Rattle.law_steps.proofs.OpenBlocks.Runs.{process_is}
 use Rattle.law_steps.proofs.OpenBlocks.Told.{own_more}
-use Rattle.law_replay.specs.Theorem.Laws.{modelled_of, replay_of}
+use Rattle.law_steps.specs.Theorem.Laws.{modelled_of, replay_of}
 use Rattle.law_clean.specs.Cuts.{stop}
 use Rattle.law_clean.specs.Ordered.{AreUnracedReads, IsUnracedIn}
 use Rattle.law_clean.proofs.CutRuns.{cut_gives, log_proc}

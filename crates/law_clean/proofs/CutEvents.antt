@@ -11,7 +11,7 @@ use Rattle.ppd_ast.specs.declared.program.Program.{Program}
 use Rattle.ppd_ast.specs.Valid.{IsValid}
 use Rattle.ppd_ast.proofs.ValidLaws.{slice_get_there}
 use Rattle.ppd_blocks.specs.Blocks.{plan_of}
-use Rattle.ppd_entry.specs.declared.entry.Logs.{Logs}
+use Rattle.ppd_model.specs.declared.entry.Logs.{Logs}
 use Rattle.ppd_sem.specs.declared.event.Access.{Access}
 use Rattle.ppd_sem.specs.declared.event.Spot.{Spot}
 use Rattle.ppd_sem.specs.declared.event.Spot.TheVariants.{Local, Shared}
@@ -30,16 +30,16 @@ use Rattle.ppd_model.specs.Schedule.{run}
 use Rattle.ppd_model.specs.Story.{story, told}
 use Rattle.ppd_model.specs.World.{World}
 use Rattle.ppd_model.proofs.Earlier.{name_earlier}
-use Rattle.ppd_flow_model.specs.Control.{control_origin}
-use Rattle.ppd_flow_model.specs.Found.{and_more, before_others, edges_if, event_edges, found_edges, last_edges, pair_edges, read_edge, read_edges, read_if, sync_edges, with_edge}
-use Rattle.ppd_flow_model.specs.Locals.{local_origin}
-use Rattle.ppd_flow_model.specs.Looked.{Looked}
-use Rattle.ppd_flow_model.specs.Own.{read_from}
-use Rattle.ppd_flow_model.specs.Seen.{Seen, seen_of}
-use Rattle.ppd_flow_model.specs.Shared.{Missing}
-use Rattle.law_flow_shared.specs.Edges.SharedEdges.{all_seen}
-use Rattle.law_flow_shared.proofs.Edges.StepEvents.Processes.{Facts, facts}
-use Rattle.law_flow_shared.proofs.Edges.StepEvents.Timeline.{did}
+use Rattle.ppd_graph.specs.Control.{control_origin}
+use Rattle.ppd_graph.specs.Found.{and_more, before_others, edges_if, event_edges, found_edges, last_edges, pair_edges, read_edge, read_edges, read_if, sync_edges, with_edge}
+use Rattle.ppd_graph.specs.Locals.{local_origin}
+use Rattle.ppd_graph.specs.Looked.{Looked}
+use Rattle.ppd_graph.specs.Own.{read_from}
+use Rattle.ppd_graph.specs.Seen.{Seen, seen_of}
+use Rattle.ppd_graph.specs.Shared.{Missing}
+use Rattle.law_flow.specs.Edges.SharedEdges.{all_seen}
+use Rattle.law_flow.proofs.Edges.StepEvents.Processes.{Facts, facts}
+use Rattle.law_flow.proofs.Edges.StepEvents.Timeline.{did}
 use Rattle.law_clean.proofs.CutShared.{HasEnded, HasPlace, IsBegun, here_in, pair_same, shared_same}
 use Rattle.law_clean.proofs.OwnSame.{control_same, item_is, item_same, local_same}
 

@@ -11,8 +11,8 @@ use Rattle.std.specs.List.{cons_option, list_any}
 use Rattle.std.specs.Prelude.{filter_map, fold, is_some, option_to_list, slice_get, take, ⊤, if◌then◌else◌}
 use Rattle.ppd_ast.specs.declared.plan.Plan.{Plan}
 use Rattle.ppd_ast.specs.declared.program.Program.{Program}
-use Rattle.ppd_entry.specs.declared.entry.Entry.{Entry}
-use Rattle.ppd_entry.specs.declared.entry.Entry.TheVariants as entry
+use Rattle.ppd_model.specs.declared.entry.Entry.{Entry}
+use Rattle.ppd_model.specs.declared.entry.Entry.TheVariants as entry
 use Rattle.ppd_model.specs.declared.state.Logging.{Logging}
 use Rattle.ppd_model.specs.Logs.{begun_log, closed_log, ends, entries_of, log_step, passed_value, status_of, syncs as sync_entries, units, block_entries}
 use Rattle.ppd_model.specs.Marks.{Mark, closed, opened}
@@ -22,12 +22,12 @@ use Rattle.ppd_model.specs.RecordedSets.{sync_in}
 use Rattle.ppd_model.specs.Synchronizations.{Sync, kind_of_sync, sync_of}
 use Rattle.ppd_model.proofs.RecordedSyncs.{of_step}
 use Rattle.ppd_model.specs.Story.{Moment, steps_of, unit_started}
-use Rattle.law_replay.proofs.Coming.Later.{closing}
-use Rattle.ppd_flow_model.specs.Ends.{ending, ends_edge}
-use Rattle.ppd_flow_model.proofs.Vocabulary.{is_sync}
-use Rattle.ppd_entry.specs.Entries.{is_end}
-use Rattle.law_flow_shared.proofs.Edges.LogPlaces.EdgeEnds.{ending_is}
-use Rattle.law_flow_shared.proofs.Edges.Spans.Facts.{syncs}
+use Rattle.law_steps.proofs.Coming.Later.{closing}
+use Rattle.ppd_graph.specs.Ends.{ending, ends_edge}
+use Rattle.ppd_graph.proofs.FlowWords.{is_sync}
+use Rattle.ppd_model.specs.Entries.{is_end}
+use Rattle.law_flow.proofs.Edges.LogPlaces.EdgeEnds.{ending_is}
+use Rattle.law_flow.proofs.Edges.Spans.Facts.{syncs}
 use Rattle.law_clean.proofs.EdgeEnds.{sync_need}
 use Rattle.law_clean.specs.Cuts.{cut, cut_at, is_unit, stop}
 

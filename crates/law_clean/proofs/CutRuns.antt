@@ -12,9 +12,9 @@ use Rattle.ppd_ast.specs.declared.program.Program.{Program}
 use Rattle.ppd_ast.specs.declared.status.Status.TheVariants as status
 use Rattle.ppd_ast.specs.Valid.{IsValid}
 use Rattle.ppd_blocks.specs.Blocks.{plan_of}
-use Rattle.ppd_entry.specs.declared.entry.Entry.{Entry}
-use Rattle.ppd_entry.specs.declared.entry.Entry.TheVariants as entry
-use Rattle.ppd_entry.specs.IntervalLogs.{interval_log}
+use Rattle.ppd_model.specs.declared.entry.Entry.{Entry}
+use Rattle.ppd_model.specs.declared.entry.Entry.TheVariants as entry
+use Rattle.ppd_model.specs.IntervalLogs.{interval_log}
 use Rattle.ppd_sem.specs.declared.proc.Proc.{Proc}
 use Rattle.ppd_sem.specs.declared.proc.Todo.{Todo}
 use Rattle.ppd_sem.specs.Process.{act, started}
@@ -33,8 +33,8 @@ use Rattle.ppd_model.proofs.Stories.{steps_append}
 use Rattle.law_steps.specs.OpenBlocks.Run.{IsRun}
 use Rattle.law_steps.proofs.OpenBlocks.Runs.{schedules_run}
 use Rattle.law_steps.proofs.OpenBlocks.Told.{own_more, own_past, own_same, own_steps_are}
-use Rattle.law_replay.specs.Theorem.Laws.{modelled_of, replay_of}
-use Rattle.law_replay.specs.InForce.Values.{AreRead, begun_in_force}
+use Rattle.law_steps.specs.Theorem.Laws.{modelled_of, replay_of}
+use Rattle.law_steps.specs.InForce.Values.{AreRead, begun_in_force}
 use Rattle.law_clean.specs.Ordered.{AreUnracedReads}
 use Rattle.law_clean.proofs.Logged.{log_cut, raised_log}
 use Rattle.law_clean.proofs.Raised.{need_spent, raised}

@@ -12,11 +12,11 @@ use Rattle.ppd_ast.specs.declared.program.Program.{Program}
 use Rattle.ppd_ast.specs.declared.status.Status.TheVariants as status
 use Rattle.ppd_ast.specs.Valid.{IsValid}
 use Rattle.ppd_blocks.specs.Blocks.{plan_of}
-use Rattle.ppd_emul_model.specs.Replay.{Replayed, replay}
-use Rattle.ppd_entry.specs.declared.entry.Entry.{Entry}
-use Rattle.ppd_entry.specs.declared.entry.Entry.TheVariants as entry
-use Rattle.ppd_entry.specs.IntervalLogs.{LoggedInterval, indexed, log_by}
-use Rattle.ppd_entry.proofs.Vocabulary.{log_in}
+use Rattle.ppd_model.specs.Replay.{Replayed, replay}
+use Rattle.ppd_model.specs.declared.entry.Entry.{Entry}
+use Rattle.ppd_model.specs.declared.entry.Entry.TheVariants as entry
+use Rattle.ppd_model.specs.IntervalLogs.{LoggedInterval, indexed, log_by}
+use Rattle.ppd_model.proofs.EntryWords.{log_in}
 use Rattle.ppd_model.specs.declared.flow.Item.{Item}
 use Rattle.ppd_model.specs.declared.state.Logging.{Logging}
 use Rattle.ppd_model.specs.declared.tracing.Story.{Story}
@@ -34,8 +34,8 @@ use Rattle.ppd_model.proofs.LoggedSpans.{intervals_of_logs}
 use Rattle.ppd_flow_past.specs.SeenBy.{rounds_by, seen_by, told_by}
 use Rattle.ppd_flow_past.proofs.Lists.{same_lists}
 use Rattle.ppd_flow_past.proofs.Rounds.{rounds_of_split}
-use Rattle.law_replay.specs.Theorem.Laws.{modelled_of, replay_of}
-use Rattle.ppd_flow_model.specs.Seen.{Seen, seen_of}
+use Rattle.law_steps.specs.Theorem.Laws.{modelled_of, replay_of}
+use Rattle.ppd_graph.specs.Seen.{Seen, seen_of}
 use Rattle.law_clean.specs.Cuts.{stop}
 use Rattle.law_clean.specs.Ordered.{IsUnracedIn}
 use Rattle.law_clean.proofs.CutEdges.{cut_log, g, kept, replays_of_cut, runs_on}

@@ -14,8 +14,8 @@ use Rattle.ppd_ast.specs.declared.program.Program.{Program}
 use Rattle.ppd_ast.specs.Valid.{IsValid}
 use Rattle.ppd_ast.proofs.ValidLaws.{slice_get_there}
 use Rattle.ppd_blocks.specs.Blocks.{plan_of}
-use Rattle.ppd_entry.specs.declared.entry.Entry.{Entry}
-use Rattle.ppd_entry.specs.declared.entry.Logs.{Logs}
+use Rattle.ppd_model.specs.declared.entry.Entry.{Entry}
+use Rattle.ppd_model.specs.declared.entry.Logs.{Logs}
 use Rattle.ppd_graph.specs.declared.paired.Paired.{Paired}
 use Rattle.ppd_graph.specs.declared.paired.Paired.TheVariants.{Nothing, Initial, Node}
 use Rattle.ppd_graph.specs.Partners.{pairs_of}
@@ -41,25 +41,25 @@ use Rattle.ppd_model.specs.World.{World}
 use Rattle.ppd_model.proofs.Numbers.{are_counted}
 use Rattle.ppd_model.proofs.RecordedSyncs.{record_syncs}
 use Rattle.ppd_model.proofs.Tested.{In, here}
-use Rattle.ppd_flow_model.specs.Ends.{edge_at, end_interval, end_item}
-use Rattle.ppd_flow_model.specs.Seen.{Seen, seen_of}
-use Rattle.ppd_flow_model.specs.declared.walked.Walked.{Walked}
-use Rattle.ppd_flow_model.specs.declared.walked.Walked.TheVariants.{Stopped, Passed, Found}
-use Rattle.ppd_flow_model.specs.Looked.{Looked, look_map}
-use Rattle.ppd_flow_model.specs.Shared.{Missing, greater, greatest, greatest_before, is_before_in, origin_in, own_or, pair_origin, pair_place, seen_at, shared_origin, written_at, written_or_start, writing}
-use Rattle.ppd_flow_model.specs.Walk.{walk}
-use Rattle.law_flow_shared.proofs.Vocabulary.Events.{synchronizes}
-use Rattle.law_flow_shared.specs.Edges.SharedEdges.{all_seen}
-use Rattle.law_flow_shared.proofs.Edges.LogPlaces.EdgeEnds.{EndsAt, at_sync}
-use Rattle.law_flow_shared.proofs.Edges.LogPlaces.EdgePlaces.{count_below}
-use Rattle.law_flow_shared.proofs.Edges.PairPlaces.Leading.{IsSyncStep, sync_step}
-use Rattle.law_flow_shared.proofs.Edges.Sources.InEdges.{sync_event}
-use Rattle.law_flow_shared.proofs.Edges.Sources.LastOrigins.{before_is, below_moments, split_there}
-use Rattle.law_flow_shared.proofs.Edges.Sources.Members.{in_filter}
-use Rattle.law_flow_shared.proofs.Edges.Spans.Facts.{count_to}
-use Rattle.law_flow_shared.proofs.Edges.StepEvents.Processes.{Facts, facts}
-use Rattle.law_flow_shared.proofs.Edges.StepEvents.Timeline.{did, did_more}
-use Rattle.law_flow_shared.proofs.Edges.StepEvents.Writers.{HasEvent, edge_is_count, ev_at, ev_count}
+use Rattle.ppd_graph.specs.Ends.{edge_at, end_interval, end_item}
+use Rattle.ppd_graph.specs.Seen.{Seen, seen_of}
+use Rattle.ppd_graph.specs.declared.walked.Walked.{Walked}
+use Rattle.ppd_graph.specs.declared.walked.Walked.TheVariants.{Stopped, Passed, Found}
+use Rattle.ppd_graph.specs.Looked.{Looked, look_map}
+use Rattle.ppd_graph.specs.Shared.{Missing, greater, greatest, greatest_before, is_before_in, origin_in, own_or, pair_origin, pair_place, seen_at, shared_origin, written_at, written_or_start, writing}
+use Rattle.ppd_graph.specs.Walk.{walk}
+use Rattle.law_flow.proofs.Vocabulary.Events.{synchronizes}
+use Rattle.law_flow.specs.Edges.SharedEdges.{all_seen}
+use Rattle.law_flow.proofs.Edges.LogPlaces.EdgeEnds.{EndsAt, at_sync}
+use Rattle.law_flow.proofs.Edges.LogPlaces.EdgePlaces.{count_below}
+use Rattle.law_flow.proofs.Edges.PairPlaces.Leading.{IsSyncStep, sync_step}
+use Rattle.law_flow.proofs.Edges.Sources.InEdges.{sync_event}
+use Rattle.law_flow.proofs.Edges.Sources.LastOrigins.{before_is, below_moments, split_there}
+use Rattle.law_flow.proofs.Edges.Sources.Members.{in_filter}
+use Rattle.law_flow.proofs.Edges.Spans.Facts.{count_to}
+use Rattle.law_flow.proofs.Edges.StepEvents.Processes.{Facts, facts}
+use Rattle.law_flow.proofs.Edges.StepEvents.Timeline.{did, did_more}
+use Rattle.law_flow.proofs.Edges.StepEvents.Writers.{HasEvent, edge_is_count, ev_at, ev_count}
 use Rattle.law_steps.proofs.StaticEdges.SharedCells.Writers.{events_in}
 use Rattle.law_clean.proofs.Prefixes.{edge_same, end_same, walk_same}
 

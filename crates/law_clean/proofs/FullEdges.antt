@@ -6,23 +6,23 @@ use Rattle.law_clean.proofs.PastClear.{clear_before, clear_own}
 use Rattle.law_clean.proofs.Vocabulary.{IsUnraced}
 use Rattle.law_clean.specs.Ordered.{IsCleanAt}
 use Rattle.law_clean.specs.Pasts.{is_clean, lies}
-use Rattle.law_flow_own.proofs.Loops.OwnParts.{own_parts}
-use Rattle.law_flow_shared.proofs.Edges.Assembled.{all_edges}
-use Rattle.law_flow_shared.proofs.Edges.Near.Nearby.{counted}
-use Rattle.law_flow_shared.proofs.Edges.Sources.ReadOrigins.{by_found}
-use Rattle.law_flow_shared.proofs.Edges.Spans.Facts.{count_to}
-use Rattle.law_flow_shared.proofs.Edges.StepEvents.Processes.{Facts, facts}
-use Rattle.law_flow_shared.proofs.Edges.StepEvents.ReadSteps.{ReadsAt, reads_at}
-use Rattle.law_flow_shared.proofs.Edges.StepEvents.Timeline.{did, did_more}
-use Rattle.law_flow_shared.proofs.Edges.StepEvents.Writers.{edge_is_count, ev_count}
-use Rattle.law_flow_shared.specs.Edges.SharedEdges.{IsSharedRead, all_seen}
+use Rattle.law_flow.proofs.Loops.OwnParts.{own_parts}
+use Rattle.law_flow.proofs.Edges.Assembled.{all_edges}
+use Rattle.law_flow.proofs.Edges.Near.Nearby.{counted}
+use Rattle.law_flow.proofs.Edges.Sources.ReadOrigins.{by_found}
+use Rattle.law_flow.proofs.Edges.Spans.Facts.{count_to}
+use Rattle.law_flow.proofs.Edges.StepEvents.Processes.{Facts, facts}
+use Rattle.law_flow.proofs.Edges.StepEvents.ReadSteps.{ReadsAt, reads_at}
+use Rattle.law_flow.proofs.Edges.StepEvents.Timeline.{did, did_more}
+use Rattle.law_flow.proofs.Edges.StepEvents.Writers.{edge_is_count, ev_count}
+use Rattle.law_flow.specs.Edges.SharedEdges.{IsSharedRead, all_seen}
 use Rattle.ppd_ast.proofs.ValidLaws.{slice_get_below}
 use Rattle.ppd_ast.specs.Valid.{IsValid}
 use Rattle.ppd_ast.specs.declared.plan.Policy.{Policy}
 use Rattle.ppd_ast.specs.declared.program.Program.{Program}
 use Rattle.ppd_blocks.specs.Blocks.{plan_of}
-use Rattle.ppd_flow_model.specs.Found.{found_edges}
-use Rattle.ppd_flow_model.specs.Shared.{shared_origin}
+use Rattle.ppd_graph.specs.Found.{found_edges}
+use Rattle.ppd_graph.specs.Shared.{shared_origin}
 use Rattle.ppd_model.proofs.AccessSets.{accesses_there}
 use Rattle.ppd_model.proofs.Changes.{some}
 use Rattle.ppd_model.proofs.SharedReads.{steps_access}

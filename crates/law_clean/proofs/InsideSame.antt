@@ -4,13 +4,13 @@ use Rattle.ppd_model.specs.Setting.{setting_of}
 use Rattle.law_clean.proofs.CutShared.{IsBegun}
 use Rattle.law_clean.proofs.Items.{closed_stays, part_kept, ref_kept}
 use Rattle.law_clean.proofs.SpansEarlier.{IsNamed, each_there, spans_named}
-use Rattle.law_flow_own.proofs.Loops.OwnParts.{own_parts}
-use Rattle.law_flow_own.proofs.Places.LeafTells.{split_is}
-use Rattle.law_flow_shared.proofs.Edges.Back.Walks.{map_at}
-use Rattle.law_flow_shared.proofs.Edges.PartItems.{first_of, item_at, item_if}
-use Rattle.law_flow_shared.proofs.Edges.StepEvents.Processes.{Facts, facts}
-use Rattle.law_flow_shared.specs.Edges.Assembled.{HasOwnParts}
-use Rattle.law_flow_shared.specs.Edges.SharedEdges.{all_seen}
+use Rattle.law_flow.proofs.Loops.OwnParts.{own_parts}
+use Rattle.law_flow.proofs.Places.LeafTells.{split_is}
+use Rattle.law_flow.proofs.Edges.Back.Walks.{map_at}
+use Rattle.law_flow.proofs.Edges.PartItems.{first_of, item_at, item_if}
+use Rattle.law_flow.proofs.Edges.StepEvents.Processes.{Facts, facts}
+use Rattle.law_flow.specs.Edges.Assembled.{HasOwnParts}
+use Rattle.law_flow.specs.Edges.SharedEdges.{all_seen}
 use Rattle.ppd_ast.specs.Valid.{IsValid}
 use Rattle.ppd_ast.specs.declared.plan.BlockKind.{BlockKind}
 use Rattle.ppd_ast.specs.declared.plan.BlockKind.TheVariants as block
@@ -18,10 +18,10 @@ use Rattle.ppd_ast.specs.declared.plan.Plan.{Plan}
 use Rattle.ppd_ast.specs.declared.plan.Policy.{Policy}
 use Rattle.ppd_ast.specs.declared.program.Program.{Program}
 use Rattle.ppd_blocks.specs.Blocks.{plan_of}
-use Rattle.ppd_entry.specs.declared.entry.Logs.{Logs}
-use Rattle.ppd_flow_model.specs.Found.{edges_if, found_edges}
-use Rattle.ppd_flow_model.specs.Own.{edges_of_nested}
-use Rattle.ppd_flow_model.specs.Seen.{Seen, seen_of}
+use Rattle.ppd_model.specs.declared.entry.Logs.{Logs}
+use Rattle.ppd_graph.specs.Found.{edges_if, found_edges}
+use Rattle.ppd_graph.specs.Own.{edges_of_nested}
+use Rattle.ppd_graph.specs.Seen.{Seen, seen_of}
 use Rattle.ppd_model.proofs.EdgeWords.{part_in}
 use Rattle.ppd_model.proofs.IntervalWords.{item_of_span}
 use Rattle.ppd_model.proofs.Items.{items_whole}

@@ -4,8 +4,8 @@ use Rattle.law_steps.specs.Policies.{setting_by}
 use Rattle.ppd_model.specs.Setting.{setting_of}
 use Rattle.law_clean.proofs.CutRuns.{moments_grow}
 use Rattle.law_clean.proofs.TwoStories.{IsAlike, bare, splits_alike}
-use Rattle.law_flow_own.proofs.Places.LeafTells.{later_at, split_is}
-use Rattle.law_flow_own.specs.Places.Levels.{IsLater}
+use Rattle.law_flow.proofs.Places.LeafTells.{later_at, split_is}
+use Rattle.law_flow.specs.Places.Levels.{IsLater}
 use Rattle.law_steps.proofs.OpenBlocks.Told.{own_steps_are}
 use Rattle.ppd_ast.proofs.ValidLaws.{slice_get_below, slice_get_there}
 use Rattle.ppd_ast.specs.Valid.{IsValid}

@@ -4,14 +4,14 @@ use Rattle.std.proofs.lemmas.List.Elements.{filter_map-append}
 use Rattle.std.proofs.lemmas.List.Sums.{fold-append}
 use Rattle.std.proofs.lemmas.Option.{none-some}
 use Rattle.std.specs.Prelude.{filter_map, fold, slice_get, take, ⊤}
-use Rattle.ppd_entry.specs.declared.entry.Entry.{Entry}
-use Rattle.ppd_entry.specs.declared.entry.Entry.TheVariants as entry
+use Rattle.ppd_model.specs.declared.entry.Entry.{Entry}
+use Rattle.ppd_model.specs.declared.entry.Entry.TheVariants as entry
 use Rattle.ppd_model.specs.Extents.{Extent, extents}
 use Rattle.ppd_model.proofs.ExtentWords.{Extending, begun_extents, ended_by, extend, extent_found, extents_are, left_by}
 use Rattle.ppd_model.specs.RecordedSets.{sync_in}
 use Rattle.ppd_model.specs.World.{change}
 use Rattle.ppd_model.proofs.Changes.{some}
-use Rattle.ppd_flow_model.specs.Ends.{syncs_before}
+use Rattle.ppd_graph.specs.Ends.{syncs_before}
 
 module _ (d : ℕ) where
   -- it is not left, or was left at entry d or later

@@ -18,7 +18,7 @@ use Rattle.ppd_model.specs.Races.{Edges, candidates, edges_of_story, first_write
 use Rattle.ppd_model.specs.Laws.{DoConflict}
 use Rattle.ppd_model.proofs.RaceFree.{any_at, candidate_in, edge_below}
 use Rattle.ppd_model.proofs.Tested.{In, here, there, in_left, in_right, tests_edges}
-use Rattle.law_flow_shared.proofs.Edges.Sources.Members.{filter_in}
+use Rattle.law_flow.proofs.Edges.Sources.Members.{filter_in}
 use Rattle.law_clean.proofs.Vocabulary.{IsUnraced, UnracedMeansOrder}
 use Rattle.law_clean.proofs.PastWords.{is_of_race}
 

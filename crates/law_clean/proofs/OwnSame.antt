@@ -28,15 +28,15 @@ use Rattle.ppd_model.specs.Story.{story, told}
 use Rattle.ppd_model.proofs.Changes.{some}
 use Rattle.ppd_model.proofs.Earlier.{name_earlier}
 use Rattle.ppd_model.proofs.Items.{items_whole}
-use Rattle.ppd_flow_model.specs.Control.{control_origin}
-use Rattle.ppd_flow_model.specs.Locals.{local_origin}
-use Rattle.ppd_flow_model.specs.Seen.{seen_of}
-use Rattle.law_flow_own.proofs.Loops.OwnParts.{own_parts}
-use Rattle.law_flow_shared.specs.Edges.Assembled.{HasOwnParts}
-use Rattle.law_flow_shared.proofs.Edges.Back.Walks.{map_at}
-use Rattle.law_flow_shared.proofs.Edges.PartItems.{first_of, item_at, item_if}
-use Rattle.law_flow_shared.proofs.Edges.StepEvents.Processes.{Facts, facts}
-use Rattle.law_flow_shared.proofs.Edges.StepEvents.Timeline.{did}
+use Rattle.ppd_graph.specs.Control.{control_origin}
+use Rattle.ppd_graph.specs.Locals.{local_origin}
+use Rattle.ppd_graph.specs.Seen.{seen_of}
+use Rattle.law_flow.proofs.Loops.OwnParts.{own_parts}
+use Rattle.law_flow.specs.Edges.Assembled.{HasOwnParts}
+use Rattle.law_flow.proofs.Edges.Back.Walks.{map_at}
+use Rattle.law_flow.proofs.Edges.PartItems.{first_of, item_at, item_if}
+use Rattle.law_flow.proofs.Edges.StepEvents.Processes.{Facts, facts}
+use Rattle.law_flow.proofs.Edges.StepEvents.Timeline.{did}
 use Rattle.law_clean.proofs.Items.{event_kept, part_kept, ref_kept}
 
 -- ---- earlier events

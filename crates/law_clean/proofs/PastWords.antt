@@ -4,8 +4,8 @@ use Rattle.law_clean.specs.Cuts.{cut}
 use Rattle.law_clean.specs.Pasts.{Lies, any_raced, is_past, is_same_edge}
 use Rattle.law_clean.specs.Search.{is_wanted}
 use Rattle.ppd_ast.specs.declared.program.Program.{Program}
-use Rattle.ppd_entry.specs.declared.entry.Entry.{Entry}
-use Rattle.ppd_flow_model.specs.Ends.{syncs_before}
+use Rattle.ppd_model.specs.declared.entry.Entry.{Entry}
+use Rattle.ppd_graph.specs.Ends.{syncs_before}
 use Rattle.ppd_model.specs.Extents.{Extent}
 use Rattle.ppd_model.specs.HappenedBefore.{edge, is_before, node}
 use Rattle.ppd_model.specs.Record.{record_of}

@@ -1,15 +1,15 @@
 -- The edges in which intervals begin and are left, and those of the items in them.
 use Rattle.law_clean.proofs.PastWords.{left_in}
 use Rattle.law_clean.specs.Pasts.{left_edge}
-use Rattle.law_flow_shared.proofs.Edges.Back.Walks.{map_at}
-use Rattle.law_flow_shared.proofs.Edges.LogPlaces.EdgePlaces.{first_edge_is}
-use Rattle.law_flow_shared.proofs.Edges.PartItems.{item_at, item_if}
-use Rattle.law_flow_shared.proofs.Edges.Spans.Facts.{OpensAt, at, count_to}
-use Rattle.ppd_entry.specs.declared.entry.Entry.{Entry}
-use Rattle.ppd_entry.specs.declared.entry.Entry.TheVariants as entry
-use Rattle.ppd_flow_model.proofs.Vocabulary.{begins_in}
-use Rattle.ppd_flow_model.specs.Ends.{first_edge, syncs_before}
-use Rattle.ppd_flow_model.specs.Seen.{seen_of}
+use Rattle.law_flow.proofs.Edges.Back.Walks.{map_at}
+use Rattle.law_flow.proofs.Edges.LogPlaces.EdgePlaces.{first_edge_is}
+use Rattle.law_flow.proofs.Edges.PartItems.{item_at, item_if}
+use Rattle.law_flow.proofs.Edges.Spans.Facts.{OpensAt, at, count_to}
+use Rattle.ppd_model.specs.declared.entry.Entry.{Entry}
+use Rattle.ppd_model.specs.declared.entry.Entry.TheVariants as entry
+use Rattle.ppd_graph.proofs.FlowWords.{begins_in}
+use Rattle.ppd_graph.specs.Ends.{first_edge, syncs_before}
+use Rattle.ppd_graph.specs.Seen.{seen_of}
 use Rattle.ppd_model.proofs.Changes.{length-change, some}
 use Rattle.ppd_model.proofs.EdgeWords.{part_in}
 use Rattle.ppd_model.proofs.ExtentWords.{Extending, extend, begun_extents, ended_by, left_by}

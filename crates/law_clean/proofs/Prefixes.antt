@@ -4,20 +4,20 @@ use Rattle.law_steps.specs.Policies.{setting_by}
 use Rattle.ppd_model.specs.Setting.{setting_of}
 use Rattle.law_clean.proofs.Items.{event_kept, part_kept, span_kept}
 use Rattle.law_clean.proofs.Walks.{walk_equal}
-use Rattle.law_flow_shared.proofs.Edges.Back.Walks.{map_at}
-use Rattle.law_flow_shared.proofs.Edges.LogPlaces.EdgeEnds.{IsAt, at_place}
-use Rattle.law_flow_shared.proofs.Edges.PartItems.{first_of, item_at, item_if}
-use Rattle.law_flow_shared.proofs.Edges.StepEvents.Processes.{Facts, facts}
+use Rattle.law_flow.proofs.Edges.Back.Walks.{map_at}
+use Rattle.law_flow.proofs.Edges.LogPlaces.EdgeEnds.{IsAt, at_place}
+use Rattle.law_flow.proofs.Edges.PartItems.{first_of, item_at, item_if}
+use Rattle.law_flow.proofs.Edges.StepEvents.Processes.{Facts, facts}
 use Rattle.ppd_ast.proofs.ValidLaws.{slice_get_below, slice_get_there}
 use Rattle.ppd_ast.specs.Valid.{IsValid}
 use Rattle.ppd_ast.specs.declared.plan.Plan.{Plan}
 use Rattle.ppd_ast.specs.declared.plan.Policy.{Policy}
 use Rattle.ppd_ast.specs.declared.program.Program.{Program}
 use Rattle.ppd_blocks.specs.Blocks.{plan_of}
-use Rattle.ppd_entry.specs.declared.entry.Entry.{Entry}
-use Rattle.ppd_flow_model.specs.Ends.{edge_at, end_interval, end_item, first_edge, is_sync_item, sync_item, syncs_of_item}
-use Rattle.ppd_flow_model.specs.Seen.{seen_of}
-use Rattle.ppd_flow_model.specs.Walk.{walk}
+use Rattle.ppd_model.specs.declared.entry.Entry.{Entry}
+use Rattle.ppd_graph.specs.Ends.{edge_at, end_interval, end_item, first_edge, is_sync_item, sync_item, syncs_of_item}
+use Rattle.ppd_graph.specs.Seen.{seen_of}
+use Rattle.ppd_graph.specs.Walk.{walk}
 use Rattle.ppd_model.proofs.Changes.{some}
 use Rattle.ppd_model.proofs.EdgeWords.{part_in}
 use Rattle.ppd_model.proofs.IntervalWords.{item_of_event, item_of_span}

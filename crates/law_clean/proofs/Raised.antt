@@ -20,7 +20,7 @@ use Rattle.ppd_sem.proofs.Progress.{need_at_status, need_at_todo}
 use Rattle.ppd_model.specs.declared.tracing.Taken.{Taken}
 use Rattle.ppd_model.specs.FullTrace.{event_of}
 use Rattle.ppd_model.specs.Marks.{closed, opened}
-use Rattle.ppd_emul_model.specs.Replay.{is_budget}
+use Rattle.ppd_model.specs.Replay.{is_budget}
 
 -- so much more is spent
 abbrev pub raised : ℕ → Proc → Proc

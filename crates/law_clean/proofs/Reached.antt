@@ -8,13 +8,13 @@ use Rattle.law_clean.proofs.Items.{closed_stays, part_kept, span_kept}
 use Rattle.law_clean.proofs.LeftBy.{left_before}
 use Rattle.law_clean.proofs.PastWords.{left_in}
 use Rattle.law_clean.specs.Pasts.{left_edge}
-use Rattle.law_flow_own.proofs.Places.LeafTells.{split_is}
-use Rattle.law_flow_shared.proofs.Costs.Steps.Entries.{entries_are}
-use Rattle.law_flow_shared.proofs.Edges.Near.Tree.{IsParent, IsTree, has_tree}
-use Rattle.law_flow_shared.proofs.Edges.Spans.Facts.{Logged}
-use Rattle.law_flow_shared.proofs.Edges.Spans.Tiles.{Stands, outermost, within}
-use Rattle.law_flow_shared.proofs.Edges.Spans.Told.{IsPlaced}
-use Rattle.law_flow_shared.proofs.Edges.StepEvents.Processes.{Facts, facts}
+use Rattle.law_flow.proofs.Places.LeafTells.{split_is}
+use Rattle.law_flow.proofs.Costs.Steps.Entries.{entries_are}
+use Rattle.law_flow.proofs.Edges.Near.Tree.{IsParent, IsTree, has_tree}
+use Rattle.law_flow.proofs.Edges.Spans.Facts.{Logged}
+use Rattle.law_flow.proofs.Edges.Spans.Tiles.{Stands, outermost, within}
+use Rattle.law_flow.proofs.Edges.Spans.Told.{IsPlaced}
+use Rattle.law_flow.proofs.Edges.StepEvents.Processes.{Facts, facts}
 use Rattle.law_steps.proofs.OpenBlocks.Told.{own_syncs_are}
 use Rattle.ppd_ast.specs.Valid.{IsValid}
 use Rattle.ppd_ast.specs.declared.plan.Plan.{Plan}
@@ -22,9 +22,9 @@ use Rattle.ppd_ast.specs.declared.plan.Policy.{Policy}
 use Rattle.ppd_ast.specs.declared.program.Program.{Program}
 use Rattle.ppd_ast.specs.declared.status.Status.TheVariants as status
 use Rattle.ppd_blocks.specs.Blocks.{plan_of}
-use Rattle.ppd_entry.specs.declared.entry.Entry.{Entry}
-use Rattle.ppd_entry.specs.declared.entry.Entry.TheVariants as entry
-use Rattle.ppd_flow_model.specs.Ends.{syncs_before}
+use Rattle.ppd_model.specs.declared.entry.Entry.{Entry}
+use Rattle.ppd_model.specs.declared.entry.Entry.TheVariants as entry
+use Rattle.ppd_graph.specs.Ends.{syncs_before}
 use Rattle.ppd_model.proofs.Changes.{some}
 use Rattle.ppd_model.proofs.EdgeWords.{part_in}
 use Rattle.ppd_model.proofs.Extents.{extents_match}

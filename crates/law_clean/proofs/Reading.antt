@@ -3,17 +3,17 @@ use Rattle.std.proofs.Common.{◌≡◌, ℕ, zero, suc, ℤ, List, [], ◌∷�
 use Rattle.std.specs.Prelude.{is_some}
 use Rattle.ppd_ast.specs.declared.plan.Plan.{Plan}
 use Rattle.ppd_ast.specs.declared.program.Program.{Program}
-use Rattle.ppd_entry.specs.Pieces.{Piece, unit}
+use Rattle.ppd_model.specs.Pieces.{Piece, unit}
 use Rattle.ppd_sem.specs.declared.proc.Need.{Need}
 use Rattle.ppd_sem.specs.declared.proc.Need.TheVariants.{Write}
 use Rattle.ppd_sem.specs.declared.proc.Proc.{Proc}
 use Rattle.ppd_sem.specs.Process.{act}
 use Rattle.ppd_model.specs.Marks.{Mark, opened}
 use Rattle.ppd_model.specs.Story.{Moment, unit_started}
-use Rattle.law_replay.specs.InForce.Values.{AreRead, in_force_after, in_force_by, with_unit}
-use Rattle.law_replay.specs.Coming.Pieces.{unit_pieces}
-use Rattle.law_replay.specs.Coming.Openings.{Opening, opening, opening_by}
-use Rattle.law_replay.proofs.Theorem.Units.{IsReadFrom, unit_in_force}
+use Rattle.law_steps.specs.InForce.Values.{AreRead, in_force_after, in_force_by, with_unit}
+use Rattle.law_steps.specs.Coming.Pieces.{unit_pieces}
+use Rattle.law_steps.specs.Coming.Openings.{Opening, opening, opening_by}
+use Rattle.law_steps.proofs.Theorem.Units.{IsReadFrom, unit_in_force}
 use Rattle.law_clean.proofs.Stopped.{stop_moment}
 
 abbrev number_in : List Piece → ℕ

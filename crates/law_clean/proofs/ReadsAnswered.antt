@@ -23,11 +23,11 @@ use Rattle.ppd_model.proofs.WorldWords.{need_at}
 use Rattle.ppd_model.proofs.Stories.{steps_append}
 use Rattle.law_steps.specs.Units.{IsCellOf, unit_in_force}
 use Rattle.law_steps.proofs.Units.Reading.{reads_lie}
-use Rattle.ppd_emul_model.specs.Replay.{value_in_force}
-use Rattle.law_replay.specs.InForce.Values.{AreRead, IsRead, begun_in_force, in_force, in_force_after}
+use Rattle.ppd_model.specs.Replay.{value_in_force}
+use Rattle.law_steps.specs.InForce.Values.{AreRead, IsRead, begun_in_force, in_force, in_force_after}
 use Rattle.law_steps.proofs.OpenBlocks.Told.{none_own, own_more, own_past, own_same, own_steps_are}
-use Rattle.law_replay.proofs.InForce.Fresh.{AreFresh}
-use Rattle.law_replay.proofs.InForce.Stands.{Stands, begun_stands, reads_fresh, step_stands}
+use Rattle.law_steps.proofs.InForce.Fresh.{AreFresh}
+use Rattle.law_steps.proofs.InForce.Stands.{Stands, begun_stands, reads_fresh, step_stands}
 use Rattle.law_clean.specs.Ordered.{IsUnracedIn, UnracedReadsAreInForce}
 use Rattle.law_clean.proofs.Forward.{raced_at}
 

@@ -6,21 +6,21 @@ use Rattle.ppd_ast.specs.declared.plan.Plan.{Plan}
 use Rattle.ppd_ast.specs.declared.plan.Policy.{Policy}
 use Rattle.ppd_ast.specs.declared.program.Program.{Program}
 use Rattle.ppd_ast.specs.Valid.{IsValid}
-use Rattle.ppd_entry.specs.IntervalLogs.{IntervalLog, begun_indexing, index_step}
-use Rattle.ppd_entry.proofs.Vocabulary.{log_in}
+use Rattle.ppd_model.specs.IntervalLogs.{IntervalLog, begun_indexing, index_step}
+use Rattle.ppd_model.proofs.EntryWords.{log_in}
 use Rattle.ppd_model.specs.declared.tracing.Story.{Story}
 use Rattle.ppd_model.specs.Intervals.{Span, Split, items_of}
 use Rattle.ppd_model.specs.Logs.{closed_log, log_step}
 use Rattle.ppd_model.specs.Story.{Moment}
-use Rattle.ppd_emul_model.specs.Replay.{replay}
-use Rattle.law_replay.specs.InForce.Values.{AreRead, begun_in_force}
+use Rattle.ppd_model.specs.Replay.{replay}
+use Rattle.law_steps.specs.InForce.Values.{AreRead, begun_in_force}
 use Rattle.law_steps.specs.OpenBlocks.Run.{IsRun}
-use Rattle.law_replay.specs.Coming.Openings.{AreAlike, IsLogOf, IsSpanOf, Opening}
-use Rattle.law_replay.proofs.Coming.Later.{finals_are}
-use Rattle.law_replay.proofs.Openings.AtBlocks.{IsAtBlock}
-use Rattle.law_replay.proofs.Theorem.Begins.{replay_gives}
-use Rattle.law_replay.proofs.Theorem.Units.{IsReadFrom}
-use Rattle.law_replay.specs.Theorem.Laws.{modelled_of, replay_of}
+use Rattle.law_steps.specs.Coming.Openings.{AreAlike, IsLogOf, IsSpanOf, Opening}
+use Rattle.law_steps.proofs.Coming.Later.{finals_are}
+use Rattle.law_steps.proofs.Openings.AtBlocks.{IsAtBlock}
+use Rattle.law_steps.proofs.Theorem.Begins.{replay_gives}
+use Rattle.law_steps.proofs.Theorem.Units.{IsReadFrom}
+use Rattle.law_steps.specs.Theorem.Laws.{modelled_of, replay_of}
 use Rattle.law_clean.proofs.Beginning.{at_block, begins, begun, first, index, last, logs_alike, plan, purse, spans_alike}
 use Rattle.law_clean.proofs.Reading.{opening_reads, same_unit}
 

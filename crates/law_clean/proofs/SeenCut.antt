@@ -12,15 +12,15 @@ use Rattle.ppd_ast.specs.declared.program.Program.{Program}
 use Rattle.ppd_ast.specs.Valid.{IsValid}
 use Rattle.ppd_ast.proofs.ValidLaws.{slice_get_there}
 use Rattle.ppd_blocks.specs.Blocks.{plan_of}
-use Rattle.ppd_entry.specs.declared.entry.Entry.{Entry}
-use Rattle.ppd_entry.specs.declared.entry.Entry.TheVariants as entry
-use Rattle.ppd_entry.specs.IntervalLogs.{indexed, interval_log}
-use Rattle.law_replay.specs.InForce.Values.{AreRead, begun_in_force}
+use Rattle.ppd_model.specs.declared.entry.Entry.{Entry}
+use Rattle.ppd_model.specs.declared.entry.Entry.TheVariants as entry
+use Rattle.ppd_model.specs.IntervalLogs.{indexed, interval_log}
+use Rattle.law_steps.specs.InForce.Values.{AreRead, begun_in_force}
 use Rattle.ppd_model.specs.declared.flow.Item.{Item}
 use Rattle.ppd_model.specs.Bounds.{AreEach}
 use Rattle.ppd_model.specs.Extents.{Extent, IsSameInterval, extents}
 use Rattle.ppd_model.specs.Forward.{edge_in}
-use Rattle.ppd_model.specs.Intervals.{Span, Split, items_of, splits}
+use Rattle.ppd_model.specs.Intervals.{Span, Split, items_of, splits, split_of}
 use Rattle.ppd_model.specs.Logs.{closed_log, closed_logs, log_of, loggings}
 use Rattle.ppd_model.proofs.LogWords.{logs_from}
 use Rattle.ppd_model.specs.RecordedSets.{sync_in}
@@ -31,19 +31,18 @@ use Rattle.ppd_model.proofs.Forward.{fewer}
 use Rattle.ppd_model.proofs.LoggedSpans.{intervals_of_logs}
 use Rattle.law_steps.proofs.OpenBlocks.Runs.{schedules_run}
 use Rattle.ppd_flow_past.specs.SeenBy.{rounds_by, seen_by}
-use Rattle.law_flow_own.proofs.Places.LeafTells.{split_is}
-use Rattle.law_replay.proofs.Theorem.Processes.{process_there}
-use Rattle.law_replay.specs.Theorem.Laws.{modelled_of, replay_of}
+use Rattle.law_flow.proofs.Places.LeafTells.{split_is}
+use Rattle.law_steps.proofs.Theorem.Processes.{process_there}
+use Rattle.law_steps.specs.Theorem.Laws.{modelled_of, replay_of}
 use Rattle.law_steps.proofs.OpenBlocks.Told.{own_steps_are}
-use Rattle.ppd_flow_model.specs.Ends.{ending}
-use Rattle.ppd_flow_model.proofs.Vocabulary.{is_sync}
-use Rattle.ppd_flow_model.specs.Seen.{Seen, seen_of}
-use Rattle.ppd_flow_model.specs.Shared.{seen_at}
-use Rattle.ppd_model.specs.Intervals.{split_of}
-use Rattle.law_flow_shared.proofs.Edges.PairPlaces.Leading.{IsSyncStep, sync_step}
-use Rattle.law_flow_shared.proofs.Edges.Sources.LastOrigins.{below_moments, split_there}
-use Rattle.law_flow_shared.proofs.Edges.StepEvents.Timeline.{did, none_did}
-use Rattle.law_flow_shared.proofs.Edges.StepEvents.Writers.{edge_is_count}
+use Rattle.ppd_graph.specs.Ends.{ending}
+use Rattle.ppd_graph.proofs.FlowWords.{is_sync}
+use Rattle.ppd_graph.specs.Seen.{Seen, seen_of}
+use Rattle.ppd_graph.specs.Shared.{seen_at}
+use Rattle.law_flow.proofs.Edges.PairPlaces.Leading.{IsSyncStep, sync_step}
+use Rattle.law_flow.proofs.Edges.Sources.LastOrigins.{below_moments, split_there}
+use Rattle.law_flow.proofs.Edges.StepEvents.Timeline.{did, none_did}
+use Rattle.law_flow.proofs.Edges.StepEvents.Writers.{edge_is_count}
 use Rattle.law_clean.specs.Cuts.{cut, cut_at, cut_logs}
 use Rattle.law_clean.specs.Ordered.{AreUnracedReads, IsUnracedIn}
 use Rattle.law_clean.proofs.CutLogs.{cut_of_log}

@@ -17,7 +17,7 @@ use Rattle.ppd_sem.proofs.Progress.{act-stopped, act-within, asked_purse, need_a
 use Rattle.ppd_model.specs.Logs.{status_of}
 use Rattle.ppd_model.specs.Story.{Moment}
 use Rattle.ppd_model.proofs.Statuses.{status_after}
-use Rattle.ppd_emul_model.specs.Replay.{is_budget}
+use Rattle.ppd_model.specs.Replay.{is_budget}
 use Rattle.law_steps.specs.OpenBlocks.Run.{IsGiven, IsRun}
 use Rattle.law_clean.proofs.Raised.{act_raised, need_raised, need_spent, raised}
 

@@ -21,7 +21,7 @@ use Rattle.ppd_model.specs.Intervals.{Part, own, nested, Span, Split, control_by
 use Rattle.ppd_model.proofs.IntervalWords.{begin_if, end_if, item_of_event}
 use Rattle.ppd_model.specs.Marks.{Mark, closed, opened}
 use Rattle.ppd_model.specs.Record.{edge_after}
-use Rattle.ppd_flow_model.specs.Seen.{seen_of}
+use Rattle.ppd_graph.specs.Seen.{seen_of}
 
 -- an event without its pair
 abbrev pub bare : TracedEvent → TracedEvent

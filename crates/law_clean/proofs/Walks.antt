@@ -14,12 +14,12 @@ use Rattle.ppd_model.specs.Intervals.{own, Split, splits}
 use Rattle.ppd_model.specs.Items.{IsReferred}
 use Rattle.ppd_model.specs.Story.{story}
 use Rattle.ppd_model.proofs.Items.{items_whole}
-use Rattle.ppd_flow_model.specs.declared.walked.Walked.{Walked}
-use Rattle.ppd_flow_model.specs.declared.walked.Walked.TheVariants.{Stopped, Passed, Found}
-use Rattle.ppd_flow_model.specs.Looked.{Looked}
-use Rattle.ppd_flow_model.specs.Shared.{Missing, own_or}
-use Rattle.law_flow_shared.proofs.Vocabulary.Events.{AreQuiet, IsLastSync, IsLastWriter, IsQuiet, IsWalk, synchronizes, written_by}
-use Rattle.law_flow_shared.proofs.Edges.Back.Walked.{IsFoundAt, found_is, not_found}
+use Rattle.ppd_graph.specs.declared.walked.Walked.{Walked}
+use Rattle.ppd_graph.specs.declared.walked.Walked.TheVariants.{Stopped, Passed, Found}
+use Rattle.ppd_graph.specs.Looked.{Looked}
+use Rattle.ppd_graph.specs.Shared.{Missing, own_or}
+use Rattle.law_flow.proofs.Vocabulary.Events.{AreQuiet, IsLastSync, IsLastWriter, IsQuiet, IsWalk, synchronizes, written_by}
+use Rattle.law_flow.proofs.Edges.Back.Walked.{IsFoundAt, found_is, not_found}
 use Rattle.law_clean.proofs.Items.{event_kept, part_kept}
 
 -- events that look alike at these numbers

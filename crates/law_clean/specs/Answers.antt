@@ -1,7 +1,7 @@
 -- What is answered of an item in a run with races.
 use Rattle.ppd_model.specs.Setting.{Setting}
 use Rattle.law_clean.specs.Pasts.{first_raced, is_clean, left_edge, lies}
-use Rattle.ppd_flow_model.specs.Shared.{Missing}
+use Rattle.ppd_graph.specs.Shared.{Missing}
 use Rattle.ppd_model.specs.FlowbackEdges.{edges}
 use Rattle.ppd_model.specs.HappenedBefore.{edge}
 use Rattle.ppd_model.specs.Intervals.{Part, Split, item_of, splits}

@@ -7,9 +7,9 @@ use Rattle.ppd_ast.specs.declared.plan.Plan.{Plan}
 use Rattle.ppd_ast.specs.declared.plan.Policy.{Policy}
 use Rattle.ppd_ast.specs.declared.program.Program.{Program}
 use Rattle.ppd_blocks.specs.Blocks.{plan_of}
-use Rattle.ppd_entry.specs.declared.entry.Entry.{Entry}
-use Rattle.ppd_entry.specs.declared.entry.Logs.{Logs}
-use Rattle.ppd_entry.specs.IntervalLogs.{interval_log}
+use Rattle.ppd_model.specs.declared.entry.Entry.{Entry}
+use Rattle.ppd_model.specs.declared.entry.Logs.{Logs}
+use Rattle.ppd_model.specs.IntervalLogs.{interval_log}
 use Rattle.ppd_index.specs.Refusals.{first_in_lists}
 use Rattle.ppd_model.specs.declared.graph.EdgeId.{EdgeId}
 use Rattle.ppd_model.specs.FlowbackEdges.{edges, part_at}
@@ -21,9 +21,9 @@ use Rattle.ppd_model.specs.Schedule.{IsWhole, run}
 use Rattle.ppd_model.specs.Story.{moment_of, story, told}
 use Rattle.ppd_model.specs.Synchronizations.{sync_of}
 use Rattle.ppd_model.specs.World.{World}
-use Rattle.law_replay.specs.Theorem.Laws.{modelled_of, replay_of}
-use Rattle.ppd_flow_model.specs.Found.{found_edges}
-use Rattle.law_flow_shared.specs.Edges.SharedEdges.{all_seen}
+use Rattle.law_steps.specs.Theorem.Laws.{modelled_of, replay_of}
+use Rattle.ppd_graph.specs.Found.{found_edges}
+use Rattle.law_flow.specs.Edges.SharedEdges.{all_seen}
 use Rattle.law_clean.specs.Answers.{answer_of}
 use Rattle.law_clean.specs.Cuts.{cut_logs, stop}
 use Rattle.law_clean.specs.Ordered.{IsUnracedIn}

@@ -15,7 +15,7 @@ use Rattle.ppd_model.specs.Schedule.{run}
 use Rattle.ppd_model.specs.SharedReads.{IsFound, need_after}
 use Rattle.ppd_model.specs.Story.{told}
 use Rattle.ppd_model.specs.World.{World}
-use Rattle.law_replay.specs.InForce.Values.{AreRead, begun_in_force}
+use Rattle.law_steps.specs.InForce.Values.{AreRead, begun_in_force}
 use Rattle.law_clean.specs.Pasts.{is_raced}
 
 -- no race of the schedule has this edge

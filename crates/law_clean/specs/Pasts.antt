@@ -1,7 +1,7 @@
 -- The past of an item, and whether a race touches it.
 use Rattle.ppd_ast.specs.declared.program.Program.{Program}
-use Rattle.ppd_entry.specs.declared.entry.Entry.{Entry}
-use Rattle.ppd_flow_model.specs.Ends.{first_edge, syncs_before}
+use Rattle.ppd_model.specs.declared.entry.Entry.{Entry}
+use Rattle.ppd_graph.specs.Ends.{first_edge, syncs_before}
 use Rattle.ppd_model.specs.Extents.{extents}
 use Rattle.ppd_model.specs.HappenedBefore.{edge, is_before, is_edge_before, node}
 use Rattle.ppd_model.specs.Intervals.{Part, Split, nested, own}

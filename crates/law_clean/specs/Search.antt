@@ -4,12 +4,12 @@ use Rattle.law_clean.specs.Answers.{CleanOr, clean, is_reached, no_item, unclean
 use Rattle.law_clean.specs.Cuts.{cut_logs}
 use Rattle.law_clean.specs.Pasts.{any_raced, first_raced, left_edge}
 use Rattle.ppd_ast.specs.declared.program.Program.{Program}
-use Rattle.ppd_entry.specs.declared.entry.Entry.{Entry}
-use Rattle.ppd_entry.specs.declared.entry.Logs.{Logs}
-use Rattle.ppd_flow_model.specs.Ends.{edge_at, first_edge, is_sync_item}
-use Rattle.ppd_flow_model.specs.Found.{found_edges}
-use Rattle.ppd_flow_model.specs.Seen.{Seen}
-use Rattle.ppd_flow_model.specs.Shared.{Missing, seen_at}
+use Rattle.ppd_model.specs.declared.entry.Entry.{Entry}
+use Rattle.ppd_model.specs.declared.entry.Logs.{Logs}
+use Rattle.ppd_graph.specs.Ends.{edge_at, first_edge, is_sync_item}
+use Rattle.ppd_graph.specs.Found.{found_edges}
+use Rattle.ppd_graph.specs.Seen.{Seen}
+use Rattle.ppd_graph.specs.Shared.{Missing, seen_at}
 use Rattle.ppd_flow_past.specs.SeenBy.{seen_by}
 use Rattle.ppd_model.specs.HappenedBefore.{edge, is_before, is_edge_before, node}
 use Rattle.ppd_model.specs.RecordedSets.{record_in}

@@ -9,12 +9,12 @@ use Rattle.ppd_model.specs.Prefixes.{ObjectsStay}
 use Rattle.ppd_model.specs.RecordedSets.{AccessesAreOfCells}
 use Rattle.ppd_session.specs.Laws.{LogsTellRuns, RunsAreAnswered}
 use Rattle.law_steps.specs.Agreeing.{AgreeingSchedulesHaveNoRace, AgreeingSchedulesHaveOneStory}
-use Rattle.law_flow_own.specs.Loops.AllOwnParts.{AllOwnPartsAreFound}
-use Rattle.law_flow_shared.specs.Costs.Bounds.{EdgesCostLittle, LastCostsLittle}
-use Rattle.law_flow_shared.specs.Edges.Assembled.{EdgesAreFound}
-use Rattle.law_flow_shared.specs.Edges.SharedEdges.{LastWritesAreFound}
-use Rattle.law_replay.specs.Theorem.Laws.{ReplaysGiveIntervals}
-use Rattle.law_whole.specs.Laws.{JoinedAreEvents}
+use Rattle.law_flow.specs.Loops.AllOwnParts.{AllOwnPartsAreFound}
+use Rattle.law_flow.specs.Costs.Bounds.{EdgesCostLittle, LastCostsLittle}
+use Rattle.law_flow.specs.Edges.Assembled.{EdgesAreFound}
+use Rattle.law_flow.specs.Edges.SharedEdges.{LastWritesAreFound}
+use Rattle.law_steps.specs.Theorem.Laws.{ReplaysGiveIntervals}
+use Rattle.law_flow.specs.JoinedLaws.{JoinedAreEvents}
 
 pub record Below : Type 0 where
   pub read_is_valid : (source : List ℕ) (program : Program) → IsRead source program → IsValid program

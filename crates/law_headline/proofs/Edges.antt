@@ -1,7 +1,7 @@
 -- What is told of a run by a schedule without a race are all flowback edges of that schedule.
 use Rattle.ppd_model.specs.Setting.{Setting}
 use Rattle.ppd_ast.specs.Valid.{IsValid}
-use Rattle.ppd_flow_past.specs.declared.flow_error.FlowError.TheVariants.{NoEvent}
+use Rattle.ppd_model.specs.declared.flow_error.FlowError.TheVariants.{NoEvent}
 use Rattle.ppd_model.proofs.EdgeWords.{edges_if, edges_in, part_in}
 use Rattle.ppd_model.proofs.IntervalWords.{items_at, items_in, splits_from}
 use Rattle.ppd_model.proofs.TraceWords.{events_from}

@@ -4,17 +4,17 @@ use Rattle.std.proofs.Common.{◌≡◌, ℕ, ◌+◌, ◌<◌, ◌≤◌, ℤ, 
 use Rattle.std.proofs.lemmas.List.Sums.{sum_by-cons}
 use Rattle.std.proofs.lemmas.Option.{none-some}
 use Rattle.ppd_ast.specs.Valid.{IsValid}
-use Rattle.law_replay.specs.Theorem.Laws.{ReplaysGiveIntervals, modelled_in, modelled_of}
-use Rattle.law_flow_own.specs.Loops.AllOwnParts.{AllOwnPartsAreFound}
-use Rattle.law_flow_shared.specs.Costs.Bounds.{EdgesCostLittle, LastCostsLittle, steps_in, steps_of_all}
-use Rattle.law_flow_shared.specs.Edges.Assembled.{EdgesAreFound}
-use Rattle.law_flow_shared.specs.Edges.SharedEdges.{LastWritesAreFound, all_seen}
+use Rattle.law_steps.specs.Theorem.Laws.{ReplaysGiveIntervals, modelled_in, modelled_of}
+use Rattle.law_flow.specs.Loops.AllOwnParts.{AllOwnPartsAreFound}
+use Rattle.law_flow.specs.Costs.Bounds.{EdgesCostLittle, LastCostsLittle, steps_in, steps_of_all}
+use Rattle.law_flow.specs.Edges.Assembled.{EdgesAreFound}
+use Rattle.law_flow.specs.Edges.SharedEdges.{LastWritesAreFound, all_seen}
 use Rattle.ppd_session.specs.Answers.{answer_if}
-use Rattle.ppd_flow_model.specs.Found.{found_edges}
-use Rattle.ppd_flow_model.specs.Seen.{Seen}
-use Rattle.ppd_flow_model.specs.Spans.{steps_of_span}
-use Rattle.ppd_flow_model.specs.Shared.{found_last}
-use Rattle.ppd_flow_past.specs.declared.flow_error.FlowError.{FlowError}
+use Rattle.ppd_graph.specs.Found.{found_edges}
+use Rattle.ppd_graph.specs.Seen.{Seen}
+use Rattle.ppd_graph.specs.Spans.{steps_of_span}
+use Rattle.ppd_graph.specs.Shared.{found_last}
+use Rattle.ppd_model.specs.declared.flow_error.FlowError.{FlowError}
 use Rattle.ppd_flow_past.specs.ByReplays.{first_failed, unless_kept}
 use Rattle.ppd_flow_past.specs.Pasts.{items_kept}
 use Rattle.ppd_flow_past.specs.SeenBy.{failed_at, own_steps_of, steps_of}

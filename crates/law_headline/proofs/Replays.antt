@@ -3,9 +3,9 @@ use Rattle.ppd_race.specs.Races.{races_among, edges_of_logs}
 use Rattle.std.specs.Prelude.{None, Some, option_map, slice_get}
 use Rattle.std.proofs.Common.{◌≡◌, ℕ, ◌+◌, ◌<◌, [], Option, arith, get_or, length, map, refl, ap, ◌∙◌, subst}
 use Rattle.ppd_ast.specs.Valid.{IsValid}
-use Rattle.ppd_emul_model.specs.Replay.{replay}
-use Rattle.ppd_entry.specs.IntervalLogs.{LoggedInterval, indexed, interval_log, log_by}
-use Rattle.ppd_entry.proofs.Vocabulary.{log_in}
+use Rattle.ppd_model.specs.Replay.{replay}
+use Rattle.ppd_model.specs.IntervalLogs.{LoggedInterval, indexed, interval_log, log_by}
+use Rattle.ppd_model.proofs.EntryWords.{log_in}
 use Rattle.ppd_model.specs.Races.{races}
 use Rattle.ppd_model.specs.Schedule.{IsWhole}
 use Rattle.ppd_session.specs.Laws.{LogsTellRuns}

@@ -4,7 +4,7 @@ use Rattle.ppd_model.specs.Races.{races_among, edges_of_story}
 use Rattle.std.specs.Prelude.{None, Some, slice_get}
 use Rattle.std.proofs.Common.{◌≡◌, ℕ, zero, suc, ◌+◌, ◌<◌, List, [], ◌∷◌, Option, Ok, arith, get_or, length, map, refl, ap, ap₂, ◌∙◌}
 use Rattle.ppd_ast.specs.Valid.{IsValid}
-use Rattle.ppd_flow_model.specs.Seen.{Seen, seen_of}
+use Rattle.ppd_graph.specs.Seen.{Seen, seen_of}
 use Rattle.ppd_model.specs.declared.flow.Item.{Item}
 use Rattle.ppd_model.specs.declared.tracing.Taken.{Taken}
 use Rattle.ppd_model.specs.declared.tracing.Tracing.{Tracing}
@@ -18,8 +18,8 @@ use Rattle.ppd_model.proofs.OneHistory.{map-map}
 use Rattle.ppd_session.specs.Known.{Known, known_of_run, told_of_split, unless_raced}
 use Rattle.ppd_session.specs.Texts.{told_at}
 use Rattle.ppd_session.proofs.Tables.{cell_at}
-use Rattle.law_whole.specs.Joined.{events_in, events_of_items, joined}
-use Rattle.law_whole.specs.Laws.{JoinedAreEvents, bare}
+use Rattle.law_flow.specs.Joined.{events_in, events_of_items, joined}
+use Rattle.law_flow.specs.JoinedLaws.{JoinedAreEvents, bare}
 use Rattle.law_headline.specs.Answered.{AreValuesOf, events_told, items_told, told_if}
 use Rattle.law_headline.specs.Runs.{Run, splits_in, story_in, setting_in}
 use Rattle.law_headline.proofs.Tables.{told_in, told_in_span, told_row}

@@ -14,8 +14,8 @@ use Rattle.ppd_session.specs.Known.{Known, Told}
 use Rattle.ppd_session.specs.Questions.{process_named, words_of}
 use Rattle.ppd_session.specs.Texts.{failure_of, flow_at, text_of, told_at}
 use Rattle.ppd_text.specs.Edges.{why_text}
-use Rattle.law_whole.specs.Joined.{events_in}
-use Rattle.law_whole.specs.Laws.{bare}
+use Rattle.law_flow.specs.Joined.{events_in}
+use Rattle.law_flow.specs.JoinedLaws.{bare}
 use Rattle.law_headline.specs.Runs.{Run, plan_in, splits_in, story_in, setting_in}
 
 -- ---- values

@@ -1,8 +1,8 @@
 -- That all is answered of a run by replays of single e-blocks, each from its own log, and what they cost.
 use Rattle.std.specs.Prelude.{◌≡◌, ℕ, ◌+◌, ◌*◌, ◌<◌, ◌≤◌, ℤ, List, [], length, slice_get, Option, Some, None, Ok, get_or}
-use Rattle.ppd_emul_model.specs.Replay.{replay}
-use Rattle.ppd_entry.specs.declared.entry.Logs.{Logs}
-use Rattle.ppd_entry.specs.IntervalLogs.{IntervalLog, interval_log}
+use Rattle.ppd_model.specs.Replay.{replay}
+use Rattle.ppd_model.specs.declared.entry.Logs.{Logs}
+use Rattle.ppd_model.specs.IntervalLogs.{IntervalLog, interval_log}
 use Rattle.ppd_session.specs.Answers.{IsEdges}
 use Rattle.ppd_flow_past.specs.declared.past.Past.{Past}
 use Rattle.ppd_flow_past.specs.PastSetting.{past_setting}
@@ -16,7 +16,7 @@ use Rattle.ppd_model.specs.FlowbackEdges.{last}
 use Rattle.ppd_model.specs.NearIntervals.{last_steps, near_steps}
 use Rattle.ppd_session.specs.Known.{Known, Told, flow_by, last_by, told_by}
 use Rattle.ppd_session.specs.Texts.{flow_at, told_at}
-use Rattle.law_flow_shared.specs.Costs.Bounds.{steps_in}
+use Rattle.law_flow.specs.Costs.Bounds.{steps_in}
 use Rattle.law_headline.specs.Answered.{HasEdges}
 use Rattle.law_headline.specs.Runs.{Run, logs_in, plan_in, splits_in, story_in, setting_in}
 

@@ -1,12 +1,10 @@
 ghost use Rattle.law_headline.specs.OfRuns.{RunsHaveTheHeadline};
 
-use law_flow_own::all_own_parts_are_found;
-use law_flow_shared::{
-    edges_are_found, edges_cost_little, last_costs_little, last_writes_are_found,
+use law_flow::{
+    all_own_parts_are_found, edges_are_found, edges_cost_little, joined_are_events,
+    last_costs_little, last_writes_are_found,
 };
-use law_replay::replays_give_intervals;
-use law_steps::agreeing_schedules;
-use law_whole::joined_are_events;
+use law_steps::{agreeing_schedules, replays_give_intervals};
 use ppd_model::{
     happened_before_is_tested, items_are_whole, logs_record_runs, objects_stay,
     processes_follow_their_steps,

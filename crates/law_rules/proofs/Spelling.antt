@@ -2,8 +2,8 @@
 use Rattle.std.proofs.Common.{◌≡◌, ℕ, List, [], ◌∷◌, ◌++◌, length, refl, ap, ◌∙◌}
 use Rattle.std.specs.Int.{to_be_bytes, w16, w32}
 use Rattle.std.specs.List.{flat_map}
-use Rattle.ppd_entry.specs.declared.entry.Entry.{Entry}
-use Rattle.ppd_entry.specs.declared.entry.Entry.TheVariants.{Prelog, Unit, Sync, Postlog, End}
+use Rattle.ppd_model.specs.declared.entry.Entry.{Entry}
+use Rattle.ppd_model.specs.declared.entry.Entry.TheVariants.{Prelog, Unit, Sync, Postlog, End}
 use Rattle.ppd_ast.specs.declared.program.Program.{Program}
 use Rattle.ppd_codec.specs.Format.{an_entry, log}
 use Rattle.ppd_codec.specs.Recordings.{facts_of}

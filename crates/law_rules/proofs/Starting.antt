@@ -5,10 +5,10 @@ use Rattle.ppd_ast.specs.declared.plan.Plan.{Plan}
 use Rattle.ppd_ast.specs.declared.status.Status.{Status}
 use Rattle.ppd_ast.specs.declared.status.SyncKind.{SyncKind}
 use Rattle.ppd_ast.specs.declared.status.SyncKind.TheVariants as sync_kind
-use Rattle.ppd_entry.specs.Pieces.{Piece, unit, sync, nested, unfinished, postlog, finish}
-use Rattle.ppd_emul_model.specs.declared.wanted.Wanted.TheVariants as wanted
-use Rattle.ppd_emul_model.specs.Fits.{found_of, fits}
-use Rattle.ppd_emul_model.specs.Replay.{Replaying, Turn, more, end_here, fail, next_piece, take_unit, unit_taken}
+use Rattle.ppd_model.specs.Pieces.{Piece, unit, sync, nested, unfinished, postlog, finish}
+use Rattle.ppd_model.specs.declared.wanted.Wanted.TheVariants as wanted
+use Rattle.ppd_model.specs.Fits.{found_of, fits}
+use Rattle.ppd_model.specs.Replay.{Replaying, Turn, more, end_here, fail, next_piece, take_unit, unit_taken}
 use Rattle.law_rules.specs.Replays.{EndsHere, EndsLater, Starts, no_unit, other_is_next, unit_is_next}
 
 -- ---- the start of a unit

@@ -7,7 +7,7 @@ use Rattle.ppd_ast.specs.declared.status.Status.TheVariants as status
 use Rattle.ppd_ast.specs.declared.status.SyncKind.{SyncKind}
 use Rattle.ppd_ast.specs.declared.status.Trap.{Trap as TrapOf}
 use Rattle.ppd_ast.specs.declared.status.Trap.TheVariants as trap
-use Rattle.ppd_entry.specs.Pieces.{Piece, unit, sync, nested, unfinished, postlog, finish}
+use Rattle.ppd_model.specs.Pieces.{Piece, unit, sync, nested, unfinished, postlog, finish}
 use Rattle.ppd_sem.specs.declared.proc.Answer.TheVariants.{Go}
 use Rattle.ppd_sem.specs.declared.proc.Need.{Need}
 use Rattle.ppd_sem.specs.declared.proc.Need.TheVariants.{Read, Write, Plain, Enter, Leave, Invoke, Back, P, V, Send, Offer, Done, Recv, End, Trap, Budget, Stopped}
@@ -16,13 +16,13 @@ use Rattle.ppd_sem.specs.Described.{trap_of}
 use Rattle.ppd_sem.specs.Process.{need_of}
 use Rattle.ppd_model.specs.Story.{unit_started}
 use Rattle.ppd_model.specs.Synchronizations.{kind_of_sync}
-use Rattle.ppd_emul_model.specs.declared.wanted.Found.TheVariants as found
-use Rattle.ppd_emul_model.specs.declared.wanted.Wanted.{Wanted}
-use Rattle.ppd_emul_model.specs.declared.wanted.Wanted.TheVariants as wanted
-use Rattle.ppd_emul_model.specs.Ending.{IsEndedBy, now, later, IsOverBy}
-use Rattle.ppd_emul_model.specs.Fits.{found_of, wanted_of, same_trap, fits}
-use Rattle.ppd_emul_model.specs.Replay.{Replaying, Replayed, Turn, more, done, begun_replay, counted, end_here, fail, finished, goes_on as another_step, is_budget, next_piece, replay, step_with, step_without, stepped, take_unit, turn_by_end, turn_by_wanted, with_event, with_write}
-use Rattle.ppd_emul_model.proofs.Ending.{replays_end}
+use Rattle.ppd_model.specs.declared.wanted.Found.TheVariants as found
+use Rattle.ppd_model.specs.declared.wanted.Wanted.{Wanted}
+use Rattle.ppd_model.specs.declared.wanted.Wanted.TheVariants as wanted
+use Rattle.ppd_model.specs.Ending.{IsEndedBy, now, later, IsOverBy}
+use Rattle.ppd_model.specs.Fits.{found_of, wanted_of, same_trap, fits}
+use Rattle.ppd_model.specs.Replay.{Replaying, Replayed, Turn, more, done, begun_replay, counted, end_here, fail, finished, goes_on as another_step, is_budget, next_piece, replay, step_with, step_without, stepped, take_unit, turn_by_end, turn_by_wanted, with_event, with_write}
+use Rattle.ppd_model.proofs.Ending.{replays_end}
 use Rattle.law_rules.specs.Replays.{ComesTo, EndsHere, EndsLater, Fits, IsNotAt, Needs, Replays, ReplaysFollowTheRules, Turns, TurnsFollowTheRules, ends, ends_too_early, enters, goes_on, is_over, leaves, needs_none, other_piece, reads, skips, stopped, synchronizes, too_dear, traps, traps_otherwise, waits}
 use Rattle.law_rules.proofs.Starting.{ends_here, ends_later, end_of, none_here, start_by_rule, start_is, unit_by_rule}
 

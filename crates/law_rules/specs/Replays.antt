@@ -7,8 +7,8 @@ use Rattle.ppd_ast.specs.declared.status.Status.{Status}
 use Rattle.ppd_ast.specs.declared.status.Status.TheVariants as status
 use Rattle.ppd_ast.specs.declared.status.SyncKind.{SyncKind}
 use Rattle.ppd_ast.specs.declared.status.Trap.{Trap as TrapOf}
-use Rattle.ppd_entry.specs.IntervalLogs.{IntervalLog}
-use Rattle.ppd_entry.specs.Pieces.{unit, sync, nested, unfinished, postlog, finish}
+use Rattle.ppd_model.specs.IntervalLogs.{IntervalLog}
+use Rattle.ppd_model.specs.Pieces.{unit, sync, nested, unfinished, postlog, finish}
 use Rattle.ppd_sem.specs.declared.proc.Answer.TheVariants.{Value, Go}
 use Rattle.ppd_sem.specs.declared.proc.Need.{Need}
 use Rattle.ppd_sem.specs.declared.proc.Need.TheVariants.{Read, Trap, Budget, Stopped}
@@ -18,10 +18,10 @@ use Rattle.ppd_sem.specs.Process.{need_of}
 use Rattle.ppd_model.specs.declared.flow.Item.TheVariants as item
 use Rattle.ppd_model.specs.Story.{unit_started}
 use Rattle.ppd_model.specs.Synchronizations.{kind_of_sync}
-use Rattle.ppd_emul_model.specs.declared.wanted.Wanted.{Wanted}
-use Rattle.ppd_emul_model.specs.declared.wanted.Wanted.TheVariants as wanted
-use Rattle.ppd_emul_model.specs.Fits.{found_of, wanted_of, fits}
-use Rattle.ppd_emul_model.specs.Replay.{Replaying, Replayed, Turn, more, done, begun_replay, counted, fail, finished, next_piece, past_piece, received, replay, stepped, turn, value_in_force, with_call, with_event, with_item, with_write}
+use Rattle.ppd_model.specs.declared.wanted.Wanted.{Wanted}
+use Rattle.ppd_model.specs.declared.wanted.Wanted.TheVariants as wanted
+use Rattle.ppd_model.specs.Fits.{found_of, wanted_of, fits}
+use Rattle.ppd_model.specs.Replay.{Replaying, Replayed, Turn, more, done, begun_replay, counted, fail, finished, next_piece, past_piece, received, replay, stepped, turn, value_in_force, with_call, with_event, with_item, with_write}
 
 -- ---- the start of a unit
 

@@ -7,3 +7,14 @@ pub mod Machine
 pub mod Instance
 pub mod Schedules
 pub mod Agreeing
+pub mod Beside
+pub mod Crossing
+pub mod InForce
+pub mod Coming
+pub mod Spans
+pub mod Facts
+pub mod Alone
+pub mod Openings
+pub mod Theorem
+pub mod Vocabulary
+pub mod Skips

@@ -9,7 +9,7 @@ use Rattle.ppd_ast.specs.declared.plan.Start.TheVariants.{After, Enter as Enters
 use Rattle.ppd_ast.specs.declared.program.Kind.TheVariants as ends
 use Rattle.ppd_ast.specs.declared.program.Program.{Program}
 use Rattle.ppd_blocks.specs.Walk.{stands_in}
-use Rattle.ppd_cfg.specs.Flow.{follow, next_of}
+use Rattle.ppd_sets.specs.Flow.{follow, next_of}
 use Rattle.ppd_sem.specs.Passed.{next_stmt_of}
 use Rattle.ppd_sem.specs.Runs.{returns}
 use Rattle.ppd_sem.specs.Tables.{block_of, unit_of}

@@ -5,7 +5,7 @@ use Rattle.ppd_ast.specs.declared.program.Program.{Program}
 use Rattle.ppd_ast.specs.Valid.{IsEnding, IsValid}
 use Rattle.ppd_ast.specs.Members.{has}
 use Rattle.ppd_ast.specs.Lookups.{kind_of, body_numbered}
-use Rattle.ppd_cfg.specs.Flow.{follow}
+use Rattle.ppd_sets.specs.Flow.{follow}
 use Rattle.ppd_sem.specs.declared.proc.Answer.{Answer}
 use Rattle.ppd_sem.specs.declared.proc.Need.TheVariants.{Read, Stopped}
 use Rattle.ppd_sem.specs.declared.proc.Proc.{Proc}

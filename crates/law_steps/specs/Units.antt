@@ -9,8 +9,8 @@ use Rattle.ppd_ast.specs.declared.plan.Unit.{Unit as UnitOf}
 use Rattle.ppd_ast.specs.declared.program.Program.{Program}
 use Rattle.ppd_ast.specs.Valid.{IsValid}
 use Rattle.ppd_ast.specs.Members.{has}
-use Rattle.ppd_model.specs.Entry.{Entry}
-use Rattle.ppd_model.specs.Entry.TheVariants as entry
+use Rattle.ppd_model.specs.declared.entry.Entry.{Entry}
+use Rattle.ppd_model.specs.declared.entry.Entry.TheVariants as entry
 use Rattle.ppd_blocks.specs.Blocks.{plan_of}
 use Rattle.ppd_sem.specs.declared.proc.Need.TheVariants.{Read}
 use Rattle.ppd_sem.specs.Tables.{unit_of}

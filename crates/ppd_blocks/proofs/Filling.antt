@@ -14,7 +14,7 @@ use Rattle.ppd_ast.specs.declared.program.Program.{Program}
 use Rattle.ppd_ast.specs.declared.plan.Block.{Block}
 use Rattle.ppd_ast.specs.declared.plan.BlockKind.{BlockKind}
 use Rattle.ppd_ast.specs.Bare.{bare_block}
-use Rattle.ppd_cfg.proofs.Rows.{row_at, length_rows}
+use Rattle.ppd_sets.proofs.FlowRows.{row_at, length_rows}
 use Rattle.ppd_ast.proofs.Walks.{got_none}
 use Rattle.ppd_ast.proofs.Vocabulary.{kind_of_stmt}
 use Rattle.ppd_sets.specs.SetsOf.{AreSetsOf}

@@ -12,9 +12,9 @@ use Rattle.ppd_ast.specs.declared.program.Kind.{Kind}
 use Rattle.ppd_ast.specs.declared.program.Kind.TheVariants as K
 use Rattle.ppd_ast.specs.declared.program.Program.{Program}
 use Rattle.ppd_ast.specs.declared.program.Stmt.{Stmt}
-use Rattle.ppd_cfg.proofs.Vocabulary.{follow_of, rising_pair}
-use Rattle.ppd_cfg.specs.Flow.{follow, follow_at, follow_under, follow_within, next_in, next_of, successors}
-use Rattle.ppd_cfg.specs.Lists.{rising}
+use Rattle.ppd_sets.proofs.FlowWords.{follow_of, rising_pair}
+use Rattle.ppd_sets.specs.Flow.{follow, follow_at, follow_under, follow_within, next_in, next_of, successors}
+use Rattle.ppd_sets.specs.Lists.{rising}
 use Rattle.ppd_sets.proofs.Calling.{one_below}
 use Rattle.std.proofs.Common.{Bool, List, None, Option, Some, [], inl, inr, length, refl, subst, suc, sym, true≢false, zero, ℕ, ◌<◌, ◌∷◌, ◌≡◌}
 use Rattle.std.proofs.lemmas.Bool.{cases_Bool, cond-false, cond-true}

@@ -10,9 +10,9 @@ use Rattle.ppd_ast.specs.declared.plan.Start.{Start}
 use Rattle.ppd_ast.specs.Members.{has, those}
 use Rattle.ppd_ast.proofs.Members.{has_first, has_later, has_cons, has_filter, filter_has, from_zero, flat_gives, flat_from}
 use Rattle.ppd_ast.specs.declared.limits.TheConstants.{MOST_SHARED_CELLS}
-use Rattle.ppd_cfg.specs.Reach.{Reached, start, next, closure, leads}
-use Rattle.ppd_cfg.specs.Flow.{next_of}
-use Rattle.ppd_cfg.proofs.Leading.{leads-tests}
+use Rattle.ppd_sets.specs.Reach.{Reached, start, next, closure, leads}
+use Rattle.ppd_sets.specs.Flow.{next_of}
+use Rattle.ppd_sets.proofs.Leading.{leads-tests}
 use Rattle.ppd_sets.specs.Used.{reads_at, sorted}
 use Rattle.ppd_blocks.specs.Walk.{is_between, unit_rows, begin_of}
 use Rattle.ppd_blocks.specs.Laws.{IsUnitPath, MayRead, CellsByPaths, CellsAreShared}

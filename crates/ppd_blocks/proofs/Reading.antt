@@ -14,7 +14,7 @@ use Rattle.ppd_ast.specs.Members.{has, those}
 use Rattle.ppd_ast.proofs.Vocabulary.{kind_of_stmt}
 use Rattle.ppd_ast.proofs.Members.{has_cases, below_range, flat_gives, all_has}
 use Rattle.ppd_ast.specs.declared.limits.TheConstants.{MOST_SHARED_CELLS}
-use Rattle.ppd_cfg.specs.Reach.{closure, leads}
+use Rattle.ppd_sets.specs.Reach.{closure, leads}
 use Rattle.ppd_sets.specs.Gained.{Gains, HasCells}
 use Rattle.ppd_sets.specs.Named.{cells_in, reads, cells_if}
 use Rattle.ppd_sets.specs.Used.{reads_at, sorted}

@@ -8,10 +8,10 @@ use Rattle.ppd_ast.specs.declared.program.Stmt.{Stmt}
 use Rattle.ppd_blocks.proofs.Fitting.{Fits, first_of_body_fits, follow_fits, listed_below, next_below}
 use Rattle.ppd_blocks.proofs.Vocabulary.{unit_next}
 use Rattle.ppd_blocks.specs.Walk.{begin_of, enters, is_between, stands_at, unit_rows}
-use Rattle.ppd_cfg.proofs.Leading.{row_there}
-use Rattle.ppd_cfg.proofs.Rows.{length_rows, row_at, rows_are}
-use Rattle.ppd_cfg.specs.Flow.{flow_rows, next_of}
-use Rattle.ppd_cfg.specs.WorkList.{AreRowsBelow}
+use Rattle.ppd_sets.proofs.Leading.{row_there}
+use Rattle.ppd_sets.proofs.FlowRows.{length_rows, row_at, rows_are}
+use Rattle.ppd_sets.specs.Flow.{flow_rows, next_of}
+use Rattle.ppd_sets.specs.WorkList.{AreRowsBelow}
 use Rattle.std.proofs.Common.{Bool, List, None, Option, Some, ap, arith, false, inl, inr, length, refl, subst, suc, sym, true, zero, ℕ, ◌+◌, ◌-◌, ◌<◌, ◌∙◌, ◌≡◌, ◌≢◌}
 use Rattle.std.proofs.lemmas.Bool.{cases_Bool}
 use Rattle.std.specs.List.{find}

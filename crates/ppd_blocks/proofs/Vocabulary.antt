@@ -2,7 +2,7 @@
 use Rattle.std.specs.Prelude.{ℕ, not, List, ◌∷◌, Option, true, length, unwrap_or}
 use Rattle.std.specs.List.{filter, flat_map, range_with_len, enumerate_from}
 use Rattle.ppd_ast.specs.declared.program.Program.{Program}
-use Rattle.ppd_cfg.specs.Flow.{next_of}
+use Rattle.ppd_sets.specs.Flow.{next_of}
 use Rattle.ppd_blocks.specs.Walk.{is_between}
 use Rattle.ppd_ast.specs.declared.program.Body.{Body}
 use Rattle.ppd_ast.specs.declared.plan.Start.{Start}
@@ -15,7 +15,7 @@ use Rattle.ppd_ast.specs.declared.plan.Block.{Block}
 use Rattle.ppd_ast.specs.declared.plan.BlockKind.{BlockKind}
 use Rattle.ppd_ast.specs.Bare.{gives_value}
 use Rattle.ppd_ast.specs.Members.{those}
-use Rattle.ppd_cfg.specs.Reach.{closure, leads}
+use Rattle.ppd_sets.specs.Reach.{closure, leads}
 use Rattle.ppd_sets.specs.Used.{reads_at, sorted}
 use Rattle.ppd_ast.specs.Lookups.{no_body}
 

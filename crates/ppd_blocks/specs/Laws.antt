@@ -5,7 +5,7 @@ use Rattle.ppd_ast.specs.declared.plan.Start.{Start}
 use Rattle.ppd_ast.specs.Valid.{IsValid}
 use Rattle.ppd_ast.specs.ValidPlan.{AreCells}
 use Rattle.ppd_ast.specs.Members.{has}
-use Rattle.ppd_cfg.specs.Flow.{next_of}
+use Rattle.ppd_sets.specs.Flow.{next_of}
 use Rattle.ppd_sets.specs.Used.{reads_at}
 use Rattle.ppd_blocks.specs.Walk.{is_between, begin_of, unit_cells}
 

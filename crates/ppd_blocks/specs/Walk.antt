@@ -7,8 +7,8 @@ use Rattle.ppd_ast.specs.declared.plan.Start.{Start}
 use Rattle.ppd_ast.specs.declared.plan.Start.TheVariants.{After, Enter, Entry, Exit}
 use Rattle.ppd_ast.specs.declared.program.Program.{Program}
 use Rattle.ppd_ast.specs.declared.program.Stmt.{Stmt}
-use Rattle.ppd_cfg.specs.Flow.{follow, next_of}
-use Rattle.ppd_cfg.specs.Reach.{closure, leads}
+use Rattle.ppd_sets.specs.Flow.{follow, next_of}
+use Rattle.ppd_sets.specs.Reach.{closure, leads}
 use Rattle.ppd_sets.specs.Used.{reads_at, sorted}
 use Rattle.std.specs.List.{filter, find, flat_map, range_with_len}
 use Rattle.std.specs.Prelude.{Bool, List, None, Option, Some, false, length, map, nat_eq, not, option_and_then, option_to_list, slice_get, suc, true, zero, ℕ, ◌&&◌, ◌||◌}

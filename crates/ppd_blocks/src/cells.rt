@@ -3,14 +3,13 @@ ghost use Rattle.std.specs.Prelude.{◌≡◌, true, length, IfOk, option_to_lis
 ghost use Rattle.std.specs.List.{flat_map};
 ghost use Rattle.ppd_ast.specs.Valid.{IsValid};
 ghost use Rattle.ppd_ast.specs.Members.{AreBelow, those};
-ghost use Rattle.ppd_cfg.specs.Reach.{closure, leads};
-ghost use Rattle.ppd_cfg.specs.WorkList.{AreRowsBelow};
+ghost use Rattle.ppd_sets.specs.Reach.{closure, leads};
+ghost use Rattle.ppd_sets.specs.WorkList.{AreRowsBelow};
 ghost use Rattle.ppd_sets.specs.Gained.{Gains, HasCells};
 ghost use Rattle.ppd_sets.specs.Used.{reads_at, sorted};
 
 use ppd_ast::{Cells, Ids, Memory, Program, Seq};
-use ppd_cfg::reached;
-use ppd_sets::{CellSet, add_shared_reads};
+use ppd_sets::{CellSet, add_shared_reads, reached};
 use std::alloc::Global;
 
 // Adds the shared cells that a statement may read, if it is there.

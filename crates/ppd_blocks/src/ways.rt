@@ -4,13 +4,13 @@ ghost use Rattle.ppd_ast.specs.Members.{has};
 ghost use Rattle.ppd_ast.specs.Numbered.{is_left};
 ghost use Rattle.ppd_ast.specs.Valid.{IsValid};
 ghost use Rattle.ppd_blocks.specs.Walk.{begin_of, enters, is_between, stands_at, unit_rows};
-ghost use Rattle.ppd_cfg.specs.Flow.{follow, next_of};
+ghost use Rattle.ppd_sets.specs.Flow.{follow, next_of};
 ghost use Rattle.std.specs.List.{filter, find};
 ghost use Rattle.std.specs.Prelude.{IfOk, None, Some, not, option_and_then, option_to_list, slice_get, ◌≡◌};
 
 use ppd_ast::limits::MOST_NESTING;
 use ppd_ast::{Ids, Memory, Program, Seq, Start, Stmt};
-use ppd_cfg::{next_after, successors_of};
+use ppd_sets::{next_after, successors_of};
 use std::alloc::Global;
 
 pub(crate) fn contains(list: &[u32], number: u32) -> bool

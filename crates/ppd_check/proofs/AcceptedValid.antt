@@ -4,8 +4,8 @@ use Rattle.std.specs.List.{All}
 use Rattle.std.proofs.lemmas.List.Elements.{All-nil, All-cons, All-head, All-tail}
 use Rattle.ppd_ast.specs.declared.program.Program.{Program}
 use Rattle.ppd_ast.specs.Valid.{IsValid}
-use Rattle.ppd_lex.specs.declared.token.Token.{Token}
-use Rattle.ppd_lex.proofs.FormedTokens.{formed}
+use Rattle.ppd_parse.specs.declared.token.Token.{Token}
+use Rattle.ppd_parse.proofs.FormedTokens.{formed}
 use Rattle.ppd_parse.specs.Grammar.{Shape}
 use Rattle.ppd_parse.specs.Limits.{IsTree}
 use Rattle.ppd_check_names.specs.Names.{Scope}

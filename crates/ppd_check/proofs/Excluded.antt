@@ -1,10 +1,10 @@
 -- Bytes have one program at most, and those that have one are not refused.
 use Rattle.std.proofs.Common.{◌≡◌, refl, sym, ap, subst, ◌∙◌, ℕ, List, [], ◌∷◌, Some, None}
 use Rattle.ppd_ast.specs.declared.program.Program.{Program}
-use Rattle.ppd_lex.specs.declared.token.Token.{Token}
-use Rattle.ppd_lex.specs.declared.token.LexError.TheVariants as L
-use Rattle.ppd_lex.specs.Tokens.{IsTokens}
-use Rattle.ppd_lex.proofs.Unique.{tokens_unique, tokens_or_fault}
+use Rattle.ppd_parse.specs.declared.token.Token.{Token}
+use Rattle.ppd_parse.specs.declared.token.LexError.TheVariants as L
+use Rattle.ppd_parse.specs.Tokens.{IsTokens}
+use Rattle.ppd_parse.proofs.Unique.{tokens_unique, tokens_or_fault}
 use Rattle.ppd_parse.specs.declared.error.SyntaxError.TheVariants as Y
 use Rattle.ppd_parse.specs.declared.error.SyntaxError.{SyntaxError}
 use Rattle.ppd_parse.specs.Grammar.{Shape}

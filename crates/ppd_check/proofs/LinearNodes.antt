@@ -4,7 +4,7 @@ use Rattle.std.specs.List.{All, count_by}
 use Rattle.std.proofs.lemmas.Bool.Decides.{nat_tests}
 use Rattle.std.proofs.lemmas.List.Concat.{flat_map-cons}
 use Rattle.std.proofs.lemmas.List.Elements.{All-nil, All-cons, All-head, All-tail, All-append, All-weaker}
-use Rattle.ppd_lex.specs.declared.token.Token.{Token}
+use Rattle.ppd_parse.specs.declared.token.Token.{Token}
 use Rattle.ppd_parse.specs.declared.node.Node.{Node}
 use Rattle.ppd_parse.specs.declared.symbol.Rule.{Rule}
 use Rattle.ppd_parse.specs.Grammar.{Shape}

@@ -1,11 +1,11 @@
 -- The program of a source's bytes, or why they have none.
 use Rattle.std.specs.Prelude.{◌≡◌, ℕ, List, [], ◌∷◌}
 use Rattle.ppd_ast.specs.declared.program.Program.{Program}
-use Rattle.ppd_lex.specs.declared.token.Token.{Token}
-use Rattle.ppd_lex.specs.declared.token.LexError.{LexError}
-use Rattle.ppd_lex.specs.declared.token.LexError.TheVariants as L
-use Rattle.ppd_lex.specs.Tokens.{IsTokens}
-use Rattle.ppd_lex.specs.Tokens as Lexing
+use Rattle.ppd_parse.specs.declared.token.Token.{Token}
+use Rattle.ppd_parse.specs.declared.token.LexError.{LexError}
+use Rattle.ppd_parse.specs.declared.token.LexError.TheVariants as L
+use Rattle.ppd_parse.specs.Tokens.{IsTokens}
+use Rattle.ppd_parse.specs.Tokens as Lexing
 use Rattle.ppd_parse.specs.declared.error.SyntaxError.{SyntaxError}
 use Rattle.ppd_parse.specs.declared.error.SyntaxError.TheVariants as Y
 use Rattle.ppd_parse.specs.Grammar.{Shape}

@@ -1,6 +1,6 @@
 // Functions and processes: their parameters, statements and cells.
 ghost use Rattle.std.specs.Prelude.{◌≡◌, if◌then◌else◌, ◌<◌, ◌++◌, [], ◌∷◌, OnOk, IfOk, IfSome, length, drop, map, nat_lt, ◌≤◌, ◌+◌, ◌*◌};
-ghost use Rattle.ppd_lex.specs.declared.token.Kind.TheVariants as K;
+ghost use Rattle.ppd_parse.specs.declared.token.Kind.TheVariants as K;
 ghost use Rattle.std.specs.List.{All, flat_map};
 ghost use Rattle.ppd_ast.specs.declared.limits.TheConstants.{MOST_LOCAL_CELLS};
 ghost use Rattle.ppd_check_names.specs.declared.fault.Limit.TheVariants.{Locals};

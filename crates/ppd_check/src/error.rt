@@ -4,8 +4,7 @@ ghost use Rattle.ppd_check.specs.declared.error.SourceError.TheVariants as S;
 
 use ppd_ast::Place;
 use ppd_check_names::Limit;
-use ppd_lex::LexError;
-use ppd_parse::SyntaxError;
+use ppd_parse::{LexError, SyntaxError};
 use std::fmt;
 use thiserror::Error;
 

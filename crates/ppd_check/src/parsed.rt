@@ -4,8 +4,7 @@ ghost use Rattle.ppd_parse.specs.Tree.{tree_of, IsTable};
 ghost use Rattle.ppd_check.specs.Read.{IsTreeOf, IsRefused, by_lex, by_parse};
 
 use crate::error::SourceError;
-use ppd_lex::{LexError, lex};
-use ppd_parse::{SyntaxError, Tree, parse};
+use ppd_parse::{LexError, SyntaxError, Tree, lex, parse};
 use std::alloc::Global;
 
 impl From<LexError> for SourceError {

@@ -10,7 +10,7 @@ use Rattle.ppd_check_names.specs.declared.fault.Fault.{Fault}
 use Rattle.ppd_check_names.specs.declared.frame.Frame.{Frame}
 use Rattle.ppd_check_names.specs.declared.frame.Variable.{Variable}
 use Rattle.ppd_check_names.specs.declared.nodes.Number.{Number}
-use Rattle.ppd_lex.specs.Front.{looked_up}
+use Rattle.ppd_parse.specs.Front.{looked_up}
 use Rattle.std.specs.Prelude.{List, None, Option, [], decimal, is_some, nat_le, not, unwrap_or, ℕ, ◌&&◌, ◌++◌, ◌+◌, ◌∷◌}
 
 -- the cell after a variable that begins at cell n

@@ -1,6 +1,6 @@
 -- The items that the children of a node say, child by child.
 use Rattle.std.specs.Prelude.{ℕ, ◌+◌, ◌||◌, if◌then◌else◌, List, [], ◌∷◌, Option, Some, None}
-use Rattle.ppd_lex.specs.declared.token.Kind.TheVariants as K
+use Rattle.ppd_parse.specs.declared.token.Kind.TheVariants as K
 use Rattle.ppd_ast.specs.declared.limits.TheConstants.{MOST_SHARED_CELLS, MOST_START, LEAST_CAPACITY, MOST_CAPACITY}
 use Rattle.ppd_ast.specs.declared.program.Place.{Place}
 use Rattle.ppd_check_names.specs.declared.objects.Numbered.{Numbered}

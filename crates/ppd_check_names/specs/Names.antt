@@ -2,7 +2,7 @@
 use Rattle.std.specs.Prelude.{ℕ, Bool, true, false, if◌then◌else◌, List, [], ◌∷◌, ◌++◌, Option, Some, None, is_some, map, Vec}
 use Rattle.std.specs.Option.{option_or}
 use Rattle.indexmap.specs.IndexMap.{IndexMap}
-use Rattle.ppd_lex.specs.Front.{looked_up}
+use Rattle.ppd_parse.specs.Front.{looked_up}
 use Rattle.ppd_check_names.specs.declared.meaning.Use.{Use}
 use Rattle.ppd_check_names.specs.declared.meaning.Use.TheVariants.{Scalar, Element, Semaphore, Channel, Function}
 pub use Rattle.ppd_check_names.specs.declared.meaning.Meaning.{Meaning}

@@ -19,8 +19,7 @@ use crate::nodes::{children_of, label_at, place_at, rule_of};
 use crate::objects::declare_objects;
 use crate::signatures::declare_function;
 use ppd_ast::{Memory, Place, Steps};
-use ppd_lex::Token;
-use ppd_parse::Rule;
+use ppd_parse::{Rule, Token};
 use std::alloc::Global;
 use std::sync::ledger::Ledger;
 

@@ -7,8 +7,7 @@ ghost use Rattle.ppd_check_names.specs.Reading.{phrase, token, as_token, nowhere
 
 use crate::level::Source;
 use ppd_ast::Place;
-use ppd_lex::{Token, TokenKind};
-use ppd_parse::{Kind, Rule, kind_of};
+use ppd_parse::{Kind, Rule, Token, TokenKind, kind_of};
 
 /// Where an expression stands, or a constant that is none of the source's.
 #[derive(Clone, Copy)]

@@ -1,6 +1,6 @@
 // The semaphores and channels of a declaration.
 ghost use Rattle.std.specs.Prelude.{◌≡◌, ◌<◌, ◌||◌, OnOk, IfOk, List, length, ◌≤◌, ◌+◌, ◌*◌};
-ghost use Rattle.ppd_lex.specs.declared.token.Kind.TheVariants as K;
+ghost use Rattle.ppd_parse.specs.declared.token.Kind.TheVariants as K;
 ghost use Rattle.ppd_parse.specs.declared.node.Node.{Node as NodeOf};
 ghost use Rattle.ppd_check_names.specs.Reading.{same_kind, numbered};
 ghost use Rattle.ppd_check_names.specs.declared.nodes.Number.{Number};

@@ -1,7 +1,7 @@
 // What names mean where they stand.
 ghost use Rattle.std.specs.Prelude.{◌≡◌, [], ◌∷◌, reverse, map, drop, is_some, OnOk, OnErr, IfOk, ◌≤◌, ◌+◌};
 ghost use Rattle.ppd_check_names.specs.Names.{meaning, declare, scope_of, innermost, in_innermost};
-ghost use Rattle.ppd_lex.specs.Front.{looked_up};
+ghost use Rattle.ppd_parse.specs.Front.{looked_up};
 
 use crate::meaning::Meaning;
 use indexmap::IndexMap;

@@ -1,6 +1,6 @@
 // Functions, by their names and parameters.
 ghost use Rattle.std.specs.Prelude.{◌≡◌, if◌then◌else◌, ◌<◌, ◌+◌, OnOk, IfOk, length, ◌≤◌, ◌*◌, ◌++◌, ◌∷◌, []};
-ghost use Rattle.ppd_lex.specs.declared.token.Kind.TheVariants as K;
+ghost use Rattle.ppd_parse.specs.declared.token.Kind.TheVariants as K;
 ghost use Rattle.std.specs.List.{flat_map};
 ghost use Rattle.ppd_parse.specs.declared.symbol.Rule.TheVariants.{Function};
 ghost use Rattle.ppd_check_names.specs.Reading.{phrase, kind, same_kind, params, as_names};

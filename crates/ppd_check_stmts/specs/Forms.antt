@@ -3,8 +3,8 @@ use Rattle.std.specs.Prelude.{◌≡◌, ℕ, List, ◌++◌, length, ◌+◌}
 use Rattle.ppd_ast.specs.declared.program.Op.TheVariants as O
 use Rattle.ppd_ast.specs.declared.program.Expr.{Expr}
 use Rattle.ppd_ast.specs.declared.program.Expr.TheVariants as E
-use Rattle.ppd_lex.specs.declared.token.Kind.{Kind}
-use Rattle.ppd_lex.specs.declared.token.Kind.TheVariants as K
+use Rattle.ppd_parse.specs.declared.token.Kind.{Kind}
+use Rattle.ppd_parse.specs.declared.token.Kind.TheVariants as K
 use Rattle.ppd_parse.specs.declared.node.Node.{Node}
 use Rattle.ppd_check_stmts.specs.declared.forms.Operator.{Operator}
 use Rattle.ppd_check_stmts.specs.declared.forms.Operator.TheVariants.{Either, Both, Two}

@@ -1,7 +1,7 @@
 -- Statements without statements inside them, as the code sees them.
 use Rattle.std.specs.Prelude.{List, Option, Some, None}
-use Rattle.ppd_lex.specs.declared.token.Kind.{Kind}
-use Rattle.ppd_lex.specs.declared.token.Kind.TheVariants as K
+use Rattle.ppd_parse.specs.declared.token.Kind.{Kind}
+use Rattle.ppd_parse.specs.declared.token.Kind.TheVariants as K
 use Rattle.ppd_ast.specs.declared.program.Place.{Place}
 use Rattle.ppd_check_stmts.specs.declared.simple.Signal.{Signal}
 use Rattle.ppd_check_stmts.specs.declared.simple.Signal.TheVariants.{Take, Give}

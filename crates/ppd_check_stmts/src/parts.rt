@@ -1,7 +1,7 @@
 // The parts of a `for`, between its semicolons.
 ghost use Rattle.std.specs.Prelude.{◌≡◌, ◌<◌, ◌≤◌, ◌-◌, ◌+◌, length, take, drop, slice_index_or, pos};
 ghost use Rattle.ppd_check_names.specs.Syntax.{number};
-ghost use Rattle.ppd_lex.specs.declared.token.Kind.TheVariants as K;
+ghost use Rattle.ppd_parse.specs.declared.token.Kind.TheVariants as K;
 ghost use Rattle.ppd_check_names.specs.Nodes.{operand_formula, IsOperand, below};
 ghost use Rattle.ppd_check_names.specs.Cost.{plain_below, operand_nodes};
 ghost use Rattle.ppd_check_names.specs.Reading.{before, beyond, phrase, kind, same_kind, formulas};

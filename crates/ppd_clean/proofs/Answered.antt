@@ -13,11 +13,11 @@ use Rattle.ppd_clean.specs.declared.clean_error.CleanError.{CleanError}
 use Rattle.ppd_clean.specs.declared.clean_error.CleanError.TheVariants as error
 use Rattle.ppd_clean_past.specs.ByOrder.{is_led_to, is_unclean_at, last_edge, leads_from_race}
 use Rattle.ppd_clean_past.specs.declared.asked.Asked.{Asked}
-use Rattle.ppd_entry.specs.declared.entry.Logs.{Logs}
-use Rattle.ppd_flow_model.specs.Ends.{first_edge, is_sync_item}
-use Rattle.ppd_flow_model.specs.Found.{found_edges}
-use Rattle.ppd_flow_model.specs.Seen.{Seen}
-use Rattle.ppd_flow_model.specs.Shared.{Missing, seen_at}
+use Rattle.ppd_model.specs.declared.entry.Logs.{Logs}
+use Rattle.ppd_graph.specs.Ends.{first_edge, is_sync_item}
+use Rattle.ppd_graph.specs.Found.{found_edges}
+use Rattle.ppd_graph.specs.Seen.{Seen}
+use Rattle.ppd_graph.specs.Shared.{Missing, seen_at}
 use Rattle.ppd_flow_past.specs.Pasts.{IsPast}
 use Rattle.ppd_flow_past.specs.PastSetting.{past_setting}
 use Rattle.ppd_flow_past.specs.declared.past.Past.{Past}

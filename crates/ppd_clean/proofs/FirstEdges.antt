@@ -9,7 +9,7 @@ use Rattle.law_clean.specs.Pasts.{is_raced}
 use Rattle.law_clean.proofs.Ordered.{any_in, in_flat_map}
 use Rattle.law_clean.proofs.PastRaces.{both, edge_of_race, either, race_of_edge}
 use Rattle.law_clean.proofs.PastsGrow.{any_found}
-use Rattle.law_flow_shared.proofs.Edges.Sources.Members.{in_cases, in_either, no_member}
+use Rattle.law_flow.proofs.Edges.Sources.Members.{in_cases, in_either, no_member}
 use Rattle.ppd_ast.proofs.Those.{both as same_tests}
 use Rattle.ppd_clean.specs.Firsts.{edge_if, firsts_of, least_of, lesser, lesser_if, with_race}
 use Rattle.ppd_model.specs.declared.graph.EdgeId.{EdgeId}

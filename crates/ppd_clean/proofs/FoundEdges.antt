@@ -4,11 +4,11 @@ use Rattle.ppd_clean_past.specs.declared.asked.Asked.{Asked}
 use Rattle.ppd_clean.specs.Answers.{AreEdges, edges_in, of_flow}
 use Rattle.ppd_clean.proofs.Found.{one_fails}
 use Rattle.ppd_flow.specs.Answers.{IsEdges, answer_if}
-use Rattle.law_flow_own.specs.Missing.{write_at}
-use Rattle.ppd_flow_model.specs.Found.{found_edges}
-use Rattle.ppd_flow_model.specs.Shared.{Missing}
-use Rattle.ppd_flow_past.specs.declared.flow_error.FlowError.{FlowError}
-use Rattle.ppd_flow_past.specs.declared.flow_error.FlowError.TheVariants as flow_error
+use Rattle.law_flow.specs.Missing.{write_at}
+use Rattle.ppd_graph.specs.Found.{found_edges}
+use Rattle.ppd_graph.specs.Shared.{Missing}
+use Rattle.ppd_model.specs.declared.flow_error.FlowError.{FlowError}
+use Rattle.ppd_model.specs.declared.flow_error.FlowError.TheVariants as flow_error
 use Rattle.ppd_flow_past.specs.declared.past.Past.{Past}
 use Rattle.ppd_flow.specs.SharedCells.{seens_in}
 use Rattle.ppd_model.specs.declared.flow.FlowEdge.{FlowEdge}

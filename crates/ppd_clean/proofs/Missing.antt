@@ -4,18 +4,18 @@ use Rattle.ppd_model.specs.Setting.{Setting}
 use Rattle.law_clean.specs.Answers.{is_reached, no_item, unclean, unclean_or, unwritten}
 use Rattle.law_clean.specs.Pasts.{first_raced, left_edge}
 use Rattle.law_clean.specs.Search as sought
-use Rattle.law_flow_own.proofs.MissingWrites.{missing_writes_are_told}
-use Rattle.law_flow_own.specs.Missing.{AreIndexed, IsMissingWrite, write_at}
+use Rattle.law_flow.proofs.MissingWrites.{missing_writes_are_told}
+use Rattle.law_flow.specs.Missing.{AreIndexed, IsMissingWrite, write_at}
 use Rattle.ppd_clean.specs.Answers.{IsCleanBy}
 use Rattle.ppd_clean.specs.Missing.{IsCauseOfSets}
 use Rattle.ppd_clean.specs.declared.clean.Clean.{Clean}
 use Rattle.ppd_clean.specs.declared.clean_error.CleanError.{CleanError}
 use Rattle.ppd_clean.specs.declared.clean_error.CleanError.TheVariants as error
-use Rattle.ppd_entry.specs.declared.entry.Logs.{Logs}
-use Rattle.ppd_flow_model.specs.Ends.{first_edge}
-use Rattle.ppd_flow_model.specs.Found.{found_edges}
-use Rattle.ppd_flow_model.specs.Seen.{Seen}
-use Rattle.ppd_flow_model.specs.Shared.{Missing, seen_at}
+use Rattle.ppd_model.specs.declared.entry.Logs.{Logs}
+use Rattle.ppd_graph.specs.Ends.{first_edge}
+use Rattle.ppd_graph.specs.Found.{found_edges}
+use Rattle.ppd_graph.specs.Seen.{Seen}
+use Rattle.ppd_graph.specs.Shared.{Missing, seen_at}
 use Rattle.ppd_flow_past.specs.declared.past.Past.{Past}
 use Rattle.ppd_model.specs.HappenedBefore.{edge}
 use Rattle.ppd_model.specs.RecordedSets.{record_in}

@@ -17,13 +17,13 @@ use Rattle.law_clean.proofs.Reached.{closed_syncs, syncs_in_log}
 use Rattle.law_clean.proofs.ReadsAnswered.{unraced_reads}
 use Rattle.law_clean.proofs.Replays.{replays_alike}
 use Rattle.law_clean.proofs.SeenCut.{has_split, one_of, stays_whole}
-use Rattle.law_flow_own.proofs.Places.LeafTells.{split_is}
-use Rattle.law_flow_shared.proofs.Edges.Sources.LastOrigins.{split_there}
-use Rattle.law_flow_shared.proofs.Edges.StepEvents.Timeline.{none_did}
-use Rattle.law_flow_shared.proofs.Edges.StepEvents.Writers.{edge_is_count}
-use Rattle.law_replay.specs.InForce.Values.{AreRead, begun_in_force}
-use Rattle.law_replay.specs.Theorem.Laws.{modelled_of}
-use Rattle.law_replay.proofs.Theorem.Processes.{process_there}
+use Rattle.law_flow.proofs.Places.LeafTells.{split_is}
+use Rattle.law_flow.proofs.Edges.Sources.LastOrigins.{split_there}
+use Rattle.law_flow.proofs.Edges.StepEvents.Timeline.{none_did}
+use Rattle.law_flow.proofs.Edges.StepEvents.Writers.{edge_is_count}
+use Rattle.law_steps.specs.InForce.Values.{AreRead, begun_in_force}
+use Rattle.law_steps.specs.Theorem.Laws.{modelled_of}
+use Rattle.law_steps.proofs.Theorem.Processes.{process_there}
 use Rattle.law_steps.proofs.OpenBlocks.Runs.{schedules_run}
 use Rattle.law_steps.proofs.OpenBlocks.Told.{own_steps_are}
 use Rattle.ppd_ast.specs.Valid.{IsValid}
@@ -31,8 +31,8 @@ use Rattle.ppd_ast.specs.declared.plan.Plan.{Plan}
 use Rattle.ppd_ast.specs.declared.plan.Policy.{Policy}
 use Rattle.ppd_ast.specs.declared.program.Program.{Program}
 use Rattle.ppd_blocks.specs.Blocks.{plan_of}
-use Rattle.ppd_entry.specs.declared.entry.Entry.{Entry}
-use Rattle.ppd_entry.specs.declared.entry.Entry.TheVariants as entry
+use Rattle.ppd_model.specs.declared.entry.Entry.{Entry}
+use Rattle.ppd_model.specs.declared.entry.Entry.TheVariants as entry
 use Rattle.ppd_ast.specs.declared.status.Status.TheVariants as status
 use Rattle.ppd_flow_past.specs.SeenBy.{failed_at}
 use Rattle.ppd_model.specs.declared.state.Logging.{Logging}

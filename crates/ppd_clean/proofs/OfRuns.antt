@@ -13,7 +13,7 @@ use Rattle.law_clean.specs.Laws.{AnswersAreOfRuns}
 use Rattle.law_clean.specs.Ordered.{IsUnracedIn}
 use Rattle.law_clean.specs.Pasts.{any_raced, first_raced, is_clean, is_past, is_raced, is_same_edge, left_edge, lies}
 use Rattle.law_clean.specs.Search as sought
-use Rattle.law_flow_own.specs.Missing.{write_at}
+use Rattle.law_flow.specs.Missing.{write_at}
 use Rattle.law_logs.specs.Graph.Accepted.{LogsOfRunsAreOrdered}
 use Rattle.ppd_ast.specs.Valid.{IsValid}
 use Rattle.ppd_ast.specs.declared.plan.Plan.{Plan}
@@ -26,9 +26,9 @@ use Rattle.ppd_clean.specs.Runs.{CleansAreOfRuns}
 use Rattle.ppd_clean.specs.declared.clean.Clean.{Clean}
 use Rattle.ppd_clean.specs.declared.clean_error.CleanError.{CleanError}
 use Rattle.ppd_clean.specs.declared.clean_error.CleanError.TheVariants as error
-use Rattle.ppd_entry.specs.declared.entry.Logs.{Logs}
-use Rattle.ppd_flow_model.specs.Ends.{first_edge}
-use Rattle.ppd_flow_model.specs.Shared.{Missing}
+use Rattle.ppd_model.specs.declared.entry.Logs.{Logs}
+use Rattle.ppd_graph.specs.Ends.{first_edge}
+use Rattle.ppd_graph.specs.Shared.{Missing}
 use Rattle.ppd_flow_past.specs.SeenBy.{failed_at}
 use Rattle.ppd_model.proofs.Accesses.{record_at}
 use Rattle.ppd_model.proofs.Changes.{some}

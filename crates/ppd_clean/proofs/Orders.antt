@@ -14,7 +14,7 @@ use Rattle.ppd_clean.specs.ByOrder.{first_unclean, has_race}
 use Rattle.ppd_clean.specs.Firsts.{firsts_of}
 use Rattle.ppd_clean_past.proofs.LastEdges.{counted}
 use Rattle.ppd_clean_past.specs.ByOrder.{ends_before, is_in_past, last_edge, leads_from_race}
-use Rattle.ppd_entry.specs.declared.entry.Logs.{Logs}
+use Rattle.ppd_model.specs.declared.entry.Logs.{Logs}
 use Rattle.ppd_flow_past.proofs.Edges.Before.{before_is}
 use Rattle.ppd_graph.specs.Graphs.{IsEdge, IsGraphOf, edge_count, is_before_by}
 use Rattle.ppd_graph.specs.declared.sync_graph.SyncGraph.{SyncGraph}

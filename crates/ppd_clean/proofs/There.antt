@@ -5,7 +5,7 @@ use Rattle.std.specs.Prelude.{nat_eq, ◌&&◌}
 use Rattle.law_clean.specs.Pasts.{is_raced}
 use Rattle.law_clean.proofs.PastRaces.{both, either}
 use Rattle.law_clean.proofs.PastsGrow.{any_found}
-use Rattle.law_flow_shared.proofs.Edges.Sources.Members.{in_cases, in_either, in_filter, no_member}
+use Rattle.law_flow.proofs.Edges.Sources.Members.{in_cases, in_either, in_filter, no_member}
 use Rattle.ppd_model.specs.declared.graph.EdgeId.{EdgeId}
 use Rattle.ppd_model.specs.declared.graph.Race.{Race}
 use Rattle.ppd_model.specs.HappenedBefore.{edge}

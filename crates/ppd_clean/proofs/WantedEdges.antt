@@ -13,8 +13,8 @@ use Rattle.ppd_clean.proofs.Ranges.{fold_same}
 use Rattle.ppd_clean.specs.ByOrder.{first_unclean, is_raced_to, is_wanted, last_before, own_last}
 use Rattle.ppd_clean.specs.Firsts.{firsts_of}
 use Rattle.ppd_clean_past.specs.ByOrder.{last_edge}
-use Rattle.ppd_entry.specs.declared.entry.Entry.{Entry}
-use Rattle.ppd_entry.specs.declared.entry.Logs.{Logs}
+use Rattle.ppd_model.specs.declared.entry.Entry.{Entry}
+use Rattle.ppd_model.specs.declared.entry.Logs.{Logs}
 use Rattle.ppd_graph.specs.Graphs.{IsEdge, IsGraphOf}
 use Rattle.ppd_graph.specs.declared.sync_graph.SyncGraph.{SyncGraph}
 use Rattle.ppd_model.proofs.Changes.{some}

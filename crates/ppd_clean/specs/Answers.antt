@@ -4,21 +4,21 @@ use Rattle.law_clean.specs.Answers.{CleanOr, clean, is_reached, no_item, unclean
 use Rattle.law_clean.specs.Cuts.{cut_logs}
 use Rattle.law_clean.specs.Pasts.{first_raced, left_edge}
 use Rattle.law_clean.specs.Search.{clean_by, last_wanted}
-use Rattle.law_flow_own.specs.Missing.{write_at}
+use Rattle.law_flow.specs.Missing.{write_at}
 use Rattle.ppd_clean.specs.ByOrder.{cut_for, is_unclean}
 use Rattle.ppd_clean.specs.declared.clean.Clean.{Clean}
 use Rattle.ppd_clean.specs.declared.clean_error.CleanError.{CleanError}
 use Rattle.ppd_clean.specs.declared.clean_error.CleanError.TheVariants as error
 use Rattle.ppd_clean_past.specs.declared.asked.Asked.{Asked}
-use Rattle.ppd_entry.specs.declared.entry.Logs.{Logs}
+use Rattle.ppd_model.specs.declared.entry.Logs.{Logs}
 use Rattle.ppd_flow.specs.SharedCells.{seens_in}
-use Rattle.ppd_flow_model.specs.Ends.{first_edge}
-use Rattle.ppd_flow_model.specs.Found.{found_edges}
-use Rattle.ppd_flow_model.specs.Seen.{Seen}
-use Rattle.ppd_flow_model.specs.Shared.{Missing, seen_at}
+use Rattle.ppd_graph.specs.Ends.{first_edge}
+use Rattle.ppd_graph.specs.Found.{found_edges}
+use Rattle.ppd_graph.specs.Seen.{Seen}
+use Rattle.ppd_graph.specs.Shared.{Missing, seen_at}
 use Rattle.ppd_flow_past.specs.SeenBy.{failed_at, items_in, seen_by}
-use Rattle.ppd_flow_past.specs.declared.flow_error.FlowError.{FlowError}
-use Rattle.ppd_flow_past.specs.declared.flow_error.FlowError.TheVariants as flow_error
+use Rattle.ppd_model.specs.declared.flow_error.FlowError.{FlowError}
+use Rattle.ppd_model.specs.declared.flow_error.FlowError.TheVariants as flow_error
 use Rattle.ppd_flow_past.specs.declared.past.Past.{Past}
 use Rattle.ppd_model.specs.HappenedBefore.{Before, edge}
 use Rattle.ppd_model.specs.RecordedSets.{record_in}

@@ -1,6 +1,6 @@
 -- What `Sets` says of an item of a run with races: the write that it names is missing.
 use Rattle.std.specs.Prelude.{ℕ, List, Result, Err, ⊤}
-use Rattle.law_flow_own.specs.Missing.{AreIndexed, IsMissingWrite, write_at}
+use Rattle.law_flow.specs.Missing.{AreIndexed, IsMissingWrite, write_at}
 use Rattle.ppd_clean.specs.Answers.{cut_of, seens_of}
 use Rattle.ppd_clean.specs.declared.clean_error.CleanError.{CleanError}
 use Rattle.ppd_clean.specs.declared.clean_error.CleanError.TheVariants as error

@@ -20,11 +20,10 @@ use crate::laws::cleans_are_of_runs;
 use crate::unclean::{clean_item, unclean};
 use ppd_ast::{Memory, Plan, Program, Seq, Steps};
 use ppd_clean_past::Asked;
-use ppd_entry::Logs;
 use ppd_flow::edges;
 use ppd_flow_past::{FlowError, Past, edge_at, replayed};
 use ppd_index::{LogIndex, index};
-use ppd_model::{FlowEdge, Item, Race};
+use ppd_model::{FlowEdge, Item, Logs, Race};
 use std::alloc::Global;
 use std::sync::ledger::Ledger;
 

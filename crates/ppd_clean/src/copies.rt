@@ -1,9 +1,9 @@
 // Copies of entries.
 ghost use Rattle.std.specs.Prelude.{◌≡◌, IfOk};
-ghost use Rattle.ppd_entry.specs.declared.entry.Entry.TheVariants as entry_kind;
+ghost use Rattle.ppd_model.specs.declared.entry.Entry.TheVariants as entry_kind;
 
 use ppd_ast::{Memory, Seq, Status, SyncKind};
-use ppd_entry::{Boxed, BoxedCells, BoxedNums, Entry};
+use ppd_model::{Boxed, BoxedCells, BoxedNums, Entry};
 use std::alloc::Global;
 
 fn copied_nums(alloc: Global, values: &BoxedNums) -> Result<BoxedNums, Memory>

@@ -11,8 +11,8 @@ use crate::copies::copied;
 use crate::wanted::last_wanted;
 use ppd_ast::{Memory, Seq, Status};
 use ppd_clean_past::{Asked, kept_entries};
-use ppd_entry::{Boxed, Entry, Logs};
 use ppd_flow_past::{Past, ending};
+use ppd_model::{Boxed, Entry, Logs};
 use std::alloc::Global;
 
 fn is_sync_at(entries: &[Entry], n: usize) -> bool

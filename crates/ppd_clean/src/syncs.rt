@@ -1,9 +1,9 @@
 ghost use Rattle.std.specs.Prelude.{◌≡◌, count_by, filter_map, is_some, length};
-ghost use Rattle.ppd_flow_model.specs.Ends.{syncs_before as syncs_before_in};
+ghost use Rattle.ppd_graph.specs.Ends.{syncs_before as syncs_before_in};
 ghost use Rattle.ppd_model.specs.RecordedSets.{sync_in};
 
 use ppd_clean_past::first_entries;
-use ppd_entry::Entry;
+use ppd_model::Entry;
 
 fn is_sync(entry: &Entry) -> bool
     ensures { result ≡ is_some (sync_in entry.now) }

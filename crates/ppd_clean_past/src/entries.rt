@@ -2,7 +2,7 @@
 ghost use Rattle.std.specs.Prelude.{◌≡◌, ◌+◌, if◌then◌else◌, slice_get, take};
 ghost use Rattle.law_clean.specs.Cuts.{is_unit};
 
-use ppd_entry::Entry;
+use ppd_model::Entry;
 
 /// The first entries, at most so many.
 pub fn first_entries(entries: &[Entry], count: usize) -> &[Entry]

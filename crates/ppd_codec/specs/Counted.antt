@@ -1,8 +1,8 @@
 -- Lists whose counts fit the fields of their counts.
 use Rattle.std.specs.Prelude.{◌<◌, ◌^◌, List, length}
 use Rattle.std.specs.List.{All}
-use Rattle.ppd_entry.specs.declared.entry.Entry.{Entry}
-use Rattle.ppd_entry.specs.declared.entry.Entry.TheVariants as entry
+use Rattle.ppd_model.specs.declared.entry.Entry.{Entry}
+use Rattle.ppd_model.specs.declared.entry.Entry.TheVariants as entry
 
 abbrev pub IsCounted : Entry → Type 0
 IsCounted (entry.Prelog b vs) = length vs < 2 ^ 16

@@ -1,6 +1,6 @@
 -- Laws of recordings.
 use Rattle.std.specs.Prelude.{◌≡◌, ℕ, List}
-use Rattle.ppd_entry.specs.declared.entry.Logs.{Logs}
+use Rattle.ppd_model.specs.declared.entry.Logs.{Logs}
 use Rattle.ppd_codec.specs.declared.bad.BadBytes.{BadBytes}
 use Rattle.ppd_codec.specs.declared.recording.Header.{Header}
 use Rattle.ppd_codec.specs.Recordings.{IsBad, IsRecordingOf}

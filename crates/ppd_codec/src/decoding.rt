@@ -15,7 +15,7 @@ use ppd_ast::limits::MOST_RECORDING_BYTES;
 use ppd_ast::{Bytes, Plan, Program, Seq, Steps};
 use ppd_blocks::partition;
 use ppd_check::{SourceError, read_source};
-use ppd_entry::{Entry, Logs};
+use ppd_model::{Entry, Logs};
 use std::alloc::Global;
 use std::marker::Brand;
 use std::sync::ledger::{Blank, Ledger};

@@ -11,7 +11,7 @@ use crate::recording::Header;
 use crate::writer::Writer;
 use ppd_ast::{Bytes, Memory, Steps};
 use ppd_check::read_source;
-use ppd_entry::Logs;
+use ppd_model::Logs;
 use std::alloc::Global;
 use std::marker::Brand;
 use std::sync::ledger::{Blank, Ledger};

@@ -7,7 +7,7 @@ use crate::facts::Facts;
 use crate::lists::push;
 use ppd_ast::{Seq, Steps};
 use ppd_codec_fields::Tag;
-use ppd_entry::{BoxedNums, Entry};
+use ppd_model::{BoxedNums, Entry};
 use std::alloc::Global;
 use std::sync::ledger::Ledger;
 

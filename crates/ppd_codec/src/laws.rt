@@ -6,7 +6,7 @@ use crate::bad::BadBytes;
 use crate::decoding::decode;
 use crate::encoding::encode;
 use crate::recording::{Header, Recording};
-use ppd_entry::Logs;
+use ppd_model::Logs;
 use std::alloc::Global;
 
 /// Law: a lawful source, header and logs have one recording; bytes are the recording of one such three at most;

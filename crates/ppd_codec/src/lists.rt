@@ -5,7 +5,7 @@ ghost use Rattle.ppd_codec.specs.Format.{cells as cells_form, values as values_f
 use crate::bad::BadBytes;
 use crate::cursor::Cursor;
 use ppd_ast::{Cells, Nums, Seq, Steps};
-use ppd_entry::{Boxed, BoxedCells, BoxedNums};
+use ppd_model::{Boxed, BoxedCells, BoxedNums};
 use std::alloc::Global;
 use std::sync::ledger::Ledger;
 

@@ -1,5 +1,5 @@
 use ppd_ast::{Bytes, Plan, Policy, Program};
-use ppd_entry::Logs;
+use ppd_model::Logs;
 
 /// With what a source was run: the policy of its plan, and the budget of each process, 1 to 500,000.
 #[derive(Clone, Copy)]

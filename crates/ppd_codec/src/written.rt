@@ -9,7 +9,7 @@ ghost use Rattle.ppd_codec_fields.specs.Fields.{kind_code as kind_code_of, statu
 
 use crate::writer::Writer;
 use ppd_ast::{Memory, Seq, Status, Steps, SyncKind, Trap};
-use ppd_entry::Entry;
+use ppd_model::Entry;
 use std::sync::ledger::Ledger;
 
 fn kind_code(kind: SyncKind) -> u8

@@ -6,9 +6,9 @@ use Rattle.ppd_codec.specs.Format.{an_entry, log}
 use Rattle.ppd_codec.specs.Recordings.{IsLawfulBy, facts_of}
 use Rattle.ppd_codec.specs.declared.recording.Header.{Header}
 use Rattle.ppd_codec_fields.specs.Fields.{is_next}
-use Rattle.ppd_entry.specs.declared.entry.Entry.{Entry}
-use Rattle.ppd_entry.specs.declared.entry.Entry.TheVariants as entry
-use Rattle.ppd_entry.specs.declared.entry.Logs.{Logs}
+use Rattle.ppd_model.specs.declared.entry.Entry.{Entry}
+use Rattle.ppd_model.specs.declared.entry.Entry.TheVariants as entry
+use Rattle.ppd_model.specs.declared.entry.Logs.{Logs}
 use Rattle.ppd_graph.specs.Graphs.{sets_at}
 use Rattle.ppd_graph.specs.LogRecord.{edge_sets, edge_sets_in, no_sets, sets_from}
 use Rattle.ppd_graph.specs.declared.sets.EdgeSets.{EdgeSets}

@@ -12,7 +12,7 @@ use Rattle.ppd_codec.specs.Recordings.{AreLawful, IsDecoded}
 use Rattle.ppd_codec.specs.declared.recording.Header.{Header}
 use Rattle.ppd_codec.specs.declared.recording.Recording.{Recording}
 use Rattle.ppd_codec.proofs.Spelling.{no_recording_is_bad}
-use Rattle.ppd_entry.specs.declared.entry.Logs.{Logs}
+use Rattle.ppd_model.specs.declared.entry.Logs.{Logs}
 use Rattle.ppd_graph.specs.Refusals.{IsRefused as IsNoGraph}
 use Rattle.law_logs.proofs.Graph.Ordered.{refused}
 use Rattle.ppd_index.specs.Refusals.{first_in_lists}

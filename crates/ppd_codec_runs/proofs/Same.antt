@@ -14,14 +14,14 @@ use Rattle.ppd_codec.specs.declared.bad.BadBytes.TheVariants as bad
 use Rattle.ppd_codec.specs.declared.recording.Header.{Header}
 use Rattle.ppd_codec.specs.declared.recording.Recording.{Recording}
 use Rattle.ppd_codec.proofs.Spelling.{no_recording_is_bad, same_three}
-use Rattle.ppd_entry.specs.declared.entry.Logs.{Logs}
+use Rattle.ppd_model.specs.declared.entry.Logs.{Logs}
 use Rattle.ppd_model.specs.RecordedSets.{record_in}
 use Rattle.ppd_graph.specs.Refusals.{AreOrdered, IsRefused as IsNoGraph}
-use Rattle.ppd_graph.specs.declared.refusal.BadSync.{BadSync}
-use Rattle.ppd_graph.specs.declared.refusal.BadSync.TheVariants as sync
+use Rattle.ppd_model.specs.declared.bad_sync.BadSync.{BadSync}
+use Rattle.ppd_model.specs.declared.bad_sync.BadSync.TheVariants as sync
 use Rattle.ppd_index.specs.Refusals.{IsRefused as IsNoIndex, first_in_lists}
-use Rattle.ppd_index.specs.declared.refusal.BadLog.{BadLog}
-use Rattle.ppd_index.specs.declared.refusal.BadLog.TheVariants as log
+use Rattle.ppd_model.specs.declared.bad_log.BadLog.{BadLog}
+use Rattle.ppd_model.specs.declared.bad_log.BadLog.TheVariants as log
 use Rattle.ppd_codec_runs.specs.Laws.{RefusedOrAccepted}
 use Rattle.ppd_codec_runs.specs.Recordings.{IsRefusedBy}
 use Rattle.ppd_codec_runs.specs.Recordings.IsRefusedBy.{by_bytes, by_log, by_sync}

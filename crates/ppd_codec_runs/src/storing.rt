@@ -4,7 +4,7 @@ ghost use Rattle.ppd_codec_runs.specs.Recordings.{AreOfSomeRun};
 
 use ppd_ast::{Bytes, Memory};
 use ppd_codec::{Header, encode};
-use ppd_entry::Logs;
+use ppd_model::Logs;
 use std::alloc::Global;
 
 /// The recording of a whole run: of its source, of the policy and the budget that it ran with, and of its logs.

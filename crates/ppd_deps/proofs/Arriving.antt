@@ -10,8 +10,8 @@ use Rattle.ppd_ast.specs.declared.program.Kind.{Kind}
 use Rattle.ppd_ast.specs.declared.program.Kind.TheVariants as K
 use Rattle.ppd_ast.specs.declared.program.Program.{Program}
 use Rattle.ppd_ast.specs.declared.program.Stmt.{Stmt}
-use Rattle.ppd_cfg.specs.Flow.{next_of}
-use Rattle.ppd_cfg.specs.Reach.{closure, leads}
+use Rattle.ppd_sets.specs.Flow.{next_of}
+use Rattle.ppd_sets.specs.Reach.{closure, leads}
 use Rattle.ppd_deps.proofs.Vocabulary.{local_edge}
 use Rattle.ppd_deps.specs.Edges.{begins, comes_to, kept_rows, locals_from}
 use Rattle.ppd_deps.specs.Named.{own_vars, places_by}

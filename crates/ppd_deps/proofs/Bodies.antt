@@ -13,9 +13,9 @@ use Rattle.ppd_ast.specs.declared.program.Body.{Body}
 use Rattle.ppd_ast.specs.declared.program.Program.{Program}
 use Rattle.ppd_ast.specs.declared.program.Stmt.{Stmt}
 use Rattle.ppd_ast.specs.declared.program.Var.{Var}
-use Rattle.ppd_cfg.proofs.Following.{in_some}
-use Rattle.ppd_cfg.proofs.Rows.{length_rows, row_at}
-use Rattle.ppd_cfg.specs.Reach.{start}
+use Rattle.ppd_sets.proofs.Following.{in_some}
+use Rattle.ppd_sets.proofs.FlowRows.{length_rows, row_at}
+use Rattle.ppd_sets.specs.Reach.{start}
 use Rattle.ppd_deps.proofs.Arriving.{body_there, filter_twice, has_those}
 use Rattle.ppd_deps.specs.Named.{shared_reads}
 use Rattle.ppd_sets.proofs.Chains.{called_law}

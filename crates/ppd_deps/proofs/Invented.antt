@@ -7,9 +7,9 @@ use Rattle.ppd_ast.specs.declared.program.Program.{Program}
 use Rattle.ppd_ast.specs.declared.program.Stmt.{Stmt}
 use Rattle.ppd_ast.specs.declared.program.Var.{Var}
 use Rattle.ppd_blocks.proofs.Paths.{not_true}
-use Rattle.ppd_cfg.proofs.Leading.{leads-tests}
-use Rattle.ppd_cfg.specs.Flow.{next_of}
-use Rattle.ppd_cfg.specs.Reach.{Reached, next, start}
+use Rattle.ppd_sets.proofs.Leading.{leads-tests}
+use Rattle.ppd_sets.specs.Flow.{next_of}
+use Rattle.ppd_sets.specs.Reach.{Reached, next, start}
 use Rattle.ppd_deps.proofs.Reaching.{row_gives}
 use Rattle.ppd_deps.proofs.Vocabulary.{control_of, data_from, local_edge, outer_edge, shared_edge, shared_from}
 use Rattle.ppd_deps.specs.Edges.{begins, comes_to, control_into, data_into, edges_of, ends_paths, kept_rows, locals_from}

@@ -7,11 +7,11 @@ use Rattle.ppd_ast.specs.Valid.{IsValid}
 use Rattle.ppd_ast.specs.declared.program.Program.{Program}
 use Rattle.ppd_ast.specs.declared.program.Var.{Var}
 use Rattle.ppd_blocks.proofs.Fitting.{first_of_body_fits, listed_below, next_below}
-use Rattle.ppd_cfg.proofs.Leading.{leads-tests, row_there}
-use Rattle.ppd_cfg.proofs.Rows.{length_rows, row_at}
-use Rattle.ppd_cfg.specs.Flow.{next_of}
-use Rattle.ppd_cfg.specs.Reach.{Reached, closure, leads}
-use Rattle.ppd_cfg.specs.WorkList.{AreRowsBelow, is_marked}
+use Rattle.ppd_sets.proofs.Leading.{leads-tests, row_there}
+use Rattle.ppd_sets.proofs.FlowRows.{length_rows, row_at}
+use Rattle.ppd_sets.specs.Flow.{next_of}
+use Rattle.ppd_sets.specs.Reach.{Reached, closure, leads}
+use Rattle.ppd_sets.specs.WorkList.{AreRowsBelow, is_marked}
 use Rattle.ppd_deps.proofs.Vocabulary.{kept_next, passes}
 use Rattle.ppd_deps.specs.Edges.{begins, ends_paths, kept_rows}
 use Rattle.ppd_deps.specs.Named.{own_vars, places}

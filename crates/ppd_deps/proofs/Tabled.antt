@@ -11,8 +11,8 @@ use Rattle.ppd_ast.specs.declared.program.Kind.TheVariants as K
 use Rattle.ppd_ast.specs.declared.program.Program.{Program}
 use Rattle.ppd_ast.specs.declared.program.Stmt.{Stmt}
 use Rattle.ppd_blocks.proofs.Fitting.{none_below}
-use Rattle.ppd_cfg.proofs.Rows.{length_rows, row_at}
-use Rattle.ppd_cfg.specs.Flow.{next_of}
+use Rattle.ppd_sets.proofs.FlowRows.{length_rows, row_at}
+use Rattle.ppd_sets.specs.Flow.{next_of}
 use Rattle.ppd_deps.proofs.Arriving.{IsOwn}
 use Rattle.ppd_deps.proofs.Vocabulary.{control_of, outer_edge, processes}
 use Rattle.ppd_deps.specs.Edges.{control_into}

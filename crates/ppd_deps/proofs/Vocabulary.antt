@@ -8,7 +8,7 @@ use Rattle.ppd_ast.specs.declared.program.Stmt.{Stmt}
 use Rattle.ppd_ast.specs.declared.program.Var.{Var}
 use Rattle.ppd_ast.specs.Members.{has}
 use Rattle.ppd_ast.specs.Lookups.{kind_of, body_of, body_numbered}
-use Rattle.ppd_cfg.specs.Flow.{next_of}
+use Rattle.ppd_sets.specs.Flow.{next_of}
 use Rattle.ppd_deps.specs.declared.edges.StaticEdge.{StaticEdge}
 use Rattle.ppd_deps.specs.declared.edges.StaticEdge.TheVariants.{Data, ControlEntry, Control}
 use Rattle.ppd_deps.specs.Named.{shared_reads, shared_writes, calls}

@@ -7,8 +7,8 @@ use Rattle.ppd_ast.specs.declared.program.Kind.TheVariants as K
 use Rattle.ppd_ast.specs.declared.program.Program.{Program}
 use Rattle.ppd_ast.specs.declared.program.Target.TheVariants as T
 use Rattle.ppd_ast.specs.declared.program.Var.{Var}
-use Rattle.ppd_cfg.specs.Flow.{next_of}
-use Rattle.ppd_cfg.specs.Reach.{closure, leads}
+use Rattle.ppd_sets.specs.Flow.{next_of}
+use Rattle.ppd_sets.specs.Reach.{closure, leads}
 use Rattle.ppd_deps.specs.Named.{calls, own_vars, places, shared_reads, shared_writes}
 use Rattle.ppd_deps.specs.declared.edges.StaticEdge.{StaticEdge}
 use Rattle.ppd_deps.specs.declared.edges.StaticEdge.TheVariants.{Control, ControlEntry, Data}

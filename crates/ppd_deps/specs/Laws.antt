@@ -3,7 +3,7 @@ use Rattle.ppd_ast.specs.Lookups.{body_numbered, body_of, kind_of}
 use Rattle.ppd_ast.specs.Members.{has}
 use Rattle.ppd_ast.specs.declared.program.Program.{Program}
 use Rattle.ppd_ast.specs.declared.program.Var.{Var}
-use Rattle.ppd_cfg.specs.Flow.{next_of}
+use Rattle.ppd_sets.specs.Flow.{next_of}
 use Rattle.ppd_deps.specs.Edges.{begins, edges_of, ends_paths}
 use Rattle.ppd_deps.specs.Named.{own_vars, shared_reads, shared_writes}
 use Rattle.ppd_deps.specs.declared.edges.StaticEdge.TheVariants.{Data}

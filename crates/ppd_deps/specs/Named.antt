@@ -4,7 +4,7 @@ use Rattle.ppd_ast.specs.Members.{has, those}
 use Rattle.ppd_ast.specs.declared.program.Kind.{Kind}
 use Rattle.ppd_ast.specs.declared.program.Kind.TheVariants as K
 use Rattle.ppd_ast.specs.declared.program.Program.{Program}
-use Rattle.ppd_cfg.specs.Reach.{closure, leads}
+use Rattle.ppd_sets.specs.Reach.{closure, leads}
 use Rattle.ppd_sets.specs.Used.{call_rows, callee, reads_at, stmts_at, vars_met, writes_at}
 use Rattle.std.specs.List.{filter, range_with_len}
 use Rattle.std.specs.Prelude.{Bool, List, [], if◌then◌else◌, length, nat_eq, true, ℕ, ◌-◌, ◌∷◌}

@@ -3,7 +3,7 @@ use Rattle.ppd_sets.specs.Used.{reads_at, writes_at}
 use Rattle.std.specs.Prelude.{◌≡◌, length, map, false}
 use Rattle.std.specs.List.{range_with_len}
 use Rattle.ppd_ast.specs.declared.program.Program.{Program}
-use Rattle.ppd_cfg.specs.Flow.{flow_rows}
+use Rattle.ppd_sets.specs.Flow.{flow_rows}
 use Rattle.ppd_deps.specs.declared.edges.DepGraph.{DepGraph}
 use Rattle.ppd_deps.specs.declared.tables.Tables.{Tables}
 use Rattle.ppd_deps.specs.Edges.{edges_of}

@@ -4,7 +4,7 @@ ghost use Rattle.std.specs.List.{filter};
 ghost use Rattle.std.specs.Option.{option_map_or};
 ghost use Rattle.ppd_ast.specs.Valid.{IsValid};
 ghost use Rattle.ppd_ast.specs.Members.{has, AreBelow};
-ghost use Rattle.ppd_cfg.specs.WorkList.{is_marked};
+ghost use Rattle.ppd_sets.specs.WorkList.{is_marked};
 ghost use Rattle.ppd_deps.specs.Edges.{comes_to, control_into, data_into, edges_of, locals_from};
 ghost use Rattle.ppd_deps.specs.declared.edges.StaticEdge.TheVariants.{Control, ControlEntry, Data};
 ghost use Rattle.ppd_deps.specs.Named.{places, shared_reads, shared_writes};

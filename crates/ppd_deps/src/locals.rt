@@ -5,9 +5,9 @@ ghost use Rattle.ppd_ast.specs.Numbered.{numbers_of};
 ghost use Rattle.ppd_ast.specs.Valid.{IsValid};
 ghost use Rattle.ppd_ast.specs.Members.{has, AreBelow};
 ghost use Rattle.ppd_ast.specs.Lookups.{kind_of, body_of, body_numbered};
-ghost use Rattle.ppd_cfg.specs.Flow.{next_of};
-ghost use Rattle.ppd_cfg.specs.Reach.{closure, leads};
-ghost use Rattle.ppd_cfg.specs.WorkList.{is_marked};
+ghost use Rattle.ppd_sets.specs.Flow.{next_of};
+ghost use Rattle.ppd_sets.specs.Reach.{closure, leads};
+ghost use Rattle.ppd_sets.specs.WorkList.{is_marked};
 ghost use Rattle.ppd_deps.specs.Edges.{begins, ends_paths, kept_rows, scalar_written};
 ghost use Rattle.ppd_deps.specs.Named.{calls, places, own_vars};
 ghost use Rattle.ppd_deps.specs.Tables.{AreTables};
@@ -16,8 +16,7 @@ ghost use Rattle.ppd_sets.specs.Used.{stmts_at, writes_at};
 use crate::tables::Tables;
 use crate::vars::{does_call, locals, params};
 use ppd_ast::{Body, Ids, Kind, Memory, Program, Seq, Target, Var};
-use ppd_cfg::reach;
-use ppd_sets::end_of;
+use ppd_sets::{end_of, reach};
 use std::alloc::Global;
 
 // A local variable of a body, by their numbers.

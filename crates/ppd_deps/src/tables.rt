@@ -4,15 +4,14 @@ ghost use Rattle.std.specs.Prelude.{◌≡◌, ◌-◌, ◌<◌, ◌^◌, ◌++�
 ghost use Rattle.std.specs.List.{range_with_len};
 ghost use Rattle.ppd_ast.specs.Valid.{IsValid};
 ghost use Rattle.ppd_ast.specs.Members.{has};
-ghost use Rattle.ppd_cfg.specs.Flow.{next_of};
+ghost use Rattle.ppd_sets.specs.Flow.{next_of};
 ghost use Rattle.ppd_sets.specs.SetsOf.{AreSetsOf};
 ghost use Rattle.ppd_deps.specs.Named.{running, shared_reads, own_vars};
 ghost use Rattle.ppd_deps.specs.Tables.{AreTables};
 
 use crate::vars::{body_at, locals, read_cells, vars_of, written_cells};
 use ppd_ast::{Cells, Ids, Memory, Program, Seq};
-use ppd_cfg::{reached, successors_of};
-use ppd_sets::{VarSets, calls, vars_in};
+use ppd_sets::{VarSets, calls, reached, successors_of, vars_in};
 use std::alloc::Global;
 
 // For each statement its successors, the shared and the local variables that it may read, and the

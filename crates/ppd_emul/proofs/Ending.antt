@@ -5,10 +5,10 @@ use Rattle.ppd_ast.specs.declared.plan.Plan.{Plan}
 use Rattle.ppd_ast.specs.declared.program.Program.{Program}
 use Rattle.ppd_ast.specs.declared.status.Status.TheVariants as status
 use Rattle.ppd_ast.specs.declared.status.Trap.{Trap as TrapOf}
-use Rattle.ppd_emul_model.specs.Fits.{same_trap}
-use Rattle.ppd_emul_model.specs.Replay.{Replaying, Turn, counted, fail, finished, goes_on, is_budget, turn_by_end, with_event}
-use Rattle.ppd_emul_model.specs.declared.trace.EmulError.{EmulError}
-use Rattle.ppd_emul_model.specs.declared.wanted.Wanted.TheVariants as wanted
+use Rattle.ppd_model.specs.Fits.{same_trap}
+use Rattle.ppd_model.specs.Replay.{Replaying, Turn, counted, fail, finished, goes_on, is_budget, turn_by_end, with_event}
+use Rattle.ppd_model.specs.declared.block_trace.EmulError.{EmulError}
+use Rattle.ppd_model.specs.declared.wanted.Wanted.TheVariants as wanted
 use Rattle.ppd_emul_values.specs.Emulated.{IfFailed, IsTurn, turned}
 use Rattle.ppd_emul_values.specs.declared.replayer.Code.{Code}
 use Rattle.ppd_emul_values.specs.declared.replayer.Replayer.{Replayer}

@@ -2,16 +2,16 @@
 use Rattle.std.proofs.Common.{◌≡◌, ℕ, zero, suc, ◌+◌, ◌*◌, ◌≤◌, Bool, true, false, Result, Ok, Err, sym, subst, arith, length, if◌then◌else◌}
 use Rattle.ppd_ast.specs.declared.plan.Plan.{Plan}
 use Rattle.ppd_ast.specs.declared.program.Program.{Program}
-use Rattle.ppd_entry.specs.IntervalLogs.{IntervalLog}
-use Rattle.ppd_entry.specs.Pieces.{Piece, unit, sync, nested, unfinished, postlog, finish}
+use Rattle.ppd_model.specs.IntervalLogs.{IntervalLog}
+use Rattle.ppd_model.specs.Pieces.{Piece, unit, sync, nested, unfinished, postlog, finish}
 use Rattle.ppd_sem.specs.Blocks.{block_kind, block_unit}
-use Rattle.ppd_emul_model.specs.declared.trace.BlockTrace.{BlockTrace}
-use Rattle.ppd_emul_model.specs.declared.trace.EmulError.{EmulError}
-use Rattle.ppd_emul_model.specs.declared.wanted.Wanted.TheVariants as wanted
-use Rattle.ppd_emul_model.specs.Fits.{found_of, fits}
-use Rattle.ppd_emul_model.specs.Laws.{TakesOneStep}
-use Rattle.ppd_emul_model.specs.Replay.{Replaying, Replayed, Turn, more, done, begun_replay, fail, go_on, next_piece, replay, replay_from, turn, unit_taken}
-use Rattle.ppd_emul_model.proofs.Turns.{turns_are_steps}
+use Rattle.ppd_model.specs.declared.block_trace.BlockTrace.{BlockTrace}
+use Rattle.ppd_model.specs.declared.block_trace.EmulError.{EmulError}
+use Rattle.ppd_model.specs.declared.wanted.Wanted.TheVariants as wanted
+use Rattle.ppd_model.specs.Fits.{found_of, fits}
+use Rattle.ppd_model.specs.ReplayLaws.{TakesOneStep}
+use Rattle.ppd_model.specs.Replay.{Replaying, Replayed, Turn, more, done, begun_replay, fail, go_on, next_piece, replay, replay_from, turn, unit_taken}
+use Rattle.ppd_model.proofs.Turns.{turns_are_steps}
 use Rattle.ppd_emul_values.specs.Emulated.{IfTold}
 use Rattle.ppd_emul.specs.Spending.{HasFewItems}
 use Rattle.ppd_emul.proofs.Grown.{Few, Grows, turn_grows}

@@ -2,9 +2,9 @@
 use Rattle.std.proofs.Common.{◌≡◌, ℕ, suc, [], ap, sym, ◌∙◌}
 use Rattle.ppd_ast.specs.declared.plan.Plan.{Plan}
 use Rattle.ppd_ast.specs.declared.program.Program.{Program}
-use Rattle.ppd_emul_model.specs.Replay.{Replaying, Replayed, more, done, go_on, replay_from, turn}
-use Rattle.ppd_emul_model.specs.declared.trace.EmulError.{EmulError}
-use Rattle.ppd_emul_model.specs.declared.trace.EmulError.TheVariants.{Diverged, Memory}
+use Rattle.ppd_model.specs.Replay.{Replaying, Replayed, more, done, go_on, replay_from, turn}
+use Rattle.ppd_model.specs.declared.block_trace.EmulError.{EmulError}
+use Rattle.ppd_model.specs.declared.block_trace.EmulError.TheVariants.{Diverged, Memory}
 use Rattle.ppd_emul_values.specs.Emulated.{IfFailed}
 
 -- ---- turns

@@ -4,15 +4,15 @@ use Rattle.std.proofs.Common.{◌≡◌, ℕ, ◌+◌, [], get_or, Result, Some,
 use Rattle.ppd_ast.specs.Valid.{IsValid}
 use Rattle.ppd_ast.specs.declared.plan.Plan.{Plan}
 use Rattle.ppd_ast.specs.declared.program.Program.{Program}
-use Rattle.ppd_entry.specs.IntervalLogs.{IntervalLog, interval_log}
+use Rattle.ppd_model.specs.IntervalLogs.{IntervalLog, interval_log}
 use Rattle.ppd_model.specs.Logs.{closed_logs}
 use Rattle.ppd_model.specs.Races.{races}
 use Rattle.ppd_model.specs.Schedule.{IsWhole}
-use Rattle.ppd_emul_model.specs.Replay.{Replayed, replay}
-use Rattle.ppd_emul_model.specs.declared.trace.BlockTrace.{BlockTrace}
-use Rattle.ppd_emul_model.specs.declared.trace.EmulError.{EmulError}
-use Rattle.ppd_emul_model.specs.declared.trace.EmulError.TheVariants.{Diverged, Memory}
-use Rattle.law_replay.specs.Theorem.Laws.{EmulationsGiveIntervals, GivesIntervalAt, IsAnswerOf, GivesIntervals}
+use Rattle.ppd_model.specs.Replay.{Replayed, replay}
+use Rattle.ppd_model.specs.declared.block_trace.BlockTrace.{BlockTrace}
+use Rattle.ppd_model.specs.declared.block_trace.EmulError.{EmulError}
+use Rattle.ppd_model.specs.declared.block_trace.EmulError.TheVariants.{Diverged, Memory}
+use Rattle.law_steps.specs.Theorem.Laws.{EmulationsGiveIntervals, GivesIntervalAt, IsAnswerOf, GivesIntervals}
 use Rattle.ppd_emul_values.specs.Emulated.{IfTold}
 
 -- the two clauses are an answer

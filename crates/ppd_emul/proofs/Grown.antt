@@ -5,7 +5,7 @@ use Rattle.ppd_ast.specs.declared.plan.Plan.{Plan}
 use Rattle.ppd_ast.specs.declared.program.Program.{Program}
 use Rattle.ppd_ast.specs.declared.status.Status.{Status}
 use Rattle.ppd_ast.specs.declared.status.Status.TheVariants as status
-use Rattle.ppd_entry.specs.Pieces.{Piece, unit, sync, nested, unfinished, postlog, finish}
+use Rattle.ppd_model.specs.Pieces.{Piece, unit, sync, nested, unfinished, postlog, finish}
 use Rattle.ppd_sem.specs.declared.proc.Answer.{Answer}
 use Rattle.ppd_sem.specs.declared.proc.Answer.TheVariants.{Go}
 use Rattle.ppd_sem.specs.declared.proc.Need.{Need}
@@ -17,14 +17,13 @@ use Rattle.ppd_model.specs.declared.flow.Item.{Item}
 use Rattle.ppd_model.specs.declared.flow.Item.TheVariants as item
 use Rattle.ppd_model.specs.Story.{unit_started}
 use Rattle.ppd_model.specs.Synchronizations.{kind_of_sync}
-use Rattle.ppd_emul_model.specs.declared.trace.BlockTrace.{BlockTrace}
-use Rattle.ppd_emul_model.specs.declared.trace.EmulError.{EmulError}
-use Rattle.ppd_emul_model.specs.declared.wanted.Wanted.{Wanted}
-use Rattle.ppd_emul_model.specs.declared.wanted.Wanted.TheVariants as wanted
-use Rattle.ppd_emul_model.specs.Fits.{found_of, wanted_of, same_trap, fits}
-use Rattle.ppd_emul_model.specs.Replay.{Replaying, Turn, more, done, counted, end_here, fail, finished, goes_on, next_piece, past_piece, received, step_with, step_without, stepped, take_unit, turn, turn_by_end, turn_by_wanted, unit_taken, with_call, with_event, with_item, with_write}
-use Rattle.ppd_emul_model.proofs.Vocabulary.{skip_nested, synchronize}
-use Rattle.ppd_emul_model.proofs.Vocabulary.{with_event_of}
+use Rattle.ppd_model.specs.declared.block_trace.BlockTrace.{BlockTrace}
+use Rattle.ppd_model.specs.declared.block_trace.EmulError.{EmulError}
+use Rattle.ppd_model.specs.declared.wanted.Wanted.{Wanted}
+use Rattle.ppd_model.specs.declared.wanted.Wanted.TheVariants as wanted
+use Rattle.ppd_model.specs.Fits.{found_of, wanted_of, same_trap, fits}
+use Rattle.ppd_model.specs.Replay.{Replaying, Turn, more, done, counted, end_here, fail, finished, goes_on, next_piece, past_piece, received, step_with, step_without, stepped, take_unit, turn, turn_by_end, turn_by_wanted, unit_taken, with_call, with_event, with_item, with_write}
+use Rattle.ppd_model.proofs.ReplayWords.{skip_nested, synchronize, with_event_of}
 
 -- an answer's items, by the counts of steps and items before and the count of steps after
 abbrev pub Few : (steps items after : ℕ) → Result BlockTrace EmulError → Type 0

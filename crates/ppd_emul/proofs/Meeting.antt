@@ -6,11 +6,11 @@ use Rattle.ppd_ast.specs.declared.program.Program.{Program}
 use Rattle.ppd_ast.specs.declared.status.SyncKind.{SyncKind}
 use Rattle.ppd_ast.specs.declared.status.SyncKind.TheVariants as sync_kind
 use Rattle.ppd_emul.specs.Turns.{alone}
-use Rattle.ppd_emul_model.specs.Fits.{fits, found_of, wanted_of}
-use Rattle.ppd_emul_model.specs.Replay.{Replaying, is_budget, step_without, turn_by_end, turn_by_wanted}
-use Rattle.ppd_emul_model.specs.declared.wanted.Found.{Found}
-use Rattle.ppd_emul_model.specs.declared.wanted.Wanted.TheVariants as wanted
-use Rattle.ppd_entry.specs.Pieces.{nested, sync}
+use Rattle.ppd_model.specs.Fits.{fits, found_of, wanted_of}
+use Rattle.ppd_model.specs.Replay.{Replaying, is_budget, step_without, turn_by_end, turn_by_wanted}
+use Rattle.ppd_model.specs.declared.wanted.Found.{Found}
+use Rattle.ppd_model.specs.declared.wanted.Wanted.TheVariants as wanted
+use Rattle.ppd_model.specs.Pieces.{nested, sync}
 use Rattle.ppd_sem.specs.Described.{is_event}
 use Rattle.ppd_sem.specs.Entries.{Begins}
 use Rattle.ppd_sem.specs.declared.proc.Need.{Need}

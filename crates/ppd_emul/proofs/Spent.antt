@@ -2,9 +2,9 @@
 use Rattle.std.proofs.Common.{◌≡◌, ◌+◌, ◌≤◌, inl, inr, sym, subst, arith}
 use Rattle.ppd_ast.specs.declared.plan.Plan.{Plan}
 use Rattle.ppd_ast.specs.declared.program.Program.{Program}
-use Rattle.ppd_emul_model.specs.Laws.{IsLast, TakesOneStep}
-use Rattle.ppd_emul_model.specs.Replay.{Replayed, Replaying, Turn, done, more, turn}
-use Rattle.ppd_emul_model.proofs.Turns.{turns_are_steps}
+use Rattle.ppd_model.specs.ReplayLaws.{IsLast, TakesOneStep}
+use Rattle.ppd_model.specs.Replay.{Replayed, Replaying, Turn, done, more, turn}
+use Rattle.ppd_model.proofs.Turns.{turns_are_steps}
 
 pub one_more : (program : Program) (plan : Plan) (r next : Replaying) → more next ≡ turn program plan r → next.steps ≡ r.steps + 1
 one_more program plan r next e =

@@ -1,12 +1,12 @@
 -- What turns of a replay come to.
 use Rattle.ppd_ast.specs.declared.plan.Plan.{Plan}
 use Rattle.ppd_ast.specs.declared.program.Program.{Program}
-use Rattle.ppd_emul_model.specs.Fits.{fits, found_of, wanted_of}
-use Rattle.ppd_emul_model.specs.Replay.{Replayed, Replaying, Turn, stepped, take_unit, with_event, with_write}
-use Rattle.ppd_emul_model.specs.declared.trace.EmulError.{EmulError}
+use Rattle.ppd_model.specs.Fits.{fits, found_of, wanted_of}
+use Rattle.ppd_model.specs.Replay.{Replayed, Replaying, Turn, stepped, take_unit, with_event, with_write}
+use Rattle.ppd_model.specs.declared.block_trace.EmulError.{EmulError}
 use Rattle.ppd_emul_values.specs.declared.replayer.Code.{Code}
 use Rattle.ppd_emul_values.specs.declared.replayer.Replayer.{Replayer}
-use Rattle.ppd_entry.specs.Pieces.{Piece}
+use Rattle.ppd_model.specs.Pieces.{Piece}
 use Rattle.ppd_model.specs.Story.{unit_started}
 use Rattle.ppd_sem.specs.declared.proc.Answer.TheVariants.{Go}
 use Rattle.ppd_sem.specs.declared.proc.Need.{Need}

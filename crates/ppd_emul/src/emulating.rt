@@ -1,19 +1,19 @@
 ghost use Rattle.ppd_model.specs.Setting.{setting_of};
 ghost use Rattle.std.specs.Prelude.{◌≡◌, ◌+◌, ◌<◌, ◌≤◌, Some};
-ghost use Rattle.law_replay.specs.Theorem.Laws.{GivesIntervals};
+ghost use Rattle.law_steps.specs.Theorem.Laws.{GivesIntervals};
 ghost use Rattle.ppd_ast.specs.declared.limits.TheConstants.{MOST_CALLS};
 ghost use Rattle.ppd_ast.specs.Valid.{IsValid};
 ghost use Rattle.ppd_ast.specs.ValidPlan.{IsValidPlan};
 ghost use Rattle.ppd_emul.specs.Spending.{HasFewItems};
 ghost use Rattle.ppd_emul.specs.Turns.{ended};
 ghost use Rattle.ppd_emul_values.specs.Emulated.{IfTold, IsGoing, IsSound, replaying};
-ghost use Rattle.ppd_emul_model.specs.Replay.{go_on, replay, replay_from, take_unit as take_unit_of};
+ghost use Rattle.ppd_model.specs.Replay.{go_on, replay, replay_from, take_unit as take_unit_of};
 
 use crate::turning::turn;
-use law_replay::emulations_give_intervals;
+use law_steps::emulations_give_intervals;
 use ppd_ast::{Plan, Program, Steps};
-use ppd_emul_model::{BlockTrace, EmulError, Wanted};
 use ppd_emul_values::{Code, IntervalLog, Replayer, Turned, begin, fail, take_unit};
+use ppd_model::{BlockTrace, EmulError, Wanted};
 use ppd_sem::{block_kind, block_unit, valid_can_run, valid_is_numbered};
 use std::alloc::Global;
 use std::marker::Brand;

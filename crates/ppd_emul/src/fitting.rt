@@ -1,11 +1,10 @@
 ghost use Rattle.std.specs.Prelude.{◌≡◌};
-ghost use Rattle.ppd_emul_model.specs.Fits.{fits as fits_of, found_of as found_of_piece, same_trap};
-ghost use Rattle.ppd_entry.specs.Pieces.{piece_of};
-ghost use Rattle.ppd_emul_model.specs.declared.wanted.Wanted.TheVariants as wanted;
+ghost use Rattle.ppd_model.specs.Fits.{fits as fits_of, found_of as found_of_piece, same_trap};
+ghost use Rattle.ppd_model.specs.Pieces.{piece_of};
+ghost use Rattle.ppd_model.specs.declared.wanted.Wanted.TheVariants as wanted;
 
 use ppd_ast::{SyncKind, Trap};
-use ppd_emul_model::Wanted;
-use ppd_entry::{Piece, same_kind};
+use ppd_model::{Piece, Wanted, same_kind};
 
 /// Whether the traps are one.
 pub(crate) fn is_same_trap(a: Trap, b: Trap) -> bool

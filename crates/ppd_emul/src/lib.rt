@@ -8,5 +8,5 @@ mod turning;
 mod wanting;
 
 pub use emulating::{Counters, emulate, emulate_in};
-pub use ppd_emul_model::{BlockTrace, EmulError, Found, Item, Piece, Wanted};
 pub use ppd_emul_values::LogIndex;
+pub use ppd_model::{BlockTrace, EmulError, Found, Item, Piece, Wanted};

@@ -1,9 +1,9 @@
 ghost use Rattle.std.specs.Prelude.{◌≡◌, ◌+◌, ◌<◌, ◌≤◌, ◌^◌, true, false, None, Some, OnOk};
 ghost use Rattle.ppd_emul.specs.Turns.{Meets, alone};
 ghost use Rattle.ppd_emul_values.specs.Emulated.{IfMore, IfTold, IsAtNeed, IsGoing, IsSound, IsTurn, replaying, turned};
-ghost use Rattle.ppd_emul_model.specs.Fits.{wanted_of as wanted_of_need};
-ghost use Rattle.ppd_emul_model.specs.Replay.{counted, finished, is_budget, past_piece, received as received_by, step_with as step_with_of, step_without as step_without_of, stepped, take_unit as take_unit_of, with_call, with_event, with_item};
-ghost use Rattle.ppd_entry.specs.Pieces.{nested as nested_piece, piece_of, unfinished};
+ghost use Rattle.ppd_model.specs.Fits.{wanted_of as wanted_of_need};
+ghost use Rattle.ppd_model.specs.Replay.{counted, finished, is_budget, past_piece, received as received_by, step_with as step_with_of, step_without as step_without_of, stepped, take_unit as take_unit_of, with_call, with_event, with_item};
+ghost use Rattle.ppd_model.specs.Pieces.{nested as nested_piece, piece_of, unfinished};
 ghost use Rattle.ppd_model.specs.declared.flow.Item.TheVariants.{Nested};
 ghost use Rattle.ppd_model.specs.Story.{unit_started as unit_started_by};
 ghost use Rattle.ppd_sem.specs.Described.{is_event};
@@ -14,10 +14,8 @@ ghost use Rattle.ppd_sem.specs.declared.proc.Answer.TheVariants.{Go};
 ghost use Rattle.ppd_sem.specs.declared.proc.Need.TheVariants.{Read};
 
 use ppd_ast::{Memory, Steps};
-use ppd_emul_model::{EmulError, Wanted};
 use ppd_emul_values::{Code, Replayer, Turned, copied, fail, skip_over, take_unit};
-use ppd_entry::Piece;
-use ppd_model::{Item, unit_started};
+use ppd_model::{EmulError, Item, Piece, Wanted, unit_started};
 use ppd_sem::{Answer, Need, describe, meet};
 use std::alloc::Global;
 use std::sync::ledger::Ledger;

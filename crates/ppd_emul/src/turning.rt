@@ -1,17 +1,16 @@
 ghost use Rattle.std.specs.Prelude.{◌≡◌, ◌<◌, ◌^◌, false, Err, Some};
 ghost use Rattle.ppd_emul_values.specs.Emulated.{IfFailed, IsAtNeed, IsGoing, IsSound, IsTurn, replaying, turned};
-ghost use Rattle.ppd_emul_model.specs.Fits.{wanted_of as wanted_of_need};
-ghost use Rattle.ppd_emul_model.specs.Replay.{end_here as end_here_of, goes_on as goes_on_of, is_budget, turn as turn_of, turn_by_end as turn_by_end_of, turn_by_wanted as turn_by_wanted_of};
-ghost use Rattle.ppd_entry.specs.Pieces.{piece_of};
+ghost use Rattle.ppd_model.specs.Fits.{wanted_of as wanted_of_need};
+ghost use Rattle.ppd_model.specs.Replay.{end_here as end_here_of, goes_on as goes_on_of, is_budget, turn as turn_of, turn_by_end as turn_by_end_of, turn_by_wanted as turn_by_wanted_of};
+ghost use Rattle.ppd_model.specs.Pieces.{piece_of};
 ghost use Rattle.ppd_sem.specs.Runs.{IsRunning};
 
 use crate::fitting::{fits, is_same_trap};
 use crate::stepping::{end_with_event, step_with, step_without};
 use crate::wanting::{is_sync, wanted_of};
 use ppd_ast::{Status, Steps};
-use ppd_emul_model::{EmulError, Wanted};
 use ppd_emul_values::{Code, Replayer, Turned, fail};
-use ppd_entry::Piece;
+use ppd_model::{EmulError, Piece, Wanted};
 use ppd_sem::{Need, look};
 use std::sync::ledger::Ledger;
 

@@ -1,13 +1,12 @@
 ghost use Rattle.std.specs.Prelude.{◌≡◌, is_some, option_map, IfOk};
-ghost use Rattle.ppd_emul_model.specs.declared.wanted.Wanted.TheVariants as WantedOf;
-ghost use Rattle.ppd_emul_model.specs.Fits.{wanted_of as wanted_of_need};
+ghost use Rattle.ppd_model.specs.declared.wanted.Wanted.TheVariants as WantedOf;
+ghost use Rattle.ppd_model.specs.Fits.{wanted_of as wanted_of_need};
 ghost use Rattle.ppd_model.specs.Marks.{closed};
 ghost use Rattle.ppd_model.specs.Synchronizations.{kind_of_sync};
 ghost use Rattle.ppd_sem.specs.Runs.{IsRunnable, IsRunning};
 
 use ppd_ast::{Memory, Plan, Program, Status, SyncKind};
-use ppd_emul_model::Wanted;
-use ppd_model::closed_block;
+use ppd_model::{Wanted, closed_block};
 use ppd_sem::{Need, Proc};
 use std::alloc::Global;
 

@@ -5,7 +5,7 @@ use Rattle.std.proofs.lemmas.Bool.Decides.{nat_tests}
 use Rattle.std.proofs.lemmas.List.{drop_more, reverse-append}
 use Rattle.std.proofs.lemmas.Slice.Zip.{get_or-zip}
 use Rattle.ppd_emul_values.specs.Held.{looked_up, value_from, value_if}
-use Rattle.ppd_emul_model.specs.Replay.{value_in_force}
+use Rattle.ppd_model.specs.Replay.{value_in_force}
 use Rattle.ppd_index.proofs.CountedOn.{last_at}
 
 -- ---- a pair more

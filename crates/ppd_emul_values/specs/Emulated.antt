@@ -10,9 +10,9 @@ use Rattle.ppd_emul_values.specs.declared.replayer.Code.{Code}
 use Rattle.ppd_emul_values.specs.declared.replayer.Replayer.{Replayer}
 use Rattle.ppd_emul_values.specs.declared.replayer.Turned.{Turned}
 use Rattle.ppd_emul_values.specs.declared.replayer.Turned.TheVariants.{More, Done}
-use Rattle.ppd_emul_model.specs.declared.trace.EmulError.{EmulError}
-use Rattle.ppd_emul_model.specs.declared.trace.EmulError.TheVariants.{Memory}
-use Rattle.ppd_emul_model.specs.Replay.{Replaying, Turn, more, done, counted, past_piece, take_unit}
+use Rattle.ppd_model.specs.declared.block_trace.EmulError.{EmulError}
+use Rattle.ppd_model.specs.declared.block_trace.EmulError.TheVariants.{Memory}
+use Rattle.ppd_model.specs.Replay.{Replaying, Turn, more, done, counted, past_piece, take_unit}
 
 -- ---- states
 

@@ -2,7 +2,7 @@ ghost use Rattle.std.specs.Prelude.{◌≡◌, ◌≤◌, IfOk};
 ghost use Rattle.ppd_ast.specs.Valid.{IsValid};
 ghost use Rattle.ppd_ast.specs.ValidPlan.{IsValidPlan};
 ghost use Rattle.ppd_ast.specs.declared.limits.TheConstants.{MOST_CALLS};
-ghost use Rattle.ppd_emul_model.specs.Replay.{begun_replay};
+ghost use Rattle.ppd_model.specs.Replay.{begun_replay};
 ghost use Rattle.ppd_emul_values.specs.Emulated.{IsGoing, replaying};
 
 use crate::in_force::InForce;

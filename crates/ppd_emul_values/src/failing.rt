@@ -1,10 +1,10 @@
 ghost use Rattle.std.specs.Prelude.{◌≡◌, Err};
-ghost use Rattle.ppd_emul_model.specs.Replay.{fail as fail_of};
+ghost use Rattle.ppd_model.specs.Replay.{fail as fail_of};
 ghost use Rattle.ppd_emul_values.specs.Emulated.{IfFailed, replaying, turned};
 
 use crate::found::found_of;
 use crate::replayer::Replayer;
-use ppd_emul_model::{EmulError, Wanted};
+use ppd_model::{EmulError, Wanted};
 use std::alloc::Global;
 
 /// Why the replay cannot go on: `Diverged`, since the next piece is not the one that is wanted; or `Memory`, for want

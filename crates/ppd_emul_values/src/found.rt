@@ -1,10 +1,9 @@
 ghost use Rattle.std.specs.Prelude.{◌≡◌, IfOk};
-ghost use Rattle.ppd_emul_model.specs.Fits.{found_of as found_of_piece};
-ghost use Rattle.ppd_entry.specs.Pieces.{piece_of};
+ghost use Rattle.ppd_model.specs.Fits.{found_of as found_of_piece};
+ghost use Rattle.ppd_model.specs.Pieces.{piece_of};
 
 use ppd_ast::{Memory, Nums, Seq, SyncKind};
-use ppd_emul_model::Found;
-use ppd_entry::Piece;
+use ppd_model::{Found, Piece};
 use std::alloc::Global;
 
 /// The values on a copy. `Memory` is want of memory.

@@ -1,6 +1,6 @@
 ghost use Rattle.std.specs.Prelude.{◌≡◌, ◌<◌, ◌∷◌, ℕ, ℤ, List, [], length, zip, OnOk};
 ghost use Rattle.ppd_emul_values.specs.Held.{looked_up};
-ghost use Rattle.ppd_emul_model.specs.Replay.{value_in_force};
+ghost use Rattle.ppd_model.specs.Replay.{value_in_force};
 
 use ppd_ast::{Memory, Seq};
 use std::alloc::Global;
@@ -20,7 +20,7 @@ pub struct InForce {
 impl Model for InForce {
     ghost use Rattle.std.specs.Prelude.{◌≡◌, ℕ, ℤ, List, reverse};
     ghost use Rattle.ppd_emul_values.specs.Held.{looked_up};
-    ghost use Rattle.ppd_emul_model.specs.Replay.{value_in_force};
+    ghost use Rattle.ppd_model.specs.Replay.{value_in_force};
 
     ghost Value = { List (ℕ × ℤ) };
 

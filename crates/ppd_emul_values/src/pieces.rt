@@ -1,10 +1,10 @@
 ghost use Rattle.std.specs.Prelude.{◌≡◌, ◌<◌, drop, get_or};
 ghost use Rattle.ppd_ast.specs.declared.status.Status.TheVariants.{Ended};
-ghost use Rattle.ppd_entry.specs.Pieces.{finish, piece_of};
+ghost use Rattle.ppd_model.specs.Pieces.{finish, piece_of};
 
 use ppd_ast::Status;
-use ppd_entry::Piece;
 use ppd_index::IntervalLog;
+use ppd_model::Piece;
 use std::marker::Model;
 
 /// The pieces of an interval's log that are left.
@@ -16,7 +16,7 @@ pub struct Pieces<'a> {
 
 impl<'a> Model for Pieces<'a> {
     ghost use Rattle.std.specs.Prelude.{ℕ, List, drop};
-    ghost use Rattle.ppd_entry.specs.Pieces.{Piece as PieceOf};
+    ghost use Rattle.ppd_model.specs.Pieces.{Piece as PieceOf};
 
     ghost Value = { List (ℕ × PieceOf) };
 

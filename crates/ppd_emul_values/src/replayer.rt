@@ -1,6 +1,6 @@
 ghost use Rattle.std.specs.Prelude.{◌≡◌, ◌+◌, ◌<◌, ◌≤◌, ◌^◌, OnOk};
 ghost use Rattle.ppd_emul_values.specs.Emulated.{replaying};
-ghost use Rattle.ppd_emul_model.specs.Replay.{counted, past_piece, with_item, with_write as with_write_of};
+ghost use Rattle.ppd_model.specs.Replay.{counted, past_piece, with_item, with_write as with_write_of};
 
 use crate::in_force::InForce;
 use crate::pieces::Pieces;

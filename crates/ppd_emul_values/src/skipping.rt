@@ -7,7 +7,7 @@ ghost use Rattle.ppd_sem.specs.Runs.{IsNumbered};
 use crate::replayer::{Code, Replayer, Turned};
 use crate::units::take_unit;
 use ppd_ast::{Plan, Start, Steps};
-use ppd_emul_model::EmulError;
+use ppd_model::EmulError;
 use ppd_sem::{Need, Stack, Todo, find_unit, skip};
 use std::sync::ledger::Ledger;
 

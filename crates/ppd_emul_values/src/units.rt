@@ -1,12 +1,11 @@
 ghost use Rattle.std.specs.Prelude.{◌≡◌, Some};
-ghost use Rattle.ppd_emul_model.specs.Replay.{take_unit as take_unit_of};
+ghost use Rattle.ppd_model.specs.Replay.{take_unit as take_unit_of};
 ghost use Rattle.ppd_emul_values.specs.Emulated.{IfMore, IfTold, IsGoing, replaying, turned};
 
 use crate::failing::fail;
 use crate::replayer::{Code, Replayer, Turned};
-use ppd_emul_model::{EmulError, Wanted};
-use ppd_entry::Piece;
 use ppd_index::unit_cells;
+use ppd_model::{EmulError, Piece, Wanted};
 
 /// The start of a unit, which has to be the next piece. `Diverged`: it is another. `Memory` is want of memory.
 pub fn take_unit(code: &Code, state: &mut Replayer, unit: u16) -> Result<Turned, EmulError>

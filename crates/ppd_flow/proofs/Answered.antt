@@ -1,12 +1,12 @@
 -- Answers that are made of those of one replay after another, where a write may be missing.
 use Rattle.std.proofs.Common.{◌≡◌, ℕ, List, [], ◌++◌, Result, Ok, Err, refl, ap, sym, ◌∙◌, subst}
 use Rattle.std.proofs.lemmas.List.{append-nil}
-use Rattle.ppd_flow_past.specs.declared.flow_error.FlowError.{FlowError}
-use Rattle.ppd_flow_past.specs.declared.flow_error.FlowError.TheVariants.{Diverged, NoEvent, Sets, Memory}
+use Rattle.ppd_model.specs.declared.flow_error.FlowError.{FlowError}
+use Rattle.ppd_model.specs.declared.flow_error.FlowError.TheVariants.{Diverged, NoEvent, Sets, Memory}
 use Rattle.ppd_flow_past.specs.declared.past.Past.{Past}
 use Rattle.ppd_flow_past.specs.ByReplays.{IsFoundBy}
 use Rattle.ppd_flow_past.proofs.Found.{found_err}
-use Rattle.ppd_flow_model.specs.Shared.{Missing}
+use Rattle.ppd_graph.specs.Shared.{Missing}
 use Rattle.ppd_flow_shared.specs.SharedCells.{answer_of}
 
 abbrev ok_err : {A : Type 0} → FlowError → Result A FlowError

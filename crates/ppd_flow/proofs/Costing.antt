@@ -2,31 +2,31 @@
 use Rattle.ppd_flow_past.specs.PastSetting.{past_setting}
 use Rattle.ppd_model.specs.Setting.{setting_of}
 use Rattle.std.proofs.Common.{◌≡◌, ℕ, ◌+◌, ◌≤◌, ℤ, List, [], ◌∷◌, Option, Some, None, Result, Ok, refl, ap, sym, ◌∙◌, subst, arith, get_or}
-use Rattle.ppd_flow_past.specs.declared.flow_error.FlowError.TheVariants.{NoEvent}
+use Rattle.ppd_model.specs.declared.flow_error.FlowError.TheVariants.{NoEvent}
 use Rattle.std.specs.Prelude.{slice_get, ok_or}
 use Rattle.std.proofs.lemmas.List.Sums.{sum_by-cons}
 use Rattle.ppd_ast.specs.Valid.{IsValid}
 use Rattle.ppd_ast.specs.declared.plan.Plan.{Plan}
 use Rattle.ppd_ast.specs.declared.plan.Policy.{Policy}
-use Rattle.ppd_entry.specs.declared.entry.Logs.{Logs}
+use Rattle.ppd_model.specs.declared.entry.Logs.{Logs}
 use Rattle.ppd_model.specs.declared.flow.FlowEdge.{FlowEdge}
 use Rattle.ppd_model.specs.declared.flow.Origin.{Origin}
 use Rattle.ppd_model.specs.FlowbackEdges.{edges}
 use Rattle.ppd_model.specs.Intervals.{splits}
 use Rattle.ppd_model.specs.Logs.{closed_logs}
 use Rattle.ppd_model.specs.Story.{story, told}
-use Rattle.law_flow_own.specs.Bounds.{EdgesCostLittle, LastCostsLittle, steps_in, steps_of_all}
-use Rattle.law_flow_own.specs.Loops.AllOwnParts.{AllOwnPartsAreFound}
-use Rattle.ppd_flow_past.specs.declared.flow_error.FlowError.{FlowError}
+use Rattle.law_flow.specs.Costs.Bounds.{EdgesCostLittle, LastCostsLittle, steps_in, steps_of_all}
+use Rattle.law_flow.specs.Loops.AllOwnParts.{AllOwnPartsAreFound}
+use Rattle.ppd_model.specs.declared.flow_error.FlowError.{FlowError}
 use Rattle.ppd_flow_past.specs.declared.past.Past.{Past}
 use Rattle.ppd_flow_past.specs.ByReplays.{cost, steps_to_replay}
 use Rattle.ppd_flow_past.specs.Honest.{ReplaysAreSeen}
 use Rattle.ppd_flow_past.specs.SeenBy.{own_steps_of, steps_in as replayed_steps}
-use Rattle.ppd_flow_model.specs.Found.{found_edges}
-use Rattle.ppd_flow_model.specs.Seen.{Seen}
-use Rattle.ppd_flow_model.specs.Shared.{found_last}
-use Rattle.law_flow_own.specs.Assembled.{EdgesAreFound, HasOwnParts}
-use Rattle.law_flow_own.specs.SharedEdges.{all_seen}
+use Rattle.ppd_graph.specs.Found.{found_edges}
+use Rattle.ppd_graph.specs.Seen.{Seen}
+use Rattle.ppd_graph.specs.Shared.{found_last}
+use Rattle.law_flow.specs.Edges.Assembled.{EdgesAreFound, HasOwnParts}
+use Rattle.law_flow.specs.Edges.SharedEdges.{all_seen}
 use Rattle.ppd_flow_shared.specs.SharedCells.{IsLastFound, seens_in}
 use Rattle.ppd_flow.specs.Answers.{IsEdges}
 use Rattle.ppd_flow.specs.Runs.{CostsEdges, CostsLast, IsOfRun, splits_in, story_in}

@@ -8,15 +8,15 @@ use Rattle.ppd_model.specs.declared.flow.EdgeKind.TheVariants.{Control}
 use Rattle.ppd_model.specs.declared.flow.FlowEdge.{FlowEdge}
 use Rattle.ppd_model.specs.declared.flow.Origin.{Origin}
 use Rattle.ppd_model.specs.FlowbackEdges.{bare_edge}
-use Rattle.ppd_flow_past.specs.declared.flow_error.FlowError.{FlowError}
+use Rattle.ppd_model.specs.declared.flow_error.FlowError.{FlowError}
 use Rattle.ppd_flow_past.specs.declared.past.Past.{Past}
 use Rattle.ppd_flow_past.specs.ByReplays.{IsFoundBy}
 use Rattle.ppd_flow_past.proofs.Found.{err_any, found_err, found_then}
-use Rattle.ppd_flow_model.specs.Control.{control_origin}
-use Rattle.ppd_flow_model.specs.Found.{and_more, event_edges, last_edges, pair_edges, sync_edges}
-use Rattle.ppd_flow_model.specs.Looked.{Looked}
-use Rattle.ppd_flow_model.specs.Seen.{Seen}
-use Rattle.ppd_flow_model.specs.Shared.{Missing, of_process, pair_origin, seen_at}
+use Rattle.ppd_graph.specs.Control.{control_origin}
+use Rattle.ppd_graph.specs.Found.{and_more, event_edges, last_edges, pair_edges, sync_edges}
+use Rattle.ppd_graph.specs.Looked.{Looked}
+use Rattle.ppd_graph.specs.Seen.{Seen}
+use Rattle.ppd_graph.specs.Shared.{Missing, of_process, pair_origin, seen_at}
 use Rattle.ppd_flow_shared.specs.SharedCells.{IsAnswerTo, IsSought, answer_of, seens_in}
 use Rattle.ppd_flow_local.specs.declared.search.Place.{Place}
 use Rattle.ppd_flow_local.specs.declared.search.Search.{Search}

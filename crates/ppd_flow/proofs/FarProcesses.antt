@@ -5,18 +5,18 @@ use Rattle.ppd_ast.specs.declared.program.Program.{Program}
 use Rattle.ppd_flow.specs.Far.{RoseWithin, far_in, far_of_item, far_of_pair, far_of_reads, far_of_reads_at, far_of_spot, far_of_sync, process_of}
 use Rattle.ppd_flow_local.specs.declared.search.Place.{Place}
 use Rattle.ppd_flow_local.specs.declared.search.Search.{Search}
-use Rattle.ppd_flow_model.specs.Ends.{end_interval, end_item}
-use Rattle.ppd_flow_model.specs.Found.{and_more, before_others, edges_if, found_edges, last_edges, read_edge, read_edges, sync_edges}
-use Rattle.ppd_flow_model.specs.Looked.{Looked, look_map}
-use Rattle.ppd_flow_model.specs.Seen.{Seen}
-use Rattle.ppd_flow_model.specs.Shared.{Missing, edge_of_place, greatest_before, in_process, of_process, origin_in, own_or, pair_of, pair_place, seen_at, written_or_start}
-use Rattle.ppd_flow_model.specs.Walk.{walk}
-use Rattle.ppd_flow_model.specs.declared.walked.Walked.{Walked}
-use Rattle.ppd_flow_model.specs.declared.walked.Walked.TheVariants.{Found, Passed, Stopped}
+use Rattle.ppd_graph.specs.Ends.{end_interval, end_item}
+use Rattle.ppd_graph.specs.Found.{and_more, before_others, edges_if, found_edges, last_edges, read_edge, read_edges, sync_edges}
+use Rattle.ppd_graph.specs.Looked.{Looked, look_map}
+use Rattle.ppd_graph.specs.Seen.{Seen}
+use Rattle.ppd_graph.specs.Shared.{Missing, edge_of_place, greatest_before, in_process, of_process, origin_in, own_or, pair_of, pair_place, seen_at, written_or_start}
+use Rattle.ppd_graph.specs.Walk.{walk}
+use Rattle.ppd_graph.specs.declared.walked.Walked.{Walked}
+use Rattle.ppd_graph.specs.declared.walked.Walked.TheVariants.{Found, Passed, Stopped}
 use Rattle.ppd_flow_past.proofs.Found.{costs}
 use Rattle.ppd_flow_past.proofs.Keeping.{AreFree}
 use Rattle.ppd_flow_past.specs.ByReplays.{cost, steps_to_replay}
-use Rattle.ppd_flow_past.specs.declared.flow_error.FlowError.{FlowError}
+use Rattle.ppd_model.specs.declared.flow_error.FlowError.{FlowError}
 use Rattle.ppd_flow_past.specs.declared.past.Past.{Past}
 use Rattle.ppd_flow_shared.proofs.SharedFound.{seen_there}
 use Rattle.ppd_flow_shared.specs.SharedCells.{IsSought, edge_unless_found, seens_in}

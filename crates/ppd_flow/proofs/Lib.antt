@@ -1,7 +1,7 @@
-pub use Rattle.law_flow_own.proofs.Loops.OwnParts
+pub use Rattle.law_flow.proofs.Loops.OwnParts
 pub use Rattle.ppd_flow_shared.proofs.SharedFound
-pub use Rattle.law_flow_own.proofs.Assembled
-pub use Rattle.law_flow_own.proofs.LastOrigins
+pub use Rattle.law_flow.proofs.Edges.Assembled
+pub use Rattle.law_flow.proofs.Edges.Sources.LastOrigins
 mod Answered
 mod Costing
 mod Events

@@ -2,16 +2,16 @@
 use Rattle.std.proofs.Common.{◌≡◌, ℕ, ℤ, List, Option, Some, None, Result, Ok, Err, ap, ◌∙◌}
 use Rattle.ppd_model.specs.declared.flow.FlowEdge.{FlowEdge}
 use Rattle.ppd_model.specs.declared.flow.Origin.{Origin}
-use Rattle.ppd_flow_model.specs.Found.{found_edges}
-use Rattle.ppd_flow_model.specs.Shared.{Missing, found_last}
-use Rattle.ppd_flow_past.specs.declared.flow_error.FlowError.{FlowError}
-use Rattle.ppd_flow_past.specs.declared.flow_error.FlowError.TheVariants.{Diverged, NoEvent, Sets, Memory}
+use Rattle.ppd_graph.specs.Found.{found_edges}
+use Rattle.ppd_graph.specs.Shared.{Missing, found_last}
+use Rattle.ppd_model.specs.declared.flow_error.FlowError.{FlowError}
+use Rattle.ppd_model.specs.declared.flow_error.FlowError.TheVariants.{Diverged, NoEvent, Sets, Memory}
 use Rattle.ppd_flow_past.specs.declared.past.Past.{Past}
 use Rattle.ppd_flow_shared.specs.SharedCells.{IsLastFound, answer_of, seens_in}
 use Rattle.ppd_flow.specs.Answers.{IsEdges, answer_if}
 use Rattle.ppd_flow.specs.Missing.{IsCauseOfSets}
-use Rattle.law_flow_own.specs.Missing.{write_at}
-use Rattle.law_flow_own.proofs.MissingWrites.{missing_writes_are_told}
+use Rattle.law_flow.specs.Missing.{write_at}
+use Rattle.law_flow.proofs.MissingWrites.{missing_writes_are_told}
 
 module _ (q n c : ℕ) where
   same_write : (m : Missing) → m.process ≡ q → m.entry ≡ n → m.cell ≡ c → m ≡ write_at q n c

@@ -7,9 +7,9 @@ use Rattle.ppd_ast.specs.Valid.{IsValid}
 use Rattle.ppd_ast.specs.declared.plan.Plan.{Plan}
 use Rattle.ppd_ast.specs.declared.plan.Policy.{Policy}
 use Rattle.ppd_ast.specs.declared.program.Program.{Program}
-use Rattle.ppd_entry.specs.declared.entry.At.{At}
-use Rattle.ppd_entry.specs.declared.entry.Entry.{Entry}
-use Rattle.ppd_entry.specs.declared.entry.Logs.{Logs}
+use Rattle.ppd_model.specs.declared.entry.At.{At}
+use Rattle.ppd_model.specs.declared.entry.Entry.{Entry}
+use Rattle.ppd_model.specs.declared.entry.Logs.{Logs}
 use Rattle.ppd_model.specs.declared.flow.FlowEdge.{FlowEdge}
 use Rattle.ppd_model.specs.declared.flow.Origin.{Origin}
 use Rattle.ppd_model.specs.declared.tracing.Story.{Story}
@@ -21,18 +21,18 @@ use Rattle.ppd_model.proofs.LogWords.{logs_from}
 use Rattle.ppd_model.specs.Races.{races}
 use Rattle.ppd_model.specs.Schedule.{IsWhole}
 use Rattle.ppd_model.specs.Story.{Moment, steps_of, story, told}
-use Rattle.law_flow_own.specs.Loops.AllOwnParts.{AllOwnPartsAreFound}
-use Rattle.ppd_flow_past.specs.declared.flow_error.FlowError.{FlowError}
-use Rattle.ppd_flow_past.specs.declared.flow_error.FlowError.TheVariants.{Diverged, NoEvent, Sets, Memory}
+use Rattle.law_flow.specs.Loops.AllOwnParts.{AllOwnPartsAreFound}
+use Rattle.ppd_model.specs.declared.flow_error.FlowError.{FlowError}
+use Rattle.ppd_model.specs.declared.flow_error.FlowError.TheVariants.{Diverged, NoEvent, Sets, Memory}
 use Rattle.ppd_flow_past.specs.declared.past.Past.{Past}
 use Rattle.ppd_flow_past.specs.ByReplays.{IsFoundBy, failure_or, first_failed_in}
 use Rattle.ppd_flow_past.specs.Honest.{IsSeen, ReplaysAreSeen}
 use Rattle.ppd_flow_past.specs.SeenBy.{failed_at, failed_in, seen_by}
-use Rattle.ppd_flow_model.specs.Found.{found_edges}
-use Rattle.ppd_flow_model.specs.Seen.{Seen, seen_of}
-use Rattle.ppd_flow_model.specs.Shared.{Missing, found_last}
-use Rattle.law_flow_own.specs.Assembled.{EdgesAreFound, HasOwnParts}
-use Rattle.law_flow_own.specs.SharedEdges.{LastWritesAreFound, all_seen}
+use Rattle.ppd_graph.specs.Found.{found_edges}
+use Rattle.ppd_graph.specs.Seen.{Seen, seen_of}
+use Rattle.ppd_graph.specs.Shared.{Missing, found_last}
+use Rattle.law_flow.specs.Edges.Assembled.{EdgesAreFound, HasOwnParts}
+use Rattle.law_flow.specs.Edges.SharedEdges.{LastWritesAreFound, all_seen}
 use Rattle.ppd_flow_shared.specs.SharedCells.{IsMemoryOr, answer_of, seens_in}
 use Rattle.ppd_flow.specs.Answers.{IsEdges, answer_if}
 use Rattle.ppd_flow.specs.Runs.{AnswersAreOfRuns, GivesEdges, GivesLast, IsOfRun, splits_in, story_in}

@@ -5,15 +5,15 @@ use Rattle.ppd_sem.specs.declared.event.Access.{Access}
 use Rattle.ppd_model.specs.declared.flow.FlowEdge.{FlowEdge}
 use Rattle.ppd_model.specs.declared.flow.Origin.{Origin}
 use Rattle.ppd_model.specs.declared.flow.Origin.TheVariants as origin
-use Rattle.ppd_flow_past.specs.declared.flow_error.FlowError.{FlowError}
-use Rattle.ppd_flow_past.specs.declared.flow_error.FlowError.TheVariants.{Diverged, NoEvent, Sets, Memory}
+use Rattle.ppd_model.specs.declared.flow_error.FlowError.{FlowError}
+use Rattle.ppd_model.specs.declared.flow_error.FlowError.TheVariants.{Diverged, NoEvent, Sets, Memory}
 use Rattle.ppd_flow_past.specs.declared.past.Past.{Past}
 use Rattle.ppd_flow_past.specs.ByReplays.{IsFoundBy}
 use Rattle.ppd_flow_past.proofs.Found.{found_none, found_then}
-use Rattle.ppd_flow_model.specs.Found.{before_others, read_if, with_edge}
-use Rattle.ppd_flow_model.specs.Looked.{Looked}
-use Rattle.ppd_flow_model.specs.Own.{read_from}
-use Rattle.ppd_flow_model.specs.Shared.{Missing}
+use Rattle.ppd_graph.specs.Found.{before_others, read_if, with_edge}
+use Rattle.ppd_graph.specs.Looked.{Looked}
+use Rattle.ppd_graph.specs.Own.{read_from}
+use Rattle.ppd_graph.specs.Shared.{Missing}
 use Rattle.ppd_flow_shared.specs.SharedCells.{IsAnswerTo, answer_of}
 use Rattle.ppd_flow_local.specs.declared.search.Place.{Place}
 use Rattle.ppd_flow_local.specs.declared.search.Search.{Search}

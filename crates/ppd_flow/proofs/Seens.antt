@@ -1,9 +1,9 @@
 -- What is seen of one process of a past among what is seen of all.
 use Rattle.ppd_flow_past.specs.PastSetting.{past_setting}
 use Rattle.std.proofs.Common.{◌≡◌, ℕ, zero, suc, List, [], ◌∷◌, refl, sym, get_or, map}
-use Rattle.ppd_entry.specs.declared.entry.Entry.{Entry}
-use Rattle.ppd_flow_model.specs.Seen.{Seen}
-use Rattle.ppd_flow_model.specs.Shared.{seen_at}
+use Rattle.ppd_model.specs.declared.entry.Entry.{Entry}
+use Rattle.ppd_graph.specs.Seen.{Seen}
+use Rattle.ppd_graph.specs.Shared.{seen_at}
 use Rattle.ppd_flow_past.specs.declared.past.Past.{Past}
 use Rattle.ppd_flow_past.specs.SeenBy.{seen_by, seen_in}
 use Rattle.ppd_flow_shared.specs.SharedCells.{seens_in}

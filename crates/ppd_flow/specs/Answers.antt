@@ -4,11 +4,11 @@ use Rattle.ppd_sem.specs.declared.event.Access.{Access}
 use Rattle.ppd_sem.specs.declared.event.Spot.{Spot}
 use Rattle.ppd_model.specs.declared.flow.FlowEdge.{FlowEdge}
 use Rattle.ppd_model.specs.declared.flow.Origin.{Origin}
-use Rattle.ppd_flow_model.specs.Found.{found_edges, read_edges, read_origin, sync_edges}
-use Rattle.ppd_flow_model.specs.Looked.{Looked, look_map}
-use Rattle.ppd_flow_model.specs.Shared.{Missing}
-use Rattle.ppd_flow_past.specs.declared.flow_error.FlowError.{FlowError}
-use Rattle.ppd_flow_past.specs.declared.flow_error.FlowError.TheVariants.{NoEvent}
+use Rattle.ppd_graph.specs.Found.{found_edges, read_edges, read_origin, sync_edges}
+use Rattle.ppd_graph.specs.Looked.{Looked, look_map}
+use Rattle.ppd_graph.specs.Shared.{Missing}
+use Rattle.ppd_model.specs.declared.flow_error.FlowError.{FlowError}
+use Rattle.ppd_model.specs.declared.flow_error.FlowError.TheVariants.{NoEvent}
 use Rattle.ppd_flow_past.specs.declared.past.Past.{Past}
 use Rattle.ppd_flow_past.specs.ByReplays.{IsFoundBy}
 use Rattle.ppd_flow_shared.specs.SharedCells.{answer_of, seens_in}

@@ -1,7 +1,7 @@
 -- The processes, but for its own, of which intervals are replayed for the edges of an item.
 use Rattle.std.specs.Prelude.{◌≡◌, ℕ, ◌+◌, List, [], ◌∷◌, ◌++◌, slice_get, Option, Some, None, get_or}
 use Rattle.ppd_ast.specs.declared.program.Program.{Program}
-use Rattle.ppd_entry.specs.declared.entry.Logs.{Logs}
+use Rattle.ppd_model.specs.declared.entry.Logs.{Logs}
 use Rattle.ppd_graph.specs.declared.paired.Paired.{Paired}
 use Rattle.ppd_graph.specs.declared.paired.Paired.TheVariants.{Node}
 use Rattle.ppd_sem.specs.declared.event.Access.{Access}
@@ -11,9 +11,9 @@ use Rattle.ppd_sem.specs.declared.event.Spot.TheVariants.{Local, Shared}
 use Rattle.ppd_model.specs.declared.flow.Item.{Item}
 use Rattle.ppd_model.specs.declared.flow.Item.TheVariants as item
 use Rattle.ppd_model.specs.declared.graph.EdgeId.{EdgeId}
-use Rattle.ppd_flow_model.specs.Seen.{Seen}
-use Rattle.ppd_flow_model.specs.Shared.{edge_of_place, greatest_before, of_process, pair_of, seen_at}
-use Rattle.ppd_flow_model.specs.Walk.{walk}
+use Rattle.ppd_graph.specs.Seen.{Seen}
+use Rattle.ppd_graph.specs.Shared.{edge_of_place, greatest_before, of_process, pair_of, seen_at}
+use Rattle.ppd_graph.specs.Walk.{walk}
 use Rattle.ppd_flow_past.specs.declared.past.Past.{Past}
 use Rattle.ppd_flow_past.specs.ByReplays.{cost}
 use Rattle.ppd_flow_shared.specs.SharedCells.{edge_unless_found, seens_in}

@@ -2,7 +2,7 @@
 pub use Rattle.ppd_model.specs.NearIntervals
 pub use Rattle.ppd_flow_shared.specs.SharedCells
 pub use Rattle.ppd_flow_shared.specs.Tabled
-pub use Rattle.law_flow_own.specs.SharedEdges
+pub use Rattle.law_flow.specs.Edges.SharedEdges
 pub mod Answers
 pub mod Far
 pub mod Runs

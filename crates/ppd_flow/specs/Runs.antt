@@ -14,10 +14,10 @@ use Rattle.ppd_model.specs.Races.{races}
 use Rattle.ppd_model.specs.Schedule.{IsWhole}
 use Rattle.ppd_model.specs.declared.tracing.Story.{Story}
 use Rattle.ppd_model.specs.Story.{story}
-use Rattle.ppd_flow_past.specs.declared.flow_error.FlowError.{FlowError}
-use Rattle.ppd_flow_past.specs.declared.flow_error.FlowError.TheVariants.{NoEvent}
+use Rattle.ppd_model.specs.declared.flow_error.FlowError.{FlowError}
+use Rattle.ppd_model.specs.declared.flow_error.FlowError.TheVariants.{NoEvent}
 use Rattle.ppd_flow_past.specs.declared.past.Past.{Past}
-use Rattle.law_flow_own.specs.Assembled.{HasOwnParts}
+use Rattle.law_flow.specs.Edges.Assembled.{HasOwnParts}
 use Rattle.ppd_flow_shared.specs.SharedCells.{IsMemoryOr}
 use Rattle.ppd_flow.specs.Answers.{IsEdges}
 

@@ -7,12 +7,12 @@ ghost use Rattle.ppd_model.specs.declared.flow.EdgeKind.TheVariants as edge_kind
 ghost use Rattle.ppd_model.specs.FlowbackEdges.{bare_edge};
 ghost use Rattle.ppd_flow_past.specs.ByReplays.{AreReplayed, steps_to_replay};
 ghost use Rattle.ppd_flow_past.specs.Pasts.{IsPast};
-ghost use Rattle.ppd_flow_model.specs.Found.{event_edges as event_edges_of, item_edges as item_edges_of};
+ghost use Rattle.ppd_graph.specs.Found.{event_edges as event_edges_of, item_edges as item_edges_of};
 ghost use Rattle.ppd_flow_shared.specs.SharedCells.{IsAnswerTo, IsSought, seens_in};
 ghost use Rattle.ppd_flow_shared.specs.Tabled.{IsOfInterval, IsTabled};
 
 use crate::reads::read_edges;
-use law_flow_own::{all_own_parts_are_found, edges_are_found, edges_cost_little};
+use law_flow::{all_own_parts_are_found, edges_are_found, edges_cost_little};
 use ppd_ast::{Seq, Steps};
 use ppd_flow_local::{Place, Search, asked_items, control_edge, push_rest};
 use ppd_flow_past::{FlowError, Past, replays_are_seen};

@@ -1,6 +1,6 @@
 ghost use Rattle.ppd_flow.specs.Runs.{AnswersAreOfRuns};
 
-use law_flow_own::edges_are_found;
+use law_flow::edges_are_found;
 use ppd_flow_past::replays_are_seen;
 
 /// Law: of what is kept of a whole run without a race, under the plan of a policy, whatever `edges` answers for an item

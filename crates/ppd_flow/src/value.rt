@@ -7,7 +7,7 @@ ghost use Rattle.ppd_flow_past.specs.SeenBy.{items_in};
 ghost use Rattle.ppd_flow_shared.specs.SharedCells.{AreItemsOfLast, IsLastFound};
 ghost use Rattle.ppd_flow_shared.specs.Tabled.{IsOfInterval};
 
-use law_flow_own::{last_costs_little, last_writes_are_found};
+use law_flow::{last_costs_little, last_writes_are_found};
 use ppd_ast::{Memory, Steps};
 use ppd_flow_past::{FlowError, Past, replays_are_seen};
 use ppd_flow_shared::{BlockTables, EdgeTable, LastEdge, TabledItems, last_write, last_write_from};

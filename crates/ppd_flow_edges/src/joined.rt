@@ -1,6 +1,6 @@
 ghost use Rattle.std.specs.Prelude.{◌≡◌, ◌∷◌, ◌++◌, [], OnOk, option_to_list};
 ghost use Rattle.ppd_flow_edges.specs.Joined.{left_at};
-ghost use Rattle.ppd_flow_model.specs.Own.{read_from};
+ghost use Rattle.ppd_graph.specs.Own.{read_from};
 ghost use Rattle.ppd_model.specs.FlowbackEdges.{bare_edge};
 ghost use Rattle.ppd_model.specs.declared.flow.EdgeKind.TheVariants as edge_kind;
 

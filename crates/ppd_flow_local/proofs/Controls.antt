@@ -2,10 +2,10 @@
 use Rattle.ppd_ast.specs.Lookups.{kind_of}
 use Rattle.ppd_ast.specs.declared.plan.Plan.{Plan}
 use Rattle.ppd_ast.specs.declared.program.Program.{Program}
-use Rattle.ppd_flow_model.specs.Control.{control_among, control_in, last_test, leaf_call_at, test_of_run, test_round}
-use Rattle.ppd_flow_model.specs.Locals.{frame_in, leaf_at}
-use Rattle.ppd_flow_model.specs.Seen.{Seen}
-use Rattle.ppd_flow_model.specs.declared.leaf_call.LeafCall.{LeafCall}
+use Rattle.ppd_graph.specs.Control.{control_among, control_in, last_test, leaf_call_at, test_of_run, test_round}
+use Rattle.ppd_graph.specs.Locals.{frame_in, leaf_at}
+use Rattle.ppd_graph.specs.Seen.{Seen}
+use Rattle.ppd_graph.specs.declared.leaf_call.LeafCall.{LeafCall}
 use Rattle.ppd_model.specs.declared.flow.Item.{Item}
 use Rattle.ppd_model.specs.declared.flow.Origin.{Origin}
 use Rattle.std.proofs.Common.{List, Option, ap, subst, sym, take, ℕ, ◌∙◌, ◌≡◌}

@@ -9,8 +9,8 @@ use Rattle.ppd_flow_tables.specs.ByReplays.{IsFoundBy}
 use Rattle.ppd_flow_tables.proofs.Found.{found_err, found_none, found_then}
 use Rattle.ppd_model.specs.declared.flow.Origin.{Origin}
 use Rattle.std.specs.Option.{option_or}
-use Rattle.ppd_flow_model.specs.Looked.{Looked, known, look_both, look_map, look_or, or_look, unless}
-use Rattle.ppd_flow_model.specs.Shared.{of_process}
+use Rattle.ppd_graph.specs.Looked.{Looked, known, look_both, look_map, look_or, or_look, unless}
+use Rattle.ppd_graph.specs.Shared.{of_process}
 use Rattle.ppd_flow_local.specs.declared.search.Search.{Search}
 use Rattle.ppd_flow_local.specs.Searches.{IsFound}
 

@@ -6,9 +6,9 @@ use Rattle.std.specs.Prelude.{ℤ, min, pos}
 use Rattle.ppd_model.specs.declared.flow.FlowEdge.{FlowEdge}
 use Rattle.ppd_model.specs.declared.flow.Origin.{Origin}
 use Rattle.ppd_flow_tables.specs.FlowError.{FlowError}
-use Rattle.ppd_flow_model.specs.Own.{left_edges}
-use Rattle.ppd_flow_model.specs.Locals.{local_origin}
-use Rattle.ppd_flow_model.specs.Looked.{Looked, look_map}
+use Rattle.ppd_graph.specs.Own.{left_edges}
+use Rattle.ppd_graph.specs.Locals.{local_origin}
+use Rattle.ppd_graph.specs.Looked.{Looked, look_map}
 use Rattle.ppd_flow_local.specs.declared.search.Search.{Search}
 use Rattle.ppd_flow_local.specs.Searches.{IsFound, left_from, plan_in, program_in, seen}
 use Rattle.ppd_flow_local.proofs.Joined.{after_look, and_so, failed, failed_alone, is_given, joined, nothing}

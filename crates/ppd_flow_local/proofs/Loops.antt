@@ -4,8 +4,8 @@ use Rattle.std.specs.Prelude.{slice_get, get_or}
 use Rattle.ppd_model.specs.declared.flow.Origin.{Origin}
 use Rattle.ppd_model.proofs.Lists.{left_from}
 use Rattle.ppd_flow_tables.specs.FlowError.{FlowError}
-use Rattle.ppd_flow_model.specs.Locals.{in_loops, scan, writer_at}
-use Rattle.ppd_flow_model.specs.Looked.{Looked, after_replay}
+use Rattle.ppd_graph.specs.Locals.{in_loops, scan, writer_at}
+use Rattle.ppd_graph.specs.Looked.{Looked, after_replay}
 use Rattle.ppd_flow_local.specs.declared.search.Search.{Search}
 use Rattle.ppd_flow_local.specs.Searches.{IsFound, plan_in, program_in, seen}
 use Rattle.ppd_flow_local.proofs.Joined.{either_failed, else_either, some_either}

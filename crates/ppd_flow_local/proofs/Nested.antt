@@ -8,9 +8,9 @@ use Rattle.ppd_model.specs.declared.flow.Origin.{Origin}
 use Rattle.ppd_model.specs.FlowbackEdges.{bare_edge}
 use Rattle.ppd_flow_tables.specs.FlowError.{FlowError}
 use Rattle.ppd_sem.specs.Blocks.{postlog_cells}
-use Rattle.ppd_flow_model.specs.Control.{control_origin}
-use Rattle.ppd_flow_model.specs.Looked.{Looked, look_map}
-use Rattle.ppd_flow_model.specs.Own.{edges_of_nested, frame_at, left_edges}
+use Rattle.ppd_graph.specs.Control.{control_origin}
+use Rattle.ppd_graph.specs.Looked.{Looked, look_map}
+use Rattle.ppd_graph.specs.Own.{edges_of_nested, frame_at, left_edges}
 use Rattle.ppd_flow_local.specs.declared.search.Search.{Search}
 use Rattle.ppd_flow_local.specs.Searches.{IsFound, plan_in, program_in, seen}
 use Rattle.ppd_flow_local.proofs.Joined.{after_look, and_so, failed, is_given, joined}

@@ -8,7 +8,7 @@ use Rattle.ppd_ast.specs.declared.program.Program.{Program}
 use Rattle.ppd_model.specs.declared.flow.Item.{Item}
 use Rattle.ppd_flow_local_tables.specs.declared.table.LocalTable.{LocalTable}
 use Rattle.ppd_flow_local_tables.specs.Tables.{IsTableOf}
-use Rattle.ppd_flow_model.specs.Seen.{first_or, is_item_of, place_of}
+use Rattle.ppd_graph.specs.Seen.{first_or, is_item_of, place_of}
 
 first_within : (test : Item → Bool) (xs : List Item) (i : ℕ) → position test xs ≡ Some i → i ≤ length xs
 first_within test [] i e = absurd (none-some i e)

@@ -11,13 +11,13 @@ use Rattle.ppd_model.specs.declared.flow.Item.{Item}
 use Rattle.ppd_model.specs.declared.flow.Origin.{Origin}
 use Rattle.ppd_model.specs.declared.flow.Origin.TheVariants as origin
 use Rattle.ppd_flow_tables.specs.FlowError.{FlowError}
-use Rattle.ppd_flow_model.specs.Control.{control_above, control_outside}
-use Rattle.ppd_flow_model.specs.Locals.{Scan, local_in, local_outside, outer_frame, parameter, scan, writer_at}
-use Rattle.ppd_flow_model.specs.Looked.{Looked, after_replay, known}
-use Rattle.ppd_flow_model.specs.Own.{frame_at}
-use Rattle.ppd_flow_model.specs.Seen.{call_of, kind_at, last_item, outer_of, outer_place, place_of}
-use Rattle.ppd_flow_model.specs.declared.writer.Writer.{Writer}
-use Rattle.ppd_flow_model.specs.declared.writer.Writer.TheVariants.{Of}
+use Rattle.ppd_graph.specs.Control.{control_above, control_outside}
+use Rattle.ppd_graph.specs.Locals.{Scan, local_in, local_outside, outer_frame, parameter, scan, writer_at}
+use Rattle.ppd_graph.specs.Looked.{Looked, after_replay, known}
+use Rattle.ppd_graph.specs.Own.{frame_at}
+use Rattle.ppd_graph.specs.Seen.{call_of, kind_at, last_item, outer_of, outer_place, place_of}
+use Rattle.ppd_graph.specs.declared.writer.Writer.{Writer}
+use Rattle.ppd_graph.specs.declared.writer.Writer.TheVariants.{Of}
 use Rattle.ppd_flow_local.specs.declared.search.Search.{Search}
 use Rattle.ppd_flow_local.specs.Searches.{IsFound, plan_in, program_in, seen, written_in}
 use Rattle.ppd_flow_local.proofs.Joined.{and_so, failed, failed_alone, is_given, joined}

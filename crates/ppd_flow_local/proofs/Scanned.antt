@@ -7,8 +7,8 @@ use Rattle.ppd_ast.specs.declared.plan.Plan.{Plan}
 use Rattle.ppd_ast.specs.declared.program.Program.{Program}
 use Rattle.ppd_model.specs.declared.flow.Item.{Item}
 use Rattle.ppd_model.specs.declared.flow.Item.TheVariants as item
-use Rattle.ppd_flow_model.specs.declared.leaf_call.LeafCall.{LeafCall}
-use Rattle.ppd_flow_model.specs.Locals.{Scan, scan_interval, scan_item}
+use Rattle.ppd_graph.specs.declared.leaf_call.LeafCall.{LeafCall}
+use Rattle.ppd_graph.specs.Locals.{Scan, scan_interval, scan_item}
 use Rattle.ppd_flow_local.specs.Scans.{leaf_past}
 
 -- the next item, and those after it

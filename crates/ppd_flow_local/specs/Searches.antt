@@ -5,12 +5,12 @@ use Rattle.ppd_ast.specs.declared.program.Program.{Program}
 use Rattle.ppd_sem.specs.declared.event.Spot.TheVariants.{Local}
 use Rattle.ppd_model.specs.declared.flow.FlowEdge.{FlowEdge}
 use Rattle.ppd_model.specs.declared.flow.Origin.{Origin}
-use Rattle.ppd_flow_model.specs.declared.writer.Writer.{Writer}
-use Rattle.ppd_flow_model.specs.Control.{control_origin}
-use Rattle.ppd_flow_model.specs.Locals.{in_loops, local_origin, writer_at}
-use Rattle.ppd_flow_model.specs.Looked.{Looked, or_look}
-use Rattle.ppd_flow_model.specs.Seen.{Seen}
-use Rattle.ppd_flow_model.specs.Shared.{of_process}
+use Rattle.ppd_graph.specs.declared.writer.Writer.{Writer}
+use Rattle.ppd_graph.specs.Control.{control_origin}
+use Rattle.ppd_graph.specs.Locals.{in_loops, local_origin, writer_at}
+use Rattle.ppd_graph.specs.Looked.{Looked, or_look}
+use Rattle.ppd_graph.specs.Seen.{Seen}
+use Rattle.ppd_graph.specs.Shared.{of_process}
 use Rattle.ppd_flow_edges.specs.Joined.{left_at}
 use Rattle.ppd_flow_tables.specs.FlowError.{FlowError}
 use Rattle.ppd_flow_tables.specs.ByReplays.{IsFoundBy}

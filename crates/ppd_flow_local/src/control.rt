@@ -3,15 +3,15 @@ ghost use Rattle.ppd_ast.specs.declared.plan.BlockKind.TheVariants as block;
 ghost use Rattle.ppd_ast.specs.Lookups.{kind_of};
 ghost use Rattle.ppd_flow_local.specs.Searches.{IsControlFound, IsFound, IsPlace, IsSearch, plan_in, program_in, seen};
 ghost use Rattle.std.specs.Option.{option_or};
-ghost use Rattle.ppd_flow_model.specs.Control.{call_or_entry as call_or_entry_of, control_above as control_above_of, control_in as control_in_of, control_outside as control_outside_of, last_test as last_test_among, leaf_call_at, test_of_run as test_of_run_by, test_round as test_round_by};
-ghost use Rattle.ppd_flow_model.specs.Seen.{kind_at};
+ghost use Rattle.ppd_graph.specs.Control.{call_or_entry as call_or_entry_of, control_above as control_above_of, control_in as control_in_of, control_outside as control_outside_of, last_test as last_test_among, leaf_call_at, test_of_run as test_of_run_by, test_round as test_round_by};
+ghost use Rattle.ppd_graph.specs.Seen.{kind_at};
 
 use crate::search::{Place, Search};
 use crate::testing::last_test;
 use ppd_ast::{BlockKind, Memory, Steps};
 use ppd_flow_local_tables::frame_in;
-use ppd_flow_model::{LastTest, LeafCall};
 use ppd_flow_tables::FlowError;
+use ppd_graph::{LastTest, LeafCall};
 use ppd_model::Origin;
 use std::sync::ledger::Ledger;
 

@@ -6,9 +6,9 @@ ghost use Rattle.ppd_model.specs.declared.flow.EdgeKind.TheVariants as edge_kind
 ghost use Rattle.ppd_model.specs.declared.flow.Origin.TheVariants as origin;
 ghost use Rattle.ppd_model.specs.FlowbackEdges.{bare_edge};
 ghost use Rattle.ppd_sem.specs.Blocks.{block_kind as kind_of_block};
-ghost use Rattle.ppd_flow_model.specs.Control.{control_origin as control_origin_of};
-ghost use Rattle.ppd_flow_model.specs.Own.{edges_of_nested, left_edges as left_edges_of, returned_edges as returned_edges_of};
-ghost use Rattle.ppd_flow_model.specs.Looked.{look_map};
+ghost use Rattle.ppd_graph.specs.Control.{control_origin as control_origin_of};
+ghost use Rattle.ppd_graph.specs.Own.{edges_of_nested, left_edges as left_edges_of, returned_edges as returned_edges_of};
+ghost use Rattle.ppd_graph.specs.Looked.{look_map};
 
 use crate::scan::LocalCell;
 use crate::search::{Place, Search};

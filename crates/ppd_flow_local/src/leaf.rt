@@ -1,11 +1,11 @@
 ghost use Rattle.std.specs.Prelude.{◌≡◌, IfOk};
 ghost use Rattle.ppd_flow_local.specs.Scans.{leaf_past as leaf_past_by};
-ghost use Rattle.ppd_flow_model.specs.Locals.{leaf_at as leaf_among};
+ghost use Rattle.ppd_graph.specs.Locals.{leaf_at as leaf_among};
 
 use ppd_ast::Memory;
 use ppd_flow_local_tables::{Code, leaf_after};
-use ppd_flow_model::LeafCall;
 use ppd_flow_tables::number;
+use ppd_graph::LeafCall;
 use ppd_model::Item;
 
 /// The call whose activation goes on without an interval of its own after an item.

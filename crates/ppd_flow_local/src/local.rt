@@ -1,16 +1,16 @@
 ghost use Rattle.std.specs.Prelude.{◌≡◌, ◌<◌, length, reverse, slice_get, Some, IfOk, get_or, []};
 ghost use Rattle.ppd_flow_local.specs.Scans.{scanned as scan_by};
 ghost use Rattle.ppd_flow_local.specs.Searches.{IsFound, IsLocalFound, IsPlace, IsSearch, plan_in, program_in, seen, written_in};
-ghost use Rattle.ppd_flow_model.specs.Locals.{in_loops as in_loops_of, local_above as local_above_of, local_in as local_in_of, local_outside as local_outside_of, outer_frame as outer_frame_of, parameter as parameter_of, scan as scan_of, writer_at as writer_in};
-ghost use Rattle.ppd_flow_model.specs.Looked.{after_replay};
-ghost use Rattle.ppd_flow_model.specs.Own.{frame_at as frame_at_place};
-ghost use Rattle.ppd_flow_model.specs.Seen.{kind_at, outer_of as outer_at, outer_place as outer_place_of};
+ghost use Rattle.ppd_graph.specs.Locals.{in_loops as in_loops_of, local_above as local_above_of, local_in as local_in_of, local_outside as local_outside_of, outer_frame as outer_frame_of, parameter as parameter_of, scan as scan_of, writer_at as writer_in};
+ghost use Rattle.ppd_graph.specs.Looked.{after_replay};
+ghost use Rattle.ppd_graph.specs.Own.{frame_at as frame_at_place};
+ghost use Rattle.ppd_graph.specs.Seen.{kind_at, outer_of as outer_at, outer_place as outer_place_of};
 
 use crate::scan::{LocalCell, Scan, has_cell};
 use crate::search::{Place, Search};
 use ppd_ast::{BlockKind, Memory, Steps};
-use ppd_flow_model::Writer;
 use ppd_flow_tables::{FlowError, block_of};
+use ppd_graph::Writer;
 use ppd_model::{Item, Origin};
 use ppd_sem::prelog_cells;
 use std::sync::ledger::Ledger;

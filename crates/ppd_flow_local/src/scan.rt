@@ -3,12 +3,12 @@ ghost use Rattle.std.specs.List.{list_any};
 ghost use Rattle.ppd_flow_local.specs.Scans.{scanned};
 ghost use Rattle.ppd_model.specs.NearIntervals.{is_in};
 ghost use Rattle.ppd_sem.specs.Blocks.{block_kind as kind_of_block, postlog_cells as postlog_of};
-ghost use Rattle.ppd_flow_model.specs.Locals.{begins_leaf, begun_scan, is_local as is_local_of, receives as receives_by, scan as scan_of, scan_event, scan_interval, scan_item, written_by as written_of};
+ghost use Rattle.ppd_graph.specs.Locals.{begins_leaf, begun_scan, is_local as is_local_of, receives as receives_by, scan as scan_of, scan_event, scan_interval, scan_item, written_by as written_of};
 
 use ppd_ast::{BlockKind, Memory, Seq};
 use ppd_flow_local_tables::{Code, frame_in, leaf_after};
-use ppd_flow_model::{LeafCall, Writer};
 use ppd_flow_tables::number;
+use ppd_graph::{LeafCall, Writer};
 use ppd_model::Item;
 use ppd_sem::{Event, Spot, block_kind, postlog_cells};
 use std::alloc::Global;

@@ -1,20 +1,20 @@
 ghost use Rattle.std.specs.Prelude.{◌≡◌, ◌≤◌, ◌-◌, ℕ, [], length, option_copied, take, IfOk, IfSome, get_or};
 ghost use Rattle.ppd_flow_local.specs.Searches.{IsFound, IsPlace, IsSearch, plan_in, program_in, seen};
 ghost use Rattle.ppd_model.specs.declared.flow.Origin.TheVariants as origin;
-ghost use Rattle.ppd_flow_model.specs.Locals.{leaf_at as leaf_among};
-ghost use Rattle.ppd_flow_model.specs.Looked.{after_replay, known};
-ghost use Rattle.ppd_flow_model.specs.Own.{frame_at as frame_at_place};
-ghost use Rattle.ppd_flow_model.specs.Seen.{call_of as call_at, kind_at, last_item as last_item_at, outer_of as outer_at, place_of as place_among};
+ghost use Rattle.ppd_graph.specs.Locals.{leaf_at as leaf_among};
+ghost use Rattle.ppd_graph.specs.Looked.{after_replay, known};
+ghost use Rattle.ppd_graph.specs.Own.{frame_at as frame_at_place};
+ghost use Rattle.ppd_graph.specs.Seen.{call_of as call_at, kind_at, last_item as last_item_at, outer_of as outer_at, place_of as place_among};
 ghost use Rattle.ppd_flow_tables.specs.Tabled.{IsOfInterval};
 
 use crate::leaf::leaf_at;
 use ppd_ast::{BlockKind, Memory, Steps};
 use ppd_flow_local_tables::{Code, frame_in};
-use ppd_flow_model::LeafCall;
 use ppd_flow_tables::{
     BlockTables, FlowError, Items, Past, Tables, block_of, interval_items, number, outer_of,
     place_of,
 };
+use ppd_graph::LeafCall;
 use ppd_model::{Item, Origin};
 use ppd_sem::block_kind;
 use std::alloc::Global;

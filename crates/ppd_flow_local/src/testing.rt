@@ -1,11 +1,11 @@
 ghost use Rattle.std.specs.Prelude.{◌≡◌, IfOk};
 ghost use Rattle.ppd_model.specs.FullTrace.{is_passed as is_passed_by};
-ghost use Rattle.ppd_flow_model.specs.Control.{last_test as last_test_among, test_item};
+ghost use Rattle.ppd_graph.specs.Control.{last_test as last_test_among, test_item};
 
 use ppd_ast::Memory;
 use ppd_flow_local_tables::Code;
-use ppd_flow_model::LastTest;
 use ppd_flow_tables::number;
+use ppd_graph::LastTest;
 use ppd_model::Item;
 
 /// Whether a value is there and not 0.

@@ -10,10 +10,10 @@ use Rattle.ppd_sem.specs.Blocks.{block_kind, postlog_cells}
 use Rattle.ppd_model.specs.declared.flow.Item.{Item}
 use Rattle.ppd_model.specs.declared.flow.Item.TheVariants as item
 use Rattle.ppd_model.specs.FullTrace.{is_passed}
-use Rattle.ppd_flow_model.specs.declared.writer.Writer.{Writer}
-use Rattle.ppd_flow_model.specs.declared.writer.Writer.TheVariants.{At, Fresh, Of}
-use Rattle.ppd_flow_model.specs.Control.{Tests, test_item}
-use Rattle.ppd_flow_model.specs.Locals.{Scan, begins_leaf, is_local, leaf_after, receives, scan_interval, scan_item, written_by}
+use Rattle.ppd_graph.specs.declared.writer.Writer.{Writer}
+use Rattle.ppd_graph.specs.declared.writer.Writer.TheVariants.{At, Fresh, Of}
+use Rattle.ppd_graph.specs.Control.{Tests, test_item}
+use Rattle.ppd_graph.specs.Locals.{Scan, begins_leaf, is_local, leaf_after, receives, scan_interval, scan_item, written_by}
 use Rattle.ppd_flow_local_tables.specs.declared.point.Point.{Point}
 use Rattle.ppd_flow_local_tables.specs.Built.{call_of, left_of, loops_of, point_of, tests_of, value_of, writes_of}
 use Rattle.ppd_flow_local_tables.specs.Rows.{AllBefore, entries_between}

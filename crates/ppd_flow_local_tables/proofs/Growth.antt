@@ -6,8 +6,8 @@ use Rattle.std.proofs.lemmas.List.Sums.{fold_push}
 use Rattle.ppd_ast.specs.declared.plan.Plan.{Plan}
 use Rattle.ppd_ast.specs.declared.program.Program.{Program}
 use Rattle.ppd_model.specs.declared.flow.Item.{Item}
-use Rattle.ppd_flow_model.specs.Control.{begun_tests, last_test, test_item}
-use Rattle.ppd_flow_model.specs.Locals.{begun_scan, leaf_at, scan, scan_item}
+use Rattle.ppd_graph.specs.Control.{begun_tests, last_test, test_item}
+use Rattle.ppd_graph.specs.Locals.{begun_scan, leaf_at, scan, scan_item}
 use Rattle.ppd_flow_local_tables.specs.declared.build.Building.{Building}
 use Rattle.ppd_flow_local_tables.specs.Built.{IsNew, IsReady, IsStep, call_of, loops_of, point_of, tests_of, writes_of}
 use Rattle.ppd_flow_local_tables.specs.Kept.{row_of}

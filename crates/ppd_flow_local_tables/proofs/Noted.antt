@@ -7,8 +7,8 @@ use Rattle.ppd_ast.specs.declared.program.Program.{Program}
 use Rattle.ppd_ast.specs.Lookups.{kind_of}
 use Rattle.ppd_sem.specs.Process.{into_of}
 use Rattle.ppd_model.specs.Synchronizations.{is_number}
-use Rattle.ppd_flow_model.specs.declared.writer.Writer.{Writer}
-use Rattle.ppd_flow_model.specs.declared.writer.Writer.TheVariants.{Of}
+use Rattle.ppd_graph.specs.declared.writer.Writer.{Writer}
+use Rattle.ppd_graph.specs.declared.writer.Writer.TheVariants.{Of}
 use Rattle.ppd_flow_local_tables.specs.Built.{value_by}
 use Rattle.ppd_flow_local_tables.specs.Rows.{AllBefore, noted}
 use Rattle.ppd_flow_local_tables.proofs.RowLemmas.{before_more, noted_again, noted_first}

@@ -12,11 +12,11 @@ use Rattle.ppd_sem.specs.declared.event.Event.{Event}
 use Rattle.ppd_sem.specs.Process.{into_of}
 use Rattle.ppd_model.specs.NearIntervals.{is_in}
 use Rattle.ppd_model.specs.Synchronizations.{is_number}
-use Rattle.ppd_flow_model.specs.declared.last_test.LastTest.{LastTest}
-use Rattle.ppd_flow_model.specs.declared.leaf_call.LeafCall.{LeafCall}
-use Rattle.ppd_flow_model.specs.declared.writer.Writer.{Writer}
-use Rattle.ppd_flow_model.specs.declared.writer.Writer.TheVariants.{At, Fresh, Of}
-use Rattle.ppd_flow_model.specs.Locals.{Scan, frame_in, receives, scan_interval, written_by}
+use Rattle.ppd_graph.specs.declared.last_test.LastTest.{LastTest}
+use Rattle.ppd_graph.specs.declared.leaf_call.LeafCall.{LeafCall}
+use Rattle.ppd_graph.specs.declared.writer.Writer.{Writer}
+use Rattle.ppd_graph.specs.declared.writer.Writer.TheVariants.{At, Fresh, Of}
+use Rattle.ppd_graph.specs.Locals.{Scan, frame_in, receives, scan_interval, written_by}
 use Rattle.ppd_flow_local_tables.specs.Built.{left_of, value_of}
 use Rattle.ppd_flow_local_tables.specs.Rows.{AllBefore, entries_between, last_of, noted}
 use Rattle.ppd_flow_local_tables.specs.Tables.{Last, after_of, from_of, last_by, last_in, since, test_in, writer_of}

@@ -16,10 +16,10 @@ use Rattle.ppd_model.specs.declared.flow.Item.TheVariants as item
 use Rattle.ppd_model.specs.FullTrace.{is_passed}
 use Rattle.ppd_model.specs.NearIntervals.{is_in}
 use Rattle.ppd_model.specs.Synchronizations.{is_number}
-use Rattle.ppd_flow_model.specs.declared.leaf_call.LeafCall.{LeafCall}
-use Rattle.ppd_flow_model.specs.declared.writer.Writer.{Writer}
-use Rattle.ppd_flow_model.specs.declared.writer.Writer.TheVariants.{At, Of}
-use Rattle.ppd_flow_model.specs.Locals.{begins_leaf, frame_in, is_local, leaf_after, receives}
+use Rattle.ppd_graph.specs.declared.leaf_call.LeafCall.{LeafCall}
+use Rattle.ppd_graph.specs.declared.writer.Writer.{Writer}
+use Rattle.ppd_graph.specs.declared.writer.Writer.TheVariants.{At, Of}
+use Rattle.ppd_graph.specs.Locals.{begins_leaf, frame_in, is_local, leaf_after, receives}
 use Rattle.ppd_flow_local_tables.specs.declared.build.Building.{Building}
 use Rattle.ppd_flow_local_tables.specs.declared.point.Point.{Point}
 use Rattle.ppd_flow_local_tables.specs.Kept.{AllRowsBefore, row_of}

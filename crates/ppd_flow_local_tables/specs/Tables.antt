@@ -3,11 +3,11 @@ use Rattle.std.specs.Prelude.{◌≡◌, ℕ, ◌+◌, ◌≤◌, nat_eq, Bool, 
 use Rattle.ppd_ast.specs.declared.plan.Plan.{Plan}
 use Rattle.ppd_ast.specs.declared.program.Program.{Program}
 use Rattle.ppd_model.specs.declared.flow.Item.{Item}
-use Rattle.ppd_flow_model.specs.declared.last_test.LastTest.{LastTest}
-use Rattle.ppd_flow_model.specs.declared.writer.Writer.{Writer}
-use Rattle.ppd_flow_model.specs.declared.writer.Writer.TheVariants.{Before, Fresh}
-use Rattle.ppd_flow_model.specs.Control.{last_test}
-use Rattle.ppd_flow_model.specs.Locals.{Scan, leaf_at, scan}
+use Rattle.ppd_graph.specs.declared.last_test.LastTest.{LastTest}
+use Rattle.ppd_graph.specs.declared.writer.Writer.{Writer}
+use Rattle.ppd_graph.specs.declared.writer.Writer.TheVariants.{Before, Fresh}
+use Rattle.ppd_graph.specs.Control.{last_test}
+use Rattle.ppd_graph.specs.Locals.{Scan, leaf_at, scan}
 use Rattle.ppd_flow_local_tables.specs.declared.point.Point.{Point}
 use Rattle.ppd_flow_local_tables.specs.declared.table.LastWrite.{LastWrite}
 use Rattle.ppd_flow_local_tables.specs.declared.table.LocalTable.{LocalTable}

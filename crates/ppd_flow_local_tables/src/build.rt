@@ -1,6 +1,6 @@
 ghost use Rattle.std.specs.Prelude.{◌≡◌, ◌+◌, ◌<◌, ◌^◌, ℕ, true, IfOk, OnOk, if◌then◌else◌};
 ghost use Rattle.ppd_model.specs.FullTrace.{is_passed as is_passed_by};
-ghost use Rattle.ppd_flow_model.specs.Locals.{is_local};
+ghost use Rattle.ppd_graph.specs.Locals.{is_local};
 ghost use Rattle.ppd_flow_local_tables.specs.Built.{HasPlaces, IsNew, IsNoted, IsReady, IsSameButWrites, IsStep, left_by, point_by, received_by, return_by, tests_by, value_by, writes_by};
 ghost use Rattle.ppd_flow_local_tables.specs.Kept.{AllRowsBefore, row_of};
 ghost use Rattle.ppd_flow_local_tables.specs.Rows.{noted};
@@ -11,7 +11,7 @@ use crate::point::Point;
 use crate::rows::Rows;
 use crate::table::LocalTable;
 use ppd_ast::{BlockKind, Memory};
-use ppd_flow_model::{LeafCall, Writer};
+use ppd_graph::{LeafCall, Writer};
 use ppd_model::Item;
 use ppd_sem::{Access, Event, Spot, block_kind, postlog_cells};
 use std::alloc::Global;

@@ -4,7 +4,7 @@ ghost use Rattle.ppd_ast.specs.Lookups.{kind_of};
 ghost use Rattle.ppd_sem.specs.Process.{into_of};
 ghost use Rattle.ppd_sem.specs.Runs.{returns as returns_by};
 ghost use Rattle.ppd_sem.specs.Tables.{block_of, same_block};
-ghost use Rattle.ppd_flow_model.specs.Locals.{begins_leaf as begins_leaf_by, is_leaf_call as is_leaf_call_by};
+ghost use Rattle.ppd_graph.specs.Locals.{begins_leaf as begins_leaf_by, is_leaf_call as is_leaf_call_by};
 
 use ppd_ast::{BlockKind, Kind, Plan, Program};
 use ppd_sem::Event;

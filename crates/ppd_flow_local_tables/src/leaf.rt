@@ -1,8 +1,8 @@
 ghost use Rattle.std.specs.Prelude.{◌≡◌};
-ghost use Rattle.ppd_flow_model.specs.Locals.{frame_in as frame_by, leaf_after as leaf_by};
+ghost use Rattle.ppd_graph.specs.Locals.{frame_in as frame_by, leaf_after as leaf_by};
 
 use crate::calls::Code;
-use ppd_flow_model::LeafCall;
+use ppd_graph::LeafCall;
 use ppd_sem::Event;
 
 /// The call whose activation goes on without an interval of its own after an event, which is this item.

@@ -2,8 +2,8 @@ ghost use Rattle.std.specs.Prelude.{◌≡◌, ◌<◌, ◌≤◌, ◌^◌, List
 ghost use Rattle.ppd_ast.specs.declared.plan.Plan.{Plan as ThePlan};
 ghost use Rattle.ppd_ast.specs.declared.program.Program.{Program as TheProgram};
 ghost use Rattle.ppd_model.specs.declared.flow.Item.{Item as AnItem};
-ghost use Rattle.ppd_flow_model.specs.Control.{last_test as last_test_among};
-ghost use Rattle.ppd_flow_model.specs.Locals.{leaf_at as leaf_among, scan};
+ghost use Rattle.ppd_graph.specs.Control.{last_test as last_test_among};
+ghost use Rattle.ppd_graph.specs.Locals.{leaf_at as leaf_among, scan};
 ghost use Rattle.ppd_flow_local_tables.specs.Tables.{IsLastWrite, IsTableOf, after_of as after_by, begun_in as begun_by, from_of as from_by, point_at as point_by, since as since_by, writer_of as writer_by};
 
 use crate::build::Building;
@@ -11,7 +11,7 @@ use crate::calls::Code;
 use crate::point::Point;
 use crate::rows::Rows;
 use ppd_ast::{Memory, Plan, Program};
-use ppd_flow_model::{LastTest, LeafCall, Writer};
+use ppd_graph::{LastTest, LeafCall, Writer};
 use ppd_model::Item;
 use std::alloc::Global;
 

@@ -11,9 +11,9 @@ use Rattle.ppd_emul.specs.EmulError.TheVariants.{Diverged}
 use Rattle.ppd_emul.specs.Found.{Found}
 use Rattle.ppd_emul.specs.Wanted.{Wanted}
 use Rattle.ppd_emul.specs.Replay.{Replayed, replay}
-use Rattle.ppd_entry.specs.declared.entry.Entry.{Entry}
-use Rattle.ppd_entry.specs.IntervalLogs.{IntervalLog, LoggedInterval, indexed, interval_log, log_by}
-use Rattle.ppd_entry.proofs.Vocabulary.{log_in}
+use Rattle.ppd_model.specs.declared.entry.Entry.{Entry}
+use Rattle.ppd_model.specs.IntervalLogs.{IntervalLog, LoggedInterval, indexed, interval_log, log_by}
+use Rattle.ppd_model.proofs.EntryWords.{log_in}
 use Rattle.ppd_emul.specs.Row.{Row}
 use Rattle.ppd_emul.specs.Indexes.{AreIntervals, IsIndexOf, rows_at}
 use Rattle.ppd_emul.specs.Tables.{log_of}

@@ -6,8 +6,8 @@ use Rattle.std.proofs.lemmas.Bool.{cases_eq, eq-eqb, eqb-true}
 use Rattle.std.proofs.lemmas.List.{get_or_past}
 use Rattle.std.proofs.lemmas.List.Sums.{sum_by-cons}
 use Rattle.std.proofs.lemmas.Option.{none-some, same_Some}
-use Rattle.ppd_entry.specs.declared.entry.Entry.{Entry}
-use Rattle.ppd_entry.specs.declared.entry.Logs.{Logs}
+use Rattle.ppd_model.specs.declared.entry.Entry.{Entry}
+use Rattle.ppd_model.specs.declared.entry.Logs.{Logs}
 use Rattle.ppd_flow_past.specs.declared.past.Past.{Past}
 use Rattle.ppd_flow_past.specs.ByReplays.{AreReplayed, cost, steps_to_replay, unless_kept}
 use Rattle.ppd_flow_past.specs.Keeping.{AreFirstItems, AreKeptOf, AreOthersKept, IsAllKept, IsNoneKept, RoseByKept, count_in, process_steps, steps_kept_of, sum_below}

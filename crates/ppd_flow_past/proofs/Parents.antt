@@ -3,8 +3,8 @@ use Rattle.std.proofs.Common.{◌≡◌, ℕ, zero, suc, ◌+◌, ◌<◌, ◌�
 use Rattle.std.specs.Prelude.{drop, fold, slice_get, unwrap_or, ⊤}
 use Rattle.std.proofs.lemmas.List.{get_or_append_left, get_or_at, length-append, length-map, map-append}
 use Rattle.std.proofs.lemmas.Option.{none-some, same_Some, slice_get_past, unwrap_or-slice_get}
-use Rattle.ppd_entry.specs.declared.entry.Entry.{Entry}
-use Rattle.ppd_entry.specs.declared.entry.Entry.TheVariants as entry
+use Rattle.ppd_model.specs.declared.entry.Entry.{Entry}
+use Rattle.ppd_model.specs.declared.entry.Entry.TheVariants as entry
 use Rattle.ppd_model.specs.Extents.{Extent, extents}
 use Rattle.ppd_model.proofs.ExtentWords.{Extending, begun_extents, ended_by, extend, extents_are, left_by}
 use Rattle.ppd_model.specs.World.{change}

@@ -11,9 +11,9 @@ use Rattle.ppd_ast.specs.declared.plan.Policy.{Policy}
 use Rattle.ppd_ast.specs.declared.program.Program.{Program}
 use Rattle.ppd_blocks.specs.Blocks.{plan_of}
 use Rattle.ppd_emul.specs.Replay.{Replayed, replay}
-use Rattle.ppd_entry.specs.declared.entry.Entry.{Entry}
-use Rattle.ppd_entry.specs.IntervalLogs.{LoggedInterval, indexed, log_by}
-use Rattle.ppd_entry.proofs.Vocabulary.{log_in}
+use Rattle.ppd_model.specs.declared.entry.Entry.{Entry}
+use Rattle.ppd_model.specs.IntervalLogs.{LoggedInterval, indexed, log_by}
+use Rattle.ppd_model.proofs.EntryWords.{log_in}
 use Rattle.ppd_model.specs.declared.flow.Item.{Item}
 use Rattle.ppd_model.specs.declared.state.Logging.{Logging}
 use Rattle.ppd_model.specs.declared.tracing.Story.{Story}
@@ -36,8 +36,8 @@ use Rattle.ppd_flow_past.proofs.Rounds.{rounds_of_split}
 use Rattle.ppd_emul.specs.Laws.{modelled_in, modelled_of, replay_of}
 use Rattle.ppd_emul.proofs.Replays.{replays_give_intervals}
 use Rattle.ppd_emul.proofs.Emulated.{replayed}
-use Rattle.ppd_flow_model.specs.Seen.{Seen}
-use Rattle.ppd_flow_model.specs.Spans.{steps_of_span}
+use Rattle.ppd_graph.specs.Seen.{Seen}
+use Rattle.ppd_graph.specs.Spans.{steps_of_span}
 use Rattle.ppd_flow_past.proofs.SeenWords.{failure_of}
 
 -- ---- items

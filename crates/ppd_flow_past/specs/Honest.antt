@@ -5,15 +5,15 @@ use Rattle.std.specs.Prelude.{◌≡◌, ℕ, List, [], get_or, slice_get, Some,
 use Rattle.ppd_ast.specs.declared.plan.Policy.{Policy}
 use Rattle.ppd_ast.specs.declared.program.Program.{Program}
 use Rattle.ppd_ast.specs.Valid.{IsValid}
-use Rattle.ppd_entry.specs.declared.entry.Entry.{Entry}
+use Rattle.ppd_model.specs.declared.entry.Entry.{Entry}
 use Rattle.ppd_model.specs.Intervals.{Split, splits}
 use Rattle.ppd_model.specs.Logs.{closed_logs}
 use Rattle.ppd_model.specs.Races.{races}
 use Rattle.ppd_model.specs.Schedule.{IsWhole}
 use Rattle.ppd_model.specs.Story.{story}
 use Rattle.ppd_flow_past.specs.SeenBy.{failed_at, own_steps_of, seen_by}
-use Rattle.ppd_flow_model.specs.Seen.{seen_of}
-use Rattle.ppd_flow_model.specs.Spans.{steps_of_span}
+use Rattle.ppd_graph.specs.Seen.{seen_of}
+use Rattle.ppd_graph.specs.Spans.{steps_of_span}
 
 -- replays of these entries give the process in its intervals
 pub record IsSeen (setting : Setting) (entries : List Entry) (x : Split) : Type 0 where

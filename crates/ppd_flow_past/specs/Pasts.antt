@@ -5,7 +5,7 @@ use Rattle.ppd_ast.specs.ValidPlan.{IsValidPlan}
 use Rattle.ppd_emul.specs.Fitting.{AreFittingLogs}
 use Rattle.ppd_emul.specs.Indexes.{IsIndexOf}
 use Rattle.ppd_emul.specs.LogIndex.{LogIndex}
-use Rattle.ppd_entry.specs.declared.entry.Logs.{Logs}
+use Rattle.ppd_model.specs.declared.entry.Logs.{Logs}
 use Rattle.ppd_flow_past.specs.PastSetting.{past_setting}
 use Rattle.ppd_flow_past.specs.SeenBy.{failed_at, seen_by}
 use Rattle.ppd_flow_past.specs.declared.past.Past.{Past}

@@ -7,9 +7,9 @@ use Rattle.ppd_emul.specs.EmulError.{EmulError}
 use Rattle.ppd_emul.specs.EmulError.TheVariants.{Diverged, Memory}
 use Rattle.ppd_emul.specs.Laws.{replay_of}
 use Rattle.ppd_emul.specs.Replay.{Replayed, replay}
-use Rattle.ppd_entry.specs.IntervalLogs.{indexed, interval_log, log_by}
-use Rattle.ppd_entry.specs.declared.entry.Entry.{Entry}
-use Rattle.ppd_flow_model.specs.Seen.{Seen}
+use Rattle.ppd_model.specs.IntervalLogs.{indexed, interval_log, log_by}
+use Rattle.ppd_model.specs.declared.entry.Entry.{Entry}
+use Rattle.ppd_graph.specs.Seen.{Seen}
 use Rattle.ppd_flow_past.specs.declared.past.Past.{Past}
 use Rattle.ppd_model.specs.Extents.{extents}
 use Rattle.ppd_model.specs.declared.flow.Item.{Item}

@@ -2,14 +2,13 @@ ghost use Rattle.std.specs.Prelude.{◌≡◌, ◌&&◌, IfOk, nat_le, nat_lt, s
 ghost use Rattle.ppd_flow_past.specs.Edges.Found.{stands_there};
 ghost use Rattle.ppd_model.specs.Extents.{extents};
 ghost use Rattle.ppd_flow_past.specs.Pasts.{IsPast};
-ghost use Rattle.ppd_flow_model.specs.Ends.{end_interval as end_interval_of, ending as ending_in, ends_edge as ends_an_edge, first_edge as first_edge_of, is_sync_item as is_sync_there, sync_item as sync_item_in, innermost_from};
+ghost use Rattle.ppd_graph.specs.Ends.{end_interval as end_interval_of, ending as ending_in, ends_edge as ends_an_edge, first_edge as first_edge_of, is_sync_item as is_sync_there, sync_item as sync_item_in, innermost_from};
 
 use crate::past::Past;
 use crate::places::{first_edge, sum_of, syncs_of_item};
 use crate::syncs::{entries_of, is_sync};
 use ppd_ast::Memory;
-use ppd_entry::Entry;
-use ppd_model::Item;
+use ppd_model::{Entry, Item};
 
 fn ends_edge(entry: &Entry) -> bool
     ensures { result ≡ ends_an_edge entry.now }

@@ -3,7 +3,7 @@ ghost use Rattle.ppd_ast.specs.Members.{has};
 ghost use Rattle.ppd_flow_past.specs.Edges.Found.{IsEdgeIf, greater_if as greater_with, greatest_from, greatest_in, is_within as is_in_limit};
 ghost use Rattle.ppd_graph.specs.Graphs.{IsEdge};
 ghost use Rattle.ppd_flow_past.specs.Pasts.{IsPast};
-ghost use Rattle.ppd_flow_model.specs.Shared.{greater as greater_of, greatest_before as greatest_before_of, greatest_writing as greatest_of_all, is_before_in};
+ghost use Rattle.ppd_graph.specs.Shared.{greater as greater_of, greatest_before as greatest_before_of, greatest_writing as greatest_of_all, is_before_in};
 
 use crate::past::Past;
 use crate::replaying::number;

@@ -4,12 +4,11 @@ ghost use Rattle.ppd_flow_past.specs.ByReplays.{IsReplayFailure};
 ghost use Rattle.ppd_flow_past.specs.Keeping.{AreFirstItems, AreKeptOf, AreOthersKept, IsAllKept, IsNoneKept, RoseByKept, count_in, process_steps};
 ghost use Rattle.ppd_flow_past.specs.Pasts.{IsPast};
 
-use crate::flow_error::FlowError;
 use crate::intervals::count_of;
 use crate::past::Past;
 use crate::replaying::replayed;
 use ppd_ast::{Memory, Seq, Steps};
-use ppd_model::Item;
+use ppd_model::{FlowError, Item};
 use std::alloc::Global;
 use std::marker::Model;
 use std::sync::ledger::Ledger;

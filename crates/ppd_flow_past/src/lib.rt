@@ -3,7 +3,6 @@
 #![tactic(auto)]
 
 mod ends;
-mod flow_error;
 mod greatest;
 mod intervals;
 mod items;
@@ -15,7 +14,6 @@ mod replaying;
 mod syncs;
 
 pub use ends::{end_interval, ending, is_sync_item, sync_item};
-pub use flow_error::FlowError;
 pub use greatest::{greatest_before, greatest_writing};
 pub use intervals::{block_of, count_of, outer_of};
 pub use items::Items;
@@ -23,5 +21,6 @@ pub use kept_replays::KeptReplays;
 pub use laws::replays_are_seen;
 pub use past::Past;
 pub use places::edge_at;
+pub use ppd_model::FlowError;
 pub use replaying::{interval_items, number, replayed};
 pub use syncs::entries_of;

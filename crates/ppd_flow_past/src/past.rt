@@ -2,9 +2,8 @@ ghost use Rattle.std.specs.Prelude.{◌≡◌};
 
 use ppd_ast::{Plan, Program, Seq};
 use ppd_emul::LogIndex;
-use ppd_entry::Logs;
 use ppd_graph::SyncGraph;
-use ppd_model::Item;
+use ppd_model::{Item, Logs};
 
 /// What is kept of a run: its program with the plan and the budget of each process, its logs, and their index and
 /// graph. The intervals that are replayed are those of `cut`, the logs themselves or logs that were cut off, which have

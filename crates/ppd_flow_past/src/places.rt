@@ -1,6 +1,6 @@
 ghost use Rattle.std.specs.Prelude.{◌≡◌, ◌+◌, IfOk, sum_by, get_or, []};
 ghost use Rattle.ppd_flow_past.specs.Pasts.{IsPast};
-ghost use Rattle.ppd_flow_model.specs.Ends.{first_edge as first_edge_of, syncs_inside as syncs_inside_of, syncs_of_item as syncs_of};
+ghost use Rattle.ppd_graph.specs.Ends.{first_edge as first_edge_of, syncs_inside as syncs_inside_of, syncs_of_item as syncs_of};
 ghost use Rattle.ppd_model.specs.Extents.{extents};
 ghost use Rattle.std.specs.Prelude.{slice_get};
 

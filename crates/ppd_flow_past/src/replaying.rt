@@ -3,12 +3,11 @@ ghost use Rattle.ppd_flow_past.specs.ByReplays.{IsFoundBy, IsReplayed};
 ghost use Rattle.ppd_flow_past.specs.Pasts.{IsPast, items_kept};
 ghost use Rattle.ppd_flow_past.specs.SeenBy.{items_in, steps_in};
 
-use crate::flow_error::FlowError;
 use crate::items::Items;
 use crate::past::Past;
 use ppd_ast::{Memory, Seq, Steps};
 use ppd_emul::{EmulError, emulate};
-use ppd_model::Item;
+use ppd_model::{FlowError, Item};
 use std::alloc::Global;
 use std::sync::ledger::Ledger;
 

@@ -1,8 +1,8 @@
 ghost use Rattle.std.specs.Prelude.{◌≡◌, ◌-◌, count_by, drop, filter_map, is_some, length, take, get_or, []};
-ghost use Rattle.ppd_flow_model.specs.Ends.{syncs_before as syncs_before_in};
+ghost use Rattle.ppd_graph.specs.Ends.{syncs_before as syncs_before_in};
 ghost use Rattle.ppd_model.specs.RecordedSets.{sync_in};
 
-use ppd_entry::{Entry, Logs};
+use ppd_model::{Entry, Logs};
 
 /// The entries of a process, and none past the processes.
 pub fn entries_of(logs: &Logs, process: u8) -> &[Entry]

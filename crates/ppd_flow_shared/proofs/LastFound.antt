@@ -2,15 +2,15 @@
 use Rattle.std.specs.Prelude.{option_map, get_or, []}
 use Rattle.std.proofs.Common.{◌≡◌, ℕ, ◌+◌, ℤ, List, Option, Some, None, Result, ap, sym, subst, ◌∙◌}
 use Rattle.std.proofs.lemmas.Option.{none-some, same_Some}
-use Rattle.ppd_entry.specs.declared.entry.Entry.{Entry}
+use Rattle.ppd_model.specs.declared.entry.Entry.{Entry}
 use Rattle.ppd_model.specs.declared.flow.Item.{Item}
 use Rattle.ppd_model.specs.declared.flow.Origin.{Origin}
 use Rattle.ppd_model.specs.declared.graph.EdgeId.{EdgeId}
 use Rattle.ppd_flow_tables.specs.FlowError.{FlowError}
 use Rattle.ppd_flow_tables.specs.Past.{Past}
 use Rattle.ppd_flow_tables.specs.ByReplays.{AreReplayed, steps_to_replay}
-use Rattle.ppd_flow_model.specs.Ends.{first_edge, sync_item}
-use Rattle.ppd_flow_model.specs.Shared.{greatest_writing, written_or_start}
+use Rattle.ppd_graph.specs.Ends.{first_edge, sync_item}
+use Rattle.ppd_graph.specs.Shared.{greatest_writing, written_or_start}
 use Rattle.ppd_flow_shared.specs.declared.last.LastEdge.{LastEdge}
 use Rattle.ppd_flow_shared.specs.SharedCells.{IsAnswerTo, IsLastFound, last_edge, seens_in, with_end}
 use Rattle.ppd_flow_shared.proofs.SharedFound.{Before, written_from_items}

@@ -5,11 +5,11 @@ use Rattle.ppd_flow_tables.specs.FlowError.{FlowError}
 use Rattle.ppd_flow_tables.specs.Past.{Past}
 use Rattle.ppd_flow_tables.specs.ByReplays.{IsFoundBy}
 use Rattle.ppd_flow_tables.proofs.Found.{found_err, found_then}
-use Rattle.ppd_flow_model.specs.declared.walked.Walked.{Walked}
-use Rattle.ppd_flow_model.specs.declared.walked.Walked.TheVariants.{Stopped, Passed, Found}
-use Rattle.ppd_flow_model.specs.Looked.{Looked}
-use Rattle.ppd_flow_model.specs.Shared.{in_process, of_process}
-use Rattle.ppd_flow_model.specs.Walk.{onward, or_rest}
+use Rattle.ppd_graph.specs.declared.walked.Walked.{Walked}
+use Rattle.ppd_graph.specs.declared.walked.Walked.TheVariants.{Stopped, Passed, Found}
+use Rattle.ppd_graph.specs.Looked.{Looked}
+use Rattle.ppd_graph.specs.Shared.{in_process, of_process}
+use Rattle.ppd_graph.specs.Walk.{onward, or_rest}
 use Rattle.ppd_flow_shared.specs.Items.{is_passed}
 use Rattle.ppd_flow_shared.specs.SharedCells.{IsSought}
 

@@ -4,11 +4,11 @@ use Rattle.std.specs.Prelude.{slice_get, get_or}
 use Rattle.std.proofs.lemmas.List.{append-nil}
 use Rattle.std.proofs.lemmas.Option.{none-some, same_Some}
 use Rattle.ppd_model.specs.declared.flow.Item.{Item}
-use Rattle.ppd_flow_model.specs.declared.walked.Walked.{Walked}
-use Rattle.ppd_flow_model.specs.declared.walked.Walked.TheVariants.{Stopped, Passed, Found}
-use Rattle.ppd_flow_model.specs.Looked.{Looked, known}
-use Rattle.ppd_flow_model.specs.Seen.{Seen, place_of}
-use Rattle.ppd_flow_model.specs.Walk.{back, back_from, back_over, backwards, inside, onward, or_rest, walk_out}
+use Rattle.ppd_graph.specs.declared.walked.Walked.{Walked}
+use Rattle.ppd_graph.specs.declared.walked.Walked.TheVariants.{Stopped, Passed, Found}
+use Rattle.ppd_graph.specs.Looked.{Looked, known}
+use Rattle.ppd_graph.specs.Seen.{Seen, place_of}
+use Rattle.ppd_graph.specs.Walk.{back, back_from, back_over, backwards, inside, onward, or_rest, walk_out}
 use Rattle.ppd_flow_shared.specs.Items.{before_inner, out_of}
 
 -- with so many intervals in one another at most

@@ -2,7 +2,7 @@
 use Rattle.ppd_flow_past.specs.PastSetting.{past_setting}
 use Rattle.std.proofs.Common.{◌≡◌, ℕ, zero, suc, ◌+◌, ℤ, List, [], ◌∷◌, ◌++◌, Option, None, Result, Ok, Err, refl, ap, sym, ◌∙◌, subst, get_or, map}
 use Rattle.std.proofs.lemmas.List.{append-nil}
-use Rattle.ppd_entry.specs.declared.entry.Entry.{Entry}
+use Rattle.ppd_model.specs.declared.entry.Entry.{Entry}
 use Rattle.ppd_model.specs.declared.flow.Origin.{Origin}
 use Rattle.ppd_model.specs.declared.flow.Origin.TheVariants as origin
 use Rattle.ppd_model.specs.declared.graph.EdgeId.{EdgeId}
@@ -11,13 +11,13 @@ use Rattle.ppd_flow_tables.specs.Past.{Past}
 use Rattle.ppd_flow_tables.specs.ByReplays.{IsFoundBy, steps_to_replay}
 use Rattle.ppd_flow_tables.specs.SeenBy.{failed_in, seen_by, seen_in}
 use Rattle.ppd_flow_tables.proofs.Found.{err_any, found_err, found_given, found_then}
-use Rattle.ppd_flow_model.specs.declared.walked.Walked.{Walked}
-use Rattle.ppd_flow_model.specs.declared.walked.Walked.TheVariants.{Stopped, Passed, Found}
-use Rattle.ppd_flow_model.specs.Ends.{end_interval, end_item}
-use Rattle.ppd_flow_model.specs.Looked.{Looked, look_map, look_then, after_replay}
-use Rattle.ppd_flow_model.specs.Seen.{Seen}
-use Rattle.ppd_flow_model.specs.Shared.{Missing, in_process, of_process, own_or, seen_at, written_at, written_in}
-use Rattle.ppd_flow_model.specs.Walk.{walk}
+use Rattle.ppd_graph.specs.declared.walked.Walked.{Walked}
+use Rattle.ppd_graph.specs.declared.walked.Walked.TheVariants.{Stopped, Passed, Found}
+use Rattle.ppd_graph.specs.Ends.{end_interval, end_item}
+use Rattle.ppd_graph.specs.Looked.{Looked, look_map, look_then, after_replay}
+use Rattle.ppd_graph.specs.Seen.{Seen}
+use Rattle.ppd_graph.specs.Shared.{Missing, in_process, of_process, own_or, seen_at, written_at, written_in}
+use Rattle.ppd_graph.specs.Walk.{walk}
 use Rattle.ppd_flow_shared.specs.declared.edge_end.EdgeEnd.{EdgeEnd}
 use Rattle.ppd_flow_shared.specs.SharedCells.{IsAnswerTo, IsSought, IsWalked, answer_of, edge_end_of, edge_unless_found, seens_in}
 

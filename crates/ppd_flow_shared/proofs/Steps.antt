@@ -1,10 +1,10 @@
 -- The steps of a walk, by what the replays on its way answer.
-use Rattle.ppd_flow_model.specs.Looked.{Looked}
-use Rattle.ppd_flow_model.specs.Seen.{Seen, place_of}
-use Rattle.ppd_flow_model.specs.Shared.{in_process, of_process}
-use Rattle.ppd_flow_model.specs.Walk.{at_item, back, back_from, backwards, onward, walk}
-use Rattle.ppd_flow_model.specs.declared.walked.Walked.{Walked}
-use Rattle.ppd_flow_model.specs.declared.walked.Walked.TheVariants.{Passed}
+use Rattle.ppd_graph.specs.Looked.{Looked}
+use Rattle.ppd_graph.specs.Seen.{Seen, place_of}
+use Rattle.ppd_graph.specs.Shared.{in_process, of_process}
+use Rattle.ppd_graph.specs.Walk.{at_item, back, back_from, backwards, onward, walk}
+use Rattle.ppd_graph.specs.declared.walked.Walked.{Walked}
+use Rattle.ppd_graph.specs.declared.walked.Walked.TheVariants.{Passed}
 use Rattle.ppd_flow_shared.proofs.Leads.{Leads, lead_ended, lead_failed, lead_on}
 use Rattle.ppd_flow_shared.proofs.Over.{one_more, out_parts, over, walk_parts}
 use Rattle.ppd_flow_shared.specs.Items.{before_inner, is_passed, out_of}

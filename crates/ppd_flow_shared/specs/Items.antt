@@ -1,11 +1,11 @@
 -- What comes of the intervals round one on the walk back over an internal edge.
 use Rattle.std.specs.Prelude.{ℕ, Bool, true, false, List, [], ◌∷◌, get_or}
 use Rattle.ppd_flow_tables.specs.SeenBy.{seen_in}
-use Rattle.ppd_flow_model.specs.declared.walked.Walked.{Walked}
-use Rattle.ppd_flow_model.specs.declared.walked.Walked.TheVariants.{Passed}
-use Rattle.ppd_flow_model.specs.Looked.{Looked, known, after_replay}
-use Rattle.ppd_flow_model.specs.Seen.{Seen, place_of}
-use Rattle.ppd_flow_model.specs.Walk.{back_from, back_over, inside, walk_out}
+use Rattle.ppd_graph.specs.declared.walked.Walked.{Walked}
+use Rattle.ppd_graph.specs.declared.walked.Walked.TheVariants.{Passed}
+use Rattle.ppd_graph.specs.Looked.{Looked, known, after_replay}
+use Rattle.ppd_graph.specs.Seen.{Seen, place_of}
+use Rattle.ppd_graph.specs.Walk.{back_from, back_over, inside, walk_out}
 use Rattle.ppd_flow_shared.specs.declared.search.CellSearch.{CellSearch}
 
 -- what the replays of the process that is searched give

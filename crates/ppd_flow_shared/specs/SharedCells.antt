@@ -12,13 +12,13 @@ use Rattle.ppd_flow_tables.specs.Past.{Past}
 use Rattle.ppd_flow_tables.specs.ByReplays.{AreReplayed, IsFoundBy}
 use Rattle.ppd_flow_tables.specs.Pasts.{IsPast}
 use Rattle.ppd_flow_tables.specs.SeenBy.{items_in, seen_by, seen_in}
-use Rattle.ppd_flow_model.specs.Ends.{end_interval, end_item}
-use Rattle.ppd_flow_model.specs.Looked.{Looked}
-use Rattle.ppd_flow_model.specs.Seen.{Seen}
-use Rattle.ppd_flow_model.specs.Shared.{Missing, found_last, greatest_writing, in_process}
-use Rattle.ppd_flow_model.specs.Walk.{walk}
-use Rattle.ppd_flow_model.specs.declared.walked.Walked.{Walked}
-use Rattle.ppd_flow_model.specs.declared.walked.Walked.TheVariants.{Found}
+use Rattle.ppd_graph.specs.Ends.{end_interval, end_item}
+use Rattle.ppd_graph.specs.Looked.{Looked}
+use Rattle.ppd_graph.specs.Seen.{Seen}
+use Rattle.ppd_graph.specs.Shared.{Missing, found_last, greatest_writing, in_process}
+use Rattle.ppd_graph.specs.Walk.{walk}
+use Rattle.ppd_graph.specs.declared.walked.Walked.{Walked}
+use Rattle.ppd_graph.specs.declared.walked.Walked.TheVariants.{Found}
 pub use Rattle.ppd_flow_tables.specs.declared.block.BlockTables.{BlockTables}
 use Rattle.ppd_flow_shared.specs.declared.edge_end.EdgeEnd.{EdgeEnd}
 use Rattle.ppd_flow_shared.specs.declared.last.LastEdge.{LastEdge}

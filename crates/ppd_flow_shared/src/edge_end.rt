@@ -1,6 +1,6 @@
 ghost use Rattle.std.specs.Prelude.{[], ◌∷◌, Ok, get_or};
 ghost use Rattle.ppd_flow_tables.specs.ByReplays.{IsFoundBy};
-ghost use Rattle.ppd_flow_model.specs.Ends.{end_interval as end_interval_of};
+ghost use Rattle.ppd_graph.specs.Ends.{end_interval as end_interval_of};
 ghost use Rattle.ppd_flow_shared.specs.SharedCells.{edge_end_of};
 ghost use Rattle.ppd_flow_tables.specs.Tabled.{IsTabled};
 

@@ -1,7 +1,7 @@
 ghost use Rattle.std.specs.Prelude.{◌≡◌};
-ghost use Rattle.ppd_flow_model.specs.Walk.{is_shared as is_shared_cell, over_event as over_event_of, value_to as value_written};
+ghost use Rattle.ppd_graph.specs.Walk.{is_shared as is_shared_cell, over_event as over_event_of, value_to as value_written};
 
-use ppd_flow_model::Walked;
+use ppd_graph::Walked;
 use ppd_sem::{Access, Event, Spot};
 
 fn is_shared(cell: u16, spot: Spot) -> bool

@@ -1,6 +1,6 @@
 ghost use Rattle.std.specs.Prelude.{◌≡◌, get_or, []};
-ghost use Rattle.ppd_flow_model.specs.Shared.{in_process};
-ghost use Rattle.ppd_flow_model.specs.Walk.{at_item, back, back_from, back_over};
+ghost use Rattle.ppd_graph.specs.Shared.{in_process};
+ghost use Rattle.ppd_graph.specs.Walk.{at_item, back, back_from, back_over};
 ghost use Rattle.ppd_flow_shared.specs.Items.{is_passed as is_start, seen_for};
 ghost use Rattle.ppd_flow_shared.specs.SharedCells.{IsSought};
 ghost use Rattle.ppd_flow_tables.specs.Tabled.{IsTabled};
@@ -8,8 +8,8 @@ ghost use Rattle.ppd_flow_tables.specs.Tabled.{IsTabled};
 use crate::event::over_event;
 use crate::search::CellSearch;
 use ppd_ast::Steps;
-use ppd_flow_model::Walked;
 use ppd_flow_tables::{FlowError, interval_items, number, stop_before};
+use ppd_graph::Walked;
 use ppd_model::Item;
 use std::sync::ledger::Ledger;
 

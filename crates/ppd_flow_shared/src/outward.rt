@@ -1,5 +1,5 @@
 ghost use Rattle.std.specs.Prelude.{◌≡◌, get_or, []};
-ghost use Rattle.ppd_flow_model.specs.Shared.{in_process};
+ghost use Rattle.ppd_graph.specs.Shared.{in_process};
 ghost use Rattle.ppd_flow_shared.specs.SharedCells.{IsSought, IsWalked};
 ghost use Rattle.ppd_flow_shared.specs.Items.{before_inner, out_of, seen_for};
 ghost use Rattle.ppd_flow_tables.specs.Tabled.{IsTabled};
@@ -7,8 +7,8 @@ ghost use Rattle.ppd_flow_tables.specs.Tabled.{IsTabled};
 use crate::inside::{is_passed, over_items};
 use crate::search::CellSearch;
 use ppd_ast::Steps;
-use ppd_flow_model::Walked;
 use ppd_flow_tables::{FlowError, count_of, interval_items, outer_of, place_of};
+use ppd_graph::Walked;
 use ppd_model::Item;
 use std::sync::ledger::Ledger;
 

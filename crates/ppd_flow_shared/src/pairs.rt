@@ -1,6 +1,6 @@
 ghost use Rattle.std.specs.Prelude.{◌≡◌, IfOk, Some};
 ghost use Rattle.ppd_flow_tables.specs.SeenBy.{items_in};
-ghost use Rattle.ppd_flow_model.specs.Shared.{pair_of as pair_of_place, pair_origin as pair_origin_of};
+ghost use Rattle.ppd_graph.specs.Shared.{pair_of as pair_of_place, pair_origin as pair_origin_of};
 ghost use Rattle.ppd_flow_shared.specs.SharedCells.{IsNodeFound, IsSought, seens_in};
 ghost use Rattle.ppd_flow_tables.specs.Tabled.{IsTabled};
 

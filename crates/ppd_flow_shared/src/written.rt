@@ -1,8 +1,8 @@
 ghost use Rattle.std.specs.Prelude.{◌≡◌, get_or, pos, []};
 ghost use Rattle.ppd_model.specs.HappenedBefore.{edge as edge_of};
-ghost use Rattle.ppd_flow_model.specs.Looked.{look_map};
-ghost use Rattle.ppd_flow_model.specs.Shared.{in_process, written_at, written_in as written_in_edge, written_or_start as written_or_start_of};
-ghost use Rattle.ppd_flow_model.specs.Walk.{walk as walk_from};
+ghost use Rattle.ppd_graph.specs.Looked.{look_map};
+ghost use Rattle.ppd_graph.specs.Shared.{in_process, written_at, written_in as written_in_edge, written_or_start as written_or_start_of};
+ghost use Rattle.ppd_graph.specs.Walk.{walk as walk_from};
 ghost use Rattle.ppd_flow_shared.specs.Items.{seen_for};
 ghost use Rattle.ppd_flow_shared.specs.SharedCells.{IsAnswerTo, IsMemoryOr, answer_of, seens_in};
 ghost use Rattle.ppd_flow_tables.specs.Tabled.{IsTabled};
@@ -10,8 +10,8 @@ ghost use Rattle.ppd_flow_tables.specs.Tabled.{IsTabled};
 use crate::edge_end::edge_end;
 use crate::search::CellSearch;
 use ppd_ast::{Program, Steps};
-use ppd_flow_model::Walked;
 use ppd_flow_tables::{FlowError, Past, ending, entries_of, number};
+use ppd_graph::Walked;
 use ppd_model::{EdgeId, Item, Origin};
 use std::sync::ledger::Ledger;
 

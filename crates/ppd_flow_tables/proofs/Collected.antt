@@ -3,11 +3,11 @@ use Rattle.std.proofs.Common.{◌≡◌, ℕ, zero, suc, ◌+◌, ◌<◌, ◌�
 use Rattle.std.specs.Prelude.{filter_map}
 use Rattle.std.proofs.lemmas.Bool.{cases_lt}
 use Rattle.std.proofs.lemmas.List.{get_or-append-add, get_or_append_left, get_or_past, take_all}
-use Rattle.ppd_entry.specs.declared.entry.Entry.{Entry}
-use Rattle.ppd_entry.specs.declared.entry.Entry.TheVariants as entry
+use Rattle.ppd_model.specs.declared.entry.Entry.{Entry}
+use Rattle.ppd_model.specs.declared.entry.Entry.TheVariants as entry
 use Rattle.ppd_model.specs.RecordedSets.{sync_in}
-use Rattle.ppd_flow_model.specs.Ends.{syncs_before}
-use Rattle.ppd_flow_model.proofs.Vocabulary.{is_sync}
+use Rattle.ppd_graph.specs.Ends.{syncs_before}
+use Rattle.ppd_graph.proofs.FlowWords.{is_sync}
 use Rattle.ppd_flow_tables.specs.Counts.{AreCounts}
 
 -- ---- the values of a function at the first numbers

@@ -5,10 +5,10 @@ use Rattle.std.specs.Prelude.{nat_eq, slice_get, sum_by, unwrap_or}
 use Rattle.std.proofs.lemmas.Bool.{cases_lt}
 use Rattle.std.proofs.lemmas.List.{get_or_append_left, get_or_push, take_all, take_more}
 use Rattle.std.proofs.lemmas.List.Sums.{sum_by_more, sum_by_push}
-use Rattle.ppd_entry.specs.declared.entry.Entry.{Entry}
+use Rattle.ppd_model.specs.declared.entry.Entry.{Entry}
 use Rattle.ppd_model.specs.declared.flow.Item.{Item}
-use Rattle.ppd_flow_model.specs.Ends.{ending, ends_edge, first_edge, is_sync_item, sync_item, syncs_before, syncs_of_item, innermost_from}
-use Rattle.ppd_flow_model.specs.Seen.{place_of}
+use Rattle.ppd_graph.specs.Ends.{ending, ends_edge, first_edge, is_sync_item, sync_item, syncs_before, syncs_of_item, innermost_from}
+use Rattle.ppd_graph.specs.Seen.{place_of}
 use Rattle.ppd_flow_tables.specs.declared.edge_table.EdgeTable.{EdgeTable}
 use Rattle.ppd_flow_tables.specs.declared.marks.Mark.{Mark}
 use Rattle.ppd_flow_tables.specs.declared.marks.Mark.TheVariants as mark

@@ -6,13 +6,13 @@ use Rattle.std.proofs.Math.Bool.{and-true, and-false}
 use Rattle.std.proofs.lemmas.Bool.{cases_eq, cases_lt, le-ltb}
 use Rattle.std.proofs.lemmas.Option.{none-some, same_Some}
 use Rattle.std.proofs.lemmas.List.Sums.{position_or_len_is, sum_by-cons}
-use Rattle.ppd_entry.specs.declared.entry.Entry.{Entry}
-use Rattle.ppd_entry.specs.declared.entry.Entry.TheVariants as entry
+use Rattle.ppd_model.specs.declared.entry.Entry.{Entry}
+use Rattle.ppd_model.specs.declared.entry.Entry.TheVariants as entry
 use Rattle.ppd_model.specs.declared.flow.Item.{Item}
 use Rattle.ppd_model.specs.declared.flow.Item.TheVariants as item
-use Rattle.ppd_flow_model.specs.Ends.{ending, ends_edge, is_sync_item, sync_item, syncs_before, syncs_of_item}
-use Rattle.ppd_flow_model.proofs.Vocabulary.{is_sync}
-use Rattle.ppd_flow_model.specs.Seen.{is_item_of, place_of}
+use Rattle.ppd_graph.specs.Ends.{ending, ends_edge, is_sync_item, sync_item, syncs_before, syncs_of_item}
+use Rattle.ppd_graph.proofs.FlowWords.{is_sync}
+use Rattle.ppd_graph.specs.Seen.{is_item_of, place_of}
 use Rattle.ppd_flow_tables.specs.Listed.{IsFirstUnder}
 use Rattle.ppd_flow_tables.specs.Tables.{AreWhere, ends_there, passes}
 use Rattle.ppd_flow_tables.proofs.Collected.{one_sync}

@@ -9,7 +9,7 @@ use Rattle.ppd_graph.specs.declared.sets.EdgeSets.{EdgeSets}
 use Rattle.ppd_model.specs.declared.graph.EdgeId.{EdgeId}
 use Rattle.ppd_model.specs.HappenedBefore.{edge}
 use Rattle.ppd_model.proofs.Changes.{some}
-use Rattle.ppd_flow_model.specs.Shared.{greater}
+use Rattle.ppd_graph.specs.Shared.{greater}
 use Rattle.ppd_flow_tables.specs.LatestEdges.{last_below, last_or, later_if, numbers_in}
 
 -- ---- last elements

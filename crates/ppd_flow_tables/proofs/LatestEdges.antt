@@ -12,7 +12,7 @@ use Rattle.ppd_model.specs.declared.graph.EdgeId.{EdgeId}
 use Rattle.ppd_model.specs.HappenedBefore.{edge}
 use Rattle.ppd_flow_past.specs.declared.past.Past.{Past}
 use Rattle.ppd_flow_past.specs.Pasts.{IsPast}
-use Rattle.ppd_flow_model.specs.Shared.{is_before_in}
+use Rattle.ppd_graph.specs.Shared.{is_before_in}
 use Rattle.ppd_flow_past.specs.Edges.Found.{greatest_from, greatest_in}
 use Rattle.ppd_flow_past.proofs.Edges.Before.{before_is, before_none}
 use Rattle.ppd_flow_past.proofs.Edges.WritingEdges.{of_those}

@@ -4,8 +4,8 @@ use Rattle.std.specs.Prelude.{slice_get, get_or, []}
 use Rattle.std.proofs.lemmas.Option.{slice_get_past}
 use Rattle.ppd_index.specs.Indexes.{IsIndexOf, rows_at}
 use Rattle.ppd_model.specs.Extents.{extents}
-use Rattle.ppd_flow_model.specs.Ends.{first_edge, syncs_inside}
-use Rattle.ppd_flow_model.proofs.Vocabulary.{begins_in}
+use Rattle.ppd_graph.specs.Ends.{first_edge, syncs_inside}
+use Rattle.ppd_graph.proofs.FlowWords.{begins_in}
 use Rattle.ppd_flow_past.specs.declared.past.Past.{Past}
 use Rattle.ppd_flow_past.proofs.Edges.Standing.{extents_count}
 

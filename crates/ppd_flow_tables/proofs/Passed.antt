@@ -4,14 +4,14 @@ use Rattle.std.specs.Prelude.{is_some, nat_eq, slice_get}
 use Rattle.std.proofs.Math.Bool.{and-true}
 use Rattle.std.proofs.lemmas.Bool.{cases_eq, cases_lt}
 use Rattle.std.proofs.lemmas.Option.{none-some, same_Some, slice_get_within}
-use Rattle.ppd_entry.specs.declared.entry.Entry.{Entry}
+use Rattle.ppd_model.specs.declared.entry.Entry.{Entry}
 use Rattle.ppd_model.specs.declared.flow.Item.{Item}
 use Rattle.ppd_model.specs.declared.flow.Item.TheVariants as item
 use Rattle.ppd_sem.specs.declared.event.Event.{Event}
-use Rattle.ppd_flow_model.specs.declared.walked.Walked.{Walked}
-use Rattle.ppd_flow_model.specs.declared.walked.Walked.TheVariants.{Stopped, Passed}
-use Rattle.ppd_flow_model.specs.Looked.{Looked, known}
-use Rattle.ppd_flow_model.specs.Walk.{back_from, back_over, backwards, found_if, onward, over_event, value_to}
+use Rattle.ppd_graph.specs.declared.walked.Walked.{Walked}
+use Rattle.ppd_graph.specs.declared.walked.Walked.TheVariants.{Stopped, Passed}
+use Rattle.ppd_graph.specs.Looked.{Looked, known}
+use Rattle.ppd_graph.specs.Walk.{back_from, back_over, backwards, found_if, onward, over_event, value_to}
 use Rattle.ppd_flow_tables.specs.declared.marks.Mark.TheVariants as mark
 use Rattle.ppd_flow_tables.specs.declared.place_table.PlaceTable.{PlaceTable}
 use Rattle.ppd_flow_tables.specs.Listed.{IsLastUnder}

@@ -2,7 +2,7 @@
 use Rattle.std.proofs.Common.{◌≡◌, ℕ, zero, suc, ◌≤◌, ◌⊎◌, inl, inr, List, [], ap, ◌∙◌, sym, arith, length, take}
 use Rattle.std.proofs.lemmas.List.{take_all}
 use Rattle.std.specs.Prelude.{min}
-use Rattle.ppd_flow_model.specs.Walk.{back_over, backwards}
+use Rattle.ppd_graph.specs.Walk.{back_over, backwards}
 use Rattle.ppd_flow_tables.specs.Stops.{ArePassed}
 use Rattle.ppd_model.specs.declared.flow.Item.{Item}
 

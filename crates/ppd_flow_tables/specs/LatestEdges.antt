@@ -8,7 +8,7 @@ use Rattle.ppd_model.specs.declared.graph.EdgeId.{EdgeId}
 use Rattle.ppd_model.specs.HappenedBefore.{edge}
 use Rattle.ppd_flow_past.specs.declared.past.Past.{Past}
 use Rattle.ppd_flow_past.specs.Pasts.{IsPast}
-use Rattle.ppd_flow_model.specs.Shared.{greater, greatest_before, is_before_in}
+use Rattle.ppd_graph.specs.Shared.{greater, greatest_before, is_before_in}
 
 -- the numbers of the edges that write the cell, of those numbered from i on
 abbrev pub numbers_in : ℕ → ℕ → List EdgeSets → List ℕ

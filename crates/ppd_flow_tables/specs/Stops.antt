@@ -2,9 +2,9 @@
 use Rattle.std.specs.Prelude.{◌≡◌, ℕ, ◌+◌, ◌≤◌, Bool, true, false, List, length, Option, Some, None, is_some}
 use Rattle.ppd_model.specs.declared.flow.Item.{Item}
 use Rattle.ppd_model.specs.declared.flow.Item.TheVariants as item
-use Rattle.ppd_flow_model.specs.declared.walked.Walked.{Walked}
-use Rattle.ppd_flow_model.specs.Looked.{Looked}
-use Rattle.ppd_flow_model.specs.Walk.{back_from, back_over, value_to}
+use Rattle.ppd_graph.specs.declared.walked.Walked.{Walked}
+use Rattle.ppd_graph.specs.Looked.{Looked}
+use Rattle.ppd_graph.specs.Walk.{back_from, back_over, value_to}
 
 -- an inner interval, or an event with a number
 abbrev pub is_border : Item → Bool

@@ -1,11 +1,11 @@
 -- What the tables hold of the entries of a process and of the items of an interval.
 use Rattle.std.specs.Prelude.{◌≡◌, ℕ, ◌+◌, ◌^◌, ◌<◌, ◌≤◌, nat_eq, Bool, false, ◌&&◌, List, get_or, length, slice_get, sum_by, take, Option, Some, None}
 use Rattle.ppd_ast.specs.Members.{has}
-use Rattle.ppd_entry.specs.declared.entry.Entry.{Entry}
+use Rattle.ppd_model.specs.declared.entry.Entry.{Entry}
 use Rattle.ppd_model.specs.declared.flow.Item.{Item}
 use Rattle.ppd_model.specs.Extents.{extents}
-use Rattle.ppd_flow_model.specs.Ends.{ends_edge, first_edge, is_sync_item, syncs_before, syncs_inside, syncs_of_item, innermost_from}
-use Rattle.ppd_flow_model.specs.Seen.{is_item_of}
+use Rattle.ppd_graph.specs.Ends.{ends_edge, first_edge, is_sync_item, syncs_before, syncs_inside, syncs_of_item, innermost_from}
+use Rattle.ppd_graph.specs.Seen.{is_item_of}
 use Rattle.ppd_flow_tables.specs.declared.edge_table.EdgeTable.{EdgeTable}
 use Rattle.ppd_flow_tables.specs.declared.marks.Mark.{Mark}
 use Rattle.ppd_flow_tables.specs.declared.marks.Mark.TheVariants as mark

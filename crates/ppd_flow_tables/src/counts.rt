@@ -1,13 +1,13 @@
 // The synchronizations of a process by the edges that they end.
 ghost use Rattle.std.specs.Prelude.{◌≡◌, ◌+◌, ◌<◌, ◌^◌, IfOk, is_some, length, if◌then◌else◌};
-ghost use Rattle.ppd_flow_model.specs.Ends.{ends_edge as ends_an_edge};
+ghost use Rattle.ppd_graph.specs.Ends.{ends_edge as ends_an_edge};
 ghost use Rattle.ppd_model.specs.RecordedSets.{sync_in};
 ghost use Rattle.ppd_flow_tables.specs.Counts.{AreCounts};
 ghost use Rattle.ppd_flow_tables.specs.Tables.{AreWhere, ends_there};
 
 use crate::listing::{Listing, push_if};
 use ppd_ast::{Ids, Memory, Seq};
-use ppd_entry::Entry;
+use ppd_model::Entry;
 use std::alloc::Global;
 
 fn is_sync(entry: &Entry) -> bool

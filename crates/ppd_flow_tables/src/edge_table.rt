@@ -1,6 +1,6 @@
 ghost use Rattle.std.specs.Prelude.{◌≡◌, List, slice_get};
-ghost use Rattle.ppd_entry.specs.declared.entry.Entry.{Entry};
-ghost use Rattle.ppd_flow_model.specs.Ends.{end_interval as end_interval_of, ending as ending_in, first_edge as first_edge_of, syncs_inside as syncs_inside_of, syncs_of_item as syncs_of};
+ghost use Rattle.ppd_model.specs.declared.entry.Entry.{Entry};
+ghost use Rattle.ppd_graph.specs.Ends.{end_interval as end_interval_of, ending as ending_in, first_edge as first_edge_of, syncs_inside as syncs_inside_of, syncs_of_item as syncs_of};
 ghost use Rattle.ppd_flow_tables.specs.Tables.{IsEdgeTable};
 ghost use Rattle.ppd_model.specs.Extents.{extents};
 

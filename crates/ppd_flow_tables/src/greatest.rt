@@ -1,7 +1,7 @@
 // The greatest internal edge before another one that writes a cell.
 ghost use Rattle.std.specs.Prelude.{◌≡◌, ◌<◌, ◌≤◌, ◌+◌, ◌*◌, ◌^◌, [], IfSome, Some, get_or, length};
 ghost use Rattle.ppd_flow_tables.specs.LatestEdges.{last_below as last_below_of, later_if, limit_of, numbers_in};
-ghost use Rattle.ppd_flow_model.specs.Shared.{greater as greater_of, greatest_before as greatest_before_of, is_before_in};
+ghost use Rattle.ppd_graph.specs.Shared.{greater as greater_of, greatest_before as greatest_before_of, is_before_in};
 ghost use Rattle.ppd_flow_past.specs.Edges.Found.{IsEdgeIf};
 ghost use Rattle.ppd_flow_past.specs.Pasts.{IsPast};
 ghost use Rattle.ppd_graph.specs.Graphs.{IsEdge, edge_count};

@@ -1,6 +1,6 @@
 // The innermost interval of a process at each of its entries.
 ghost use Rattle.std.specs.Prelude.{◌≡◌, ◌+◌, ◌≤◌, ◌<◌, ◌&&◌, ◌^◌, ℕ, IfOk, get_or, length, nat_le, nat_lt, replicate, slice_get, if◌then◌else◌, []};
-ghost use Rattle.ppd_flow_model.specs.Ends.{innermost_from};
+ghost use Rattle.ppd_graph.specs.Ends.{innermost_from};
 ghost use Rattle.ppd_flow_past.specs.Edges.Found.{stands_there};
 ghost use Rattle.ppd_flow_past.specs.Pasts.{IsPast};
 ghost use Rattle.ppd_model.specs.Extents.{extents};

@@ -1,8 +1,8 @@
 // Look-ups in a past: by tables where they are at hand, else over items and entries.
 ghost use Rattle.std.specs.Prelude.{◌≡◌, IfOk, take, get_or, []};
-ghost use Rattle.ppd_flow_model.specs.Ends.{end_interval as end_interval_of, first_edge as first_edge_of, sync_item as sync_item_in};
-ghost use Rattle.ppd_flow_model.specs.Seen.{is_item_of, place_of as place_among};
-ghost use Rattle.ppd_flow_model.specs.Shared.{greatest_before as greatest_before_of};
+ghost use Rattle.ppd_graph.specs.Ends.{end_interval as end_interval_of, first_edge as first_edge_of, sync_item as sync_item_in};
+ghost use Rattle.ppd_graph.specs.Seen.{is_item_of, place_of as place_among};
+ghost use Rattle.ppd_graph.specs.Shared.{greatest_before as greatest_before_of};
 ghost use Rattle.ppd_flow_past.specs.SeenBy.{items_in};
 ghost use Rattle.ppd_flow_past.specs.declared.past.Past.{Past};
 ghost use Rattle.ppd_flow_tables.specs.Stops.{ArePassed, after};

@@ -1,8 +1,8 @@
 // The items of an interval by the numbers under which they are looked up.
 ghost use Rattle.std.specs.Prelude.{◌≡◌, ◌&&◌, ◌||◌, ◌<◌, ◌^◌, ℕ, IfOk, OnOk, is_some, length, nat_eq};
 ghost use Rattle.ppd_ast.specs.Members.{has};
-ghost use Rattle.ppd_flow_model.specs.Seen.{is_item_of};
-ghost use Rattle.ppd_flow_model.specs.Walk.{is_shared, value_to};
+ghost use Rattle.ppd_graph.specs.Seen.{is_item_of};
+ghost use Rattle.ppd_graph.specs.Walk.{is_shared, value_to};
 ghost use Rattle.ppd_flow_tables.specs.Listed.{key};
 ghost use Rattle.ppd_flow_tables.specs.Stops.{is_border as is_border_there, writes_cell};
 ghost use Rattle.ppd_flow_tables.specs.Tables.{AreWhere, is_marked, is_under};

@@ -1,5 +1,5 @@
 ghost use Rattle.std.specs.Prelude.{◌≡◌, ◌+◌, ◌<◌, ◌^◌, IfOk, List, ℕ, length};
-ghost use Rattle.ppd_entry.specs.declared.entry.Entry.{Entry};
+ghost use Rattle.ppd_model.specs.declared.entry.Entry.{Entry};
 ghost use Rattle.ppd_flow_tables.specs.Tables.{AreEdges, AreWhere, IsEdgeTable, IsPlaceTable, is_marked};
 ghost use Rattle.ppd_flow_tables.specs.declared.marks.Mark.TheVariants as mark;
 

@@ -1,7 +1,7 @@
 ghost use Rattle.std.specs.Prelude.{◌≡◌, ◌+◌, ◌≤◌, ◌<◌, ◌^◌, List, ℕ};
-ghost use Rattle.ppd_entry.specs.declared.entry.Entry.{Entry};
-ghost use Rattle.ppd_flow_model.specs.Ends.{sync_item as sync_item_in, first_edge as first_edge_of};
-ghost use Rattle.ppd_flow_model.specs.Seen.{place_of as place_among};
+ghost use Rattle.ppd_model.specs.declared.entry.Entry.{Entry};
+ghost use Rattle.ppd_graph.specs.Ends.{sync_item as sync_item_in, first_edge as first_edge_of};
+ghost use Rattle.ppd_graph.specs.Seen.{place_of as place_among};
 ghost use Rattle.ppd_flow_tables.specs.Stops.{ArePassed, IsLater, after};
 ghost use Rattle.ppd_flow_tables.specs.Tables.{IsPlaceTable, edge_of};
 ghost use Rattle.ppd_model.specs.declared.flow.Item.{Item};

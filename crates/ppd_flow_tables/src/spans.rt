@@ -1,7 +1,7 @@
 // In which edge each interval of a process begins, and how many synchronizations it has.
 ghost use Rattle.std.specs.Prelude.{◌≡◌, ℕ, IfOk, List, get_or, slice_get, []};
-ghost use Rattle.ppd_entry.specs.declared.entry.Entry.{Entry};
-ghost use Rattle.ppd_flow_model.specs.Ends.{first_edge as first_edge_of, syncs_before, syncs_inside as syncs_inside_of};
+ghost use Rattle.ppd_model.specs.declared.entry.Entry.{Entry};
+ghost use Rattle.ppd_graph.specs.Ends.{first_edge as first_edge_of, syncs_before, syncs_inside as syncs_inside_of};
 ghost use Rattle.ppd_flow_past.specs.Pasts.{IsPast};
 ghost use Rattle.ppd_flow_tables.specs.Counts.{AreCounts};
 ghost use Rattle.ppd_model.specs.Extents.{extents};

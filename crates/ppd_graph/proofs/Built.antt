@@ -1,8 +1,8 @@
 -- What is put together is the graph of the logs.
 use Rattle.ppd_ast.specs.declared.program.Program.{Program}
-use Rattle.ppd_entry.specs.declared.entry.Entry.{Entry}
-use Rattle.ppd_entry.specs.declared.entry.Entry.TheVariants as entry
-use Rattle.ppd_entry.specs.declared.entry.Logs.{Logs}
+use Rattle.ppd_model.specs.declared.entry.Entry.{Entry}
+use Rattle.ppd_model.specs.declared.entry.Entry.TheVariants as entry
+use Rattle.ppd_model.specs.declared.entry.Logs.{Logs}
 use Rattle.ppd_graph.proofs.Closing.{rounds_are_cycles}
 use Rattle.ppd_graph.proofs.Counted.{kept_few}
 use Rattle.ppd_graph.proofs.Leads.{length_mapped, partners_found, row_mapped}
@@ -16,7 +16,7 @@ use Rattle.ppd_graph.specs.Partners.{pairs_of, partner_of}
 use Rattle.ppd_graph.specs.Refusals.{AreNumbered, AreOrdered, IsRefused, placed}
 use Rattle.ppd_graph.specs.Times.{ArePartners, AreTimed, HasAll, IsReady, own_pairs, own_times}
 use Rattle.ppd_graph.specs.declared.paired.Paired.{Paired}
-use Rattle.ppd_graph.specs.declared.refusal.BadSync.TheVariants.{Cycle}
+use Rattle.ppd_model.specs.declared.bad_sync.BadSync.TheVariants.{Cycle}
 use Rattle.ppd_graph.specs.declared.sets.EdgeSets.{EdgeSets}
 use Rattle.ppd_model.proofs.Lists.{get_or_map}
 use Rattle.ppd_model.proofs.Tested.{none_is_before_itself}

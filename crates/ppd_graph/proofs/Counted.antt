@@ -8,9 +8,9 @@ use Rattle.std.proofs.lemmas.List.Sums.{sum_by-cons, sum_by_push}
 use Rattle.std.proofs.lemmas.Nat.{mul-le}
 use Rattle.std.proofs.lemmas.List.{drop_more, length-append, length-map, append_assoc}
 use Rattle.ppd_ast.specs.declared.program.Program.{Program}
-use Rattle.ppd_entry.specs.declared.entry.Entry.{Entry}
-use Rattle.ppd_entry.specs.declared.entry.Entry.TheVariants as entry
-use Rattle.ppd_entry.specs.declared.entry.Logs.{Logs}
+use Rattle.ppd_model.specs.declared.entry.Entry.{Entry}
+use Rattle.ppd_model.specs.declared.entry.Entry.TheVariants as entry
+use Rattle.ppd_model.specs.declared.entry.Logs.{Logs}
 use Rattle.ppd_model.specs.RecordedSets.{record_in, sync_in}
 use Rattle.ppd_model.specs.Synchronizations.{Sync}
 use Rattle.ppd_ast.specs.declared.limits.TheConstants.{MOST_NAMED}
@@ -18,9 +18,8 @@ use Rattle.ppd_graph.specs.declared.paired.Paired.{Paired}
 use Rattle.ppd_graph.specs.declared.placed.Placed.{Placed}
 use Rattle.ppd_graph.specs.Partners.{listed, pairs_of, partner_of}
 use Rattle.ppd_graph.specs.Refusals.{placed_from}
-use Rattle.ppd_graph.proofs.Vocabulary.{placed_lists}
+use Rattle.ppd_graph.proofs.Vocabulary.{placed_lists, untimed}
 use Rattle.ppd_graph.specs.Spending.{entries_in, graph_cost, list_cost, pairing_cost, pass_cost, times_cost}
-use Rattle.ppd_graph.proofs.Vocabulary.{untimed}
 
 pub range_more : (a n : ℕ) → range_with_len a (suc n) ≡ range_with_len a n ++ (a + n) ∷ []
 range_more a zero = let e : a ≡ a + zero = omega arith in ap (λ x. x ∷ []) e

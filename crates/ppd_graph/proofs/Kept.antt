@@ -7,7 +7,7 @@ use Rattle.std.proofs.lemmas.List.{drop_all, drop_more}
 use Rattle.ppd_ast.specs.declared.program.Program.{Program}
 use Rattle.ppd_ast.specs.declared.status.SyncKind.{SyncKind}
 use Rattle.ppd_ast.specs.declared.status.SyncKind.TheVariants.{P, V, Send, Recv, Done}
-use Rattle.ppd_entry.specs.declared.entry.At.{At}
+use Rattle.ppd_model.specs.declared.entry.At.{At}
 use Rattle.ppd_model.specs.declared.graph.NodeId.{NodeId}
 use Rattle.std.specs.Option.{option_or as or_else}
 use Rattle.ppd_model.specs.Numbers.{sync}

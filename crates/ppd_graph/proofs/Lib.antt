@@ -9,10 +9,11 @@ pub mod Leads
 pub mod Once
 pub mod Turned
 pub mod Closing
-pub mod Walked
+pub mod RoundsWalked
 pub mod Kept
 pub mod Partnered
 pub mod Built
 pub mod Searched
 pub mod Counted
 pub mod Numbered
+pub mod FlowWords

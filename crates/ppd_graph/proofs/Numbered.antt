@@ -3,7 +3,7 @@ use Rattle.std.proofs.Common.{◌≡◌, ℕ, zero, suc, ◌+◌, ◌-◌, ◌*�
 use Rattle.std.specs.Prelude.{IsTrue, nat_eq, if◌then◌else◌}
 use Rattle.std.specs.List.{cons_option, range_with_len, sum_by}
 use Rattle.std.proofs.lemmas.Bool.{cases_eq}
-use Rattle.ppd_entry.specs.Entries.{same_kind}
+use Rattle.ppd_model.specs.Entries.{same_kind}
 use Rattle.ppd_ast.specs.declared.program.Program.{Program}
 use Rattle.ppd_ast.specs.declared.status.SyncKind.{SyncKind}
 use Rattle.ppd_ast.specs.declared.status.SyncKind.TheVariants.{P, V, Send, Recv, Done}
@@ -17,9 +17,7 @@ use Rattle.ppd_graph.specs.declared.missing.Objects.TheVariants.{Semaphores, Cha
 use Rattle.ppd_graph.specs.declared.placed.Placed.{Placed}
 use Rattle.ppd_graph.specs.ByNumber.{AllGreatest, greatest_kept}
 use Rattle.ppd_graph.specs.Refusals.{Missing, absent, first_missing, missing, missing_of_places, numbers_of, object_misses, of_kind, start_of, sync_placed}
-use Rattle.ppd_graph.proofs.Vocabulary.{chan_misses, sem_misses}
-use Rattle.ppd_graph.proofs.Vocabulary.{greatest}
-use Rattle.ppd_graph.proofs.Vocabulary.{numbered_in}
+use Rattle.ppd_graph.proofs.Vocabulary.{chan_misses, sem_misses, greatest, numbered_in}
 use Rattle.ppd_graph.specs.Spending.{done_numbers, missing_cost, object_cost}
 use Rattle.ppd_graph.proofs.Counted.{sum_more}
 

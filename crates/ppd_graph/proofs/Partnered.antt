@@ -5,10 +5,10 @@ use Rattle.std.specs.List.{cons_option}
 use Rattle.ppd_ast.specs.declared.program.Program.{Program}
 use Rattle.ppd_ast.specs.declared.status.SyncKind.{SyncKind}
 use Rattle.ppd_ast.specs.Members.{has}
-use Rattle.ppd_entry.specs.declared.entry.Entry.{Entry}
-use Rattle.ppd_entry.specs.declared.entry.Entry.TheVariants as entry
-use Rattle.ppd_entry.specs.declared.entry.Logs.{Logs}
-use Rattle.ppd_entry.specs.Entries.{same_kind}
+use Rattle.ppd_model.specs.declared.entry.Entry.{Entry}
+use Rattle.ppd_model.specs.declared.entry.Entry.TheVariants as entry
+use Rattle.ppd_model.specs.declared.entry.Logs.{Logs}
+use Rattle.ppd_model.specs.Entries.{same_kind}
 use Rattle.ppd_model.specs.declared.graph.NodeId.{NodeId}
 use Rattle.std.specs.Option.{option_or as or_else}
 use Rattle.ppd_model.specs.HappenedBefore.{node}
@@ -21,8 +21,7 @@ use Rattle.ppd_graph.specs.ByNumber.{AllGreatest, KeepsAll, node_among, node_wan
 use Rattle.ppd_model.specs.RecordedSets.{record_in, sync_in}
 use Rattle.ppd_graph.specs.Partners.{found, found_from, found_in_row, paired_by, pairs_of, partner_of, wanted}
 use Rattle.ppd_graph.specs.Refusals.{Numbered, missing, missing_by, numbers_of, placed, placed_from, sync_placed}
-use Rattle.ppd_graph.proofs.Vocabulary.{placed_lists}
-use Rattle.ppd_graph.proofs.Vocabulary.{numbered_in}
+use Rattle.ppd_graph.proofs.Vocabulary.{placed_lists, numbered_in}
 use Rattle.ppd_model.specs.SameSyncs.{same_sync}
 
 -- ---- where the first stands

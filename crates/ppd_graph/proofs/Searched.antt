@@ -8,8 +8,7 @@ use Rattle.std.specs.Option.{option_or as or_else}
 use Rattle.ppd_model.specs.Synchronizations.{Sync}
 use Rattle.ppd_graph.specs.declared.placed.Placed.{Placed}
 use Rattle.ppd_graph.specs.Refusals.{Missing, absent, first_missing, numbers_of, sync_placed}
-use Rattle.ppd_graph.proofs.Vocabulary.{greatest}
-use Rattle.ppd_graph.proofs.Vocabulary.{number_in}
+use Rattle.ppd_graph.proofs.Vocabulary.{greatest, number_in}
 
 -- ---- the first number that is not there
 

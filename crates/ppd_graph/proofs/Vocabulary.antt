@@ -4,9 +4,9 @@ use Rattle.ppd_ast.specs.Members.{has}
 use Rattle.ppd_ast.specs.declared.program.Program.{Program}
 use Rattle.ppd_ast.specs.declared.program.Sem.{Sem}
 use Rattle.ppd_ast.specs.declared.status.SyncKind.{SyncKind}
-use Rattle.ppd_entry.specs.Entries.{same_kind}
-use Rattle.ppd_entry.specs.declared.entry.At.{At}
-use Rattle.ppd_entry.specs.declared.entry.Entry.{Entry}
+use Rattle.ppd_model.specs.Entries.{same_kind}
+use Rattle.ppd_model.specs.declared.entry.At.{At}
+use Rattle.ppd_model.specs.declared.entry.Entry.{Entry}
 use Rattle.ppd_graph.specs.Cycles.{is_same, stretch}
 use Rattle.ppd_graph.specs.Refusals.{Missing, Numbered, is_from_start, numbers_of, object_misses, placed_from, sync_placed}
 use Rattle.ppd_graph.specs.Times.{next_of}

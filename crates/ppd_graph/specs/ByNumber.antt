@@ -11,8 +11,8 @@ use Rattle.ppd_graph.specs.declared.by_number.ByNumber.{ByNumber}
 use Rattle.ppd_graph.specs.declared.greatest.Greatest.{Greatest}
 use Rattle.ppd_graph.specs.declared.paired.Paired.{Paired}
 use Rattle.ppd_graph.specs.declared.placed.Placed.{Placed}
-use Rattle.ppd_graph.specs.declared.refusal.BadSync.{BadSync}
-use Rattle.ppd_graph.specs.declared.refusal.BadSync.TheVariants.{NumberTwice, Memory}
+use Rattle.ppd_model.specs.declared.bad_sync.BadSync.{BadSync}
+use Rattle.ppd_model.specs.declared.bad_sync.BadSync.TheVariants.{NumberTwice, Memory}
 use Rattle.ppd_graph.specs.Partners.{paired_by, wanted}
 use Rattle.ppd_graph.specs.Refusals.{Numbered, is_from_start, numbers_of, sync_placed, twice_after}
 use Rattle.ppd_model.specs.SameSyncs.{same_sync}

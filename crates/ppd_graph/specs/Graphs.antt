@@ -1,7 +1,7 @@
 -- What a graph answers.
 use Rattle.std.specs.Prelude.{◌≡◌, ◌↔◌, ℕ, zero, suc, ◌^◌, ◌<◌, ◌≤◌, nat_eq, nat_lt, Bool, List, [], length, get_or, IsTrue, if◌then◌else◌}
 use Rattle.ppd_ast.specs.declared.program.Program.{Program}
-use Rattle.ppd_entry.specs.declared.entry.Logs.{Logs}
+use Rattle.ppd_model.specs.declared.entry.Logs.{Logs}
 use Rattle.ppd_model.specs.declared.graph.EdgeId.{EdgeId}
 use Rattle.ppd_model.specs.HappenedBefore.{Before, EdgeBefore, node}
 use Rattle.ppd_graph.specs.declared.sync_graph.SyncGraph.{SyncGraph}

@@ -1,7 +1,8 @@
--- The graph of the synchronizations of logs.
-pub use Rattle.ppd_entry.specs.declared.entry.Entry
-pub use Rattle.ppd_entry.specs.declared.entry.Logs
-pub use Rattle.ppd_entry.specs.Entries
+-- The graph of the synchronizations of logs; and the origins of an item's flowback edges, found from what the replays of
+-- intervals give.
+pub use Rattle.ppd_model.specs.declared.entry.Entry
+pub use Rattle.ppd_model.specs.declared.entry.Logs
+pub use Rattle.ppd_model.specs.Entries
 pub mod LogRecord
 pub mod Refusals
 pub mod Partners
@@ -11,3 +12,13 @@ pub mod Cycles
 pub mod Graphs
 pub mod Spending
 pub mod LogEdges
+pub mod Looked
+pub mod Seen
+pub mod Spans
+pub mod Locals
+pub mod Control
+pub mod Own
+pub mod Walk
+pub mod Ends
+pub mod Shared
+pub mod Found

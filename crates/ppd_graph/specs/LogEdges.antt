@@ -2,7 +2,7 @@
 use Rattle.std.specs.Prelude.{◌≡◌, ◌<◌, ◌≤◌, ℕ, Bool, true, false, List, [], length, get_or}
 use Rattle.ppd_ast.specs.declared.program.Program.{Program}
 use Rattle.ppd_ast.specs.Members.{has}
-use Rattle.ppd_entry.specs.declared.entry.Logs.{Logs}
+use Rattle.ppd_model.specs.declared.entry.Logs.{Logs}
 use Rattle.ppd_graph.specs.Graphs.{sets_at}
 use Rattle.ppd_graph.specs.LogRecord.{edge_sets_in}
 use Rattle.ppd_graph.specs.declared.sets.EdgeSets.{EdgeSets}

@@ -3,16 +3,16 @@ use Rattle.ppd_ast.specs.Members.{has}
 use Rattle.ppd_ast.specs.declared.program.Program.{Program}
 use Rattle.ppd_ast.specs.declared.status.SyncKind.{SyncKind}
 use Rattle.ppd_ast.specs.declared.status.SyncKind.TheVariants.{Done, P, Recv, Send, V}
-use Rattle.ppd_entry.specs.Entries.{same_kind}
-use Rattle.ppd_entry.specs.declared.entry.At.{At}
-use Rattle.ppd_entry.specs.declared.entry.Entry.{Entry}
-use Rattle.ppd_entry.specs.declared.entry.Logs.{Logs}
+use Rattle.ppd_model.specs.Entries.{same_kind}
+use Rattle.ppd_model.specs.declared.entry.At.{At}
+use Rattle.ppd_model.specs.declared.entry.Entry.{Entry}
+use Rattle.ppd_model.specs.declared.entry.Logs.{Logs}
 use Rattle.ppd_graph.specs.Cycles.{IsCycle}
 use Rattle.ppd_graph.specs.declared.missing.Objects.{Objects}
 use Rattle.ppd_graph.specs.declared.missing.Objects.TheVariants.{Channels, Semaphores}
 use Rattle.ppd_graph.specs.declared.placed.Placed.{Placed}
-use Rattle.ppd_graph.specs.declared.refusal.BadSync.{BadSync}
-use Rattle.ppd_graph.specs.declared.refusal.BadSync.TheVariants.{Cycle, Memory, NoObject, NumberMissing, NumberTwice}
+use Rattle.ppd_model.specs.declared.bad_sync.BadSync.{BadSync}
+use Rattle.ppd_model.specs.declared.bad_sync.BadSync.TheVariants.{Cycle, Memory, NoObject, NumberMissing, NumberTwice}
 use Rattle.ppd_model.specs.HappenedBefore.{is_before, node}
 use Rattle.ppd_model.specs.Numbers.{sync}
 use Rattle.ppd_model.specs.RecordedSets.{record_in, sync_in}

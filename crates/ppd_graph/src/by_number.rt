@@ -3,9 +3,8 @@ ghost use Rattle.ppd_graph.specs.ByNumber.{IsTwice, KeepsAll, KeepsMore, KeepsNo
 ghost use Rattle.ppd_graph.specs.Refusals.{is_from_start as is_from_start_of, start_of as start_in_program, sync_placed, twice_after};
 
 use crate::placed::Placed;
-use crate::refusal::BadSync;
 use ppd_ast::{Memory, Program, Steps, SyncKind};
-use ppd_model::NodeId;
+use ppd_model::{BadSync, NodeId};
 use std::alloc::Global;
 use std::collections::HashMap;
 use std::sync::ledger::Ledger;

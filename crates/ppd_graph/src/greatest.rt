@@ -5,7 +5,7 @@ ghost use Rattle.ppd_graph.specs.Refusals.{numbers_of, sync_placed};
 use crate::placed::Placed;
 use ppd_ast::limits::MOST_NAMED;
 use ppd_ast::{Ids, Memory, Steps, SyncKind};
-use ppd_entry::same_kind;
+use ppd_model::same_kind;
 use std::alloc::Global;
 use std::sync::ledger::Ledger;
 

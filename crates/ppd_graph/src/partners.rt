@@ -9,9 +9,8 @@ ghost use Rattle.ppd_model.specs.Numbers.{sync};
 use crate::by_number::ByNumber;
 use crate::paired::Paired;
 use ppd_ast::{Memory, Program, Seq, Steps, SyncKind};
-use ppd_entry::Entry;
 use ppd_graph_partners::wanted;
-use ppd_model::capacity_of;
+use ppd_model::{Entry, capacity_of};
 use std::alloc::Global;
 use std::sync::ledger::Ledger;
 

@@ -3,13 +3,12 @@ ghost use Rattle.ppd_graph.specs.LogRecord.{AreFew};
 ghost use Rattle.ppd_model.specs.RecordedSets.{sync_in};
 ghost use Rattle.std.specs.List.{sum_by, flat_map, enumerate_from};
 ghost use Rattle.ppd_graph.specs.Spending.{list_cost};
-ghost use Rattle.ppd_entry.specs.declared.entry.Entry.{Entry as EntryOf};
+ghost use Rattle.ppd_model.specs.declared.entry.Entry.{Entry as EntryOf};
 ghost use Rattle.ppd_graph.specs.Refusals.{placed_from};
 
 use ppd_ast::limits::MOST_NAMED;
 use ppd_ast::{Memory, Seq, Steps, SyncKind};
-use ppd_entry::{At, Entry};
-use ppd_model::NodeId;
+use ppd_model::{At, Entry, NodeId};
 use std::alloc::Global;
 use std::sync::ledger::Ledger;
 

@@ -1,11 +1,11 @@
 ghost use Rattle.std.specs.Prelude.{◌≡◌, ◌++◌, ◌∷◌, List, None, IfOk, OnOk, ◌≤◌, ◌+◌, length, map, unwrap_or};
 ghost use Rattle.std.specs.List.{sum_by};
 ghost use Rattle.ppd_graph.specs.Spending.{list_cost};
-ghost use Rattle.ppd_entry.specs.declared.entry.Entry.{Entry as EntryOf};
+ghost use Rattle.ppd_model.specs.declared.entry.Entry.{Entry as EntryOf};
 ghost use Rattle.ppd_graph.specs.LogRecord.{edge_sets, no_sets, sets_from};
 
 use ppd_ast::{Cells, Memory, Seq, Steps};
-use ppd_entry::{Boxed, BoxedCells, Entry};
+use ppd_model::{Boxed, BoxedCells, Entry};
 use std::alloc::Global;
 use std::sync::ledger::Ledger;
 

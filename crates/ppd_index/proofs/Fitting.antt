@@ -1,13 +1,13 @@
 -- The interval logs of a log without refusals fit the plan.
 use Rattle.ppd_ast.specs.declared.limits.TheConstants.{MOST_CALLS}
 use Rattle.ppd_ast.specs.declared.plan.Plan.{Plan}
-use Rattle.ppd_entry.proofs.Vocabulary.{log_in, new_interval, with_piece, with_postlog, with_end}
-use Rattle.ppd_entry.specs.Changed.{change}
-use Rattle.ppd_entry.specs.Entries.{is_end}
-use Rattle.ppd_entry.specs.IntervalLogs.{Indexing, IntervalLog, LoggedInterval, add_piece, begun_indexing, blocks_of, functions_in, index_step, indexed, interval_at, interval_log, left_interval, left_open, log_by}
-use Rattle.ppd_entry.specs.Pieces.{Piece, finish, nested, postlog, sync, unfinished, unit}
-use Rattle.ppd_entry.specs.declared.entry.Entry.{Entry}
-use Rattle.ppd_entry.specs.declared.entry.Entry.TheVariants as entry
+use Rattle.ppd_model.proofs.EntryWords.{log_in, new_interval, with_piece, with_postlog, with_end}
+use Rattle.ppd_model.specs.Changed.{change}
+use Rattle.ppd_model.specs.Entries.{is_end}
+use Rattle.ppd_model.specs.IntervalLogs.{Indexing, IntervalLog, LoggedInterval, add_piece, begun_indexing, blocks_of, functions_in, index_step, indexed, interval_at, interval_log, left_interval, left_open, log_by}
+use Rattle.ppd_model.specs.Pieces.{Piece, finish, nested, postlog, sync, unfinished, unit}
+use Rattle.ppd_model.specs.declared.entry.Entry.{Entry}
+use Rattle.ppd_model.specs.declared.entry.Entry.TheVariants as entry
 use Rattle.ppd_index.proofs.Passed.{HasPassed, passed, room}
 use Rattle.ppd_index.proofs.Vocabulary.{fits_postlog, innermost_of, is_same}
 use Rattle.ppd_index.specs.Fitting.{AreFittingPieces, IsFittingLog, fits_piece}

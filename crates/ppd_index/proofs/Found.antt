@@ -5,13 +5,13 @@ use Rattle.std.proofs.Math.Seq.{drop-cons}
 use Rattle.std.proofs.lemmas.List.{append_assoc, drop_all}
 use Rattle.ppd_ast.specs.declared.plan.Plan.{Plan}
 use Rattle.ppd_ast.specs.declared.program.Program.{Program}
-use Rattle.ppd_entry.specs.declared.entry.Entry.{Entry}
-use Rattle.ppd_entry.specs.Entries.{is_end}
-use Rattle.ppd_entry.specs.IntervalLogs.{Indexing, begun_indexing, blocks_of, functions_in, index_step}
+use Rattle.ppd_model.specs.declared.entry.Entry.{Entry}
+use Rattle.ppd_model.specs.Entries.{is_end}
+use Rattle.ppd_model.specs.IntervalLogs.{Indexing, begun_indexing, blocks_of, functions_in, index_step}
 use Rattle.std.specs.Option.{option_or as or_else}
 use Rattle.ppd_model.proofs.Extents.{one_longer}
-use Rattle.ppd_index.specs.declared.refusal.BadLog.{BadLog}
-use Rattle.ppd_index.specs.declared.refusal.BadLog.TheVariants.{Unpaired, NoEnd, AfterEnd, WrongValues, Memory}
+use Rattle.ppd_model.specs.declared.bad_log.BadLog.{BadLog}
+use Rattle.ppd_model.specs.declared.bad_log.BadLog.TheVariants.{Unpaired, NoEnd, AfterEnd, WrongValues, Memory}
 use Rattle.ppd_index.specs.declared.row.Row.{Row}
 use Rattle.ppd_index.specs.declared.standing.Standing.{Standing}
 use Rattle.ppd_index.specs.Refusals.{IsRefused, first_bad, first_from, first_in_lists, refusal, standing}

@@ -4,9 +4,9 @@ use Rattle.std.specs.Prelude.{slice_get}
 use Rattle.ppd_ast.specs.declared.plan.Plan.{Plan}
 use Rattle.ppd_ast.specs.declared.program.Program.{Program}
 use Rattle.ppd_ast.proofs.Walks.{got_some}
-use Rattle.ppd_entry.specs.declared.entry.Entry.{Entry}
-use Rattle.ppd_entry.specs.declared.entry.Logs.{Logs}
-use Rattle.ppd_entry.specs.IntervalLogs.{IntervalLog, indexed, interval_log, log_by}
+use Rattle.ppd_model.specs.declared.entry.Entry.{Entry}
+use Rattle.ppd_model.specs.declared.entry.Logs.{Logs}
+use Rattle.ppd_model.specs.IntervalLogs.{IntervalLog, indexed, interval_log, log_by}
 use Rattle.ppd_model.specs.Bounds.{AreEach}
 use Rattle.ppd_model.proofs.Lists.{map_get}
 use Rattle.std.proofs.lemmas.Option.{slice_get-map}

@@ -7,11 +7,11 @@ use Rattle.ppd_ast.specs.declared.plan.BlockKind.{BlockKind}
 use Rattle.ppd_ast.specs.declared.plan.BlockKind.TheVariants as block
 use Rattle.ppd_ast.specs.declared.plan.Plan.{Plan}
 use Rattle.ppd_ast.specs.declared.limits.TheConstants.{MOST_CALLS}
-use Rattle.ppd_entry.specs.declared.entry.Entry.{Entry}
-use Rattle.ppd_entry.specs.declared.entry.Entry.TheVariants as entry
+use Rattle.ppd_model.specs.declared.entry.Entry.{Entry}
+use Rattle.ppd_model.specs.declared.entry.Entry.TheVariants as entry
 use Rattle.ppd_sem.specs.Blocks.{block_kind, is_function}
 use Rattle.ppd_sem.proofs.TableWords.{kind_in}
-use Rattle.ppd_index.specs.declared.refusal.BadLog.{BadLog}
+use Rattle.ppd_model.specs.declared.bad_log.BadLog.{BadLog}
 use Rattle.ppd_index.specs.declared.standing.Standing.{Standing}
 use Rattle.ppd_index.specs.Refusals.{is_fitting, is_paired, may_begin, refusal}
 use Rattle.ppd_index.proofs.Vocabulary.{kind_there}

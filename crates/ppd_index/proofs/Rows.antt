@@ -1,9 +1,9 @@
 -- What a change of a row is to its interval: where it stands, and its log.
 use Rattle.ppd_ast.specs.declared.plan.Plan.{Plan}
-use Rattle.ppd_entry.proofs.Vocabulary.{with_end, with_piece, with_postlog}
-use Rattle.ppd_entry.specs.IntervalLogs.{Extent, IntervalLog, LoggedInterval, add_piece, blocks_of, functions_in, interval_at, left_interval, left_open, log_by}
-use Rattle.ppd_entry.specs.Pieces.{Piece, nested, postlog, unfinished}
-use Rattle.ppd_entry.specs.declared.entry.Entry.{Entry}
+use Rattle.ppd_model.proofs.EntryWords.{with_end, with_piece, with_postlog}
+use Rattle.ppd_model.specs.IntervalLogs.{Extent, IntervalLog, LoggedInterval, add_piece, blocks_of, functions_in, interval_at, left_interval, left_open, log_by}
+use Rattle.ppd_model.specs.Pieces.{Piece, nested, postlog, unfinished}
+use Rattle.ppd_model.specs.declared.entry.Entry.{Entry}
 use Rattle.ppd_index.proofs.Vocabulary.{innermost_of}
 use Rattle.ppd_index.specs.Tables.{add_mark, block_in, block_there, closed_by, depth_at, depth_in, ended_by, extent_of, first_in, left_rows, log_of, open_one, open_rows, piece_at, with_mark}
 use Rattle.ppd_index.specs.declared.row.Mark.{Mark}

@@ -3,11 +3,11 @@ use Rattle.std.proofs.Common.{◌≡◌, ℕ, ◌+◌, List, [], ◌∷◌, ◌+
 use Rattle.std.specs.Prelude.{fold, slice_get, if◌then◌else◌}
 use Rattle.std.proofs.lemmas.List.{append-nil, append_assoc}
 use Rattle.ppd_ast.specs.declared.plan.Plan.{Plan}
-use Rattle.ppd_entry.proofs.Vocabulary.{new_interval}
-use Rattle.ppd_entry.specs.declared.entry.Entry.{Entry}
-use Rattle.ppd_entry.specs.declared.entry.Entry.TheVariants as entry
-use Rattle.ppd_entry.specs.IntervalLogs.{Indexing, LoggedInterval, add_piece, begun_indexing, blocks_of, functions_in, index_step, indexed}
-use Rattle.ppd_entry.specs.Pieces.{Piece, finish, nested, postlog, sync, unit}
+use Rattle.ppd_model.proofs.EntryWords.{new_interval}
+use Rattle.ppd_model.specs.declared.entry.Entry.{Entry}
+use Rattle.ppd_model.specs.declared.entry.Entry.TheVariants as entry
+use Rattle.ppd_model.specs.IntervalLogs.{Indexing, LoggedInterval, add_piece, begun_indexing, blocks_of, functions_in, index_step, indexed}
+use Rattle.ppd_model.specs.Pieces.{Piece, finish, nested, postlog, sync, unit}
 use Rattle.ppd_model.specs.Bounds.{AreEach}
 use Rattle.ppd_model.proofs.Extents.{one_longer}
 use Rattle.ppd_model.proofs.WrittenSpans.{each_end, each_length}

@@ -2,9 +2,9 @@
 use Rattle.ppd_ast.specs.declared.plan.Block.{Block}
 use Rattle.ppd_ast.specs.declared.plan.BlockKind.{BlockKind}
 use Rattle.ppd_ast.specs.declared.plan.Unit.{Unit}
-use Rattle.ppd_entry.specs.IntervalLogs.{LoggedInterval, interval_at}
-use Rattle.ppd_index.specs.declared.refusal.BadLog.{BadLog}
-use Rattle.ppd_index.specs.declared.refusal.BadLog.TheVariants.{NoEnd}
+use Rattle.ppd_model.specs.IntervalLogs.{LoggedInterval, interval_at}
+use Rattle.ppd_model.specs.declared.bad_log.BadLog.{BadLog}
+use Rattle.ppd_model.specs.declared.bad_log.BadLog.TheVariants.{NoEnd}
 use Rattle.std.specs.Option.{option_eq, option_map_or}
 use Rattle.std.specs.Prelude.{Bool, List, None, Option, Some, false, if◌then◌else◌, length, nat_eq, option_map, slice_get, ℕ, ℤ, ◌+◌}
 

@@ -1,10 +1,10 @@
 -- What an index is, and what it answers.
 use Rattle.std.specs.Prelude.{◌≡◌, ℕ, List, [], get_or, map, slice_get, unwrap_or, option_map, Option, Some}
 use Rattle.ppd_ast.specs.declared.plan.Plan.{Plan}
-use Rattle.ppd_entry.specs.declared.entry.Entry.{Entry}
-use Rattle.ppd_entry.specs.declared.entry.Logs.{Logs}
-use Rattle.ppd_entry.specs.IntervalLogs.{IntervalLog, indexed, interval_log, log_by}
-use Rattle.ppd_entry.specs.Pieces.{Piece}
+use Rattle.ppd_model.specs.declared.entry.Entry.{Entry}
+use Rattle.ppd_model.specs.declared.entry.Logs.{Logs}
+use Rattle.ppd_model.specs.IntervalLogs.{IntervalLog, indexed, interval_log, log_by}
+use Rattle.ppd_model.specs.Pieces.{Piece}
 use Rattle.ppd_model.specs.Bounds.{AreEach}
 use Rattle.ppd_model.specs.Extents.{extents}
 use Rattle.ppd_index.specs.declared.interval.Interval.{Interval}

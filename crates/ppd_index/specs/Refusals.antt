@@ -5,13 +5,13 @@ use Rattle.ppd_ast.specs.declared.plan.BlockKind.TheVariants as block
 use Rattle.ppd_ast.specs.declared.plan.Plan.{Plan}
 use Rattle.ppd_ast.specs.declared.program.Program.{Program}
 use Rattle.ppd_ast.specs.declared.status.Status.TheVariants as status
-use Rattle.ppd_entry.specs.Entries.{is_end}
-use Rattle.ppd_entry.specs.IntervalLogs.{Indexing, begun_indexing, blocks_of, functions_in, index_step, interval_at}
-use Rattle.ppd_entry.specs.declared.entry.At.{At}
-use Rattle.ppd_entry.specs.declared.entry.Entry.{Entry}
-use Rattle.ppd_entry.specs.declared.entry.Entry.TheVariants as entry
-use Rattle.ppd_index.specs.declared.refusal.BadLog.{BadLog}
-use Rattle.ppd_index.specs.declared.refusal.BadLog.TheVariants.{AfterEnd, Memory, NoEnd, Unpaired, WrongValues}
+use Rattle.ppd_model.specs.Entries.{is_end}
+use Rattle.ppd_model.specs.IntervalLogs.{Indexing, begun_indexing, blocks_of, functions_in, index_step, interval_at}
+use Rattle.ppd_model.specs.declared.entry.At.{At}
+use Rattle.ppd_model.specs.declared.entry.Entry.{Entry}
+use Rattle.ppd_model.specs.declared.entry.Entry.TheVariants as entry
+use Rattle.ppd_model.specs.declared.bad_log.BadLog.{BadLog}
+use Rattle.ppd_model.specs.declared.bad_log.BadLog.TheVariants.{AfterEnd, Memory, NoEnd, Unpaired, WrongValues}
 use Rattle.ppd_index.specs.declared.standing.Standing.{Standing}
 use Rattle.std.specs.Option.{option_eq, option_map_or, option_or as or_else}
 use Rattle.std.specs.Prelude.{Bool, List, None, Option, Some, [], false, if◌then◌else◌, is_some, length, nat_eq, nat_le, not, option_map, slice_get, true, ℕ, ⊤, ◌&&◌, ◌+◌, ◌||◌, ◌∷◌, ◌≡◌}

@@ -1,8 +1,8 @@
 -- What an index costs: a look at each entry, and for the end of a process one at each interval that still runs.
 use Rattle.std.specs.Prelude.{ℕ, ◌+◌, ◌*◌, Bool, List, length, if◌then◌else◌}
 use Rattle.std.specs.List.{sum_by}
-use Rattle.ppd_entry.specs.declared.entry.Entry.{Entry}
-use Rattle.ppd_entry.specs.declared.entry.Logs.{Logs}
+use Rattle.ppd_model.specs.declared.entry.Entry.{Entry}
+use Rattle.ppd_model.specs.declared.entry.Logs.{Logs}
 
 -- the running intervals that the end is still to come for
 abbrev pub still_open : Bool → List ℕ → ℕ

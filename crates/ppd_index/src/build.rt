@@ -1,20 +1,19 @@
 ghost use Rattle.std.specs.Prelude.{◌≡◌, ◌+◌, ◌*◌, ◌≤◌, ◌<◌, ◌^◌, ◌||◌, [], None, length, IfOk, IfErr, OnOk, Some, if◌then◌else◌};
 ghost use Rattle.ppd_ast.specs.declared.limits.TheConstants.{MOST_NAMED};
-ghost use Rattle.ppd_entry.specs.Entries.{is_end};
+ghost use Rattle.ppd_model.specs.Entries.{is_end};
 ghost use Rattle.ppd_index.specs.Fitting.{AreFittingLogs};
 ghost use Rattle.ppd_index.specs.Indexes.{IsIndexOf};
-ghost use Rattle.ppd_index.specs.declared.refusal.BadLog.TheVariants.{NoEnd};
+ghost use Rattle.ppd_model.specs.declared.bad_log.BadLog.TheVariants.{NoEnd};
 ghost use Rattle.ppd_index.specs.Refusals.{IsRefused, first_bad, first_in_lists, refusal};
 ghost use Rattle.ppd_index.specs.Spending.{index_cost, index_least, still_open};
 ghost use Rattle.ppd_index.specs.Tables.{begun_table, rows_of, standing_in, table_step, tabled};
 
 use crate::log_index::LogIndex;
-use crate::refusal::BadLog;
 use crate::row::Row;
 use crate::standing::{Owner, first_refusal, is_over};
 use crate::table::{Table, number};
 use ppd_ast::{Plan, Program, Seq, Steps};
-use ppd_entry::{At, Entry, Logs};
+use ppd_model::{At, BadLog, Entry, Logs};
 use std::alloc::Global;
 use std::marker::Brand;
 use std::sync::ledger::{Blank, Ledger};

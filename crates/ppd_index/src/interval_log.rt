@@ -1,10 +1,10 @@
 ghost use Rattle.std.specs.Prelude.{◌≡◌, ◌<◌, length, slice_get, Some};
-ghost use Rattle.ppd_entry.specs.Pieces.{piece_of};
+ghost use Rattle.ppd_model.specs.Pieces.{piece_of};
 ghost use Rattle.ppd_index.specs.Indexes.{entry_of, piece_in};
 ghost use Rattle.ppd_index.specs.Tables.{number_of, piece_at as marked_piece, piece_there, values_at as values_of_entry};
 
 use crate::row::{Mark, Row};
-use ppd_entry::{Entry, Piece};
+use ppd_model::{Entry, Piece};
 use std::marker::Model;
 
 /// The log of one interval, which lends parts of its process's log: its block, the values of its prelog, its
@@ -16,7 +16,7 @@ pub struct IntervalLog<'a> {
 }
 
 impl<'a> Model for IntervalLog<'a> {
-    ghost use Rattle.ppd_entry.specs.IntervalLogs.{IntervalLog as LogOfInterval};
+    ghost use Rattle.ppd_model.specs.IntervalLogs.{IntervalLog as LogOfInterval};
     ghost use Rattle.ppd_index.specs.Tables.{log_of};
 
     ghost Value = { LogOfInterval };

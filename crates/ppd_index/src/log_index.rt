@@ -6,7 +6,7 @@ use crate::interval::Interval;
 use crate::interval_log::IntervalLog;
 use crate::row::Row;
 use ppd_ast::Seq;
-use ppd_entry::{Entry, Logs};
+use ppd_model::{Entry, Logs};
 
 /// The intervals of each process of logs, numbered from 0 in the order of their prelogs. It keeps the numbers
 /// of entries and no entry.

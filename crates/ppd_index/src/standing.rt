@@ -1,13 +1,12 @@
 ghost use Rattle.std.specs.Prelude.{◌≡◌, ◌||◌, [], nat_eq, Some};
 ghost use Rattle.std.specs.Option.{option_eq};
-ghost use Rattle.ppd_entry.specs.declared.entry.Entry.TheVariants as entry_of;
-ghost use Rattle.ppd_entry.specs.Entries.{is_end as is_end_of};
+ghost use Rattle.ppd_model.specs.declared.entry.Entry.TheVariants as entry_of;
+ghost use Rattle.ppd_model.specs.Entries.{is_end as is_end_of};
 ghost use Rattle.ppd_index.specs.Refusals.{is_fitting as is_fitting_in, is_paired as is_paired_in, may_begin as may_begin_there, refusal};
 
-use crate::refusal::BadLog;
 use ppd_ast::limits::MOST_CALLS;
 use ppd_ast::{BlockKind, Plan, Status};
-use ppd_entry::{At, Entry};
+use ppd_model::{At, BadLog, Entry};
 
 /// A process by its number, and by that of its body.
 #[derive(Clone, Copy)]

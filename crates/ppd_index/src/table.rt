@@ -1,5 +1,5 @@
 ghost use Rattle.std.specs.Prelude.{◌≡◌, ◌+◌, ◌≤◌, ◌++◌, ◌∷◌, [], drop, IfOk, length, slice_get, if◌then◌else◌, OnErr, OnOk, ◌^◌};
-ghost use Rattle.ppd_entry.specs.Entries.{is_end};
+ghost use Rattle.ppd_model.specs.Entries.{is_end};
 ghost use Rattle.ppd_sem.specs.Blocks.{block_kind, is_function};
 ghost use Rattle.ppd_model.specs.World.{change};
 ghost use Rattle.ppd_index.specs.declared.row.Mark.TheVariants as mark;
@@ -9,7 +9,7 @@ ghost use Rattle.ppd_index.specs.Tables.{HasRoom, HasRoomFor, add_mark, add_mark
 use crate::row::{Mark, Row};
 use crate::standing::Standing;
 use ppd_ast::{BlockKind, Memory, Plan, Seq, Steps};
-use ppd_entry::Entry;
+use ppd_model::Entry;
 use ppd_sem::Stack;
 use std::alloc::Global;
 use std::sync::ledger::Ledger;

@@ -13,8 +13,8 @@ use Rattle.ppd_ast.specs.declared.plan.Unit.{Unit as UnitOf}
 use Rattle.ppd_ast.specs.declared.program.Body.{Body}
 use Rattle.ppd_ast.specs.declared.program.Program.{Program}
 use Rattle.ppd_ast.specs.declared.status.Status.{Status}
-use Rattle.ppd_entry.specs.declared.entry.Entry.{Entry}
-use Rattle.ppd_entry.specs.declared.entry.Entry.TheVariants as entry
+use Rattle.ppd_model.specs.declared.entry.Entry.{Entry}
+use Rattle.ppd_model.specs.declared.entry.Entry.TheVariants as entry
 use Rattle.ppd_model.proofs.Changes.{change-at, change-else, some}
 use Rattle.ppd_model.proofs.Homes.{AreHome, AskedOf, IsHome, act-home, head_of, started-home}
 use Rattle.ppd_model.proofs.LogWords.{logs_from}

@@ -12,8 +12,7 @@ use Rattle.ppd_model.specs.Story.{number_of}
 use Rattle.ppd_model.proofs.WorldWords.{number_after}
 use Rattle.ppd_model.specs.Synchronizations.{Sync, kind_of_sync, numbered}
 use Rattle.ppd_model.specs.Numbers.{count_of, count_in}
-use Rattle.ppd_model.proofs.Changes.{change-at, change-else}
-use Rattle.ppd_model.proofs.Changes.{some}
+use Rattle.ppd_model.proofs.Changes.{change-at, change-else, some}
 
 -- what a step with this need makes of the counts
 pub record IsCounting (w : World) (need : Need) (s : Sync) : Type 0 where

@@ -1,9 +1,9 @@
 -- Words of the proofs for where the intervals of a log stand, and what each entry makes of that.
-use Rattle.ppd_entry.proofs.Vocabulary.{new_interval, with_end, with_piece, with_postlog}
-use Rattle.ppd_entry.specs.IntervalLogs.{Extent, Indexing, LoggedInterval, add_piece, begun_indexing, index_step, interval_at, left_interval, left_open}
-use Rattle.ppd_entry.specs.Pieces.{Piece, finish, nested, sync, unfinished, unit}
-use Rattle.ppd_entry.specs.declared.entry.Entry.{Entry}
-use Rattle.ppd_entry.specs.declared.entry.Entry.TheVariants as entry
+use Rattle.ppd_model.proofs.EntryWords.{new_interval, with_end, with_piece, with_postlog}
+use Rattle.ppd_model.specs.IntervalLogs.{Extent, Indexing, LoggedInterval, add_piece, begun_indexing, index_step, interval_at, left_interval, left_open}
+use Rattle.ppd_model.specs.Pieces.{Piece, finish, nested, sync, unfinished, unit}
+use Rattle.ppd_model.specs.declared.entry.Entry.{Entry}
+use Rattle.ppd_model.specs.declared.entry.Entry.TheVariants as entry
 use Rattle.ppd_model.specs.Extents.{extents}
 use Rattle.ppd_model.specs.Intervals.{change_first}
 use Rattle.ppd_model.specs.World.{change}

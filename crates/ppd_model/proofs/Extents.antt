@@ -4,8 +4,8 @@ use Rattle.std.specs.Prelude.{drop, fold, option_map, slice_get, ⊤}
 use Rattle.std.proofs.lemmas.Bool.{cases_eq}
 use Rattle.std.proofs.lemmas.List.{append-nil, append_assoc}
 use Rattle.std.proofs.lemmas.Option.{none-some}
-use Rattle.ppd_entry.specs.declared.entry.Entry.{Entry}
-use Rattle.ppd_entry.specs.declared.entry.Entry.TheVariants as entry
+use Rattle.ppd_model.specs.declared.entry.Entry.{Entry}
+use Rattle.ppd_model.specs.declared.entry.Entry.TheVariants as entry
 use Rattle.ppd_model.specs.Extents.{AreMatched, none, within, pair, AreOpen, matched, opened, Extent, ExtentsMatch, IsLeftAt, IsNotLeft, is_within}
 use Rattle.ppd_model.proofs.ExtentWords.{Extending, begun_extents, ended_by, extend, extent_there, left_by}
 use Rattle.ppd_model.specs.World.{change}

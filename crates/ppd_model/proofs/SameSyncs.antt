@@ -4,7 +4,7 @@ use Rattle.std.specs.Prelude.{IsTrue}
 use Rattle.std.proofs.lemmas.Bool.{and_from, and_parts}
 use Rattle.ppd_ast.specs.declared.status.SyncKind.{SyncKind}
 use Rattle.ppd_ast.specs.declared.status.SyncKind.TheVariants.{P, V, Send, Recv, Done}
-use Rattle.ppd_entry.specs.Entries.{same_kind}
+use Rattle.ppd_model.specs.Entries.{same_kind}
 use Rattle.ppd_model.specs.Numbers.{sync}
 use Rattle.ppd_model.specs.SameSyncs.{same_sync}
 use Rattle.ppd_model.specs.Synchronizations.{Sync}

@@ -1,9 +1,9 @@
 -- Where the intervals of a process stand in its log: a prelog and its postlog, properly nested.
 use Rattle.ppd_model.specs.Setting.{Setting}
-pub use Rattle.ppd_entry.specs.IntervalLogs.{Extent, functions_in}
-use Rattle.ppd_entry.specs.IntervalLogs.{indexed}
-use Rattle.ppd_entry.specs.declared.entry.Entry.{Entry}
-use Rattle.ppd_entry.specs.declared.entry.Entry.TheVariants as entry
+pub use Rattle.ppd_model.specs.IntervalLogs.{Extent, functions_in}
+use Rattle.ppd_model.specs.IntervalLogs.{indexed}
+use Rattle.ppd_model.specs.declared.entry.Entry.{Entry}
+use Rattle.ppd_model.specs.declared.entry.Entry.TheVariants as entry
 use Rattle.ppd_model.specs.Bounds.{AreEach}
 use Rattle.ppd_model.specs.Intervals.{Span, Split, splits}
 use Rattle.ppd_model.specs.Logs.{Logging, closed_log, loggings}

@@ -1,10 +1,7 @@
--- What a schedule of a program is, and all that is found in its run.
-pub use Rattle.ppd_entry.specs.IntervalLogs
-pub use Rattle.ppd_entry.specs.Pieces
-pub use Rattle.ppd_entry.specs.Entries
+-- The entries of logs, the logs of intervals, and the lists in them; what a schedule of a program is, and all that is
+-- found in its run; and the replay of one interval from its own log: no schedule and no other process is known to it.
 pub use Rattle.ppd_sem.specs.Tables
 pub use Rattle.ppd_ast.specs.declared.status.SyncKind
-pub use Rattle.ppd_entry.specs.declared.entry.Entry
 pub mod Setting
 pub mod World
 pub mod Schedule
@@ -38,3 +35,12 @@ pub mod Items
 pub mod Extents
 pub mod Written
 pub mod SameSyncs
+pub mod Boxed
+pub mod Changed
+pub mod Entries
+pub mod Pieces
+pub mod IntervalLogs
+pub mod Fits
+pub mod Replay
+pub mod ReplayLaws
+pub mod Ending

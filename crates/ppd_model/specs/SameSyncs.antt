@@ -1,6 +1,6 @@
 -- Whether synchronizations are one.
 use Rattle.std.specs.Prelude.{nat_eq, Bool, ◌&&◌}
-use Rattle.ppd_entry.specs.Entries.{same_kind}
+use Rattle.ppd_model.specs.Entries.{same_kind}
 use Rattle.ppd_model.specs.Synchronizations.{Sync}
 
 -- the same kind, object and number

@@ -9,7 +9,7 @@ use Rattle.ppd_sem.specs.declared.proc.Answer.{Answer}
 use Rattle.ppd_sem.specs.declared.proc.Answer.TheVariants.{Value, Go}
 use Rattle.ppd_sem.specs.declared.proc.Proc.{Proc}
 use Rattle.ppd_sem.specs.Process.{need_of, act}
-pub use Rattle.ppd_entry.specs.Changed.{change}
+pub use Rattle.ppd_model.specs.Changed.{change}
 pub use Rattle.ppd_model.specs.declared.state.Counts.{Counts}
 pub use Rattle.ppd_model.specs.declared.state.Channel.{Channel}
 

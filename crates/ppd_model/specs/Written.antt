@@ -2,8 +2,8 @@
 use Rattle.ppd_model.specs.Setting.{Setting}
 use Rattle.std.specs.Prelude.{◌≡◌, ℕ, ◌<◌, ◌≤◌, ◌⊎◌, List, [], ◌∷◌, ◌++◌, length, slice_get, Some, None}
 use Rattle.ppd_ast.specs.declared.status.Status.{Status}
-use Rattle.ppd_entry.specs.declared.entry.Entry.{Entry}
-use Rattle.ppd_entry.specs.declared.entry.Entry.TheVariants as entry
+use Rattle.ppd_model.specs.declared.entry.Entry.{Entry}
+use Rattle.ppd_model.specs.declared.entry.Entry.TheVariants as entry
 use Rattle.ppd_model.specs.Bounds.{AreEach}
 use Rattle.ppd_model.specs.Extents.{Extent, extents}
 use Rattle.ppd_model.specs.Intervals.{Span, Split, splits}

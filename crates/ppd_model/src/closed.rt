@@ -1,5 +1,5 @@
+use crate::Logs;
 use ppd_ast::{Nums, Seq, Status};
-use ppd_entry::Logs;
 
 /// How a process ended: `stmt` is the statement that ended it, that trapped or that would come
 /// next, `steps` counts its steps but a stop for the budget, and `prints` has what it printed.

@@ -1,5 +1,5 @@
+use crate::Entry;
 use ppd_ast::{Cells, Nums, Seq};
-use ppd_entry::Entry;
 use ppd_sem::Proc;
 
 /// How often a semaphore was given, its initial value included, and how often it was taken.

@@ -1,6 +1,6 @@
 -- The parts that stand for a symbol are those of its production.
 use Rattle.std.proofs.Common.{◌≡◌, Bool, true, false, Some, cond, refl}
-use Rattle.ppd_lex.specs.declared.token.Kind.{Kind}
+use Rattle.ppd_parse.specs.declared.token.Kind.{Kind}
 use Rattle.ppd_parse.specs.declared.symbol.Symbol.{Symbol}
 use Rattle.ppd_parse.specs.declared.symbol.Symbol.TheVariants as S
 use Rattle.ppd_parse.specs.Grammar.{parts, is_operator, chain_end, chain_more}

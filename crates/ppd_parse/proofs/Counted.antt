@@ -2,9 +2,9 @@
 use Rattle.std.proofs.Common.{◌≤◌, ℕ, ◌+◌, ◌^◌, List, [], ◌∷◌, length, arith}
 use Rattle.std.specs.List.{All}
 use Rattle.std.proofs.lemmas.List.Elements.{All-head, All-tail}
-use Rattle.ppd_lex.specs.declared.token.Token.{Token}
-use Rattle.ppd_lex.specs.Formed.{IsFormed, Rise, AreFormed}
-use Rattle.ppd_lex.specs.Tokens.{IsTokens}
+use Rattle.ppd_parse.specs.declared.token.Token.{Token}
+use Rattle.ppd_parse.specs.Formed.{IsFormed, Rise, AreFormed}
+use Rattle.ppd_parse.specs.Tokens.{IsTokens}
 
 pub counted_from : (i len : ℕ) (t : Token) (ts : List Token) → All (IsFormed len) (t ∷ ts) → Rise i (t ∷ ts) → i + length (t ∷ ts) ≤ len + 1
 counted_from i len t [] each rise =

@@ -3,7 +3,7 @@ use Rattle.std.specs.Prelude.{take, drop}
 use Rattle.std.proofs.Common.{◌≡◌, ◌≢◌, ℕ, zero, suc, ◌<◌, ◌≤◌, List, [], ◌∷◌, ◌++◌, length, refl, ◌∙◌, ap, subst, arith}
 use Rattle.ppd_ast.specs.declared.limits.TheConstants.{MOST_OPEN, MOST_SOURCE_OPERATORS}
 use Rattle.ppd_ast.specs.declared.program.Place.{Place}
-use Rattle.ppd_lex.specs.declared.token.Token.{Token}
+use Rattle.ppd_parse.specs.declared.token.Token.{Token}
 use Rattle.ppd_parse.specs.declared.error.SyntaxError.{SyntaxError}
 use Rattle.ppd_parse.specs.declared.error.SyntaxError.TheVariants as E
 use Rattle.ppd_parse.specs.Grammar.{Shape, Marked}

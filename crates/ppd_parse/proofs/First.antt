@@ -1,7 +1,7 @@
 -- The first token of a symbol says how it is made up.
 use Rattle.std.proofs.Common.{◌≡◌, ℕ, Bool, true, false, List, [], ◌∷◌, refl, sym, ◌∙◌, ap, cond}
-use Rattle.ppd_lex.specs.declared.token.Kind.{Kind}
-use Rattle.ppd_lex.specs.declared.token.Kind.TheVariants as K
+use Rattle.ppd_parse.specs.declared.token.Kind.{Kind}
+use Rattle.ppd_parse.specs.declared.token.Kind.TheVariants as K
 use Rattle.ppd_parse.specs.declared.symbol.Level.{Level}
 use Rattle.ppd_parse.specs.declared.symbol.Symbol.{Symbol}
 use Rattle.ppd_parse.specs.declared.symbol.Symbol.TheVariants as S

@@ -1,7 +1,7 @@
 -- What the language's grammar reads, the parser's grammar reads.
 use Rattle.std.proofs.Common.{◌≡◌, Bool, false, List, [], ◌∷◌, ◌++◌, refl, sym, ap, append_assoc}
-use Rattle.ppd_lex.specs.declared.token.Kind.{Kind}
-use Rattle.ppd_lex.specs.declared.token.Kind.TheVariants as K
+use Rattle.ppd_parse.specs.declared.token.Kind.{Kind}
+use Rattle.ppd_parse.specs.declared.token.Kind.TheVariants as K
 use Rattle.ppd_parse.specs.declared.symbol.Level.{Level}
 use Rattle.ppd_parse.specs.declared.symbol.Level.TheVariants as L
 use Rattle.ppd_parse.specs.declared.symbol.Rule.TheVariants as R
@@ -10,9 +10,8 @@ use Rattle.ppd_parse.specs.declared.symbol.At.{At}
 use Rattle.ppd_parse.specs.declared.symbol.Part.{Part}
 use Rattle.ppd_parse.specs.declared.symbol.Part.TheVariants as P
 use Rattle.ppd_parse.specs.Grammar.{Shape, leaf, node, forest, Marked, kind_at, is_operator, deeper, inside, outside, Production, parts, Stands, MayStand, nothing, next, source, items_end, items_shared, items_sems, items_chans, items_function, items_process, shared, shared_end, shared_more, shared_item, no_start, start, shared_length, start_plain, start_minus, sems, no_sem_start, sem_start, sems_end, sems_more, chans, chans_end, chans_more, function_int, function_void, no_params, some_params, params_void, params_int, params_end, params_more, process, block, stmts_end, stmts_local, stmts_more, local, local_end, local_more, local_item, no_local_start, local_start, local_length, value_recv, value_plain, no_args, some_args, args_end, args_more, minus, negation, parens as parens_unary, number, stmt_block, stmt_empty, stmt_if, stmt_while, stmt_for, stmt_return, stmt_take, stmt_give, stmt_send, stmt_print, stmt_assert, no_else, some_else, for_plain, for_local, for_change, for_ever, for_while, for_still, for_step, return_plain, return_value}
-use Rattle.ppd_parse.proofs.Vocabulary.{IsParsed}
+use Rattle.ppd_parse.proofs.Vocabulary.{IsParsed, answer, else_part, heading, NextIsNot}
 use Rattle.ppd_parse.specs.Language.{Side, source_side, shared_side, shared_item_side, sems_side, chans_side, function_side, params_side, process_side, block_side, local_side, local_item_side, value_side, place_side, change_side, stmt_side, expr_side, tier, unary_side, Phrase, word, the, ◌·◌, ◌∣◌, many, maybe, opened, parens, brackets, called, call, phrase, IsProgram}
-use Rattle.ppd_parse.proofs.Vocabulary.{answer, else_part, heading, NextIsNot}
 use Rattle.ppd_parse.proofs.Usual.{declarations, expressions}
 use Rattle.ppd_parse.proofs.Given.{Gives, Given, Rows, here, token_here, token_below, one, cons, cons_two, cons_three, join_rows, rows_as, free, plain_by, nothing_by, node_by, Next, next_kind, next_left, next_right, is_not, other_kind, is_opening, binds, binds_or, binds_operator, goes, Calm}
 use Rattle.ppd_parse.proofs.Given as G

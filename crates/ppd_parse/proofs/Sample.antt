@@ -1,9 +1,9 @@
 -- What the stack wants can always be given.
 use Rattle.std.proofs.Common.{◌≡◌, ◌<◌, ◌≤◌, ◌+◌, ℕ, zero, suc, pos, Bool, true, false, List, [], ◌∷◌, ◌++◌, length, refl, sym, ◌∙◌, ap, subst, arith}
-use Rattle.ppd_lex.specs.declared.token.TokenKind.{TokenKind}
-use Rattle.ppd_lex.specs.declared.token.TokenKind.TheVariants as T
-use Rattle.ppd_lex.specs.declared.token.Kind.{Kind}
-use Rattle.ppd_lex.specs.declared.token.Kind.TheVariants as K
+use Rattle.ppd_parse.specs.declared.token.TokenKind.{TokenKind}
+use Rattle.ppd_parse.specs.declared.token.TokenKind.TheVariants as T
+use Rattle.ppd_parse.specs.declared.token.Kind.{Kind}
+use Rattle.ppd_parse.specs.declared.token.Kind.TheVariants as K
 use Rattle.ppd_parse.specs.declared.symbol.Level.{Level}
 use Rattle.ppd_parse.specs.declared.symbol.Level.TheVariants as L
 use Rattle.ppd_parse.specs.declared.symbol.Symbol.{Symbol}

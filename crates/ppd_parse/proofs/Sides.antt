@@ -1,12 +1,11 @@
 -- What each production of the parser's grammar reads, as a right side of the language's grammar reads it.
 use Rattle.std.proofs.Common.{◌≡◌, List, [], ◌∷◌, ◌++◌, sym, ◌∙◌, ap, subst, append_assoc}
-use Rattle.ppd_lex.specs.declared.token.Kind.TheVariants as K
+use Rattle.ppd_parse.specs.declared.token.Kind.TheVariants as K
 use Rattle.ppd_parse.specs.declared.symbol.Rule.TheVariants as R
 use Rattle.ppd_parse.specs.declared.symbol.At.{At}
 use Rattle.ppd_parse.specs.Grammar.{Shape, Marked, MayStand, no_else}
 use Rattle.ppd_parse.specs.Language.{shared_side, shared_item_side, sems_side, chans_side, function_side, params_side, process_side, block_side, local_side, local_item_side, value_side, place_side, change_side, stmt_side, expr_side, unary_side, Phrase, word, the, ◌·◌, ◌∣◌, many, maybe, opened, made, parens, brackets, called, received, Is, side, both, left, right, done, more, absent, present, within, grouped}
-use Rattle.ppd_parse.proofs.Vocabulary.{heading}
-use Rattle.ppd_parse.proofs.Vocabulary.{else_part, NextIsNot}
+use Rattle.ppd_parse.proofs.Vocabulary.{heading, else_part, NextIsNot}
 use Rattle.ppd_parse.proofs.Usual.{declarations, expressions}
 
 -- ---- one phrase after another

@@ -1,7 +1,7 @@
 -- What a token does, after moves of the wants on top.
 use Rattle.std.proofs.Common.{◌≡◌, ◌≤◌, ◌<◌, ◌+◌, ◌*◌, ℕ, List, refl, ap, length, reverse, subst, arith}
 use Rattle.std.proofs.lemmas.List.{length-reverse}
-use Rattle.ppd_lex.specs.declared.token.Token.{Token}
+use Rattle.ppd_parse.specs.declared.token.Token.{Token}
 use Rattle.ppd_parse.specs.declared.symbol.At.{At}
 use Rattle.ppd_parse.specs.declared.symbol.Want.{Want}
 use Rattle.ppd_parse.specs.Grammar.{Shape, kind_of}

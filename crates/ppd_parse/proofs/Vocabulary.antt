@@ -1,10 +1,10 @@
 -- What the proofs speak of: definitions that no contract cites.
 use Rattle.std.specs.Prelude.{◌≡◌, ◌≢◌, ◌<◌, ◌≤◌, ℕ, List, [], ◌∷◌, ◌++◌, length, take, fold, slice_get, IfSome}
 use Rattle.ppd_ast.specs.declared.limits.TheConstants.{MOST_OPEN, MOST_SOURCE_OPERATORS}
-use Rattle.ppd_lex.specs.declared.token.Token.{Token}
-use Rattle.ppd_lex.specs.declared.token.TokenKind.TheVariants as T
-use Rattle.ppd_lex.specs.declared.token.Kind.{Kind}
-use Rattle.ppd_lex.specs.declared.token.Kind.TheVariants as K
+use Rattle.ppd_parse.specs.declared.token.Token.{Token}
+use Rattle.ppd_parse.specs.declared.token.TokenKind.TheVariants as T
+use Rattle.ppd_parse.specs.declared.token.Kind.{Kind}
+use Rattle.ppd_parse.specs.declared.token.Kind.TheVariants as K
 use Rattle.ppd_parse.specs.declared.symbol.Rule.{Rule}
 use Rattle.ppd_parse.specs.declared.symbol.Rule.TheVariants as R
 use Rattle.ppd_parse.specs.declared.symbol.Symbol.{Symbol}

@@ -1,6 +1,6 @@
 -- What is answered for the tokens of a source.
 use Rattle.std.specs.Prelude.{◌≤◌, ◌*◌, List, [], ◌∷◌, length, Result, IfOk, IfErr}
-use Rattle.ppd_lex.specs.declared.token.Token.{Token}
+use Rattle.ppd_parse.specs.declared.token.Token.{Token}
 use Rattle.ppd_parse.specs.declared.error.SyntaxError.{SyntaxError}
 use Rattle.ppd_parse.specs.declared.node.Tree.{Tree}
 use Rattle.ppd_parse.specs.Limits.{IsRefused, IsTree}

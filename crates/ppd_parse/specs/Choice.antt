@@ -1,7 +1,7 @@
 -- How a symbol is made up, where a token of some kind is next: the grammar's table, a row for each kind of token.
 use Rattle.std.specs.Prelude.{ℕ, List, ◌++◌, reverse, Option, Some, None, cond}
-use Rattle.ppd_lex.specs.declared.token.Kind.{Kind}
-use Rattle.ppd_lex.specs.declared.token.Kind.TheVariants as K
+use Rattle.ppd_parse.specs.declared.token.Kind.{Kind}
+use Rattle.ppd_parse.specs.declared.token.Kind.TheVariants as K
 use Rattle.ppd_parse.specs.declared.symbol.Symbol.{Symbol}
 use Rattle.ppd_parse.specs.declared.symbol.Symbol.TheVariants as S
 use Rattle.ppd_parse.specs.declared.symbol.At.{At}

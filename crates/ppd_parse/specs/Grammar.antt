@@ -25,8 +25,8 @@ pub use Rattle.ppd_parse.specs.Trees.{
   tokens_of,
 }
 use Rattle.std.specs.Prelude.{◌≡◌, ◌≢◌, ◌-◌, ℕ, true, false, List, [], ◌∷◌, ◌++◌, map, length, take, drop}
-use Rattle.ppd_lex.specs.declared.token.Kind.{Kind}
-use Rattle.ppd_lex.specs.declared.token.Kind.TheVariants as K
+use Rattle.ppd_parse.specs.declared.token.Kind.{Kind}
+use Rattle.ppd_parse.specs.declared.token.Kind.TheVariants as K
 use Rattle.ppd_parse.specs.declared.symbol.Level.{Level}
 use Rattle.ppd_parse.specs.declared.symbol.Level.TheVariants as L
 use Rattle.ppd_parse.specs.declared.symbol.Rule.{Rule}

@@ -1,7 +1,7 @@
 -- The grammar of the language: each of its left sides with what it is made up of. It knows no limits and no parser.
 use Rattle.std.specs.Prelude.{◌≡◌, ◌≢◌, true, false, List, [], ◌∷◌, ◌++◌, slice_get, IfSome}
-use Rattle.ppd_lex.specs.declared.token.Kind.{Kind}
-use Rattle.ppd_lex.specs.declared.token.Kind.TheVariants as K
+use Rattle.ppd_parse.specs.declared.token.Kind.{Kind}
+use Rattle.ppd_parse.specs.declared.token.Kind.TheVariants as K
 use Rattle.ppd_parse.specs.declared.symbol.Level.{Level}
 use Rattle.ppd_parse.specs.declared.symbol.Level.TheVariants as L
 use Rattle.ppd_parse.specs.declared.symbol.Rule.{Rule}

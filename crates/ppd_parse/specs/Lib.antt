@@ -17,3 +17,8 @@ pub mod Stack
 pub mod Table
 pub mod Tree
 pub mod Trees
+pub mod Front
+pub mod Formed
+pub mod Gaps
+pub mod LexLaws
+pub mod Tokens

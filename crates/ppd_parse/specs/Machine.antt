@@ -1,8 +1,8 @@
 -- What the parser's stack still wants, and what one token does to it.
 use Rattle.std.specs.Prelude.{◌≡◌, List, [], ◌∷◌, length, reverse, Option, Some, None, ◌<◌, ◌≤◌, ◌+◌}
-use Rattle.ppd_lex.specs.declared.token.Token.{Token}
-use Rattle.ppd_lex.specs.declared.token.Kind.{Kind}
-use Rattle.ppd_lex.specs.declared.token.Kind.TheVariants as K
+use Rattle.ppd_parse.specs.declared.token.Token.{Token}
+use Rattle.ppd_parse.specs.declared.token.Kind.{Kind}
+use Rattle.ppd_parse.specs.declared.token.Kind.TheVariants as K
 use Rattle.ppd_parse.specs.declared.symbol.At.{At}
 use Rattle.ppd_parse.specs.declared.symbol.Want.{Want}
 use Rattle.ppd_parse.specs.declared.growth.Grove.{Grove}

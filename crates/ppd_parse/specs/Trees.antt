@@ -1,11 +1,11 @@
 -- The trees over tokens, and the tokens with where they stand.
 use Rattle.std.specs.Prelude.{◌+◌, Bool, true, false, List, [], ◌∷◌, map, nat_le, if◌then◌else◌}
 use Rattle.ppd_ast.specs.declared.limits.TheConstants.{MOST_OPEN}
-use Rattle.ppd_lex.specs.declared.token.Token.{Token}
-use Rattle.ppd_lex.specs.declared.token.TokenKind.{TokenKind}
-use Rattle.ppd_lex.specs.declared.token.TokenKind.TheVariants as T
-use Rattle.ppd_lex.specs.declared.token.Kind.{Kind}
-use Rattle.ppd_lex.specs.declared.token.Kind.TheVariants as K
+use Rattle.ppd_parse.specs.declared.token.Token.{Token}
+use Rattle.ppd_parse.specs.declared.token.TokenKind.{TokenKind}
+use Rattle.ppd_parse.specs.declared.token.TokenKind.TheVariants as T
+use Rattle.ppd_parse.specs.declared.token.Kind.{Kind}
+use Rattle.ppd_parse.specs.declared.token.Kind.TheVariants as K
 use Rattle.ppd_parse.specs.declared.symbol.Level.{Level}
 use Rattle.ppd_parse.specs.declared.symbol.Level.TheVariants as L
 use Rattle.ppd_parse.specs.declared.symbol.Rule.{Rule}

@@ -3,11 +3,11 @@ ghost use Rattle.std.specs.Prelude.{◌≡◌, Some, None, MatchOption};
 ghost use Rattle.ppd_parse.specs.Choice.{expansion};
 ghost use Rattle.ppd_parse.specs.Grammar.{operand_parts, parts, chain_more};
 
+use crate::Kind;
 use crate::kind::is_operator;
 use crate::symbol::{Level, Part, Rule, Symbol};
 use Part::{Deeper, Here, Inside, Wrap, WrapBack};
 use Symbol::Exact;
-use ppd_lex::Kind;
 
 // An operand of the weakest level: what binds more strongly. A stronger level's has fewer of these parts.
 const OPERAND: [Part; 6] = [

@@ -7,7 +7,7 @@ ghost use Rattle.ppd_parse.specs.Table.{shapes_of};
 use crate::growth::Grove;
 use crate::node::Growth;
 use crate::symbol::Rule;
-use ppd_lex::{Token, TokenKind};
+use crate::{Token, TokenKind};
 use std::alloc::{AllocError, Global};
 
 // A copy of what a token is.

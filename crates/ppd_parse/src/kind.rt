@@ -3,7 +3,7 @@ ghost use Rattle.std.specs.Prelude.{◌≡◌};
 ghost use Rattle.ppd_parse.specs.Grammar.{kind_of, is_operator};
 
 use crate::symbol::Level;
-use ppd_lex::{Kind, TokenKind};
+use crate::{Kind, TokenKind};
 
 /// What a token is to the grammar.
 pub fn kind_of(kind: &TokenKind) -> Kind

@@ -4,13 +4,13 @@ ghost use Rattle.ppd_parse.specs.Machine.{Advanced, Taken, state_of, wanting};
 ghost use Rattle.ppd_parse.specs.Rank.{rank, Held, Paid};
 ghost use Rattle.ppd_parse.specs.Stack.{IsGood};
 
+use crate::Token;
 use crate::grammar::production;
 use crate::growth::{Grove, Step};
 use crate::kind::{is_operator, kind_of};
 use crate::symbol::{At, Symbol, Want};
 use crate::want::{base_in, want};
 use ppd_ast::Steps;
-use ppd_lex::Token;
 use std::alloc::AllocError;
 use std::sync::ledger::Ledger;
 

@@ -1,7 +1,7 @@
 // The nodes of a tree, and those that the parser makes.
+use crate::Token;
 use crate::symbol::Rule;
 use ppd_ast::{Ids, Seq};
-use ppd_lex::Token;
 
 /// A node of the tree: a leaf with its token, or a rule with the numbers of its children, in source order.
 #[derive(Drop)]

@@ -1,6 +1,6 @@
 // The parser's way through the tokens.
 ghost use Rattle.std.specs.Prelude.{◌≡◌, ◌<◌, ◌≤◌, ◌+◌, ◌*◌, ◌^◌, [], ◌∷◌, length, IfOk, IfErr, OnOk, reverse};
-ghost use Rattle.ppd_lex.specs.Formed.{EndOnce};
+ghost use Rattle.ppd_parse.specs.Formed.{EndOnce};
 ghost use Rattle.ppd_parse.specs.Answer.{IsParseOf};
 ghost use Rattle.ppd_parse.specs.Grammar.{outside};
 ghost use Rattle.ppd_parse.specs.Limits.{count_with, is_sign, EndsAs, IsRefused, IsTree, Stepped};
@@ -16,9 +16,9 @@ use crate::machine::{raise, take};
 use crate::node::Tree;
 use crate::numbering::renumber;
 use crate::symbol::{At, Level, Symbol, Want};
+use crate::{Kind, Token};
 use ppd_ast::Steps;
 use ppd_ast::limits::{MOST_OPEN, MOST_SOURCE_OPERATORS};
-use ppd_lex::{Kind, Token};
 use std::alloc::{AllocError, Global};
 use std::marker::Brand;
 use std::sync::ledger::{Blank, Ledger};

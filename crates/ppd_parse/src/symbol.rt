@@ -1,6 +1,6 @@
 // The words of the grammar.
 
-use ppd_lex::Kind;
+use crate::Kind;
 
 /// A level of binary operators, the strongest first.
 #[derive(Clone, Copy, Drop)]

@@ -9,8 +9,7 @@ ghost use Rattle.ppd_race.specs.Busy.{AreBusyRows, AreFew, IsBusyOf, IsBusyRow, 
 use crate::union::union_of;
 use ppd_ast::limits::{MOST_NAMED, MOST_SHARED_CELLS};
 use ppd_ast::{Memory, Seq, Steps};
-use ppd_entry::BoxedCells;
-use ppd_model::EdgeId;
+use ppd_model::{BoxedCells, EdgeId};
 use ppd_race_found::{Busy, EdgeSets};
 use ppd_sets::CellSet;
 use std::alloc::Global;

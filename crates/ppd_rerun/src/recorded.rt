@@ -1,6 +1,6 @@
 use ppd_ast::{Plan, Program};
-use ppd_entry::Logs;
 use ppd_index::LogIndex;
+use ppd_model::Logs;
 
 /// What is recorded of a run: its program with its plan, its logs with their index, and the budget of each process.
 #[derive(Clone, Copy)]

@@ -7,12 +7,12 @@ use Rattle.std.proofs.lemmas.Bool.{true≢false}
 use Rattle.std.proofs.lemmas.Bool.Decides.{Decides-eqb}
 use Rattle.std.proofs.lemmas.List.{drop_all, get_or-map, length-map, take_more}
 use Rattle.std.proofs.lemmas.List.Elements.{filter_map-append}
-use Rattle.ppd_entry.specs.declared.entry.Entry.{Entry}
+use Rattle.ppd_model.specs.declared.entry.Entry.{Entry}
 use Rattle.ppd_model.specs.RecordedSets.{sync_in}
 use Rattle.std.proofs.lemmas.Option.{slice_get-map}
 use Rattle.ppd_model.specs.Synchronizations.{Sync}
 use Rattle.ppd_model.specs.World.{change}
-use Rattle.ppd_rerun_model.proofs.Taking.{drop_one, first_left}
+use Rattle.ppd_rerun_guide.proofs.Taking.{drop_one, first_left}
 use Rattle.ppd_rerun_guide.specs.declared.synced.Due.{Due}
 use Rattle.ppd_rerun_guide.specs.declared.synced.Synced.{Synced}
 use Rattle.ppd_rerun_guide.specs.Guides.{left_of, passed, plain, plain_if}

@@ -4,7 +4,7 @@ use Rattle.ppd_model.specs.Numbers.{sync}
 use Rattle.ppd_model.specs.Synchronizations.{Sync}
 use Rattle.ppd_model.specs.World.{change}
 use Rattle.ppd_world.specs.Running.{Running}
-use Rattle.ppd_rerun_model.specs.Guided.{Guiding}
+use Rattle.ppd_rerun_guide.specs.Guided.{Guiding}
 use Rattle.ppd_rerun_guide.specs.declared.synced.Synced.{Synced}
 use Rattle.ppd_rerun_guide.specs.declared.synced.Due.{Due}
 

@@ -1,2 +1,5 @@
--- The guided run in code.
+-- The guided schedule of a record, what a controlled re-execution answers, and the guided run in code.
 pub mod Guides
+pub mod Guided
+pub mod Verdicts
+pub mod Laws

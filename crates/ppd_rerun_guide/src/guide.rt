@@ -5,7 +5,7 @@ ghost use Rattle.std.specs.Bool.{Decides};
 ghost use Rattle.ppd_ast.specs.Valid.{IsValid};
 ghost use Rattle.ppd_ast.specs.ValidPlan.{IsValidPlan};
 ghost use Rattle.ppd_ast.specs.declared.limits.TheConstants.{MOST_BUDGET};
-ghost use Rattle.ppd_rerun_model.specs.Guided.{chosen as chosen_of, guide, guiding, may_step as may_step_of};
+ghost use Rattle.ppd_rerun_guide.specs.Guided.{chosen as chosen_of, guide, guiding, may_step as may_step_of};
 ghost use Rattle.ppd_model.specs.Laws.{logged_moment};
 ghost use Rattle.ppd_model.specs.RecordedSets.{record_in};
 ghost use Rattle.ppd_model.specs.Schedule.{IsOver};
@@ -16,8 +16,7 @@ ghost use Rattle.ppd_rerun_guide.specs.Guides.{AreEmpty, AreUsedUp, guiding_of, 
 use crate::setting::Setting;
 use crate::synced::{Due, Synced, is_let, sync_of};
 use ppd_ast::{Memory, Seq};
-use ppd_entry::{Entry, Logs};
-use ppd_model::Taken;
+use ppd_model::{Entry, Logs, Taken};
 use ppd_sem::Proc;
 use ppd_world::World;
 use std::alloc::Global;

@@ -1,14 +1,13 @@
 // Synchronizations as a log and a step have them.
 ghost use Rattle.std.specs.Prelude.{◌≡◌, ◌==◌, ◌++◌, drop, filter_map, length, map, option_to_list, slice_get, IfOk, OnOk};
-ghost use Rattle.ppd_rerun_model.specs.Guided.{is_let as is_let_of};
+ghost use Rattle.ppd_rerun_guide.specs.Guided.{is_let as is_let_of};
 ghost use Rattle.ppd_model.specs.SameSyncs.{same_sync as same_sync_of};
 ghost use Rattle.ppd_model.specs.RecordedSets.{sync_in as sync_in_entry};
 ghost use Rattle.ppd_model.specs.Synchronizations.{kind_of_sync, sync_of as sync_of_step};
 ghost use Rattle.ppd_rerun_guide.specs.Guides.{left_of, plain, plain_if};
 
 use ppd_ast::{Memory, Seq, SyncKind};
-use ppd_entry::{Entry, same_kind};
-use ppd_model::Taken;
+use ppd_model::{Entry, Taken, same_kind};
 use ppd_sem::Need;
 use std::alloc::Global;
 

@@ -11,7 +11,7 @@ use Rattle.std.proofs.lemmas.List.Sums.{fold-append}
 use Rattle.std.proofs.lemmas.Option.{none-some, slice_get-get_or, slice_get-map, slice_get_within}
 use Rattle.ppd_ast.specs.declared.plan.Plan.{Plan}
 use Rattle.ppd_ast.specs.declared.program.Program.{Program}
-use Rattle.ppd_entry.specs.declared.entry.Logs.{Logs}
+use Rattle.ppd_model.specs.declared.entry.Logs.{Logs}
 use Rattle.ppd_sem.specs.declared.event.Event.{Event}
 use Rattle.ppd_sem.specs.declared.proc.Proc.{Proc}
 use Rattle.ppd_sem.specs.declared.proc.Todo.{Todo}
@@ -39,11 +39,11 @@ use Rattle.ppd_model.proofs.States.{states_told}
 use Rattle.ppd_model.proofs.Stories.{stories_are_of_runs, stories_grow}
 use Rattle.ppd_world.specs.Running.{IsHeld, IsReached, Running, Takes}
 use Rattle.ppd_world.proofs.Sound.{IsSoundLogging, reached_sound}
-use Rattle.ppd_rerun_model.specs.Guided.{Guiding, chosen, guide, guided_from, is_let, sync_of_next}
-use Rattle.ppd_rerun_model.specs.Verdicts.{HasRecordOf}
-use Rattle.ppd_rerun_model.proofs.Ending.{chosen_can, chosen_let}
-use Rattle.ppd_rerun_model.proofs.Lines.{let_is}
-use Rattle.ppd_rerun_model.proofs.Taking.{one_off}
+use Rattle.ppd_rerun_guide.specs.Guided.{Guiding, chosen, guide, guided_from, is_let, sync_of_next}
+use Rattle.ppd_rerun_guide.specs.Verdicts.{HasRecordOf}
+use Rattle.ppd_rerun_guide.proofs.Ending.{chosen_can, chosen_let}
+use Rattle.ppd_rerun_guide.proofs.Lines.{let_is}
+use Rattle.ppd_rerun_guide.proofs.Taking.{one_off}
 use Rattle.ppd_rerun_ran.specs.declared.held.Held.{Held}
 use Rattle.ppd_rerun_guide.specs.Guides.{AreUsedUp}
 use Rattle.ppd_rerun_ran.specs.Holding.{Course, Holding, begun_course, begun_held, course, courses, courses_from, entered_by, held_on, hold_entered, hold_event, hold_left, hold_step}

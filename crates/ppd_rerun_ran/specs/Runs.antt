@@ -1,13 +1,13 @@
 -- What a guided run comes to, with what is held of its processes.
 use Rattle.ppd_model.specs.Setting.{Setting}
-use Rattle.ppd_rerun_model.specs.Guided.{guided}
+use Rattle.ppd_rerun_guide.specs.Guided.{guided}
 use Rattle.ppd_model.specs.RecordedSets.{record_in}
 use Rattle.std.specs.Bool.{Decides}
 use Rattle.std.specs.List.{range_with_len}
 use Rattle.std.specs.Prelude.{◌≡◌, ℕ, ◌++◌, List, length, map, slice_get, Some, get_or, []}
 use Rattle.ppd_ast.specs.declared.plan.Plan.{Plan}
 use Rattle.ppd_ast.specs.declared.program.Program.{Program}
-use Rattle.ppd_entry.specs.declared.entry.Logs.{Logs}
+use Rattle.ppd_model.specs.declared.entry.Logs.{Logs}
 use Rattle.ppd_sem.specs.declared.proc.Proc.{Proc}
 use Rattle.ppd_model.specs.Laws.{logged_moment}
 use Rattle.ppd_model.specs.Record.{sync_record}
@@ -15,7 +15,7 @@ use Rattle.ppd_model.specs.Story.{story}
 use Rattle.ppd_model.specs.Synchronizations.{Sync}
 use Rattle.ppd_model.specs.World.{change}
 use Rattle.ppd_world.specs.Running.{IsHeld, Running}
-use Rattle.ppd_rerun_model.specs.Verdicts.{HasRecordOf}
+use Rattle.ppd_rerun_guide.specs.Verdicts.{HasRecordOf}
 use Rattle.ppd_rerun_ran.specs.declared.ran.Ran.{Ran}
 use Rattle.ppd_rerun_ran.specs.Holding.{Holding, begun_held, courses, hold_step}
 use Rattle.ppd_rerun_ran.specs.Seeing.{seen}

@@ -4,7 +4,7 @@ ghost use Rattle.std.specs.Prelude.{◌≡◌, ◌+◌, ◌*◌, ◌-◌, ◌<�
 ghost use Rattle.ppd_ast.specs.Valid.{IsValid};
 ghost use Rattle.ppd_ast.specs.ValidPlan.{IsValidPlan};
 ghost use Rattle.ppd_ast.specs.declared.limits.TheConstants.{MOST_BUDGET};
-ghost use Rattle.ppd_rerun_model.specs.Guided.{chosen as chosen_of, guide as guide_of, guided_from};
+ghost use Rattle.ppd_rerun_guide.specs.Guided.{chosen as chosen_of, guide as guide_of, guided_from};
 ghost use Rattle.ppd_model.specs.World.{change};
 ghost use Rattle.ppd_sem.specs.Process.{need_of};
 ghost use Rattle.ppd_sem.specs.Runs.{IsNumbered, IsRunnable, IsRunning};
@@ -16,8 +16,7 @@ ghost use Rattle.ppd_rerun_ran.specs.Seeing.{seen};
 
 use crate::held::Held;
 use ppd_ast::{BlockKind, Bytes, Memory};
-use ppd_entry::Logs;
-use ppd_model::Taken;
+use ppd_model::{Logs, Taken};
 use ppd_rerun_guide::{Guide, Setting};
 use ppd_sem::{Proc, find_block};
 

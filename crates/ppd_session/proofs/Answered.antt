@@ -1,7 +1,7 @@
 -- Of a run no line is left without an answer: each of its intervals has its items.
 use Rattle.ppd_model.specs.Setting.{Setting}
-use Rattle.ppd_flow_past.specs.declared.flow_error.FlowError.TheVariants as flow_error
-use Rattle.ppd_flow_past.specs.declared.flow_error.FlowError.TheVariants.{NoEvent}
+use Rattle.ppd_model.specs.declared.flow_error.FlowError.TheVariants as flow_error
+use Rattle.ppd_model.specs.declared.flow_error.FlowError.TheVariants.{NoEvent}
 use Rattle.ppd_model.specs.FlowbackEdges.{edges}
 use Rattle.ppd_model.specs.Intervals.{Span, Split, items_of, splits}
 use Rattle.ppd_model.specs.Races.{races}

@@ -2,17 +2,17 @@
 use Rattle.ppd_flow_past.specs.PastSetting.{past_setting}
 use Rattle.std.specs.Prelude.{Some, None, length, ◌<◌}
 use Rattle.std.proofs.Common.{◌≡◌, ℕ, List, [], map, Option, Result, Ok, Err, ap, sym, ◌∙◌}
-use Rattle.ppd_entry.specs.declared.entry.At.{At}
-use Rattle.ppd_entry.specs.declared.entry.Logs.{Logs}
+use Rattle.ppd_model.specs.declared.entry.At.{At}
+use Rattle.ppd_model.specs.declared.entry.Logs.{Logs}
 use Rattle.ppd_flow.specs.Answers.{answer_if}
 use Rattle.ppd_model.specs.declared.flow.FlowEdge.{FlowEdge}
 use Rattle.ppd_model.specs.declared.flow.Item.{Item}
-use Rattle.ppd_flow_past.specs.declared.flow_error.FlowError.{FlowError}
-use Rattle.ppd_flow_past.specs.declared.flow_error.FlowError.TheVariants as flow_error
+use Rattle.ppd_model.specs.declared.flow_error.FlowError.{FlowError}
+use Rattle.ppd_model.specs.declared.flow_error.FlowError.TheVariants as flow_error
 use Rattle.ppd_flow_past.specs.declared.past.Past.{Past}
 use Rattle.ppd_flow_past.specs.ByReplays.{IsFoundBy, first_failed, first_failed_in}
 use Rattle.ppd_flow_past.specs.SeenBy.{seen_by}
-use Rattle.ppd_flow_model.specs.Found.{found_edges}
+use Rattle.ppd_graph.specs.Found.{found_edges}
 use Rattle.ppd_session.specs.Known.{Flow, flow_by, unless_failed}
 use Rattle.ppd_session.specs.Sessions.{known_by}
 use Rattle.ppd_session.specs.Texts.{flow_at, told_at}

@@ -6,27 +6,27 @@ use Rattle.ppd_ast.specs.declared.plan.Plan.{Plan}
 use Rattle.ppd_ast.specs.declared.plan.Policy.{Policy}
 use Rattle.ppd_ast.specs.declared.program.Program.{Program}
 use Rattle.ppd_blocks.specs.Blocks.{plan_of}
-use Rattle.ppd_emul_model.specs.Replay.{Replayed, replay}
-use Rattle.ppd_entry.proofs.Vocabulary.{log_in}
-use Rattle.ppd_entry.specs.IntervalLogs.{LoggedInterval, indexed, interval_log, log_by}
-use Rattle.ppd_entry.specs.declared.entry.Entry.{Entry}
-use Rattle.ppd_entry.specs.declared.entry.Logs.{Logs}
+use Rattle.ppd_model.specs.Replay.{Replayed, replay}
+use Rattle.ppd_model.proofs.EntryWords.{log_in}
+use Rattle.ppd_model.specs.IntervalLogs.{LoggedInterval, indexed, interval_log, log_by}
+use Rattle.ppd_model.specs.declared.entry.Entry.{Entry}
+use Rattle.ppd_model.specs.declared.entry.Logs.{Logs}
 use Rattle.ppd_flow.proofs.Assembled.{assembled}
 use Rattle.ppd_flow.proofs.LastOrigins.{last_found}
 use Rattle.ppd_flow.proofs.OwnParts.{own_parts}
 use Rattle.ppd_flow.specs.Answers.{answer_if}
 use Rattle.ppd_flow.specs.SharedCells.{answer_of}
 use Rattle.ppd_flow.specs.SharedEdges.{all_seen}
-use Rattle.ppd_flow_model.specs.Found.{edges_if, found_edges}
-use Rattle.ppd_flow_model.specs.Seen.{Seen, seen_of}
-use Rattle.ppd_flow_model.specs.Shared.{found_last, seen_at}
+use Rattle.ppd_graph.specs.Found.{edges_if, found_edges}
+use Rattle.ppd_graph.specs.Seen.{Seen, seen_of}
+use Rattle.ppd_graph.specs.Shared.{found_last, seen_at}
 use Rattle.ppd_flow_past.proofs.Replays.{replays_give_intervals}
 use Rattle.ppd_flow_past.proofs.Runs.{replays_are_seen}
 use Rattle.ppd_flow_past.proofs.SeenWords.{failure_of}
 use Rattle.ppd_flow_past.specs.ByReplays.{failure_or, first_failed}
 use Rattle.ppd_flow_past.specs.Laws.{modelled_in, modelled_of, replay_of}
 use Rattle.ppd_flow_past.specs.SeenBy.{failed_at, seen_by}
-use Rattle.ppd_flow_past.specs.declared.flow_error.FlowError.TheVariants.{NoEvent}
+use Rattle.ppd_model.specs.declared.flow_error.FlowError.TheVariants.{NoEvent}
 use Rattle.ppd_model.proofs.EdgeWords.{edges_in}
 use Rattle.ppd_model.proofs.Items.{splits_length}
 use Rattle.ppd_model.proofs.LogWords.{logs_from}

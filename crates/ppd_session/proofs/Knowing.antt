@@ -1,21 +1,21 @@
 -- What is known of logs that the index accepts: what is found, and why something is not.
 use Rattle.ppd_model.specs.Setting.{Setting}
 use Rattle.std.specs.Result.{result_err}
-use Rattle.law_flow_own.proofs.MissingWrites.{missing_writes_are_told}
-use Rattle.law_flow_own.specs.Missing.{AreIndexed, IsMissingWrite, write_at}
+use Rattle.law_flow.proofs.MissingWrites.{missing_writes_are_told}
+use Rattle.law_flow.specs.Missing.{AreIndexed, IsMissingWrite, write_at}
 use Rattle.ppd_ast.proofs.ValidLaws.{slice_get_there}
-use Rattle.ppd_emul_model.specs.declared.trace.BlockTrace.{BlockTrace}
-use Rattle.ppd_emul_model.specs.declared.trace.EmulError.{EmulError}
-use Rattle.ppd_emul_model.specs.declared.trace.EmulError.TheVariants as emul_error
-use Rattle.ppd_entry.proofs.Vocabulary.{log_in}
-use Rattle.ppd_entry.specs.IntervalLogs.{LoggedInterval, indexed}
-use Rattle.ppd_entry.specs.declared.entry.At.{At}
-use Rattle.ppd_entry.specs.declared.entry.Entry.{Entry}
-use Rattle.ppd_entry.specs.declared.entry.Logs.{Logs}
+use Rattle.ppd_model.specs.declared.block_trace.BlockTrace.{BlockTrace}
+use Rattle.ppd_model.specs.declared.block_trace.EmulError.{EmulError}
+use Rattle.ppd_model.specs.declared.block_trace.EmulError.TheVariants as emul_error
+use Rattle.ppd_model.proofs.EntryWords.{log_in}
+use Rattle.ppd_model.specs.IntervalLogs.{LoggedInterval, indexed}
+use Rattle.ppd_model.specs.declared.entry.At.{At}
+use Rattle.ppd_model.specs.declared.entry.Entry.{Entry}
+use Rattle.ppd_model.specs.declared.entry.Logs.{Logs}
 use Rattle.ppd_flow.specs.Answers.{answer_if}
 use Rattle.ppd_flow.specs.SharedCells.{answer_of as answer_found}
-use Rattle.ppd_flow_model.specs.Found.{edges_if, found_edges}
-use Rattle.ppd_flow_model.specs.Shared.{Missing, found_last, seen_at}
+use Rattle.ppd_graph.specs.Found.{edges_if, found_edges}
+use Rattle.ppd_graph.specs.Shared.{Missing, found_last, seen_at}
 use Rattle.ppd_flow_past.proofs.SeenWords.{failure_of}
 use Rattle.ppd_flow_past.specs.ByReplays.{failure_or, first_failed}
 use Rattle.ppd_flow_past.specs.Laws.{replay_of}

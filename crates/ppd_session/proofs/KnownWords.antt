@@ -2,8 +2,8 @@
 use Rattle.ppd_model.specs.Setting.{Setting}
 use Rattle.ppd_ast.specs.declared.plan.Plan.{Plan}
 use Rattle.ppd_ast.specs.declared.program.Program.{Program}
-use Rattle.ppd_flow_past.specs.declared.flow_error.FlowError.{FlowError}
-use Rattle.ppd_flow_past.specs.declared.flow_error.FlowError.TheVariants.{NoEvent}
+use Rattle.ppd_model.specs.declared.flow_error.FlowError.{FlowError}
+use Rattle.ppd_model.specs.declared.flow_error.FlowError.TheVariants.{NoEvent}
 use Rattle.ppd_model.specs.FlowbackEdges.{edges, last}
 use Rattle.ppd_model.specs.Intervals.{Span, Split}
 use Rattle.ppd_model.specs.declared.flow.Item.{Item}

@@ -3,13 +3,13 @@ use Rattle.ppd_flow_past.specs.PastSetting.{past_setting}
 use Rattle.std.specs.Prelude.{option_map}
 use Rattle.std.proofs.Common.{◌≡◌, ℕ, [], ◌∷◌, Option, Some, None, sym, subst, ◌∙◌}
 use Rattle.std.proofs.lemmas.Option.{none-some, same_Some}
-use Rattle.ppd_entry.specs.declared.entry.At.{At}
+use Rattle.ppd_model.specs.declared.entry.At.{At}
 use Rattle.ppd_model.specs.declared.graph.EdgeId.{EdgeId}
-use Rattle.ppd_flow_past.specs.declared.flow_error.FlowError.TheVariants as flow_error
+use Rattle.ppd_model.specs.declared.flow_error.FlowError.TheVariants as flow_error
 use Rattle.ppd_flow_past.specs.declared.past.Past.{Past}
 use Rattle.ppd_flow_past.specs.ByReplays.{failure_or, first_failed_in}
 use Rattle.ppd_flow_past.specs.SeenBy.{failed_in}
-use Rattle.ppd_flow_model.specs.Shared.{greatest_writing, written_or_start}
+use Rattle.ppd_graph.specs.Shared.{greatest_writing, written_or_start}
 use Rattle.ppd_session.specs.Known.{last_by}
 use Rattle.ppd_session.specs.Sessions.{IsCause, IsWhy, known_by, unfound}
 use Rattle.ppd_session.specs.Texts.{failure_at}

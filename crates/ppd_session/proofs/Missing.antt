@@ -4,14 +4,14 @@ use Rattle.std.specs.Result.{result_err, result_unwrap_or}
 use Rattle.std.specs.List.{filter_map}
 use Rattle.std.specs.Prelude.{IfErr, None, Some, slice_get, option_and_then}
 use Rattle.std.proofs.Common.{◌≡◌, ℕ, zero, suc, ◌+◌, ℤ, List, [], ◌∷◌, get_or, length, Option, Result, Ok, Err, refl, ap, subst, ◌∙◌}
-use Rattle.ppd_entry.specs.declared.entry.At.{At}
-use Rattle.ppd_entry.specs.declared.entry.Logs.{Logs}
+use Rattle.ppd_model.specs.declared.entry.At.{At}
+use Rattle.ppd_model.specs.declared.entry.Logs.{Logs}
 use Rattle.ppd_flow.specs.Answers.{answer_if}
 use Rattle.ppd_flow.proofs.Missing.{missed, missed_edges}
-use Rattle.ppd_flow_model.specs.Found.{found_edges}
-use Rattle.ppd_flow_model.specs.Shared.{Missing, found_last}
-use Rattle.ppd_flow_past.specs.declared.flow_error.FlowError.{FlowError}
-use Rattle.ppd_flow_past.specs.declared.flow_error.FlowError.TheVariants as flow_error
+use Rattle.ppd_graph.specs.Found.{found_edges}
+use Rattle.ppd_graph.specs.Shared.{Missing, found_last}
+use Rattle.ppd_model.specs.declared.flow_error.FlowError.{FlowError}
+use Rattle.ppd_model.specs.declared.flow_error.FlowError.TheVariants as flow_error
 use Rattle.ppd_flow_past.specs.ByReplays.{first_failed}
 use Rattle.ppd_flow.specs.SharedCells.{answer_of}
 use Rattle.ppd_model.specs.declared.flow.FlowEdge.{FlowEdge}
@@ -27,8 +27,8 @@ use Rattle.ppd_session.specs.declared.question.Question.{Question}
 use Rattle.ppd_session.specs.declared.question.Question.TheVariants.{Nothing, Unknown, Races, Final, Blocks, Open, Why, Deps, Quit}
 use Rattle.ppd_session.specs.declared.reply.SessionError.{SessionError}
 use Rattle.ppd_session.specs.declared.reply.SessionError.TheVariants.{Diverged, Sets, Memory}
-use Rattle.law_flow_own.specs.Missing.{AreIndexed, IsMissingWrite, write_at}
-use Rattle.law_flow_own.proofs.MissingWrites.{missing_writes_are_told}
+use Rattle.law_flow.specs.Missing.{AreIndexed, IsMissingWrite, write_at}
+use Rattle.law_flow.proofs.MissingWrites.{missing_writes_are_told}
 use Rattle.ppd_session.proofs.KnownWords.{of_cells, of_intervals, item_failure}
 
 -- ---- what holds of all that is found holds of what is looked up

@@ -4,20 +4,20 @@ use Rattle.ppd_model.specs.Setting.{Setting}
 use Rattle.std.specs.Result.{result_err, result_unwrap_or}
 use Rattle.ppd_ast.proofs.Walks.{got_none}
 use Rattle.ppd_ast.specs.declared.plan.Plan.{Plan}
-use Rattle.ppd_emul_model.specs.Replay.{replay}
-use Rattle.ppd_emul_model.specs.declared.trace.BlockTrace.{BlockTrace}
-use Rattle.ppd_emul_model.specs.declared.trace.EmulError.{EmulError}
-use Rattle.ppd_emul_model.specs.declared.trace.EmulError.TheVariants.{Diverged, Memory}
-use Rattle.ppd_entry.proofs.Vocabulary.{log_in}
-use Rattle.ppd_entry.specs.IntervalLogs.{LoggedInterval, indexed, log_by}
-use Rattle.ppd_entry.specs.declared.entry.Entry.{Entry}
-use Rattle.ppd_entry.specs.declared.entry.Logs.{Logs}
+use Rattle.ppd_model.specs.Replay.{replay}
+use Rattle.ppd_model.specs.declared.block_trace.BlockTrace.{BlockTrace}
+use Rattle.ppd_model.specs.declared.block_trace.EmulError.{EmulError}
+use Rattle.ppd_model.specs.declared.block_trace.EmulError.TheVariants.{Diverged, Memory}
+use Rattle.ppd_model.proofs.EntryWords.{log_in}
+use Rattle.ppd_model.specs.IntervalLogs.{LoggedInterval, indexed, log_by}
+use Rattle.ppd_model.specs.declared.entry.Entry.{Entry}
+use Rattle.ppd_model.specs.declared.entry.Logs.{Logs}
 use Rattle.ppd_flow_past.proofs.SeenWords.{failure_of}
 use Rattle.ppd_flow_past.specs.ByReplays.{AreReplayed, IsFoundBy, failure_or, first_failed, first_failed_in}
 use Rattle.ppd_flow_past.specs.Laws.{replay_of}
 use Rattle.ppd_flow_past.specs.SeenBy.{failed_in, items_in, seen_by}
-use Rattle.ppd_flow_past.specs.declared.flow_error.FlowError.{FlowError}
-use Rattle.ppd_flow_past.specs.declared.flow_error.FlowError.TheVariants as flow_error
+use Rattle.ppd_model.specs.declared.flow_error.FlowError.{FlowError}
+use Rattle.ppd_model.specs.declared.flow_error.FlowError.TheVariants as flow_error
 use Rattle.ppd_flow_past.specs.declared.past.Past.{Past}
 use Rattle.ppd_index.specs.Indexes.{AreIntervals, IsIndexOf, rows_at}
 use Rattle.ppd_index.specs.Tables.{log_of}

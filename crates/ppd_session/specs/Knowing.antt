@@ -4,10 +4,10 @@
 use Rattle.ppd_model.specs.Setting.{Setting}
 use Rattle.ppd_race.specs.Races.{races_among, edges_of_logs}
 use Rattle.std.specs.Prelude.{◌≡◌, ◌<◌, ℕ, List, length, map, slice_get, Some, Result, Ok, Err, ⊤}
-use Rattle.law_flow_own.specs.Missing.{AreIndexed, IsMissingWrite, write_at}
-use Rattle.ppd_entry.specs.declared.entry.Logs.{Logs}
-use Rattle.ppd_flow_past.specs.declared.flow_error.FlowError.{FlowError}
-use Rattle.ppd_flow_past.specs.declared.flow_error.FlowError.TheVariants.{Diverged, NoEvent, Sets, Memory}
+use Rattle.law_flow.specs.Missing.{AreIndexed, IsMissingWrite, write_at}
+use Rattle.ppd_model.specs.declared.entry.Logs.{Logs}
+use Rattle.ppd_model.specs.declared.flow_error.FlowError.{FlowError}
+use Rattle.ppd_model.specs.declared.flow_error.FlowError.TheVariants.{Diverged, NoEvent, Sets, Memory}
 use Rattle.ppd_model.specs.Extents.{extents}
 use Rattle.ppd_model.specs.declared.flow.Item.{Item}
 use Rattle.ppd_session.specs.Known.{Known, Last, known_of_logs, of_extent, seens, told_of_entries, unless_raced}

@@ -3,22 +3,22 @@
 use Rattle.ppd_model.specs.Setting.{Setting}
 use Rattle.ppd_ast.specs.declared.plan.Plan.{Plan}
 use Rattle.ppd_ast.specs.declared.program.Program.{Program}
-use Rattle.ppd_emul_model.specs.Replay.{replay}
-use Rattle.ppd_entry.specs.IntervalLogs.{indexed, log_by}
-use Rattle.ppd_entry.specs.declared.entry.At.{At}
-use Rattle.ppd_entry.specs.declared.entry.Entry.{Entry}
-use Rattle.ppd_entry.specs.declared.entry.Logs.{Logs}
+use Rattle.ppd_model.specs.Replay.{replay}
+use Rattle.ppd_model.specs.IntervalLogs.{indexed, log_by}
+use Rattle.ppd_model.specs.declared.entry.At.{At}
+use Rattle.ppd_model.specs.declared.entry.Entry.{Entry}
+use Rattle.ppd_model.specs.declared.entry.Logs.{Logs}
 pub use Rattle.ppd_flow.specs.Answers.{answer_if}
 use Rattle.ppd_flow.specs.SharedCells.{answer_of}
-use Rattle.ppd_flow_model.specs.Found.{found_edges}
-pub use Rattle.ppd_flow_model.specs.Seen.{Seen}
-use Rattle.ppd_flow_model.specs.Shared.{found_last}
+use Rattle.ppd_graph.specs.Found.{found_edges}
+pub use Rattle.ppd_graph.specs.Seen.{Seen}
+use Rattle.ppd_graph.specs.Shared.{found_last}
 use Rattle.ppd_flow_past.specs.ByReplays.{first_failed}
 pub use Rattle.ppd_flow_past.specs.SeenBy.{told_by}
 use Rattle.ppd_flow_past.specs.SeenBy.{seen_by}
-use Rattle.ppd_flow_past.specs.declared.flow_error.FlowError.{FlowError}
-use Rattle.ppd_flow_past.specs.declared.flow_error.FlowError.TheVariants as flow_error
-use Rattle.ppd_flow_past.specs.declared.flow_error.FlowError.TheVariants.{NoEvent}
+use Rattle.ppd_model.specs.declared.flow_error.FlowError.{FlowError}
+use Rattle.ppd_model.specs.declared.flow_error.FlowError.TheVariants as flow_error
+use Rattle.ppd_model.specs.declared.flow_error.FlowError.TheVariants.{NoEvent}
 use Rattle.ppd_model.specs.Extents.{Extent, extents}
 use Rattle.ppd_model.specs.FlowbackEdges.{edges, last}
 use Rattle.ppd_model.specs.Intervals.{Split, items_of, splits}

@@ -1,12 +1,12 @@
 -- What is known of a past, which blocks are kept of it and which a line asks for, and why a line has no answer.
 use Rattle.ppd_ast.specs.declared.program.Program.{Program}
-use Rattle.ppd_entry.specs.declared.entry.At.{At}
+use Rattle.ppd_model.specs.declared.entry.At.{At}
 use Rattle.ppd_flow.specs.Answers.{LastEdge}
 use Rattle.ppd_flow.specs.SharedCells.{last_edge}
 use Rattle.ppd_flow_past.specs.Pasts.{IsPast}
 use Rattle.ppd_flow_past.specs.PastSetting.{past_setting}
-pub use Rattle.ppd_flow_past.specs.declared.flow_error.FlowError.{FlowError}
-use Rattle.ppd_flow_past.specs.declared.flow_error.FlowError.TheVariants as flow_error
+pub use Rattle.ppd_model.specs.declared.flow_error.FlowError.{FlowError}
+use Rattle.ppd_model.specs.declared.flow_error.FlowError.TheVariants as flow_error
 use Rattle.ppd_flow_past.specs.declared.past.Past.{Past}
 use Rattle.ppd_index.specs.Indexes.{rows_at}
 use Rattle.ppd_model.specs.declared.flow.Item.{Item}

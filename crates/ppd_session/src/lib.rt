@@ -21,8 +21,8 @@ mod words;
 
 pub use laws::{logs_are_known, logs_tell_runs, missing_writes_are_told, runs_are_answered};
 pub use opening::{interval_there, no_items};
-pub use ppd_entry::At;
 pub use ppd_flow_past::Past;
+pub use ppd_model::At;
 pub use question::process_named;
 pub use races::put_racy;
 pub use refusing::replay_line;

@@ -1,6 +1,6 @@
 // The items of an interval, and one of them.
 ghost use Rattle.ppd_flow_past.specs.Pasts.{IsPast};
-ghost use Rattle.ppd_flow_past.specs.declared.flow_error.FlowError.TheVariants as flow_error;
+ghost use Rattle.ppd_model.specs.declared.flow_error.FlowError.TheVariants as flow_error;
 ghost use Rattle.ppd_index.specs.Indexes.{rows_at};
 ghost use Rattle.ppd_session.specs.Keeping.{AreAsked, IsAsked};
 ghost use Rattle.ppd_session.specs.Known.{unless_raced};
@@ -20,9 +20,8 @@ use crate::refusing::put_refusal;
 use crate::reply::SessionError;
 use crate::why::put_item_of;
 use ppd_ast::{Seq, Steps};
-use ppd_entry::At;
 use ppd_flow_past::{FlowError, Past, replayed};
-use ppd_model::{Item, Race};
+use ppd_model::{At, Item, Race};
 use ppd_text::put_items;
 use std::alloc::Global;
 use std::marker::Brand;

@@ -1,5 +1,5 @@
 use ppd_ast::{Bytes, Memory};
-use ppd_entry::At;
+use ppd_model::At;
 use std::fmt;
 use thiserror::Error;
 

@@ -15,9 +15,9 @@ use Rattle.ppd_ast.specs.Lookups.{kind_of}
 use Rattle.ppd_ast.proofs.Vocabulary.{kind_of_stmt}
 use Rattle.ppd_ast.proofs.Members.{has_cons, flat_gives}
 use Rattle.ppd_ast.proofs.Those.{counting}
-use Rattle.ppd_cfg.specs.WorkList.{AreRowsBelow}
-use Rattle.ppd_cfg.proofs.Rows.{row_at, length_rows, map_push}
-use Rattle.ppd_cfg.proofs.Leading.{row_there}
+use Rattle.ppd_sets.specs.WorkList.{AreRowsBelow}
+use Rattle.ppd_sets.proofs.FlowRows.{row_at, length_rows, map_push}
+use Rattle.ppd_sets.proofs.Leading.{row_there}
 use Rattle.ppd_sets.specs.Used.{callee, call_rows, stmts_at}
 use Rattle.ppd_sets.proofs.Vocabulary.{calls_at, numbers_in}
 use Rattle.ppd_sets.proofs.Statements.{flat_range}

@@ -8,8 +8,8 @@ use Rattle.ppd_ast.specs.Cells.{holds}
 use Rattle.ppd_ast.proofs.ValidLaws.{slice_get_below}
 use Rattle.ppd_ast.specs.Members.{has}
 use Rattle.ppd_ast.proofs.Members.{has_filter, filter_has, any_from, any_gives, from_zero, flat_gives, flat_from}
-use Rattle.ppd_cfg.specs.Reach.{Reached, closure, leads}
-use Rattle.ppd_cfg.proofs.Leading.{leads-tests}
+use Rattle.ppd_sets.specs.Reach.{Reached, closure, leads}
+use Rattle.ppd_sets.proofs.Leading.{leads-tests}
 use Rattle.ppd_sets.specs.Used.{call_rows, called_from, stmts_at, reads_at, writes_at, is_met, vars_met, IsUsed, IsDefined}
 use Rattle.ppd_sets.specs.Laws.{UsedByChains, DefinedByChains}
 use Rattle.ppd_sets.proofs.Gathering.{called_below}

@@ -13,7 +13,7 @@ use Rattle.ppd_ast.specs.Numbered.{numbers_of}
 use Rattle.ppd_ast.proofs.ValidLaws.{slice_get_there, each_at}
 use Rattle.ppd_ast.specs.Members.{has, those}
 use Rattle.ppd_ast.proofs.Members.{has_filter, below_range}
-use Rattle.ppd_cfg.specs.Reach.{closure, leads}
+use Rattle.ppd_sets.specs.Reach.{closure, leads}
 use Rattle.ppd_sets.specs.declared.touched.Touched.{Touched}
 use Rattle.ppd_sets.specs.Gained.{HasBoth, reads_in, writes_in, reads_of, writes_of}
 use Rattle.ppd_sets.specs.Used.{call_rows, called_from, reads_at, writes_at}

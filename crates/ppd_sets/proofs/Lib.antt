@@ -10,3 +10,11 @@ pub mod Chains
 pub mod InBody
 pub mod Looping
 pub mod Vocabulary
+pub mod Leading
+pub mod Marks
+pub mod Searches
+pub mod FlowRows
+pub mod Depths
+pub mod Paths
+pub mod Following
+pub mod FlowWords

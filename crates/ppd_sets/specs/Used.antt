@@ -12,7 +12,7 @@ use Rattle.ppd_ast.specs.Numbered.{numbers_of, is_while}
 use Rattle.ppd_ast.specs.Order.{preorder}
 use Rattle.ppd_ast.specs.Members.{has, those}
 use Rattle.ppd_ast.specs.Lookups.{kind_of}
-use Rattle.ppd_cfg.specs.Reach.{Reached, closure, leads}
+use Rattle.ppd_sets.specs.Reach.{Reached, closure, leads}
 use Rattle.ppd_sets.specs.Named.{reads, writes}
 
 -- ---- calls

@@ -7,9 +7,9 @@ ghost use Rattle.ppd_ast.specs.Lookups.{kind_of};
 ghost use Rattle.ppd_sets.specs.Used.{callee, call_rows, called_from, reads_at, stmts_at, writes_at};
 ghost use Rattle.ppd_sets.specs.Gained.{GainsBoth, HasBoth, reads_of, writes_of};
 
+use crate::reached;
 use crate::touched::Touched;
 use ppd_ast::{Body, Ids, Kind, Memory, Program, Seq, Stmt};
-use ppd_cfg::reached;
 use std::alloc::Global;
 
 /// The number after the body's last statement that is there.

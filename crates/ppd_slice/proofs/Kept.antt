@@ -4,20 +4,20 @@ use Rattle.std.specs.Prelude.{slice_get, nat_eq, nat_lt, if◌then◌else◌}
 use Rattle.std.proofs.Common.{◌≡◌, ℕ, zero, suc, ◌+◌, ◌<◌, ◌≤◌, ◌⊎◌, inl, inr, Bool, true, false, true≢false, List, [], ◌∷◌, ◌++◌, Option, Some, None, Result, Ok, Err, refl, ap, sym, ◌∙◌, subst, arith, get_or, length}
 use Rattle.std.proofs.lemmas.Bool.{cases_eq, cases_lt, eqb-true, le-ltb, lt-ltb}
 use Rattle.std.proofs.lemmas.Option.{none-some, same_Some, slice_get_past}
-use Rattle.ppd_entry.specs.declared.entry.At.{At}
+use Rattle.ppd_model.specs.declared.entry.At.{At}
 use Rattle.ppd_flow.specs.Answers.{IsEdges}
 use Rattle.ppd_flow.specs.Far.{RoseWithin, far_in}
 use Rattle.ppd_flow.proofs.FarProcesses.{AreFreeOf, IsFree, edges_free}
-use Rattle.ppd_flow_model.specs.Found.{found_edges}
-use Rattle.ppd_flow_past.specs.declared.flow_error.FlowError.{FlowError}
-use Rattle.ppd_flow_past.specs.declared.flow_error.FlowError.TheVariants.{Diverged, NoEvent, Sets, Memory}
+use Rattle.ppd_graph.specs.Found.{found_edges}
+use Rattle.ppd_model.specs.declared.flow_error.FlowError.{FlowError}
+use Rattle.ppd_model.specs.declared.flow_error.FlowError.TheVariants.{Diverged, NoEvent, Sets, Memory}
 use Rattle.ppd_flow_past.specs.declared.past.Past.{Past}
 use Rattle.ppd_flow_past.specs.ByReplays.{IsFoundBy, IsReplayed, failure_or}
 use Rattle.ppd_flow_past.specs.Keeping.{AreKeptOf, AreOthersKept, IsAllKept, RoseByKept, count_in, process_steps, steps_kept, steps_kept_of, sum_below}
 use Rattle.ppd_flow_past.specs.Pasts.{AreKept, IsPast}
 use Rattle.ppd_flow_past.specs.PastSetting.{past_setting}
 use Rattle.ppd_flow_past.specs.SeenBy.{failed_in, items_in, steps_in}
-use Rattle.ppd_flow_model.specs.Shared.{of_process}
+use Rattle.ppd_graph.specs.Shared.{of_process}
 use Rattle.ppd_flow_past.proofs.Keeping.{AreFree, costs_nothing, kept_free}
 use Rattle.ppd_flow.specs.SharedCells.{seens_in}
 use Rattle.ppd_model.specs.declared.flow.FlowEdge.{FlowEdge}

@@ -7,22 +7,22 @@ use Rattle.ppd_ast.specs.declared.plan.Plan.{Plan}
 use Rattle.ppd_ast.specs.declared.plan.Policy.{Policy}
 use Rattle.ppd_ast.specs.declared.program.Program.{Program}
 use Rattle.ppd_ast.specs.Valid.{IsValid}
-use Rattle.ppd_entry.specs.declared.entry.At.{At}
+use Rattle.ppd_model.specs.declared.entry.At.{At}
 use Rattle.ppd_flow.specs.Answers.{answer_if}
 use Rattle.ppd_flow.specs.Runs.{IsOfRun, splits_in, story_in}
 use Rattle.ppd_flow.proofs.OfRuns.{answered, gives_edges, seens_are}
-use Rattle.ppd_flow_model.specs.Found.{edges_if as found_if, found_edges}
-use Rattle.ppd_flow_model.specs.Seen.{seen_of}
-use Rattle.ppd_flow_model.specs.Shared.{Missing, seen_at}
-use Rattle.ppd_flow_past.specs.declared.flow_error.FlowError.{FlowError}
-use Rattle.ppd_flow_past.specs.declared.flow_error.FlowError.TheVariants.{Diverged, NoEvent, Sets, Memory}
+use Rattle.ppd_graph.specs.Found.{edges_if as found_if, found_edges}
+use Rattle.ppd_graph.specs.Seen.{seen_of}
+use Rattle.ppd_graph.specs.Shared.{Missing, seen_at}
+use Rattle.ppd_model.specs.declared.flow_error.FlowError.{FlowError}
+use Rattle.ppd_model.specs.declared.flow_error.FlowError.TheVariants.{Diverged, NoEvent, Sets, Memory}
 use Rattle.ppd_flow_past.specs.declared.past.Past.{Past}
 use Rattle.ppd_flow_past.specs.ByReplays.{cost, failure_or, first_failed_in}
 use Rattle.ppd_flow_past.specs.Honest.{ReplaysAreSeen}
 use Rattle.ppd_flow_past.specs.SeenBy.{failed_in}
 use Rattle.ppd_flow.specs.SharedCells.{seens_in}
-use Rattle.law_flow_own.specs.Loops.AllOwnParts.{AllOwnPartsAreFound}
-use Rattle.law_flow_shared.specs.Edges.Assembled.{EdgesAreFound}
+use Rattle.law_flow.specs.Loops.AllOwnParts.{AllOwnPartsAreFound}
+use Rattle.law_flow.specs.Edges.Assembled.{EdgesAreFound}
 use Rattle.ppd_model.specs.declared.flow.FlowEdge.{FlowEdge}
 use Rattle.ppd_model.specs.declared.flow.Item.{Item}
 use Rattle.ppd_model.specs.FlowbackEdges.{edges}

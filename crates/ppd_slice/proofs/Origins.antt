@@ -1,19 +1,19 @@
 -- Each process of which intervals are replayed for the edges of an item has an item that one of the edges comes from.
-use Rattle.ppd_entry.specs.declared.entry.At.{At}
+use Rattle.ppd_model.specs.declared.entry.At.{At}
 use Rattle.ppd_flow.specs.Answers.{answer_if}
 use Rattle.ppd_flow.specs.Far.{far_in, far_of_item, far_of_pair, far_of_reads, far_of_spot, far_of_sync, process_of}
 use Rattle.ppd_flow.specs.SharedCells.{answer_of, edge_unless_found, seens_in}
-use Rattle.ppd_flow_model.specs.Control.{control_origin}
-use Rattle.ppd_flow_model.specs.Ends.{end_interval, end_item}
-use Rattle.ppd_flow_model.specs.Found.{and_more, before_others, edges_if, event_edges, item_edges, last_edges, pair_edges, read_edge, read_edges, read_if, sync_edges, with_edge}
-use Rattle.ppd_flow_model.specs.Looked.{Looked, look_map}
-use Rattle.ppd_flow_model.specs.Seen.{Seen}
-use Rattle.ppd_flow_model.specs.Shared.{Missing, edge_of_place, greatest_before, origin_in, own_or, pair_of, pair_place, seen_at, walk_in, written_at, written_or_start}
-use Rattle.ppd_flow_model.specs.Walk.{walk}
-use Rattle.ppd_flow_model.specs.declared.walked.Walked.{Walked}
-use Rattle.ppd_flow_model.specs.declared.walked.Walked.TheVariants.{Found, Passed, Stopped}
+use Rattle.ppd_graph.specs.Control.{control_origin}
+use Rattle.ppd_graph.specs.Ends.{end_interval, end_item}
+use Rattle.ppd_graph.specs.Found.{and_more, before_others, edges_if, event_edges, item_edges, last_edges, pair_edges, read_edge, read_edges, read_if, sync_edges, with_edge}
+use Rattle.ppd_graph.specs.Looked.{Looked, look_map}
+use Rattle.ppd_graph.specs.Seen.{Seen}
+use Rattle.ppd_graph.specs.Shared.{Missing, edge_of_place, greatest_before, origin_in, own_or, pair_of, pair_place, seen_at, walk_in, written_at, written_or_start}
+use Rattle.ppd_graph.specs.Walk.{walk}
+use Rattle.ppd_graph.specs.declared.walked.Walked.{Walked}
+use Rattle.ppd_graph.specs.declared.walked.Walked.TheVariants.{Found, Passed, Stopped}
 use Rattle.ppd_flow_past.specs.ByReplays.{first_failed_in}
-use Rattle.ppd_flow_past.specs.declared.flow_error.FlowError.{FlowError}
+use Rattle.ppd_model.specs.declared.flow_error.FlowError.{FlowError}
 use Rattle.ppd_flow_past.specs.declared.past.Past.{Past}
 use Rattle.ppd_graph.specs.declared.paired.Paired.{Paired}
 use Rattle.ppd_graph.specs.declared.paired.Paired.TheVariants.{Initial, Node, Nothing}

@@ -2,8 +2,8 @@
 use Rattle.std.specs.Prelude.{◌≡◌, ℕ, ◌<◌, ◌⊎◌, nat_lt, Bool, true, List, [], ◌∷◌, Option, Some, None, Result, Ok, Err, get_or, length, ⊤}
 use Rattle.ppd_model.specs.declared.flow.FlowEdge.{FlowEdge}
 use Rattle.ppd_model.specs.declared.flow.Item.{Item}
-use Rattle.ppd_flow_past.specs.declared.flow_error.FlowError.{FlowError}
-use Rattle.ppd_flow_past.specs.declared.flow_error.FlowError.TheVariants.{Diverged, NoEvent, Sets, Memory}
+use Rattle.ppd_model.specs.declared.flow_error.FlowError.{FlowError}
+use Rattle.ppd_model.specs.declared.flow_error.FlowError.TheVariants.{Diverged, NoEvent, Sets, Memory}
 use Rattle.ppd_flow_past.specs.declared.past.Past.{Past}
 use Rattle.ppd_flow_past.specs.Keeping.{AreKeptOf, IsAllKept}
 use Rattle.ppd_flow_past.specs.SeenBy.{failed_in, items_in}

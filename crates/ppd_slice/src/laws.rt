@@ -1,7 +1,6 @@
 ghost use Rattle.ppd_slice.specs.Slices.{SlicesAreOfRuns};
 
-use law_flow_own::all_own_parts_are_found;
-use law_flow_shared::edges_are_found;
+use law_flow::{all_own_parts_are_found, edges_are_found};
 use ppd_flow_past::replays_are_seen;
 use ppd_slice_search::{reaches_are_slices, slices_are_one};
 

@@ -3,7 +3,7 @@ use Rattle.std.specs.Prelude.{codes, get_or, [], true}
 use Rattle.std.proofs.Common.{◌≡◌, ℕ, ◌+◌, ◌<◌, List, ◌++◌, length, sym, ap, ◌∙◌, subst, arith}
 use Rattle.ppd_ast.specs.declared.program.Program.{Program}
 use Rattle.ppd_ast.specs.declared.program.Var.{Var}
-use Rattle.ppd_cfg.proofs.Rows.{row_at, length_rows}
+use Rattle.ppd_sets.proofs.FlowRows.{row_at, length_rows}
 use Rattle.ppd_sets.specs.declared.var_sets.VarSets.{VarSets}
 use Rattle.ppd_sets.specs.SetsOf.{AreSetsOf}
 use Rattle.ppd_sets.specs.Used.{shared_through, reads_at, writes_at}

@@ -5,7 +5,7 @@ use Rattle.ppd_ast.specs.declared.program.Program.{Program}
 use Rattle.ppd_ast.specs.declared.program.Var.{Var}
 use Rattle.ppd_ast.specs.declared.status.Trap.{Trap}
 use Rattle.ppd_ast.specs.declared.status.Trap.TheVariants as trap
-use Rattle.ppd_entry.specs.declared.entry.At.{At}
+use Rattle.ppd_model.specs.declared.entry.At.{At}
 use Rattle.std.specs.Prelude.{List, [], codes, decimal, if◌then◌else◌, is_none, ℕ, ◌++◌, ◌+◌, ◌-◌, ◌∷◌}
 
 -- the name of process k

@@ -10,7 +10,7 @@ use crate::names::body_name;
 use crate::plans::put_block_what;
 use crate::text::{put, put_number};
 use ppd_ast::{Memory, Plan, Program, Trap, Var};
-use ppd_entry::At;
+use ppd_model::At;
 use std::alloc::Global;
 
 /// The name of a process, empty where there is none of this number.

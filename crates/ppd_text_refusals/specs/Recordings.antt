@@ -7,10 +7,10 @@ use Rattle.ppd_codec.specs.declared.bad.BadBytes.{BadBytes}
 use Rattle.ppd_codec.specs.declared.bad.BadBytes.TheVariants as bytes
 use Rattle.ppd_codec.specs.declared.bad.Field.{Field}
 use Rattle.ppd_codec.specs.declared.bad.Field.TheVariants as field
-use Rattle.ppd_graph.specs.declared.refusal.BadSync.{BadSync}
-use Rattle.ppd_graph.specs.declared.refusal.BadSync.TheVariants as sync
-use Rattle.ppd_index.specs.declared.refusal.BadLog.{BadLog}
-use Rattle.ppd_index.specs.declared.refusal.BadLog.TheVariants as log
+use Rattle.ppd_model.specs.declared.bad_sync.BadSync.{BadSync}
+use Rattle.ppd_model.specs.declared.bad_sync.BadSync.TheVariants as sync
+use Rattle.ppd_model.specs.declared.bad_log.BadLog.{BadLog}
+use Rattle.ppd_model.specs.declared.bad_log.BadLog.TheVariants as log
 use Rattle.ppd_text.specs.CellNames.{at_entry, process_name}
 use Rattle.ppd_text.specs.Names.{object_text}
 use Rattle.ppd_text_refusals.specs.Stages.{stage_text}

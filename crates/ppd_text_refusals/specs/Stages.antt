@@ -1,6 +1,6 @@
 -- The first fault of a source: its stage, number, name and place.
 use Rattle.std.specs.Prelude.{◌++◌, ℕ, List, [], codes}
-use Rattle.ppd_lex.specs.declared.token.LexError.TheVariants as lex
+use Rattle.ppd_parse.specs.declared.token.LexError.TheVariants as lex
 use Rattle.ppd_parse.specs.declared.error.SyntaxError.TheVariants as syntax
 use Rattle.ppd_check.specs.declared.error.CheckError.TheVariants as check
 use Rattle.ppd_check.specs.declared.error.SourceError.{SourceError}

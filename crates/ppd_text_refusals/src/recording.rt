@@ -2,8 +2,8 @@
 ghost use Rattle.std.specs.Prelude.{◌≡◌, ◌≢◌, ◌++◌, IfOk, OnOk, codes, decimal};
 ghost use Rattle.std.specs.List.{flat_map};
 ghost use Rattle.ppd_codec.specs.declared.bad.BadBytes.TheVariants as bytes;
-ghost use Rattle.ppd_graph.specs.declared.refusal.BadSync.TheVariants as sync;
-ghost use Rattle.ppd_index.specs.declared.refusal.BadLog.TheVariants as log;
+ghost use Rattle.ppd_model.specs.declared.bad_sync.BadSync.TheVariants as sync;
+ghost use Rattle.ppd_model.specs.declared.bad_log.BadLog.TheVariants as log;
 ghost use Rattle.ppd_text_refusals.specs.Recordings.{field_word, refused_bytes};
 ghost use Rattle.ppd_text_refusals.specs.Recordings.{refused_log, refused_sync};
 ghost use Rattle.ppd_text.specs.CellNames.{process_name as process_name_of};

@@ -6,8 +6,7 @@ ghost use Rattle.ppd_text_refusals.specs.Stages.{stage_text};
 
 use ppd_ast::{Memory, Place};
 use ppd_check::{CheckError, SourceError};
-use ppd_lex::LexError;
-use ppd_parse::SyntaxError;
+use ppd_parse::{LexError, SyntaxError};
 use ppd_text::{put, put_place};
 
 /// Appends a stage, a number and a name, and a place.

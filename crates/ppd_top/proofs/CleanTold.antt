@@ -11,8 +11,8 @@ use Rattle.ppd_clean.specs.declared.clean.Clean.{Clean as GivenClean}
 use Rattle.ppd_clean.specs.declared.clean_error.CleanError.{CleanError}
 use Rattle.ppd_codec.specs.declared.recording.Recording.{Recording}
 use Rattle.ppd_codec_runs.specs.Recordings.{known_of, recorded_setting}
-use Rattle.ppd_entry.specs.declared.entry.Logs.{Logs}
-use Rattle.ppd_flow_model.specs.Ends.{first_edge}
+use Rattle.ppd_model.specs.declared.entry.Logs.{Logs}
+use Rattle.ppd_graph.specs.Ends.{first_edge}
 use Rattle.ppd_flow_past.specs.SeenBy.{failed_at}
 use Rattle.ppd_flow_past.specs.declared.past.Past.{Past}
 use Rattle.ppd_graph.specs.Refusals.{AreOrdered}

@@ -5,7 +5,7 @@ use Rattle.ppd_top.specs.declared.loads.TheConstants.{MOST_RECORDING}
 use Rattle.ppd_ast.specs.declared.program.Program.{Program}
 use Rattle.ppd_codec.specs.declared.recording.Header.{Header}
 use Rattle.ppd_codec.specs.declared.recording.Recording.{Recording}
-use Rattle.ppd_entry.specs.declared.entry.At.{At}
+use Rattle.ppd_model.specs.declared.entry.At.{At}
 use Rattle.ppd_io.specs.Content.{Loads}
 use Rattle.ppd_io.specs.Lines.{lines_of}
 use Rattle.ppd_race.specs.Races.{edges_of_logs, races_among}

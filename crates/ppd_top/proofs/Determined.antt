@@ -2,14 +2,14 @@
 use Rattle.law_clean.specs.Answers.{CleanOr, is_reached, no_item, unclean, unclean_or, unwritten}
 use Rattle.law_clean.specs.Pasts.{left_edge}
 use Rattle.law_clean.specs.Search.{by_first, by_item, from_first, with_edges}
-use Rattle.law_flow_own.proofs.MissingWrites.{missing_writes_are_told}
-use Rattle.law_flow_own.specs.Missing.{AreIndexed, IsMissingWrite, write_at}
+use Rattle.law_flow.proofs.MissingWrites.{missing_writes_are_told}
+use Rattle.law_flow.specs.Missing.{AreIndexed, IsMissingWrite, write_at}
 use Rattle.ppd_codec.specs.declared.recording.Recording.{Recording}
 use Rattle.ppd_codec_runs.specs.Recordings.{IsAccepted, known_of, recorded_setting}
-use Rattle.ppd_entry.specs.declared.entry.At.{At}
-use Rattle.ppd_flow_model.specs.Ends.{first_edge}
-use Rattle.ppd_flow_model.specs.Found.{edges_if, found_edges, item_edges}
-use Rattle.ppd_flow_model.specs.Shared.{Missing, seen_at}
+use Rattle.ppd_model.specs.declared.entry.At.{At}
+use Rattle.ppd_graph.specs.Ends.{first_edge}
+use Rattle.ppd_graph.specs.Found.{edges_if, found_edges, item_edges}
+use Rattle.ppd_graph.specs.Shared.{Missing, seen_at}
 use Rattle.ppd_model.specs.HappenedBefore.{edge}
 use Rattle.ppd_model.specs.RecordedSets.{record_in}
 use Rattle.ppd_model.specs.declared.flow.FlowEdge.{FlowEdge}

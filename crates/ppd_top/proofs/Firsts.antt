@@ -1,10 +1,10 @@
 -- The first interval of a recording whose replay fails, by what is told of the intervals.
 use Rattle.ppd_codec_runs.specs.Recordings.{recorded_setting}
 use Rattle.ppd_codec.specs.declared.recording.Recording.{Recording}
-use Rattle.ppd_entry.specs.IntervalLogs.{indexed}
-use Rattle.ppd_entry.specs.declared.entry.At.{At}
-use Rattle.ppd_entry.specs.declared.entry.Entry.{Entry}
-use Rattle.ppd_flow_model.specs.Seen.{Seen}
+use Rattle.ppd_model.specs.IntervalLogs.{indexed}
+use Rattle.ppd_model.specs.declared.entry.At.{At}
+use Rattle.ppd_model.specs.declared.entry.Entry.{Entry}
+use Rattle.ppd_graph.specs.Seen.{Seen}
 use Rattle.ppd_flow_past.specs.ByReplays.{failure_or, first_failed}
 use Rattle.ppd_flow_past.specs.SeenBy.{failed_at, seen_by}
 use Rattle.ppd_model.specs.declared.graph.Race.{Race}

@@ -1,7 +1,7 @@
 -- A query that fails for want of a write: the write is missing.
 use Rattle.ppd_race.specs.Races.{races_among, edges_of_logs}
 use Rattle.ppd_clean.proofs.Missing.{clean_missed}
-use Rattle.law_flow_own.specs.Missing.{write_at}
+use Rattle.law_flow.specs.Missing.{write_at}
 use Rattle.ppd_codec_runs.specs.Recordings.{known_of, recorded_setting}
 use Rattle.ppd_session.proofs.Missing.{missing_writes_told}
 use Rattle.ppd_top.specs.Missing.{FailuresAreMissing}

@@ -3,8 +3,8 @@ use Rattle.law_steps.specs.Policies.{setting_by}
 use Rattle.ppd_model.specs.Setting.{Setting, setting_of}
 use Rattle.law_steps.proofs.Agreeing.{agreeing_stories}
 use Rattle.law_clean.proofs.Whole.{answers_of_runs as cleans_of_runs}
-use Rattle.law_whole.proofs.WholeTrace.{joined_trace_full}
-use Rattle.law_whole.specs.Linked.{joined_trace}
+use Rattle.law_flow.proofs.WholeTrace.{joined_trace_full}
+use Rattle.law_flow.specs.Linked.{joined_trace}
 use Rattle.ppd_ast.specs.Valid.{IsValid}
 use Rattle.ppd_ast.specs.declared.plan.Plan.{Plan}
 use Rattle.ppd_ast.specs.declared.program.Program.{Program}
@@ -15,9 +15,9 @@ use Rattle.ppd_codec.specs.declared.recording.Recording.{Recording}
 use Rattle.ppd_codec_runs.proofs.Runs.{runs_are_recalled}
 use Rattle.ppd_codec_runs.proofs.Same.{IsOfThree, of_three}
 use Rattle.ppd_codec_runs.specs.Recordings.{IsAccepted, IsRunRecorded, known_of, recorded_setting}
-use Rattle.ppd_entry.specs.declared.entry.At.{At}
-use Rattle.ppd_entry.specs.declared.entry.Logs.{Logs}
-use Rattle.ppd_flow_model.specs.Seen.{Seen}
+use Rattle.ppd_model.specs.declared.entry.At.{At}
+use Rattle.ppd_model.specs.declared.entry.Logs.{Logs}
+use Rattle.ppd_graph.specs.Seen.{Seen}
 use Rattle.ppd_flow_past.specs.ByReplays.{first_failed}
 use Rattle.ppd_model.proofs.RecordedSyncs.{record_syncs}
 use Rattle.ppd_model.specs.Agreement.{Agree}
@@ -30,11 +30,11 @@ use Rattle.ppd_model.specs.Story.{story}
 use Rattle.ppd_model.specs.declared.graph.Race.{Race}
 use Rattle.ppd_model.specs.declared.trace.Trace.{Trace}
 use Rattle.ppd_model.specs.declared.tracing.Story.{Story}
-use Rattle.ppd_rerun_model.proofs.Verdicts.{reruns_say_yes, verdicts_are_one}
-use Rattle.ppd_rerun_model.specs.Guided.{guided}
-use Rattle.ppd_rerun_model.specs.Verdicts.{IsVerdict}
-use Rattle.ppd_rerun_model.specs.declared.verdict.Verdict.{Verdict}
-use Rattle.ppd_rerun_model.specs.declared.verdict.Verdict.TheVariants as verdict
+use Rattle.ppd_rerun_guide.proofs.Verdicts.{reruns_say_yes, verdicts_are_one}
+use Rattle.ppd_rerun_guide.specs.Guided.{guided}
+use Rattle.ppd_rerun_guide.specs.Verdicts.{IsVerdict}
+use Rattle.ppd_rerun_guide.specs.declared.verdict.Verdict.{Verdict}
+use Rattle.ppd_rerun_guide.specs.declared.verdict.Verdict.TheVariants as verdict
 use Rattle.ppd_session.proofs.Honest.{all_there, never}
 use Rattle.ppd_session.specs.Known.{Known, known_of_run, seens}
 use Rattle.ppd_session.specs.Texts.{races_refusal}

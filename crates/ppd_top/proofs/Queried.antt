@@ -6,8 +6,8 @@ use Rattle.ppd_ast.specs.declared.program.Program.{Program}
 use Rattle.ppd_codec.specs.declared.recording.Header.{Header}
 use Rattle.ppd_codec.specs.declared.recording.Recording.{Recording}
 use Rattle.ppd_io.specs.Content.{Loads}
-use Rattle.ppd_rerun_model.specs.Verdicts.{IsVerdict}
-use Rattle.ppd_rerun_model.specs.declared.verdict.Verdict.TheVariants.{No, Yes}
+use Rattle.ppd_rerun_guide.specs.Verdicts.{IsVerdict}
+use Rattle.ppd_rerun_guide.specs.declared.verdict.Verdict.TheVariants.{No, Yes}
 use Rattle.ppd_session.proofs.Knowing.{logs_are_known}
 use Rattle.ppd_session.specs.Texts.{refused_replay}
 use Rattle.ppd_session.specs.declared.reply.SessionError.{SessionError}

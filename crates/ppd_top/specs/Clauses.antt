@@ -15,9 +15,9 @@ use Rattle.ppd_text.specs.Table.{table_of}
 use Rattle.ppd_text_refusals.specs.Sources.{refused}
 use Rattle.ppd_codec.specs.declared.recording.Header.{Header}
 use Rattle.ppd_codec.specs.declared.recording.Recording.{Recording}
-use Rattle.ppd_entry.specs.declared.entry.At.{At}
-use Rattle.ppd_rerun_model.specs.Verdicts.{IsVerdict}
-use Rattle.ppd_rerun_model.specs.declared.verdict.Verdict.TheVariants.{Yes}
+use Rattle.ppd_model.specs.declared.entry.At.{At}
+use Rattle.ppd_rerun_guide.specs.Verdicts.{IsVerdict}
+use Rattle.ppd_rerun_guide.specs.declared.verdict.Verdict.TheVariants.{Yes}
 use Rattle.ppd_session.specs.Known.{Known, seens}
 use Rattle.ppd_session.specs.Missing.{IsMissingAt}
 use Rattle.ppd_session.specs.Sessions.{error_of}

@@ -2,7 +2,7 @@
 use Rattle.std.specs.Prelude.{◌≡◌, ℕ, List, Some}
 use Rattle.ppd_codec.specs.declared.recording.Recording.{Recording}
 use Rattle.ppd_codec_runs.specs.Recordings.{IsAccepted, recorded_setting}
-use Rattle.ppd_entry.specs.declared.entry.At.{At}
+use Rattle.ppd_model.specs.declared.entry.At.{At}
 use Rattle.ppd_session.specs.Known.{seens}
 use Rattle.ppd_session.specs.Missing.{IsMissingAt}
 use Rattle.ppd_session.specs.Questions.{process_named}

@@ -12,7 +12,7 @@ use Rattle.ppd_model.specs.FullTrace.{full_trace}
 use Rattle.ppd_model.specs.Intervals.{Span, Split, splits}
 use Rattle.ppd_model.specs.Races.{races}
 use Rattle.ppd_model.specs.Story.{story}
-use Rattle.ppd_rerun_model.specs.declared.verdict.Verdict.TheVariants as verdict
+use Rattle.ppd_rerun_guide.specs.declared.verdict.Verdict.TheVariants as verdict
 use Rattle.ppd_session.specs.Known.{known_of_run}
 use Rattle.ppd_session.specs.Questions.{process_named}
 use Rattle.ppd_slice_search.specs.OfRuns.{origins}

@@ -3,23 +3,23 @@ use Rattle.law_clean.specs.Answers.{CleanOr, clean, is_reached, no_item, unclean
 use Rattle.law_clean.specs.Cuts.{cut_logs}
 use Rattle.law_clean.specs.Pasts.{first_raced}
 use Rattle.law_clean.specs.Search.{clean_by, last_wanted}
-use Rattle.law_whole.specs.Linked.{joined_trace}
+use Rattle.law_flow.specs.Linked.{joined_trace}
 use Rattle.ppd_ast.specs.declared.plan.Plan.{Plan}
 use Rattle.ppd_ast.specs.declared.program.Program.{Program}
 use Rattle.ppd_codec.specs.declared.recording.Recording.{Recording}
 use Rattle.ppd_codec_runs.specs.Recordings.{known_of, recorded_setting}
-use Rattle.ppd_entry.specs.declared.entry.At.{At}
-use Rattle.ppd_entry.specs.declared.entry.Logs.{Logs}
-use Rattle.ppd_flow_model.specs.Ends.{first_edge}
+use Rattle.ppd_model.specs.declared.entry.At.{At}
+use Rattle.ppd_model.specs.declared.entry.Logs.{Logs}
+use Rattle.ppd_graph.specs.Ends.{first_edge}
 use Rattle.ppd_flow_past.specs.ByReplays.{first_failed}
 use Rattle.ppd_flow_past.specs.SeenBy.{failed_at}
-use Rattle.ppd_flow_past.specs.declared.flow_error.FlowError.TheVariants as flow_error
+use Rattle.ppd_model.specs.declared.flow_error.FlowError.TheVariants as flow_error
 use Rattle.ppd_model.specs.RecordedSets.{record_in}
 use Rattle.ppd_model.specs.declared.graph.EdgeId.{EdgeId}
 use Rattle.ppd_race.specs.Races.{edges_of_logs, races_among}
-use Rattle.ppd_rerun_model.specs.Verdicts.{IsVerdict}
-use Rattle.ppd_rerun_model.specs.declared.verdict.Verdict.{Verdict}
-use Rattle.ppd_rerun_model.specs.declared.verdict.Verdict.TheVariants as verdict
+use Rattle.ppd_rerun_guide.specs.Verdicts.{IsVerdict}
+use Rattle.ppd_rerun_guide.specs.declared.verdict.Verdict.{Verdict}
+use Rattle.ppd_rerun_guide.specs.declared.verdict.Verdict.TheVariants as verdict
 use Rattle.ppd_session.specs.Known.{Flow, Known, Told, seens}
 use Rattle.ppd_session.specs.Questions.{process_named}
 use Rattle.ppd_session.specs.Texts.{flow_at, no_event, no_process, races_refusal, refused_replay, told_at}

@@ -1,9 +1,9 @@
 -- The line of a verdict.
 use Rattle.std.specs.Prelude.{ℕ, List, ◌++◌, codes, decimal, length}
 use Rattle.ppd_ast.specs.declared.program.Program.{Program}
-use Rattle.ppd_rerun_model.specs.declared.verdict.No.TheVariants.{Record, Interval}
-use Rattle.ppd_rerun_model.specs.declared.verdict.Verdict.{Verdict}
-use Rattle.ppd_rerun_model.specs.declared.verdict.Verdict.TheVariants as verdict
+use Rattle.ppd_rerun_guide.specs.declared.verdict.No.TheVariants.{Record, Interval}
+use Rattle.ppd_rerun_guide.specs.declared.verdict.Verdict.{Verdict}
+use Rattle.ppd_rerun_guide.specs.declared.verdict.Verdict.TheVariants as verdict
 use Rattle.ppd_text.specs.CellNames.{process_name}
 
 -- the line of a verdict: a yes has the length of its schedule; a no says why not, by the steps taken, or the interval

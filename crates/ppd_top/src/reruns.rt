@@ -1,7 +1,7 @@
 // A recording run again under its own synchronization.
 ghost use Rattle.ppd_codec_runs.specs.Recordings.{recorded_setting};
 ghost use Rattle.std.specs.Prelude.{◌≡◌, ◌<◌, IfErr, IfOk};
-ghost use Rattle.ppd_rerun_model.specs.Verdicts.{IsVerdict};
+ghost use Rattle.ppd_rerun_guide.specs.Verdicts.{IsVerdict};
 ghost use Rattle.ppd_session.specs.declared.reply.SessionError.TheVariants as session_error;
 ghost use Rattle.ppd_top.specs.VerdictTexts.{verdict_text};
 ghost use Rattle.ppd_top.specs.Queries.{schedule_of};

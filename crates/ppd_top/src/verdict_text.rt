@@ -1,9 +1,9 @@
 ghost use Rattle.std.specs.Prelude.{◌≡◌, ◌++◌, OnOk};
-ghost use Rattle.ppd_rerun_model.specs.declared.verdict.Verdict.TheVariants.{No as verdict_no};
+ghost use Rattle.ppd_rerun_guide.specs.declared.verdict.Verdict.TheVariants.{No as verdict_no};
 ghost use Rattle.ppd_top.specs.VerdictTexts.{verdict_text};
 
 use ppd_ast::{Memory, Program};
-use ppd_rerun_model::{No, Verdict};
+use ppd_rerun_guide::{No, Verdict};
 use ppd_text::{process_name, put, put_count, put_number};
 
 /// Appends the line that says why a recording is not confirmed.

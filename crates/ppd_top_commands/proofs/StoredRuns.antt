@@ -15,7 +15,7 @@ use Rattle.ppd_codec.specs.Recordings.{IsRecordingOf}
 use Rattle.ppd_model.specs.declared.closed.Closed.{Closed}
 use Rattle.ppd_model.specs.Logs.{close, closed_logs}
 use Rattle.ppd_model.specs.Schedule.{IsWhole}
-use Rattle.ppd_entry.specs.declared.entry.Logs.{Logs}
+use Rattle.ppd_model.specs.declared.entry.Logs.{Logs}
 use Rattle.ppd_codec_runs.specs.Recordings.{AreOfSomeRun}
 use Rattle.ppd_top_requests.specs.declared.options.Options.{Options}
 use Rattle.ppd_top_runs.specs.declared.run.ClosedRun.{ClosedRun}

@@ -7,7 +7,7 @@ use Rattle.std.proofs.lemmas.Bool.Decides.{nat_tests}
 use Rattle.std.proofs.lemmas.List.Sums.{count_by-le-length}
 use Rattle.ppd_ast.specs.declared.limits.TheConstants.{MOST_STATEMENTS}
 use Rattle.ppd_ast.specs.declared.program.Place.{Place}
-use Rattle.ppd_lex.specs.declared.token.Token.{Token}
+use Rattle.ppd_parse.specs.declared.token.Token.{Token}
 use Rattle.ppd_parse.specs.declared.symbol.Rule.TheVariants as R
 use Rattle.ppd_parse.specs.Trees.{Shape, node, forest}
 use Rattle.ppd_check_names.specs.declared.fault.Cause.TheVariants.{NoProcess}

@@ -1,6 +1,6 @@
 -- The texts of pipelines keep the limits of the grammar, and end once.
 use Rattle.std.proofs.Common.{◌≡◌, ◌<◌, ◌+◌, ℕ, zero, suc, true, refl, arith}
-use Rattle.ppd_lex.specs.declared.token.Token.{Token}
+use Rattle.ppd_parse.specs.declared.token.Token.{Token}
 use Rattle.ppd_parse.specs.Trees.{outside}
 use Rattle.ppd_top_drill.proofs.Derivations.{marks}
 use Rattle.ppd_top_drill.proofs.Trees.{keep_limits}

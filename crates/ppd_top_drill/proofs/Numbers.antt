@@ -8,12 +8,12 @@ use Rattle.std.proofs.lemmas.Fmt.{decimal_by_steps, decimal_digit, decimal_nonem
 use Rattle.std.specs.Char.{is_ascii_digit}
 use Rattle.ppd_ast.specs.Digits.{value_from}
 use Rattle.ppd_ast.proofs.Digits.{value_append}
-use Rattle.ppd_lex.specs.declared.token.TokenKind.TheVariants.{Number}
-use Rattle.ppd_lex.specs.declared.scan.Piece.TheVariants.{Read}
-use Rattle.ppd_lex.specs.Front.{front, is_space, is_letter, is_name_byte, number_of}
-use Rattle.ppd_lex.proofs.Words.{read_value}
-use Rattle.ppd_lex.proofs.Begins.{front_number}
-use Rattle.ppd_lex.proofs.Numbers.{value_is}
+use Rattle.ppd_parse.specs.declared.token.TokenKind.TheVariants.{Number}
+use Rattle.ppd_parse.specs.declared.scan.Piece.TheVariants.{Read}
+use Rattle.ppd_parse.specs.Front.{front, is_space, is_letter, is_name_byte, number_of}
+use Rattle.ppd_parse.proofs.Words.{read_value}
+use Rattle.ppd_parse.proofs.Begins.{front_number}
+use Rattle.ppd_parse.proofs.Numbers.{value_is}
 
 -- ---- the digits of a number
 

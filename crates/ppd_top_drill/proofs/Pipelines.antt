@@ -1,9 +1,9 @@
 -- The sources of drills as texts of the grammar.
 use Rattle.std.specs.Prelude.{codes, ◌-◌}
 use Rattle.std.proofs.Common.{ℕ, zero, suc, pos, ◌+◌, List, [], ◌∷◌, ◌++◌, refl}
-use Rattle.ppd_lex.specs.declared.token.TokenKind.TheVariants as T
-use Rattle.ppd_lex.specs.declared.token.Kind.{Kind}
-use Rattle.ppd_lex.specs.declared.token.Kind.TheVariants as K
+use Rattle.ppd_parse.specs.declared.token.TokenKind.TheVariants as T
+use Rattle.ppd_parse.specs.declared.token.Kind.{Kind}
+use Rattle.ppd_parse.specs.declared.token.Kind.TheVariants as K
 use Rattle.ppd_parse.specs.declared.symbol.Level.TheVariants as L
 use Rattle.ppd_parse.specs.Language.{word, the, ◌∣◌, many, tier, unary_side, expr_side, place_side, stmt_side, block_side, local_side, process_side, chans_side, sems_side, shared_side, function_side, source_side}
 use Rattle.ppd_top_drill.proofs.Derivations.{Derivation, token, sign, side, pair, left, right, none, more, absent, present, within, counted, grouped}

@@ -3,8 +3,8 @@ use Rattle.std.specs.Prelude.{◌%◌}
 use Rattle.std.proofs.Common.{◌<◌, ◌≤◌, ℕ, ◌+◌, List, [], ◌∷◌, refl, arith}
 use Rattle.ppd_ast.specs.declared.limits.TheConstants.{MOST_DRILL}
 use Rattle.ppd_ast.specs.declared.program.Program.{Program}
-use Rattle.ppd_lex.specs.declared.token.Token.{Token}
-use Rattle.ppd_lex.proofs.FormedTokens.{formed}
+use Rattle.ppd_parse.specs.declared.token.Token.{Token}
+use Rattle.ppd_parse.proofs.FormedTokens.{formed}
 use Rattle.ppd_parse.specs.Limits.{IsTree, token_at}
 use Rattle.ppd_check.specs.Read.{IsRead}
 use Rattle.ppd_check.specs.Sources.{core_of}

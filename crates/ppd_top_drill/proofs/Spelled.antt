@@ -5,14 +5,14 @@ use Rattle.std.proofs.Math.ListN.{drop_of_length-le}
 use Rattle.std.proofs.Math.Seq.{drop-append_seam}
 use Rattle.std.proofs.lemmas.Bool.{cases_lt}
 use Rattle.std.proofs.lemmas.List.{drop-drop}
-use Rattle.ppd_lex.specs.declared.token.Token.{Token}
-use Rattle.ppd_lex.specs.declared.token.TokenKind.{TokenKind}
-use Rattle.ppd_lex.specs.declared.token.TokenKind.TheVariants.{Number, End}
-use Rattle.ppd_lex.specs.declared.scan.Piece.{Piece}
-use Rattle.ppd_lex.specs.declared.scan.Piece.TheVariants.{Gap, Read, Bad}
-use Rattle.ppd_lex.specs.Front.{front, is_name_byte}
-use Rattle.ppd_lex.specs.Tokens.{Lexes, gap, token, end, token_at, IsTokens}
-use Rattle.ppd_lex.proofs.FormedTokens.{proper_at}
+use Rattle.ppd_parse.specs.declared.token.Token.{Token}
+use Rattle.ppd_parse.specs.declared.token.TokenKind.{TokenKind}
+use Rattle.ppd_parse.specs.declared.token.TokenKind.TheVariants.{Number, End}
+use Rattle.ppd_parse.specs.declared.scan.Piece.{Piece}
+use Rattle.ppd_parse.specs.declared.scan.Piece.TheVariants.{Gap, Read, Bad}
+use Rattle.ppd_parse.specs.Front.{front, is_name_byte}
+use Rattle.ppd_parse.specs.Tokens.{Lexes, gap, token, end, token_at, IsTokens}
+use Rattle.ppd_parse.proofs.FormedTokens.{proper_at}
 use Rattle.ppd_top_drill.proofs.Numbers.{front_decimal}
 
 -- The text is tokens of these kinds, with white space and comments.

@@ -3,9 +3,9 @@ use Rattle.std.specs.Prelude.{codes, decimal, take, drop, ◌-◌, ◌*◌}
 use Rattle.std.proofs.Common.{◌≡◌, ◌<◌, ◌≤◌, ℕ, zero, suc, pos, ◌+◌, ◌^◌, false, List, [], ◌∷◌, ◌++◌, refl, sym, subst, arith, append_assoc, append-nil}
 use Rattle.std.specs.List.{flat_map, range_with_len}
 use Rattle.std.proofs.lemmas.Fmt.{decimal_digit}
-use Rattle.ppd_lex.specs.declared.token.TokenKind.{TokenKind}
-use Rattle.ppd_lex.specs.declared.token.TokenKind.TheVariants.{Number}
-use Rattle.ppd_lex.specs.Front.{is_name_byte}
+use Rattle.ppd_parse.specs.declared.token.TokenKind.{TokenKind}
+use Rattle.ppd_parse.specs.declared.token.TokenKind.TheVariants.{Number}
+use Rattle.ppd_parse.specs.Front.{is_name_byte}
 use Rattle.ppd_top_drill.specs.Drills.{turns, channel_line, first_process, middle_process, last_process, pipeline}
 use Rattle.ppd_top_drill.proofs.Derivations.{kinds, none}
 use Rattle.ppd_top_drill.proofs.Spelled.{Spells, nothing, Over, over, both_over, number_over}

@@ -1,10 +1,10 @@
 // What the logs of a run lead to.
 ghost use Rattle.std.specs.Prelude.{◌≡◌, IfOk, OnOk};
 ghost use Rattle.ppd_graph.specs.Graphs.{IsGraphOf};
-ghost use Rattle.ppd_graph.specs.declared.refusal.BadSync.TheVariants as no_graph;
+ghost use Rattle.ppd_model.specs.declared.bad_sync.BadSync.TheVariants as no_graph;
 ghost use Rattle.ppd_index.specs.Fitting.{AreFittingLogs};
 ghost use Rattle.ppd_index.specs.Indexes.{IsIndexOf};
-ghost use Rattle.ppd_index.specs.declared.refusal.BadLog.TheVariants as no_index;
+ghost use Rattle.ppd_model.specs.declared.bad_log.BadLog.TheVariants as no_index;
 ghost use Rattle.ppd_top_runs.specs.Runs.{CanBeTold, run_setting};
 
 use crate::run::ClosedRun;

@@ -5,8 +5,8 @@ use Rattle.ppd_sem.specs.declared.event.Event.{Event}
 use Rattle.ppd_flow_past.specs.declared.past.Past.{Past}
 use Rattle.ppd_whole_origins.specs.Costs.{read_cost}
 use Rattle.ppd_whole_origins.specs.Origins.{all_events}
-use Rattle.ppd_whole_intervals.specs.Costs.{replays_cost}
-use Rattle.ppd_whole_intervals.specs.Intervals.{all_intervals}
+use Rattle.ppd_whole_origins.specs.IntervalCosts.{replays_cost}
+use Rattle.ppd_whole_origins.specs.Intervals.{all_intervals}
 
 abbrev pub event_cost : Past → Event → ℕ
 event_cost past e = 1 + length e.reads * read_cost past

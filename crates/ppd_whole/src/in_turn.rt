@@ -2,7 +2,7 @@
 ghost use Rattle.std.specs.Prelude.{◌≡◌, ◌≤◌, ◌+◌, map, IfOk, OnOk};
 ghost use Rattle.std.specs.Result.{result_map_both};
 ghost use Rattle.std.specs.List.{flat_map};
-ghost use Rattle.law_whole.specs.Linked.{joined_trace};
+ghost use Rattle.law_flow.specs.Linked.{joined_trace};
 ghost use Rattle.ppd_flow_past.specs.Pasts.{IsPast};
 ghost use Rattle.ppd_flow.specs.SharedCells.{seens_in};
 ghost use Rattle.ppd_whole.specs.Answers.{GivesWhole, IsWholeOf};
@@ -21,9 +21,8 @@ use ppd_ast::{Memory, Seq, Steps};
 use ppd_flow_past::Past;
 use ppd_model::Item;
 use ppd_sem::Event;
-use ppd_whole_intervals::WholeError;
 use ppd_whole_link::{linkers_are_linked, marks_are_writers};
-use ppd_whole_origins::{LinkedPast, writing_edges};
+use ppd_whole_origins::{LinkedPast, WholeError, writing_edges};
 use std::alloc::Global;
 use std::sync::ledger::Ledger;
 

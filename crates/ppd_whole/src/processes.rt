@@ -1,7 +1,7 @@
 // The events of all processes.
 ghost use Rattle.std.specs.Prelude.{◌≡◌, ◌<◌, ◌^◌, ℕ, [], IsTrue, drop, get_or, length, map, take, IfOk};
 ghost use Rattle.std.specs.List.{flat_map};
-ghost use Rattle.law_whole.specs.Joined.{events_in};
+ghost use Rattle.law_flow.specs.Joined.{events_in};
 ghost use Rattle.ppd_flow_past.specs.Pasts.{IsPast};
 ghost use Rattle.ppd_flow.specs.SharedCells.{seens_in};
 

@@ -2,15 +2,15 @@
 ghost use Rattle.std.specs.Prelude.{◌≡◌, ◌<◌, map, Ok, IfErr, IfOk};
 ghost use Rattle.std.specs.List.{AllZip};
 ghost use Rattle.ppd_flow_past.specs.Pasts.{IsPast};
-ghost use Rattle.ppd_whole_intervals.specs.Intervals.{all_intervals};
-ghost use Rattle.ppd_whole_intervals.specs.Replays.{IsReplay};
+ghost use Rattle.ppd_whole_origins.specs.Intervals.{all_intervals};
+ghost use Rattle.ppd_whole_origins.specs.Replays.{IsReplay};
 ghost use Rattle.ppd_whole.specs.Replays.{AreReplays, StopsAt};
 
 use crate::shares::share;
 use ppd_ast::{Memory, Seq, Steps};
 use ppd_flow_past::Past;
 use ppd_model::Item;
-use ppd_whole_intervals::{Job, WholeError, items_in, jobs_of};
+use ppd_whole_origins::{Job, WholeError, items_in, jobs_of};
 use rayon::prelude::*;
 use std::alloc::{AllocError, Global};
 use std::marker::Brand;

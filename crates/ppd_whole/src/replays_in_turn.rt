@@ -1,14 +1,14 @@
 // The items of all intervals, found in one thread, counted.
 ghost use Rattle.std.specs.Prelude.{◌≡◌, ◌+◌, OnOk};
 ghost use Rattle.ppd_flow_past.specs.Pasts.{IsPast};
-ghost use Rattle.ppd_whole_intervals.specs.Costs.{replays_cost};
-ghost use Rattle.ppd_whole_intervals.specs.Intervals.{all_intervals};
+ghost use Rattle.ppd_whole_origins.specs.IntervalCosts.{replays_cost};
+ghost use Rattle.ppd_whole_origins.specs.Intervals.{all_intervals};
 ghost use Rattle.ppd_whole.specs.Replays.{AreReplays};
 
 use ppd_ast::{Seq, Steps};
 use ppd_flow_past::Past;
 use ppd_model::Item;
-use ppd_whole_intervals::{Job, WholeError, items_in, jobs_of};
+use ppd_whole_origins::{Job, WholeError, items_in, jobs_of};
 use std::alloc::Global;
 use std::sync::ledger::Ledger;
 

@@ -14,8 +14,8 @@ use Rattle.ppd_model.specs.declared.trace.EventId.{EventId}
 use Rattle.ppd_model.specs.declared.tracing.Activation.{Activation}
 use Rattle.ppd_model.specs.FullTrace as trace
 use Rattle.ppd_model.specs.FullTrace.{Tag}
-use Rattle.law_whole.specs.Following as following
-use Rattle.law_whole.specs.Following.{Followed, calls_unless, edge_past, top_of}
+use Rattle.law_flow.specs.Following as following
+use Rattle.law_flow.specs.Following.{Followed, calls_unless, edge_past, top_of}
 use Rattle.ppd_activations.specs.declared.runs.Run.{Run}
 use Rattle.ppd_activations.specs.Runs.{parent_of, run_of}
 use Rattle.ppd_activations.proofs.Keeping.{parent_in_as, returned_as, tagged_as, with_test_as}

@@ -6,10 +6,10 @@ use Rattle.std.specs.Ordering.{nat_cmp}
 use Rattle.std.proofs.lemmas.List.Sums.{fold-append}
 use Rattle.ppd_ast.specs.declared.program.Program.{Program}
 use Rattle.ppd_sem.specs.declared.event.Event.{Event}
-use Rattle.law_whole.specs.Following.{edge_past}
-use Rattle.law_whole.specs.Linked.{Linking, link_on}
-use Rattle.law_whole.specs.Linked as linked
-use Rattle.law_whole.specs.Writers.{Mark, Marking, mark_event, marked, marks_of, own_write, unmarked, writes}
+use Rattle.law_flow.specs.Following.{edge_past}
+use Rattle.law_flow.specs.Linked.{Linking, link_on}
+use Rattle.law_flow.specs.Linked as linked
+use Rattle.law_flow.specs.Writers.{Mark, Marking, mark_event, marked, marks_of, own_write, unmarked, writes}
 use Rattle.ppd_whole_link.specs.declared.linker.Linker.{Linker}
 use Rattle.ppd_whole_link.specs.Laws.{IsLinkerOf, LinkersAreLinked, linking_after}
 use Rattle.ppd_whole_link.specs.Linkers.{link, linker_after, own_in, unlinked}

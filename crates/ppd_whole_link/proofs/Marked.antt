@@ -9,11 +9,11 @@ use Rattle.ppd_sem.specs.declared.event.Access.{Access}
 use Rattle.ppd_sem.specs.declared.event.Event.{Event}
 use Rattle.ppd_sem.specs.declared.event.Spot.{Spot}
 use Rattle.ppd_sem.specs.declared.event.Spot.TheVariants.{Local, Shared}
-use Rattle.ppd_flow_model.specs.Walk.{is_shared, value_to}
-use Rattle.law_whole.specs.Following.{edge_past}
-use Rattle.law_whole.specs.Linked.{syncs_from}
-use Rattle.law_whole.specs.Writers as writers
-use Rattle.law_whole.specs.Writers.{Mark, Marking, mark_in, marked, marks_of, own_write, unmarked, writes}
+use Rattle.ppd_graph.specs.Walk.{is_shared, value_to}
+use Rattle.law_flow.specs.Following.{edge_past}
+use Rattle.law_flow.specs.Linked.{syncs_from}
+use Rattle.law_flow.specs.Writers as writers
+use Rattle.law_flow.specs.Writers.{Mark, Marking, mark_in, marked, marks_of, own_write, unmarked, writes}
 use Rattle.ppd_activations.proofs.Kept.{alike, same_number}
 use Rattle.ppd_whole_link.specs.declared.linker.Mark as kept
 use Rattle.ppd_whole_link.specs.declared.marks.Marks.{Marks}

@@ -3,8 +3,8 @@ use Rattle.std.specs.Prelude.{◌≡◌, ℕ, ◌<◌, ◌^◌, List, [], fold, 
 use Rattle.std.specs.FinMap.{get}
 use Rattle.ppd_ast.specs.declared.program.Program.{Program}
 use Rattle.ppd_sem.specs.declared.event.Event.{Event}
-use Rattle.law_whole.specs.Linked.{Linking, link_on, syncs_from, unlinked}
-use Rattle.law_whole.specs.Writers.{mark_in, marks_of, own_write}
+use Rattle.law_flow.specs.Linked.{Linking, link_on, syncs_from, unlinked}
+use Rattle.law_flow.specs.Writers.{mark_in, marks_of, own_write}
 use Rattle.ppd_whole_link.specs.declared.linker.Linker.{Linker}
 use Rattle.ppd_whole_link.specs.declared.marks.Marks.{Marks}
 use Rattle.ppd_whole_link.specs.Linkers.{linker_after, own_in}

@@ -2,7 +2,7 @@
 use Rattle.std.specs.Prelude.{ℕ, ◌+◌, List, [], ◌∷◌, ◌++◌, fold, Option, Some, None}
 use Rattle.std.specs.FinMap.{empty}
 use Rattle.ppd_sem.specs.declared.event.Event.{Event}
-use Rattle.law_whole.specs.Following.{edge_past}
+use Rattle.law_flow.specs.Following.{edge_past}
 use Rattle.ppd_whole_link.specs.declared.marks.Marks.{Marks}
 use Rattle.ppd_whole_writes.specs.Writes.{Written, written_past}
 

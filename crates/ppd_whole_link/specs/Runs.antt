@@ -6,7 +6,7 @@ use Rattle.ppd_ast.specs.Lookups.{kind_of, body_numbered}
 use Rattle.ppd_sem.specs.declared.event.Event.{Event}
 use Rattle.ppd_model.specs.declared.trace.EventId.{EventId}
 use Rattle.ppd_model.specs.FullTrace.{Tag}
-use Rattle.law_whole.specs.Following.{Followed, calls_unless, edge_past, top_of}
+use Rattle.law_flow.specs.Following.{Followed, calls_unless, edge_past, top_of}
 use Rattle.ppd_activations.specs.declared.runs.Run.{Run}
 use Rattle.ppd_activations.specs.Runs.{begun_run, run_of, with_test}
 use Rattle.ppd_whole_link.specs.declared.follower.Follower.{Follower}

@@ -1,7 +1,7 @@
 // A process, followed by its events alone.
 ghost use Rattle.std.specs.Prelude.{◌≡◌, ◌+◌, ◌<◌, get_or, None, Some, IfOk, OnOk};
 ghost use Rattle.ppd_ast.specs.Lookups.{kind_of, body_numbered};
-ghost use Rattle.law_whole.specs.Following.{calls_by_kind, calls_unless, edge_past as edge_past_of, top_of};
+ghost use Rattle.law_flow.specs.Following.{calls_by_kind, calls_unless, edge_past as edge_past_of, top_of};
 ghost use Rattle.ppd_activations.specs.Runs.{begun_run as begun_run_of, parent_of as parent_of_runs, top_tags as top_tags_of, with_test};
 ghost use Rattle.ppd_whole_link.specs.Runs.{begun, follow as follow_of, tagged_unless};
 

@@ -2,8 +2,8 @@
 ghost use Rattle.std.specs.Prelude.{◌≡◌, ◌<◌, ◌^◌, List, get_or, length, map, slice_get, unwrap_or, IfOk, OnOk};
 ghost use Rattle.std.specs.FinMap as finite;
 ghost use Rattle.ppd_whole_link.specs.Marks.{mark_event, marks_after, no_marks, syncs_if, syncs_past, written_if};
-ghost use Rattle.law_whole.specs.Linked.{sync_event as sync_event_of};
-ghost use Rattle.law_whole.specs.Writers.{written_in as written_in_events};
+ghost use Rattle.law_flow.specs.Linked.{sync_event as sync_event_of};
+ghost use Rattle.law_flow.specs.Writers.{written_in as written_in_events};
 ghost use Rattle.ppd_whole_link.specs.Laws.{AreAllMarks};
 ghost use Rattle.ppd_model.specs.HappenedBefore.{edge as edge_of};
 ghost use Rattle.ppd_sem.specs.declared.event.Event.{Event};

@@ -8,11 +8,11 @@ use Rattle.ppd_sem.specs.declared.event.Spot.TheVariants.{Local, Shared}
 use Rattle.ppd_model.specs.declared.trace.EventId.{EventId}
 use Rattle.ppd_model.specs.HappenedBefore.{edge, node}
 use Rattle.ppd_flow_shared.specs.Past.{Past}
-use Rattle.ppd_flow_model.specs.Shared.{greatest_before}
+use Rattle.ppd_graph.specs.Shared.{greatest_before}
 use Rattle.ppd_flow_shared.specs.SharedCells.{seens_in}
-use Rattle.law_whole.specs.Joined.{events_in}
-use Rattle.law_whole.specs.Linked.{pair_tag}
-use Rattle.law_whole.specs.Writers.{writer_from, written_in}
+use Rattle.law_flow.specs.Joined.{events_in}
+use Rattle.law_flow.specs.Linked.{pair_tag}
+use Rattle.law_flow.specs.Writers.{writer_from, written_in}
 use Rattle.ppd_activations.specs.Runs.{top_tags}
 use Rattle.ppd_whole_link.specs.declared.linker.Linker.{Linker}
 use Rattle.ppd_whole_link.specs.declared.marks.Marks.{Marks}

@@ -1,7 +1,7 @@
 // What an event came from in other edges and other processes.
 ghost use Rattle.std.specs.Prelude.{◌≡◌, ◌≤◌, ◌+◌, option_map};
-ghost use Rattle.law_whole.specs.Linked.{pair_tag};
-ghost use Rattle.law_whole.specs.Writers.{written_in as written_in_events};
+ghost use Rattle.law_flow.specs.Linked.{pair_tag};
+ghost use Rattle.law_flow.specs.Writers.{written_in as written_in_events};
 ghost use Rattle.ppd_sem.specs.declared.event.Spot.TheVariants.{Shared};
 ghost use Rattle.ppd_whole_origins.specs.Costs.{read_cost};
 ghost use Rattle.ppd_whole_origins.specs.LinkedPasts.{IsLinked};

@@ -1,7 +1,7 @@
 // The events of a process, joined from the items of its intervals.
 ghost use Rattle.std.specs.Prelude.{◌≡◌, [], ◌∷◌, ◌++◌, get_or, length, map, IfOk, OnOk};
-ghost use Rattle.law_whole.specs.Joined.{events_in, events_of_item, joined};
-ghost use Rattle.ppd_flow_model.specs.Seen.{Seen};
+ghost use Rattle.law_flow.specs.Joined.{events_in, events_of_item, joined};
+ghost use Rattle.ppd_graph.specs.Seen.{Seen};
 
 use ppd_ast::{Memory, Seq};
 use ppd_model::Item;

@@ -3,7 +3,7 @@ use Rattle.ppd_model.specs.Setting.{Setting}
 use Rattle.std.proofs.Common.{◌≡◌, ◌≢◌, ℕ, ◌+◌, ◌≤◌, true, List, ◌++◌, length, Some, Result, Ok, Err, OnOk, ap, sym, ◌∙◌, subst, arith}
 use Rattle.std.specs.Prelude.{drop, option_map, slice_get}
 use Rattle.std.proofs.Math.Seq.{drop-append_seam}
-use Rattle.ppd_entry.specs.declared.entry.Entry.{Entry}
+use Rattle.ppd_model.specs.declared.entry.Entry.{Entry}
 use Rattle.ppd_sem.specs.declared.proc.Need.TheVariants.{Stopped}
 use Rattle.ppd_model.specs.declared.state.Logging.{Logging}
 use Rattle.ppd_model.specs.Costs.{CostsWhatItWrites, IsPaid, values_in}

@@ -11,7 +11,7 @@ use Rattle.ppd_ast.specs.declared.program.Chan.{Chan}
 use Rattle.ppd_ast.specs.declared.program.Program.{Program}
 use Rattle.ppd_ast.specs.declared.program.Sem.{Sem}
 use Rattle.ppd_ast.specs.declared.limits.TheConstants.{MOST_BUDGET, MOST_PROCESSES, MOST_START}
-use Rattle.ppd_entry.specs.declared.entry.Entry.{Entry}
+use Rattle.ppd_model.specs.declared.entry.Entry.{Entry}
 use Rattle.ppd_sem.specs.declared.proc.Need.{Need}
 use Rattle.ppd_sem.specs.declared.proc.Need.TheVariants.{Write, P, V, Send, Offer, Done, Recv}
 use Rattle.ppd_sem.specs.declared.proc.Proc.{Proc}

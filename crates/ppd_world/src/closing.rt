@@ -5,8 +5,7 @@ ghost use Rattle.ppd_model.specs.Logs.{closed_log, end_of as end_of_proc, ends, 
 ghost use Rattle.ppd_world.specs.Starts.{blocked_of};
 
 use ppd_ast::{Memory, Program, Seq, Status};
-use ppd_entry::{Entry, Logs};
-use ppd_model::{Closed, Logging, ProcEnd};
+use ppd_model::{Closed, Entry, Logging, Logs, ProcEnd};
 use ppd_sem::{Proc, next_stmt};
 use ppd_world_steps::push_end;
 use std::alloc::Global;

@@ -9,8 +9,7 @@ ghost use Rattle.ppd_world_steps.specs.Entries.{moment_with};
 ghost use Rattle.ppd_world.specs.Plain.{gone_on, gone_on_printing};
 
 use ppd_ast::{Memory, Seq};
-use ppd_entry::Entry;
-use ppd_model::{Logging, Taken};
+use ppd_model::{Entry, Logging, Taken};
 use ppd_sem::{Need, Proc, look, meet};
 use ppd_world_steps::{Code, Note, apply, entries_of, note_of};
 

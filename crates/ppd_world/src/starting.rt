@@ -7,8 +7,7 @@ ghost use Rattle.ppd_sem.specs.Tables.{block_of};
 ghost use Rattle.ppd_world.specs.Starts.{begun_chans, begun_logs, begun_sems, first_entries as first_entries_of};
 
 use ppd_ast::{BlockKind, Memory, Nums, Plan, Program, Seq, Start};
-use ppd_entry::{Boxed, Entry};
-use ppd_model::{Channel, Counts, Logging};
+use ppd_model::{Boxed, Channel, Counts, Entry, Logging};
 use ppd_sem::{Proc, find_block, find_unit};
 use ppd_world_steps::unit_values;
 use std::alloc::Global;

@@ -1,5 +1,5 @@
 ghost use Rattle.std.specs.Prelude.{◌≡◌, ◌++◌, ◌∷◌, [], IfOk, OnOk};
-ghost use Rattle.ppd_entry.specs.declared.entry.Entry.TheVariants as entry;
+ghost use Rattle.ppd_model.specs.declared.entry.Entry.TheVariants as entry;
 ghost use Rattle.ppd_model.specs.Logs.{ends, passed_value as passed_of, status_of as status_of_need, syncs, units, block_entries};
 ghost use Rattle.std.specs.Option.{option_map_or};
 ghost use Rattle.ppd_model.specs.Marks.{closed, opened};
@@ -9,8 +9,10 @@ ghost use Rattle.ppd_sem.specs.Runs.{IsRunnable, IsRunning};
 
 use crate::code::Code;
 use ppd_ast::{Cells, Memory, Nums, Plan, Status, SyncKind};
-use ppd_entry::{Boxed, BoxedCells, BoxedNums, Entry};
-use ppd_model::{Logging, Taken, closed_block, unit_cells, unit_started, values_at};
+use ppd_model::{
+    Boxed, BoxedCells, BoxedNums, Entry, Logging, Taken, closed_block, unit_cells, unit_started,
+    values_at,
+};
 use ppd_sem::{Answer, Need, Proc, call_values, local_cells, prelog_cells};
 use std::alloc::Global;
 

@@ -6,8 +6,7 @@ ghost use Rattle.ppd_world_steps.specs.Entries.{moment_with};
 use crate::appending::{push_closed, push_end, push_opened, push_sync, push_unit, status_of};
 use crate::code::Code;
 use ppd_ast::Memory;
-use ppd_entry::Entry;
-use ppd_model::{Logging, Taken};
+use ppd_model::{Entry, Logging, Taken};
 
 /// The entries that this step writes. `Memory` is want of memory.
 pub fn entries_of(

@@ -5,15 +5,15 @@ use Rattle.std.specs.Prelude.{pos, true, false, ℕ, List, [], ◌∷◌, map, g
 use Rattle.ppd_ast.specs.declared.plan.Plan.{Plan}
 use Rattle.ppd_ast.specs.declared.program.Program.{Program}
 use Rattle.ppd_ast.specs.Term.{terms}
-use Rattle.ppd_entry.specs.Pieces.{Piece}
-use Rattle.ppd_entry.specs.IntervalLogs.{interval_log, IntervalLog}
+use Rattle.ppd_model.specs.Pieces.{Piece}
+use Rattle.ppd_model.specs.IntervalLogs.{interval_log, IntervalLog}
 use Rattle.ppd_sem.specs.declared.event.Spot.TheVariants.{Local, Shared}
 use Rattle.ppd_model.specs.declared.flow.Item.{Item}
 use Rattle.ppd_model.specs.declared.flow.Item.TheVariants.{Own, Nested}
 use Rattle.ppd_model.specs.Logs.{closed_logs}
 use Rattle.ppd_model.specs.Story.{told}
-use Rattle.law_replay.specs.Coming.Pieces.{Coming}
-use Rattle.law_replay.specs.Coming.Openings.{Opening, coming_in, opening_of}
+use Rattle.law_steps.specs.Coming.Pieces.{Coming}
+use Rattle.law_steps.specs.Coming.Openings.{Opening, coming_in, opening_of}
 use Rattle.rows_programs.proofs.Runs.LeafLoops as leaf
 use Rattle.rows_programs.proofs.Runs.Recursion as recursion
 use Rattle.rows_programs.proofs.Runs.BoundedChannel as channel

@@ -8,7 +8,7 @@ use Rattle.ppd_ast.specs.declared.program.Kind.TheVariants as kind
 use Rattle.ppd_ast.specs.declared.program.Op.TheVariants as op
 use Rattle.ppd_ast.specs.declared.program.Program.{Program}
 use Rattle.ppd_ast.specs.declared.program.Target.TheVariants as target
-use Rattle.ppd_cfg.specs.Flow.{flow_rows, follow_at}
+use Rattle.ppd_sets.specs.Flow.{flow_rows, follow_at}
 use Rattle.ppd_sets.specs.Used.{sorted, local_in, reads_at, writes_at}
 use Rattle.rows_programs.proofs.Runs.CalleeWrite as callee
 use Rattle.rows_programs.proofs.Runs.Tables.{stmt_in, scalar, array, body_of}

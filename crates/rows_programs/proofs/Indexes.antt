@@ -5,10 +5,10 @@ use Rattle.ppd_ast.specs.declared.plan.BlockKind.TheVariants as block
 use Rattle.ppd_ast.specs.declared.plan.Plan.{Plan}
 use Rattle.ppd_ast.specs.declared.plan.Start.TheVariants as start
 use Rattle.ppd_ast.specs.declared.status.Status.TheVariants as status
-use Rattle.ppd_entry.specs.declared.entry.Entry.{Entry}
-use Rattle.ppd_entry.specs.declared.entry.Entry.TheVariants as entry
-use Rattle.ppd_entry.specs.IntervalLogs.{IntervalLog, indexed, log_by}
-use Rattle.ppd_entry.specs.Pieces.{Piece, unit, nested, unfinished, postlog, finish}
+use Rattle.ppd_model.specs.declared.entry.Entry.{Entry}
+use Rattle.ppd_model.specs.declared.entry.Entry.TheVariants as entry
+use Rattle.ppd_model.specs.IntervalLogs.{IntervalLog, indexed, log_by}
+use Rattle.ppd_model.specs.Pieces.{Piece, unit, nested, unfinished, postlog, finish}
 use Rattle.ppd_model.specs.Extents.{extents}
 use Rattle.rows_programs.proofs.Runs.Tables.{block_of, unit_of}
 

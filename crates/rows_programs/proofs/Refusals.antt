@@ -2,11 +2,11 @@
 use Rattle.std.proofs.Common.{◌≡◌, refl}
 use Rattle.std.specs.Prelude.{pos, List, [], ◌∷◌, Option, Some, None}
 use Rattle.ppd_ast.specs.declared.status.Status.TheVariants as status
-use Rattle.ppd_entry.specs.declared.entry.Entry.{Entry}
-use Rattle.ppd_entry.specs.declared.entry.Entry.TheVariants as entry
+use Rattle.ppd_model.specs.declared.entry.Entry.{Entry}
+use Rattle.ppd_model.specs.declared.entry.Entry.TheVariants as entry
 use Rattle.rows_programs.proofs.Runs.BudgetStop.{plan, program}
-use Rattle.ppd_index.specs.declared.refusal.BadLog.{BadLog}
-use Rattle.ppd_index.specs.declared.refusal.BadLog.TheVariants.{AfterEnd, NoEnd, Unpaired, WrongValues}
+use Rattle.ppd_model.specs.declared.bad_log.BadLog.{BadLog}
+use Rattle.ppd_model.specs.declared.bad_log.BadLog.TheVariants.{AfterEnd, NoEnd, Unpaired, WrongValues}
 use Rattle.ppd_index.specs.Refusals.{first_bad}
 
 abbrev found : List Entry → Option BadLog

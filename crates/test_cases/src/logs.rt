@@ -8,8 +8,7 @@ use ppd_ast::limits::MOST_POLICY;
 use ppd_ast::{Plan, Program, Status, SyncKind, Trap};
 use ppd_blocks::partition;
 use ppd_check::read_source;
-use ppd_entry::{Entry, Logs};
-use ppd_model::{Closed, ProcEnd};
+use ppd_model::{Closed, Entry, Logs, ProcEnd};
 use ppd_top::Options;
 use std::alloc::{AllocError, Global};
 

@@ -5,8 +5,7 @@ ghost use Rattle.ppd_codec.specs.Recordings.{AreLawful};
 use crate::logs::told_logs;
 use crate::worlds::drive;
 use ppd_codec::{Recording, decode, encode};
-use ppd_entry::Logs;
-use ppd_model::Closed;
+use ppd_model::{Closed, Logs};
 use std::alloc::Global;
 
 /// The recorded program, driven by the schedule and closed where nobody is enabled then.

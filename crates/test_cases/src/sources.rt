@@ -3,8 +3,7 @@
 use crate::tokens::{told_at, told_error};
 use ppd_ast::{Body, Expr, Kind, Op, Program, Stmt, Target, Var};
 use ppd_check::{CheckError, Limit, SourceError, read_source};
-use ppd_lex::LexError;
-use ppd_parse::SyntaxError;
+use ppd_parse::{LexError, SyntaxError};
 use std::alloc::{AllocError, Global};
 use test_valid::is_valid_program;
 

@@ -1,7 +1,7 @@
 // The tokens of sources, as text.
 
 use ppd_ast::Place;
-use ppd_lex::{Kind, LexError, Token, TokenKind, lex};
+use ppd_parse::{Kind, LexError, Token, TokenKind, lex};
 use std::alloc::{AllocError, Global};
 
 /// The kind of a mark.

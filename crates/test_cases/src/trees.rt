@@ -1,8 +1,7 @@
 // The trees of sources, as text.
 
 use ppd_ast::Place;
-use ppd_lex::lex;
-use ppd_parse::{Node, Rule, SyntaxError, Tree, parse};
+use ppd_parse::{Node, Rule, SyntaxError, Tree, lex, parse};
 use std::alloc::{AllocError, Global};
 
 fn told_at(alloc: Global, word: &str, place: Place) -> Result<String, AllocError> {

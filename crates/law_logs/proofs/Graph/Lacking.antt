@@ -21,8 +21,7 @@ use Rattle.ppd_model.proofs.Balanced.{balanced}
 use Rattle.ppd_model.proofs.Forward.{completed_below, offered_below, received_below, sem_below, sent_below}
 use Rattle.ppd_model.proofs.Stories.{stories_are_of_runs}
 use Rattle.ppd_graph.specs.Refusals.{Numbered, missing, numbers_of, start_of}
-use Rattle.ppd_graph.proofs.Vocabulary.{greatest}
-use Rattle.ppd_graph.proofs.Vocabulary.{numbered_in}
+use Rattle.ppd_graph.proofs.Vocabulary.{greatest, numbered_in}
 use Rattle.law_logs.proofs.Graph.Complete.{AreAll, IsChanWhole, IsSemWhole, none_missing}
 use Rattle.law_logs.proofs.Graph.Flat.{all_rows}
 use Rattle.law_logs.proofs.Graph.Numbers.{greatest_has, greatest_within, number_stands}

@@ -3,14 +3,13 @@ use Rattle.std.proofs.Common.{◌≡◌, ℕ, zero, suc, ◌+◌, ◌-◌, ◌<�
 use Rattle.std.specs.Prelude.{IsTrue, nat_eq, if◌then◌else◌}
 use Rattle.std.specs.List.{cons_option, range_with_len}
 use Rattle.std.proofs.lemmas.Bool.{and_from, and_parts, or_cases, or_left, or_right}
-use Rattle.ppd_entry.specs.Entries.{same_kind}
+use Rattle.ppd_model.specs.Entries.{same_kind}
 use Rattle.ppd_ast.specs.declared.status.SyncKind.{SyncKind}
 use Rattle.ppd_ast.specs.Members.{has}
 use Rattle.ppd_model.specs.Numbers.{sync}
 use Rattle.ppd_model.specs.Synchronizations.{Sync}
 use Rattle.ppd_graph.specs.Refusals.{absent, numbers_of}
-use Rattle.ppd_graph.proofs.Vocabulary.{greatest}
-use Rattle.ppd_graph.proofs.Vocabulary.{number_in}
+use Rattle.ppd_graph.proofs.Vocabulary.{greatest, number_in}
 use Rattle.ppd_model.specs.SameSyncs.{same_sync}
 use Rattle.ppd_model.proofs.SameSyncs.{same_is, same_kind_is, same_kind_self, same_self}
 use Rattle.law_logs.proofs.Graph.Flat.{stands}

@@ -3,14 +3,14 @@ use Rattle.ppd_model.proofs.Tested.{none_before_itself, none_is_before_itself}
 use Rattle.std.proofs.Common.{◌≡◌, List, [], ◌∷◌, refl, ap, sym, subst, ◌∙◌}
 use Rattle.std.proofs.lemmas.Option.{none-some}
 use Rattle.ppd_ast.specs.declared.program.Program.{Program}
-use Rattle.ppd_entry.specs.declared.entry.Logs.{Logs}
+use Rattle.ppd_model.specs.declared.entry.Logs.{Logs}
 use Rattle.ppd_model.specs.declared.graph.NodeId.{NodeId}
 use Rattle.ppd_model.specs.HappenedBefore.{Before, direct, through}
 use Rattle.ppd_model.specs.Logs.{closed_logs}
 use Rattle.ppd_model.specs.RecordedSets.{record_in}
 use Rattle.ppd_model.specs.Synchronizations.{Sync}
-use Rattle.ppd_graph.specs.declared.refusal.BadSync.{BadSync}
-use Rattle.ppd_graph.specs.declared.refusal.BadSync.TheVariants.{NumberTwice, NumberMissing, Cycle, NoObject, Memory}
+use Rattle.ppd_model.specs.declared.bad_sync.BadSync.{BadSync}
+use Rattle.ppd_model.specs.declared.bad_sync.BadSync.TheVariants.{NumberTwice, NumberMissing, Cycle, NoObject, Memory}
 use Rattle.ppd_graph.specs.Cycles.{IsWay}
 use Rattle.ppd_graph.specs.Refusals.{AreOrdered, IsRefused, missing}
 use Rattle.law_logs.specs.Graph.Accepted.{GraphsOfRunsAreNotRefused, LogsOfRunsAreOrdered}

@@ -7,7 +7,7 @@ use Rattle.ppd_ast.specs.declared.program.Sem.{Sem}
 use Rattle.ppd_ast.specs.declared.status.SyncKind.{SyncKind}
 use Rattle.ppd_ast.specs.declared.status.SyncKind.TheVariants.{P, V, Send, Recv, Done}
 use Rattle.ppd_sem.specs.Tables.{capacity_of}
-use Rattle.ppd_entry.specs.declared.entry.Logs.{Logs}
+use Rattle.ppd_model.specs.declared.entry.Logs.{Logs}
 use Rattle.ppd_model.specs.declared.graph.NodeId.{NodeId}
 use Rattle.ppd_model.specs.declared.state.Channel.{Channel}
 use Rattle.ppd_model.specs.declared.state.Counts.{Counts}

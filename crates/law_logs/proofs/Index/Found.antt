@@ -18,8 +18,8 @@ use Rattle.ppd_ast.specs.declared.plan.Policy.{Policy}
 use Rattle.ppd_ast.specs.declared.plan.Start.TheVariants as start
 use Rattle.ppd_ast.specs.declared.program.Program.{Program}
 use Rattle.ppd_blocks.specs.Blocks.{plan_of}
-use Rattle.ppd_entry.specs.IntervalLogs.{Indexing, begun_indexing, index_step}
-use Rattle.ppd_entry.specs.declared.entry.Entry.TheVariants as entry
+use Rattle.ppd_model.specs.IntervalLogs.{Indexing, begun_indexing, index_step}
+use Rattle.ppd_model.specs.declared.entry.Entry.TheVariants as entry
 use Rattle.ppd_index.specs.Refusals.{first_bad, first_in_lists, may_begin, standing}
 use Rattle.ppd_model.proofs.LogWords.{logs_from}
 use Rattle.ppd_model.proofs.Prefixes.{objects_stay}

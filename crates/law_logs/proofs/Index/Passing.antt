@@ -6,10 +6,10 @@ use Rattle.law_logs.proofs.Index.Standing.{Stands, after_postlog, after_prelog, 
 use Rattle.law_logs.proofs.Index.Started.{IsUnder, next_under, under_there, unit_fits}
 use Rattle.law_logs.proofs.Index.Tested.{IsInsideEnd, MayBegin, Passes, fit_end, fit_ended, fit_postlog, fit_prelog, fit_sync, fit_unit, last_one, one_more}
 use Rattle.law_logs.proofs.Index.Valued.{AreValued, IsValued}
-use Rattle.law_replay.proofs.Coming.Later.{closing, news}
-use Rattle.law_replay.proofs.Coming.Shapes.{Shape, closes, ends, opens, passes, shape, stops}
-use Rattle.law_replay.proofs.Coming.Stacked.{stopped_run}
-use Rattle.law_replay.proofs.Vocabulary.Nested.{HasStopped}
+use Rattle.law_steps.proofs.Coming.Later.{closing, news}
+use Rattle.law_steps.proofs.Coming.Shapes.{Shape, closes, ends, opens, passes, shape, stops}
+use Rattle.law_steps.proofs.Coming.Stacked.{stopped_run}
+use Rattle.law_steps.proofs.Vocabulary.Nested.{HasStopped}
 use Rattle.law_steps.proofs.OpenBlocks.Stacks.{steps_move}
 use Rattle.law_steps.specs.Course.{EndsWithEnd}
 use Rattle.law_steps.specs.OpenBlocks.Run.{IsRun}
@@ -21,9 +21,9 @@ use Rattle.ppd_ast.specs.declared.program.Program.{Program}
 use Rattle.ppd_ast.specs.declared.status.Status.{Status}
 use Rattle.ppd_ast.specs.declared.status.Status.TheVariants as status
 use Rattle.ppd_blocks.specs.Blocks.{plan_of}
-use Rattle.ppd_entry.specs.IntervalLogs.{Indexing, index_step}
-use Rattle.ppd_entry.specs.declared.entry.Entry.{Entry}
-use Rattle.ppd_entry.specs.declared.entry.Entry.TheVariants as entry
+use Rattle.ppd_model.specs.IntervalLogs.{Indexing, index_step}
+use Rattle.ppd_model.specs.declared.entry.Entry.{Entry}
+use Rattle.ppd_model.specs.declared.entry.Entry.TheVariants as entry
 use Rattle.ppd_index.proofs.Vocabulary.{fits_postlog, fits_unit}
 use Rattle.ppd_model.proofs.Statuses.{status_after}
 use Rattle.ppd_model.specs.Logs.{closed_log, entries_of, log_step, passed_value, status_of, units}

@@ -1,20 +1,20 @@
 -- Where an entry stands in the index: inside the blocks of a stack.
-use Rattle.ppd_entry.specs.Changed.{change}
-use Rattle.ppd_entry.proofs.Vocabulary.{new_interval, with_piece, with_postlog}
+use Rattle.ppd_model.specs.Changed.{change}
+use Rattle.ppd_model.proofs.EntryWords.{new_interval, with_piece, with_postlog}
 use Rattle.std.proofs.Common.{◌≡◌, ℕ, zero, suc, ◌+◌, ◌<◌, ℤ, false, List, [], ◌∷◌, ◌++◌, length, Some, None, refl, ap, sym, ◌∙◌, subst, arith}
 use Rattle.std.proofs.lemmas.Bool.{ne_eqb}
 use Rattle.std.proofs.lemmas.List.{length-append}
 use Rattle.std.specs.Prelude.{⊤, drop, nat_eq}
 use Rattle.ppd_ast.specs.declared.plan.Plan.{Plan}
 use Rattle.ppd_ast.specs.declared.status.SyncKind.{SyncKind}
-use Rattle.ppd_entry.specs.declared.entry.Entry.TheVariants as entry
-use Rattle.ppd_entry.specs.IntervalLogs.{Indexing, LoggedInterval, add_piece, blocks_of, index_step, interval_at, left_interval}
-use Rattle.ppd_entry.specs.Pieces.{Piece, nested, sync, unit}
+use Rattle.ppd_model.specs.declared.entry.Entry.TheVariants as entry
+use Rattle.ppd_model.specs.IntervalLogs.{Indexing, LoggedInterval, add_piece, blocks_of, index_step, interval_at, left_interval}
+use Rattle.ppd_model.specs.Pieces.{Piece, nested, sync, unit}
 use Rattle.law_steps.specs.OpenBlocks.Stack.{functions_in}
 use Rattle.ppd_index.proofs.Vocabulary.{innermost_of}
-use Rattle.law_replay.proofs.Coming.Indexes.{changed_length, falls_on}
-use Rattle.law_replay.proofs.Coming.IndexSteps.{piece_length}
-use Rattle.law_replay.proofs.Coming.Depths.{blocks_at}
+use Rattle.law_steps.proofs.Coming.Indexes.{changed_length, falls_on}
+use Rattle.law_steps.proofs.Coming.IndexSteps.{piece_length}
+use Rattle.law_steps.proofs.Coming.Depths.{blocks_at}
 use Rattle.ppd_model.proofs.Extents.{Fall}
 
 -- ---- the block of an interval

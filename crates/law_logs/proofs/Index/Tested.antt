@@ -5,14 +5,14 @@ use Rattle.ppd_ast.specs.declared.plan.Plan.{Plan}
 use Rattle.ppd_ast.specs.declared.status.Status.{Status}
 use Rattle.ppd_ast.specs.declared.status.Status.TheVariants as status
 use Rattle.ppd_ast.specs.declared.status.SyncKind.{SyncKind}
-use Rattle.ppd_entry.specs.Entries.{is_end}
-use Rattle.ppd_entry.specs.IntervalLogs.{Indexing, index_step}
-use Rattle.ppd_entry.specs.declared.entry.At.{At}
-use Rattle.ppd_entry.specs.declared.entry.Entry.{Entry}
-use Rattle.ppd_entry.specs.declared.entry.Entry.TheVariants as entry
+use Rattle.ppd_model.specs.Entries.{is_end}
+use Rattle.ppd_model.specs.IntervalLogs.{Indexing, index_step}
+use Rattle.ppd_model.specs.declared.entry.At.{At}
+use Rattle.ppd_model.specs.declared.entry.Entry.{Entry}
+use Rattle.ppd_model.specs.declared.entry.Entry.TheVariants as entry
 use Rattle.ppd_index.proofs.Vocabulary.{innermost_of, is_same, kind_there}
 use Rattle.ppd_index.specs.Refusals.{first_from, is_fitting, is_paired, may_begin, refusal, standing}
-use Rattle.ppd_index.specs.declared.refusal.BadLog.TheVariants.{Unpaired, WrongValues}
+use Rattle.ppd_model.specs.declared.bad_log.BadLog.TheVariants.{Unpaired, WrongValues}
 use Rattle.ppd_index.specs.declared.standing.Standing.{Standing}
 use Rattle.std.proofs.Common.{List, None, Some, [], ap, false, if◌then◌else◌, refl, true, ℕ, ℤ, ◌∙◌, ◌∷◌, ◌≡◌}
 use Rattle.std.specs.Option.{option_or}

@@ -12,8 +12,8 @@ use Rattle.ppd_ast.specs.declared.limits.TheConstants.{MOST_BUDGET, MOST_POLICY,
 use Rattle.ppd_ast.specs.declared.plan.Plan.{Plan}
 use Rattle.ppd_ast.specs.declared.program.Program.{Program}
 use Rattle.ppd_ast.specs.declared.status.Status.TheVariants as status
-use Rattle.ppd_entry.specs.declared.entry.Entry.{Entry}
-use Rattle.ppd_entry.specs.declared.entry.Entry.TheVariants as entry
+use Rattle.ppd_model.specs.declared.entry.Entry.{Entry}
+use Rattle.ppd_model.specs.declared.entry.Entry.TheVariants as entry
 use Rattle.ppd_blocks.specs.Blocks.{plan_of}
 use Rattle.ppd_blocks.proofs.Validity.{plan_valid}
 use Rattle.ppd_check.proofs.AcceptedValid.{read_valid}

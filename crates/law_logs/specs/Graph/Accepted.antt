@@ -4,8 +4,8 @@ use Rattle.std.specs.Prelude.{◌≡◌, ℕ, List, Some}
 use Rattle.ppd_model.specs.Logs.{closed_logs}
 use Rattle.ppd_model.specs.Schedule.{run}
 use Rattle.ppd_model.specs.World.{World}
-use Rattle.ppd_graph.specs.declared.refusal.BadSync.{BadSync}
-use Rattle.ppd_graph.specs.declared.refusal.BadSync.TheVariants.{Memory}
+use Rattle.ppd_model.specs.declared.bad_sync.BadSync.{BadSync}
+use Rattle.ppd_model.specs.declared.bad_sync.BadSync.TheVariants.{Memory}
 use Rattle.ppd_graph.specs.Refusals.{AreOrdered, IsRefused}
 
 -- of any program and plan, where the schedule can be taken, as each whole one can: each synchronization in its

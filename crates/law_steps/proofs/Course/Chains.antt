@@ -12,8 +12,8 @@ use Rattle.ppd_ast.specs.declared.program.Kind.{Kind}
 use Rattle.ppd_ast.specs.declared.program.Kind.TheVariants as K
 use Rattle.ppd_ast.specs.declared.program.Program.{Program}
 use Rattle.ppd_blocks.specs.Walk.{stands_in}
-use Rattle.ppd_cfg.proofs.Following.{follows_its_list}
-use Rattle.ppd_cfg.specs.Flow.{follow, follow_under, follow_within, next_in}
+use Rattle.ppd_sets.proofs.Following.{follows_its_list}
+use Rattle.ppd_sets.specs.Flow.{follow, follow_under, follow_within, next_in}
 use Rattle.std.proofs.Common.{List, None, Option, Some, [], ap, arith, false, refl, subst, sym, ℕ, ◌++◌, ◌+◌, ◌<◌, ◌||◌, ◌∙◌, ◌∷◌, ◌≡◌, ◌≤◌}
 use Rattle.std.proofs.lemmas.Bool.{cond-false, cond-true, eq-eqb, ne_eqb}
 use Rattle.std.specs.Option.{option_or}

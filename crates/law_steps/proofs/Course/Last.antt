@@ -10,8 +10,8 @@ use Rattle.ppd_ast.specs.Valid.{EndsBody, IsEnding, IsValid, last_of}
 use Rattle.ppd_ast.proofs.ValidLaws.{stmt_in_body}
 use Rattle.ppd_ast.proofs.Vocabulary.{kind_of_stmt}
 use Rattle.ppd_ast.specs.declared.limits.TheConstants.{MOST_NESTING}
-use Rattle.ppd_cfg.specs.Flow.{follow}
-use Rattle.ppd_cfg.proofs.Depths.{follow_none}
+use Rattle.ppd_sets.specs.Flow.{follow}
+use Rattle.ppd_sets.proofs.Depths.{follow_none}
 use Rattle.law_steps.specs.Steps.{EndsAreLast}
 use Rattle.law_steps.proofs.Course.Chains.{IsChain, top_chain}
 use Rattle.ppd_model.proofs.Changes.{some}

@@ -13,9 +13,9 @@ use Rattle.ppd_ast.specs.declared.program.Kind.TheVariants as K
 use Rattle.ppd_ast.specs.declared.program.Program.{Program}
 use Rattle.ppd_ast.specs.declared.program.Stmt.{Stmt}
 use Rattle.ppd_blocks.specs.Walk.{stands_in}
-use Rattle.ppd_cfg.proofs.Depths.{follow_none}
-use Rattle.ppd_cfg.proofs.Following.{follows_its_list}
-use Rattle.ppd_cfg.specs.Flow.{follow, follow_under, follow_within, next_in}
+use Rattle.ppd_sets.proofs.Depths.{follow_none}
+use Rattle.ppd_sets.proofs.Following.{follows_its_list}
+use Rattle.ppd_sets.specs.Flow.{follow, follow_under, follow_within, next_in}
 use Rattle.ppd_model.proofs.Changes.{some}
 use Rattle.ppd_model.proofs.Parents.{none_some}
 use Rattle.std.proofs.Common.{Bool, List, None, Option, Some, [], ap, arith, false, inl, inr, refl, subst, suc, sym, true, true≢false, zero, ℕ, ◌++◌, ◌<◌, ◌∙◌, ◌∷◌, ◌≡◌, ◌⊎◌}

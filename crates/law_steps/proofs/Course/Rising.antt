@@ -15,7 +15,7 @@ use Rattle.ppd_ast.specs.Lookups.{kind_of}
 use Rattle.ppd_ast.proofs.Vocabulary.{kind_of_stmt}
 use Rattle.ppd_ast.proofs.Members.{has_first, has_cons, in_bounds_has, flat_gives, all_has}
 use Rattle.ppd_ast.specs.declared.limits.TheConstants.{MOST_NESTING}
-use Rattle.ppd_cfg.proofs.Following.{in_some}
+use Rattle.ppd_sets.proofs.Following.{in_some}
 
 -- ---- lists that rise
 

@@ -23,8 +23,8 @@ use Rattle.ppd_ast.specs.declared.program.Kind.TheVariants as K
 use Rattle.ppd_ast.specs.declared.program.Program.{Program}
 use Rattle.ppd_ast.specs.declared.program.Stmt.{Stmt}
 use Rattle.ppd_blocks.specs.Walk.{stands_in}
-use Rattle.ppd_cfg.specs.Flow.{follow, next_of, successors}
-use Rattle.ppd_cfg.specs.Lists.{rising}
+use Rattle.ppd_sets.specs.Flow.{follow, next_of, successors}
+use Rattle.ppd_sets.specs.Lists.{rising}
 use Rattle.ppd_model.proofs.Changes.{some}
 use Rattle.ppd_model.proofs.Parents.{none_some}
 use Rattle.ppd_sem.proofs.Kept.{there_at}

@@ -4,8 +4,8 @@ use Rattle.std.specs.Prelude.{IsTrue, nat_eq, nat_lt, if◌then◌else◌}
 use Rattle.std.proofs.lemmas.Bool.{eqb-true}
 use Rattle.ppd_ast.specs.Members.{has}
 use Rattle.ppd_ast.proofs.Members.{has_first, has_later}
-use Rattle.ppd_cfg.specs.Lists.{rising}
-use Rattle.ppd_cfg.proofs.Vocabulary.{rising_pair}
+use Rattle.ppd_sets.specs.Lists.{rising}
+use Rattle.ppd_sets.proofs.FlowWords.{rising_pair}
 use Rattle.ppd_model.proofs.Changes.{some}
 use Rattle.ppd_model.proofs.Parents.{none_some}
 

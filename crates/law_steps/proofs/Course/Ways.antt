@@ -7,7 +7,7 @@ use Rattle.ppd_ast.specs.declared.program.Program.{Program}
 use Rattle.ppd_ast.specs.Members.{has}
 use Rattle.ppd_ast.specs.Lookups.{kind_of}
 use Rattle.ppd_ast.proofs.Members.{has_first, has_later}
-use Rattle.ppd_cfg.specs.Flow.{follow}
+use Rattle.ppd_sets.specs.Flow.{follow}
 use Rattle.ppd_sem.specs.declared.proc.Todo.{Todo}
 use Rattle.ppd_sem.specs.Process.{todos}
 use Rattle.ppd_sem.specs.Runs.{AreOfFunction, returns}

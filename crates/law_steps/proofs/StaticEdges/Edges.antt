@@ -4,8 +4,8 @@ use Rattle.ppd_ast.proofs.Members.{filter_has, from_zero, has_cons}
 use Rattle.ppd_ast.specs.Lookups.{body_numbered, body_of}
 use Rattle.ppd_ast.specs.Members.{has}
 use Rattle.ppd_ast.specs.declared.program.Program.{Program}
-use Rattle.ppd_cfg.proofs.Leading.{leads-tests}
-use Rattle.ppd_cfg.specs.Reach.{Reached}
+use Rattle.ppd_sets.proofs.Leading.{leads-tests}
+use Rattle.ppd_sets.specs.Reach.{Reached}
 use Rattle.ppd_deps.proofs.Vocabulary.{data_from, local_edge, shared_edge, shared_from}
 use Rattle.ppd_deps.specs.Edges.{begins, comes_to, control_into, data_into, edges_of, kept_rows, locals_from}
 use Rattle.ppd_deps.specs.Named.{own_vars, shared_reads, shared_writes}

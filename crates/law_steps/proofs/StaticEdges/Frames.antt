@@ -8,8 +8,8 @@ use Rattle.ppd_ast.specs.declared.plan.Plan.{Plan}
 use Rattle.ppd_ast.specs.declared.program.Kind.{Kind}
 use Rattle.ppd_ast.specs.declared.program.Kind.TheVariants as K
 use Rattle.ppd_ast.specs.declared.program.Program.{Program}
-use Rattle.ppd_cfg.proofs.Rows.{row_at}
-use Rattle.ppd_cfg.specs.Reach.{Reached, next, start}
+use Rattle.ppd_sets.proofs.FlowRows.{row_at}
+use Rattle.ppd_sets.specs.Reach.{Reached, next, start}
 use Rattle.ppd_deps.proofs.Arriving.{body_there}
 use Rattle.ppd_deps.proofs.Bodies.{stands_among}
 use Rattle.ppd_deps.proofs.Vocabulary.{processes}

@@ -23,8 +23,8 @@ use Rattle.ppd_blocks.proofs.Staying.{row_from, unless_no}
 use Rattle.ppd_blocks.proofs.Vocabulary.{all_starts, block_loops}
 use Rattle.ppd_blocks.specs.Blocks.{plan_of}
 use Rattle.ppd_blocks.specs.Walk.{begin_of, enters, is_between, stands_in, unit_rows}
-use Rattle.ppd_cfg.specs.Flow.{follow}
-use Rattle.ppd_cfg.specs.Reach.{Reached, next, start as starts_at}
+use Rattle.ppd_sets.specs.Flow.{follow}
+use Rattle.ppd_sets.specs.Reach.{Reached, next, start as starts_at}
 use Rattle.ppd_model.specs.Story.{unit_started}
 use Rattle.ppd_sem.specs.Process.{act, need_of, top_frame}
 use Rattle.ppd_sem.specs.Tables.{block_of, unit_of}

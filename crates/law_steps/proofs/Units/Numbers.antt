@@ -22,7 +22,7 @@ use Rattle.ppd_ast.specs.Members.{has}
 use Rattle.ppd_ast.specs.Lookups.{kind_of}
 use Rattle.ppd_ast.proofs.Vocabulary.{kind_of_stmt}
 use Rattle.ppd_ast.proofs.Members.{has_first, has_cons, has_left, has_right, in_bounds_has}
-use Rattle.ppd_cfg.proofs.Following.{in_some}
+use Rattle.ppd_sets.proofs.Following.{in_some}
 use Rattle.ppd_blocks.specs.Starts.{unit_starts_at, unit_of as unit_from}
 use Rattle.ppd_blocks.proofs.Vocabulary.{all_starts, starts_in, block_loops, block_of as block_from}
 use Rattle.ppd_blocks.specs.Blocks.{loop_in, plan_of}

@@ -12,8 +12,8 @@ use Rattle.ppd_ast.specs.Valid.{IsValid}
 use Rattle.ppd_ast.specs.Members.{has, those}
 use Rattle.ppd_ast.proofs.Members.{filter_has, from_zero, flat_from}
 use Rattle.ppd_ast.specs.declared.limits.TheConstants.{MOST_SHARED_CELLS}
-use Rattle.ppd_cfg.specs.Reach.{Reached, closure, leads}
-use Rattle.ppd_cfg.proofs.Leading.{leads-tests}
+use Rattle.ppd_sets.specs.Reach.{Reached, closure, leads}
+use Rattle.ppd_sets.proofs.Leading.{leads-tests}
 use Rattle.ppd_blocks.specs.Used.{reads_at}
 use Rattle.ppd_blocks.specs.Starts.{unit_of as unit_from}
 use Rattle.ppd_blocks.specs.Walk.{begin_of, unit_cells, unit_rows}

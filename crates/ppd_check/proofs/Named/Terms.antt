@@ -11,7 +11,7 @@ use Rattle.ppd_ast.specs.Cells.{NamesWhole}
 use Rattle.ppd_check_names.specs.declared.meaning.Use.TheVariants as U
 use Rattle.ppd_check_names.specs.declared.fault.Cause.{Cause}
 use Rattle.ppd_check_names.specs.Names.{Scope, meaning, declare, in_innermost}
-use Rattle.ppd_lex.specs.Front.{looked_up}
+use Rattle.ppd_parse.specs.Front.{looked_up}
 use Rattle.std.specs.Option.{option_or}
 use Rattle.ppd_check_names.specs.declared.meaning.Meaning.{Meaning}
 use Rattle.ppd_check_names.specs.declared.meaning.Meaning.TheVariants as M

@@ -4,10 +4,10 @@ use Rattle.ppd_ast.specs.declared.program.Place.{Place}
 use Rattle.std.specs.List.{AllByRecursion}
 use Rattle.std.proofs.lemmas.List.Elements.{recursion_from_All}
 use Rattle.ppd_ast.specs.declared.limits.TheConstants.{MOST_NAME_BYTES, MOST_OPEN}
-use Rattle.ppd_lex.specs.declared.token.Token.{Token}
-use Rattle.ppd_lex.specs.declared.token.TokenKind.{TokenKind}
-use Rattle.ppd_lex.specs.declared.token.TokenKind.TheVariants as W
-use Rattle.ppd_lex.specs.Formed.{AreFormed, IsFormed, IsKind}
+use Rattle.ppd_parse.specs.declared.token.Token.{Token}
+use Rattle.ppd_parse.specs.declared.token.TokenKind.{TokenKind}
+use Rattle.ppd_parse.specs.declared.token.TokenKind.TheVariants as W
+use Rattle.ppd_parse.specs.Formed.{AreFormed, IsFormed, IsKind}
 use Rattle.ppd_parse.specs.Grammar.{Shape, leaf, node, Shapes, no_shapes, shape_then}
 use Rattle.ppd_parse.specs.Leaves.{leaves, leaves_in, leaves_of}
 use Rattle.ppd_parse.specs.Limits.{IsTree}

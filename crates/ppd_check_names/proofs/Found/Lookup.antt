@@ -6,7 +6,7 @@ use Rattle.std.proofs.lemmas.List.{take_more, map-append, reverse-append, length
 use Rattle.std.proofs.lemmas.Bool.{true≢false}
 use Rattle.indexmap.specs.IndexMap.{IndexMap, get_by, insert_entry}
 use Rattle.ppd_check_names.specs.Names.{Meaning, Scope, meaning, scope_of, declare, in_innermost}
-use Rattle.ppd_lex.specs.Front.{looked_up}
+use Rattle.ppd_parse.specs.Front.{looked_up}
 use Rattle.std.specs.Option.{option_or}
 
 declare_last : (s : Scope) (x : List ℕ) (v : Meaning) → is_some (looked_up s x) ≡ false → s ++ (x, v) ∷ [] ≡ declare x v s

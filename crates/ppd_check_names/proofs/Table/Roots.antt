@@ -2,7 +2,7 @@
 use Rattle.std.proofs.Common.{◌≡◌, refl, sym, ap, ◌∙◌, ◌-◌, List, map, length, get_or, Option, Some, None}
 use Rattle.std.proofs.lemmas.List.{get_or_default, length-map}
 use Rattle.ppd_ast.specs.declared.program.Place.{Place}
-use Rattle.ppd_lex.specs.declared.token.Token.{Token}
+use Rattle.ppd_parse.specs.declared.token.Token.{Token}
 use Rattle.ppd_parse.specs.declared.node.Node.{Node}
 use Rattle.ppd_parse.specs.declared.symbol.Rule.{Rule}
 use Rattle.ppd_parse.specs.Table.{shape_or}

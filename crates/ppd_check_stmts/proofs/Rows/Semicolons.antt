@@ -1,6 +1,6 @@
 -- The first semicolon among phrases.
 use Rattle.std.proofs.Common.{pos, ◌≡◌, refl, sym, ap, ◌∙◌, ℕ, zero, suc, ◌+◌, ◌-◌, ◌<◌, ◌≤◌, arith, Bool, true, false, if◌then◌else◌, List, [], ◌∷◌, ◌++◌, take, drop, length, get_or, slice_index_or}
-use Rattle.ppd_lex.specs.declared.token.Kind.TheVariants as K
+use Rattle.ppd_parse.specs.declared.token.Kind.TheVariants as K
 use Rattle.std.proofs.lemmas.List.{take_more, drop_more, drop_all, get_or_past, get_or-drop, length-drop, append_assoc, append-nil}
 use Rattle.ppd_check_names.specs.Reading.{Phrase, token, nowhere, kind, phrase, before, beyond, same_kind, is_formula, as_formula, formulas}
 use Rattle.ppd_check_names.specs.Syntax.{Formula, number}

@@ -6,7 +6,7 @@ use Rattle.ppd_ast.specs.declared.program.Place.{Place}
 use Rattle.ppd_ast.specs.declared.program.Stmt.{Stmt}
 use Rattle.ppd_ast.specs.Term.{Term}
 use Rattle.ppd_parse.specs.declared.node.Node.{Node}
-use Rattle.ppd_lex.specs.declared.token.Kind.TheVariants as M
+use Rattle.ppd_parse.specs.declared.token.Kind.TheVariants as M
 use Rattle.ppd_parse.specs.declared.symbol.Rule.{Rule}
 use Rattle.ppd_parse.specs.declared.symbol.Rule.TheVariants as R
 use Rattle.ppd_check_names.specs.declared.fault.Fault.{Fault}

@@ -4,10 +4,10 @@ use Rattle.std.specs.Prelude.{count_by, filter_map}
 use Rattle.std.proofs.lemmas.List.{take-append-drop, take-take}
 use Rattle.std.proofs.lemmas.List.Elements.{filter_map-append}
 use Rattle.std.proofs.lemmas.List.Recursion.{is_count_by}
-use Rattle.ppd_entry.specs.declared.entry.Entry.{Entry}
-use Rattle.ppd_entry.specs.declared.entry.Entry.TheVariants as entry
+use Rattle.ppd_model.specs.declared.entry.Entry.{Entry}
+use Rattle.ppd_model.specs.declared.entry.Entry.TheVariants as entry
 use Rattle.ppd_model.specs.RecordedSets.{sync_in}
-use Rattle.ppd_flow_model.proofs.Vocabulary.{is_sync}
+use Rattle.ppd_graph.proofs.FlowWords.{is_sync}
 
 abbrev found : {A B : Type 0} → (A → Option B) → List A → ℕ
 found f xs = length (filter_map f xs)

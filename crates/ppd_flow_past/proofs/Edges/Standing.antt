@@ -2,7 +2,7 @@
 use Rattle.std.proofs.Common.{◌≡◌, ℕ, ◌+◌, ◌-◌, ◌<◌, Bool, false, ◌&&◌, List, Option, Some, None, refl, ap, sym, ◌∙◌, drop, length}
 use Rattle.std.specs.Prelude.{nat_le, nat_lt, option_map, slice_get, if◌then◌else◌, get_or, []}
 use Rattle.std.proofs.lemmas.List.{length-map}
-use Rattle.ppd_entry.specs.declared.entry.Entry.{Entry}
+use Rattle.ppd_model.specs.declared.entry.Entry.{Entry}
 use Rattle.ppd_emul.specs.Interval.{Interval}
 use Rattle.ppd_emul.specs.Row.{Row}
 use Rattle.ppd_emul.specs.Indexes.{IsIndexOf, interval_of, rows_at}
@@ -12,8 +12,8 @@ use Rattle.ppd_model.proofs.Lists.{left_from}
 use Rattle.ppd_flow_past.specs.declared.past.Past.{Past}
 use Rattle.ppd_flow_past.proofs.Outward.{extent_at, rows_are}
 use Rattle.ppd_flow_past.specs.Edges.Found.{stands_there}
-use Rattle.ppd_flow_model.specs.Ends.{first_edge, innermost_from, syncs_before, syncs_inside}
-use Rattle.ppd_flow_model.proofs.Vocabulary.{begins_in}
+use Rattle.ppd_graph.specs.Ends.{first_edge, innermost_from, syncs_before, syncs_inside}
+use Rattle.ppd_graph.proofs.FlowWords.{begins_in}
 use Rattle.ppd_ast.proofs.ValidLaws.{slice_get_there}
 
 abbrev first_or : List Entry → Option Interval → ℕ

@@ -8,7 +8,7 @@ use Rattle.ppd_graph.specs.declared.sets.EdgeSets.{EdgeSets}
 use Rattle.ppd_model.specs.declared.graph.EdgeId.{EdgeId}
 use Rattle.ppd_model.specs.HappenedBefore.{edge}
 use Rattle.ppd_flow_past.specs.Edges.Found.{greater_if, greatest_from, greatest_in, is_within}
-use Rattle.ppd_flow_model.specs.Shared.{greater, greatest, writing_from, writing_in}
+use Rattle.ppd_graph.specs.Shared.{greater, greatest, writing_from, writing_in}
 
 module _ (before : EdgeId → EdgeId → Bool) (c : ℕ) (limit : Option EdgeId) where
   abbrev among : Option EdgeId → List EdgeId → Option EdgeId

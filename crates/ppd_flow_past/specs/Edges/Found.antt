@@ -6,7 +6,7 @@ use Rattle.ppd_graph.specs.declared.sync_graph.SyncGraph.{SyncGraph}
 use Rattle.ppd_graph.specs.Graphs.{IsEdge}
 use Rattle.ppd_model.specs.declared.graph.EdgeId.{EdgeId}
 use Rattle.ppd_model.specs.Extents.{Extent}
-use Rattle.ppd_flow_model.specs.Shared.{greater}
+use Rattle.ppd_graph.specs.Shared.{greater}
 
 -- entry n stands in the interval, which is there
 abbrev pub stands_there : ℕ → Option Extent → Bool

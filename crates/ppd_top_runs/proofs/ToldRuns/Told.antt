@@ -13,12 +13,12 @@ use Rattle.ppd_model.specs.Logs.{closed_log, closed_logs, ends_from, loggings}
 use Rattle.ppd_model.specs.Schedule.{IsWhole}
 use Rattle.ppd_model.proofs.Prefixes.{objects_stay}
 use Rattle.ppd_model.proofs.States.{follow}
-use Rattle.ppd_graph.specs.declared.refusal.BadSync.{BadSync}
-use Rattle.ppd_graph.specs.declared.refusal.BadSync.TheVariants as no_graph
+use Rattle.ppd_model.specs.declared.bad_sync.BadSync.{BadSync}
+use Rattle.ppd_model.specs.declared.bad_sync.BadSync.TheVariants as no_graph
 use Rattle.ppd_graph.specs.Refusals.{IsRefused as IsNoGraph}
 use Rattle.law_logs.proofs.Graph.Ordered.{refused}
-use Rattle.ppd_index.specs.declared.refusal.BadLog.{BadLog}
-use Rattle.ppd_index.specs.declared.refusal.BadLog.TheVariants as no_index
+use Rattle.ppd_model.specs.declared.bad_log.BadLog.{BadLog}
+use Rattle.ppd_model.specs.declared.bad_log.BadLog.TheVariants as no_index
 use Rattle.ppd_index.specs.Refusals.{IsRefused as IsNoIndex, first_in_lists}
 use Rattle.law_logs.proofs.Index.Found.{logs_indexed}
 use Rattle.ppd_race.specs.Races.{AreCellsThere}

@@ -4,8 +4,8 @@ use Rattle.ppd_ast.specs.declared.program.Op.TheVariants as O
 use Rattle.ppd_ast.specs.declared.program.Expr.TheVariants as E
 use Rattle.ppd_ast.specs.declared.program.Target.TheVariants as G
 use Rattle.ppd_ast.specs.declared.program.Kind.TheVariants as K
-use Rattle.ppd_lex.specs.declared.token.Kind.TheVariants as W
-use Rattle.ppd_lex.specs.declared.token.TokenKind.TheVariants as T
+use Rattle.ppd_parse.specs.declared.token.Kind.TheVariants as W
+use Rattle.ppd_parse.specs.declared.token.TokenKind.TheVariants as T
 use Rattle.ppd_parse.specs.declared.symbol.Rule.TheVariants as R
 use Rattle.ppd_parse.specs.declared.node.Node.{Node}
 use Rattle.ppd_parse.specs.Tree.{tree_of}

@@ -1,7 +1,7 @@
 -- The first broken rules of small sources: returns, calls, sizes and limits.
 use Rattle.std.proofs.Common.{◌≡◌, refl, List, [], ◌∷◌, Some, pos}
-use Rattle.ppd_lex.specs.declared.token.Kind.TheVariants as W
-use Rattle.ppd_lex.specs.declared.token.TokenKind.TheVariants as T
+use Rattle.ppd_parse.specs.declared.token.Kind.TheVariants as W
+use Rattle.ppd_parse.specs.declared.token.TokenKind.TheVariants as T
 use Rattle.ppd_parse.specs.declared.symbol.Rule.TheVariants as R
 use Rattle.ppd_parse.specs.declared.node.Node.{Node}
 use Rattle.ppd_parse.specs.Tree.{tree_of}

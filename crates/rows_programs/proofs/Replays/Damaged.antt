@@ -8,8 +8,8 @@ use Rattle.ppd_ast.specs.declared.status.Status.TheVariants as status
 use Rattle.ppd_ast.specs.declared.status.SyncKind.{SyncKind}
 use Rattle.ppd_ast.specs.declared.status.SyncKind.TheVariants as sync
 use Rattle.ppd_ast.specs.declared.status.Trap.TheVariants as trap
-use Rattle.ppd_entry.specs.declared.entry.Entry.{Entry}
-use Rattle.ppd_entry.specs.declared.entry.Entry.TheVariants as entry
+use Rattle.ppd_model.specs.declared.entry.Entry.{Entry}
+use Rattle.ppd_model.specs.declared.entry.Entry.TheVariants as entry
 use Rattle.ppd_sem.specs.declared.event.Spot.TheVariants.{Local, Shared}
 use Rattle.ppd_model.specs.declared.flow.Item.TheVariants.{Own, Nested}
 use Rattle.rows_programs.proofs.Runs.Tables.{access, event}
@@ -19,12 +19,12 @@ use Rattle.rows_programs.proofs.Runs.LockOrder as lock
 use Rattle.rows_programs.proofs.Runs.LoopNeverEntered as loop
 use Rattle.rows_programs.proofs.Runs.PastTheEnd as past
 use Rattle.rows_programs.proofs.Runs.Smallest as smallest
-use Rattle.ppd_emul_model.specs.Replay.{Replayed}
-use Rattle.ppd_emul_model.specs.declared.trace.EmulError.TheVariants.{Diverged}
-use Rattle.ppd_emul_model.specs.declared.wanted.Found.{Found}
-use Rattle.ppd_emul_model.specs.declared.wanted.Found.TheVariants as found
-use Rattle.ppd_emul_model.specs.declared.wanted.Wanted.{Wanted}
-use Rattle.ppd_emul_model.specs.declared.wanted.Wanted.TheVariants as wanted
+use Rattle.ppd_model.specs.Replay.{Replayed}
+use Rattle.ppd_model.specs.declared.block_trace.EmulError.TheVariants.{Diverged}
+use Rattle.ppd_model.specs.declared.wanted.Found.{Found}
+use Rattle.ppd_model.specs.declared.wanted.Found.TheVariants as found
+use Rattle.ppd_model.specs.declared.wanted.Wanted.{Wanted}
+use Rattle.ppd_model.specs.declared.wanted.Wanted.TheVariants as wanted
 use Rattle.rows_programs.proofs.Replays.Showing.{replays_of}
 
 -- after these steps the entry of this number was found where something else was wanted

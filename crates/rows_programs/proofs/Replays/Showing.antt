@@ -1,13 +1,13 @@
 -- What the rows state: an interval of a process, replayed from its log and as the model has it.
 use Rattle.ppd_model.specs.Setting.{Setting}
 use Rattle.std.specs.Prelude.{◌≡◌, ℕ, List, [], map, get_or, slice_get, Option, Some, None, Ok}
-use Rattle.ppd_entry.specs.declared.entry.Entry.{Entry}
-use Rattle.ppd_entry.specs.IntervalLogs.{IntervalLog, LoggedInterval, indexed, interval_log, log_by}
+use Rattle.ppd_model.specs.declared.entry.Entry.{Entry}
+use Rattle.ppd_model.specs.IntervalLogs.{IntervalLog, LoggedInterval, indexed, interval_log, log_by}
 use Rattle.ppd_model.specs.declared.flow.Item.{Item}
 use Rattle.ppd_model.specs.Story.{story}
 use Rattle.ppd_model.specs.Logs.{closed_logs}
 use Rattle.ppd_model.specs.Intervals.{Split, Span, splits, items_of}
-use Rattle.ppd_emul_model.specs.Replay.{Replayed, replay}
+use Rattle.ppd_model.specs.Replay.{Replayed, replay}
 
 -- the replay of each interval of these entries
 abbrev pub replays_of : Setting → List Entry → List Replayed

@@ -1,6 +1,6 @@
 -- shared int x; sem s; process a { if (x) { V(s); } } process b { x = 1; }, recorded with b first: no for the record
 use Rattle.ppd_model.specs.Setting.{setting_of}
-use Rattle.ppd_rerun_model.specs.Guided.{guided}
+use Rattle.ppd_rerun_guide.specs.Guided.{guided}
 use Rattle.ppd_model.specs.RecordedSets.{record_in}
 use Rattle.std.proofs.Common.{◌≡◌, refl, ap, arith}
 use Rattle.std.specs.Prelude.{ℕ, pos, List, [], ◌∷◌, Some, None, get_or, length}
@@ -12,12 +12,12 @@ use Rattle.ppd_ast.specs.declared.program.Expr.TheVariants as expr
 use Rattle.ppd_ast.specs.declared.program.Kind.TheVariants as kind
 use Rattle.ppd_ast.specs.declared.program.Program.{Program}
 use Rattle.ppd_ast.specs.declared.program.Target.TheVariants as target
-use Rattle.ppd_entry.specs.declared.entry.Logs.{Logs}
+use Rattle.ppd_model.specs.declared.entry.Logs.{Logs}
 use Rattle.ppd_model.specs.Logs.{closed_logs}
 use Rattle.ppd_model.specs.Synchronizations.{Sync}
-use Rattle.ppd_rerun_model.specs.declared.verdict.No.TheVariants.{Record}
-use Rattle.ppd_rerun_model.specs.declared.verdict.Verdict.TheVariants as verdict
-use Rattle.ppd_rerun_model.specs.Verdicts.{HasRecordOf, IsVerdict}
+use Rattle.ppd_rerun_guide.specs.declared.verdict.No.TheVariants.{Record}
+use Rattle.ppd_rerun_guide.specs.declared.verdict.Verdict.TheVariants as verdict
+use Rattle.ppd_rerun_guide.specs.Verdicts.{HasRecordOf, IsVerdict}
 use Rattle.rows_programs.proofs.Reruns.Tables.{block_of, clash, process, scalar, stmt, unit_of}
 
 abbrev pub program : Program

@@ -1,6 +1,6 @@
 -- shared int x; process a { x = x + 1; } process b { x = x + 1; }: no for b's interval, whoever ran first
 use Rattle.ppd_model.specs.Setting.{setting_of}
-use Rattle.ppd_rerun_model.specs.Guided.{guided}
+use Rattle.ppd_rerun_guide.specs.Guided.{guided}
 use Rattle.ppd_model.specs.RecordedSets.{record_in}
 use Rattle.std.proofs.Common.{◌≡◌, refl, ap, arith}
 use Rattle.std.specs.Prelude.{ℕ, zero, suc, ◌<◌, pos, nat_abs, false, List, [], ◌∷◌, None, Result, Ok, Err}
@@ -13,9 +13,9 @@ use Rattle.ppd_ast.specs.declared.program.Kind.TheVariants as kind
 use Rattle.ppd_ast.specs.declared.program.Op.TheVariants as op
 use Rattle.ppd_ast.specs.declared.program.Program.{Program}
 use Rattle.ppd_ast.specs.declared.program.Target.TheVariants as target
-use Rattle.ppd_entry.specs.declared.entry.Logs.{Logs}
-use Rattle.ppd_emul_model.specs.declared.trace.BlockTrace.{BlockTrace}
-use Rattle.ppd_emul_model.specs.declared.trace.EmulError.{EmulError}
+use Rattle.ppd_model.specs.declared.entry.Logs.{Logs}
+use Rattle.ppd_model.specs.declared.block_trace.BlockTrace.{BlockTrace}
+use Rattle.ppd_model.specs.declared.block_trace.EmulError.{EmulError}
 use Rattle.ppd_sem.specs.declared.event.Access.{Access}
 use Rattle.ppd_model.specs.declared.flow.Item.{Item}
 use Rattle.ppd_model.specs.declared.flow.Item.TheVariants.{Own, Nested}
@@ -23,9 +23,9 @@ use Rattle.ppd_model.specs.Logs.{closed_logs}
 use Rattle.ppd_model.specs.Schedule.{IsWhole}
 use Rattle.ppd_model.specs.Story.{told}
 use Rattle.ppd_model.specs.World.{enabled}
-use Rattle.ppd_rerun_model.specs.declared.verdict.No.TheVariants.{Interval}
-use Rattle.ppd_rerun_model.specs.declared.verdict.Verdict.TheVariants as verdict
-use Rattle.ppd_rerun_model.specs.Verdicts.{HasRecordOf, IsSame, IsVerdict}
+use Rattle.ppd_rerun_guide.specs.declared.verdict.No.TheVariants.{Interval}
+use Rattle.ppd_rerun_guide.specs.declared.verdict.Verdict.TheVariants as verdict
+use Rattle.ppd_rerun_guide.specs.Verdicts.{HasRecordOf, IsSame, IsVerdict}
 use Rattle.rows_programs.proofs.Reruns.Tables.{block_of, clash, process, scalar, stmt, unit_of}
 
 abbrev pub program : Program

@@ -1,6 +1,6 @@
 -- shared int x, y; sem s = 1; process p { P(s); if (y) { print(x); } } process q { x = 5; }, recorded with q first: yes
 use Rattle.ppd_model.specs.Setting.{setting_of}
-use Rattle.ppd_rerun_model.specs.Guided.{guided}
+use Rattle.ppd_rerun_guide.specs.Guided.{guided}
 use Rattle.ppd_model.specs.RecordedSets.{record_in}
 use Rattle.std.proofs.Common.{◌≡◌, refl}
 use Rattle.std.specs.Prelude.{ℕ, zero, suc, pos, false, List, [], ◌∷◌, Some, None, fold}
@@ -12,13 +12,13 @@ use Rattle.ppd_ast.specs.declared.program.Expr.TheVariants as expr
 use Rattle.ppd_ast.specs.declared.program.Kind.TheVariants as kind
 use Rattle.ppd_ast.specs.declared.program.Program.{Program}
 use Rattle.ppd_ast.specs.declared.program.Target.TheVariants as target
-use Rattle.ppd_entry.specs.declared.entry.Logs.{Logs}
+use Rattle.ppd_model.specs.declared.entry.Logs.{Logs}
 use Rattle.ppd_model.specs.Logs.{closed_logs}
 use Rattle.ppd_model.specs.Schedule.{IsWhole}
 use Rattle.ppd_model.specs.Story.{told}
 use Rattle.ppd_model.specs.World.{enabled}
-use Rattle.ppd_rerun_model.specs.declared.verdict.Verdict.TheVariants as verdict
-use Rattle.ppd_rerun_model.specs.Verdicts.{HasRecordOf, IsSame, IsVerdict}
+use Rattle.ppd_rerun_guide.specs.declared.verdict.Verdict.TheVariants as verdict
+use Rattle.ppd_rerun_guide.specs.Verdicts.{HasRecordOf, IsSame, IsVerdict}
 use Rattle.rows_programs.proofs.Reruns.Tables.{block_of, process, scalar, stmt, unit_of}
 
 abbrev pub program : Program

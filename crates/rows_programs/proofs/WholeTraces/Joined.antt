@@ -7,8 +7,8 @@ use Rattle.ppd_ast.specs.declared.plan.Plan.{Plan}
 use Rattle.ppd_ast.specs.declared.program.Program.{Program}
 use Rattle.ppd_model.specs.declared.trace.Trace.{Trace}
 use Rattle.ppd_model.specs.Logs.{closed_logs}
-use Rattle.law_flow_shared.specs.Edges.SharedEdges.{all_seen}
-use Rattle.law_whole.specs.Linked.{joined_trace}
+use Rattle.law_flow.specs.Edges.SharedEdges.{all_seen}
+use Rattle.law_flow.specs.Linked.{joined_trace}
 use Rattle.rows_programs.proofs.Runs.Smallest as smallest
 use Rattle.rows_programs.proofs.Runs.CalleeWrite as callee
 use Rattle.rows_programs.proofs.Runs.LockOrder as locks

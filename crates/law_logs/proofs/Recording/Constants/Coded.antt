@@ -7,11 +7,11 @@ use Rattle.ppd_ast.specs.declared.program.Expr.{Expr}
 use Rattle.ppd_ast.specs.declared.program.Expr.TheVariants.{LocalAt, SharedAt, Neg, Not, Two, And, Or}
 use Rattle.ppd_ast.specs.Term as T
 use Rattle.ppd_ast.specs.Term.{Term}
-use Rattle.ppd_lex.specs.declared.token.Token.{Token}
-use Rattle.ppd_lex.specs.declared.token.TokenKind.{TokenKind}
-use Rattle.ppd_lex.specs.declared.token.TokenKind.TheVariants as K
-use Rattle.ppd_lex.specs.Formed.{IsFormed, IsKind}
-use Rattle.ppd_lex.proofs.FormedTokens.{formed}
+use Rattle.ppd_parse.specs.declared.token.Token.{Token}
+use Rattle.ppd_parse.specs.declared.token.TokenKind.{TokenKind}
+use Rattle.ppd_parse.specs.declared.token.TokenKind.TheVariants as K
+use Rattle.ppd_parse.specs.Formed.{IsFormed, IsKind}
+use Rattle.ppd_parse.proofs.FormedTokens.{formed}
 use Rattle.ppd_parse.specs.Grammar.{Shape}
 use Rattle.ppd_parse.specs.Leaves.{leaves}
 use Rattle.ppd_parse.specs.Limits.{IsTree}

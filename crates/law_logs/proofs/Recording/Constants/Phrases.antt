@@ -1,6 +1,6 @@
 -- The numbers of phrases have 64 bits.
 use Rattle.std.proofs.Common.{ℕ, zero, suc, ◌-◌, List, [], ◌∷◌, refl, length}
-use Rattle.ppd_lex.specs.declared.token.Kind.TheVariants as K
+use Rattle.ppd_parse.specs.declared.token.Kind.TheVariants as K
 use Rattle.std.specs.Prelude.{drop, ⊤}
 use Rattle.std.specs.List.{flat_map}
 use Rattle.ppd_check_names.specs.Reading.{Phrase, token, formula, goal, value, calling, changing, row, body, names, items, value_of, phrase, last, as_token, as_formula, as_goal, as_value, as_row, as_block, as_items, called, goal_formula, kind, formula_at, beyond, before, is_formula, formulas, some_change, same_kind}

@@ -18,8 +18,8 @@ use Rattle.ppd_ast.specs.declared.status.Trap.TheVariants as trap
 use Rattle.ppd_codec.specs.Format.{an_entry, numbered as numbered_form}
 use Rattle.ppd_codec.specs.Recordings.{facts_of}
 use Rattle.ppd_codec_fields.specs.Fields.{fits_kind, kind_code, kinds, status_code, statuses}
-use Rattle.ppd_entry.specs.declared.entry.Entry.{Entry}
-use Rattle.ppd_entry.specs.declared.entry.Entry.TheVariants as entry
+use Rattle.ppd_model.specs.declared.entry.Entry.{Entry}
+use Rattle.ppd_model.specs.declared.entry.Entry.TheVariants as entry
 use Rattle.ppd_model.specs.Logs.{block_entries, ends, entries_of, passed_value, status_of, syncs, units}
 use Rattle.ppd_model.specs.Marks.{Mark, closed, opened}
 use Rattle.ppd_model.specs.Story.{Moment, unit_started}

@@ -8,7 +8,7 @@ use Rattle.ppd_ast.specs.declared.program.Kind.{Kind}
 use Rattle.ppd_ast.specs.declared.program.Kind.TheVariants as K
 use Rattle.ppd_ast.specs.declared.program.Program.{Program}
 use Rattle.ppd_ast.specs.Lookups.{kind_of, body_of}
-use Rattle.ppd_cfg.specs.Flow.{successors}
+use Rattle.ppd_sets.specs.Flow.{successors}
 use Rattle.law_steps.proofs.Course.Deeds.{DeedFits, Fits}
 use Rattle.ppd_deps.specs.Edges.{scalar_written}
 use Rattle.ppd_model.specs.declared.trace.EventId.{EventId}

@@ -14,8 +14,8 @@ use Rattle.ppd_ast.specs.declared.program.Kind.{Kind}
 use Rattle.ppd_ast.specs.declared.program.Kind.TheVariants as K
 use Rattle.ppd_ast.specs.declared.program.Program.{Program}
 use Rattle.ppd_ast.specs.declared.program.Stmt.{Stmt}
-use Rattle.ppd_cfg.specs.Flow.{follow, next_of, successors}
-use Rattle.ppd_cfg.specs.Reach.{start}
+use Rattle.ppd_sets.specs.Flow.{follow, next_of, successors}
+use Rattle.ppd_sets.specs.Reach.{start}
 use Rattle.ppd_deps.proofs.Arriving.{IsOwn, own_by}
 use Rattle.ppd_deps.proofs.Bodies.{stands_among}
 use Rattle.ppd_deps.proofs.Vocabulary.{is_cell, passes}

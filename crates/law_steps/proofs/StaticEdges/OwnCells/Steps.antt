@@ -18,7 +18,7 @@ use Rattle.ppd_ast.specs.declared.plan.Plan.{Plan}
 use Rattle.ppd_ast.specs.declared.program.Kind.{Kind}
 use Rattle.ppd_ast.specs.declared.program.Kind.TheVariants as K
 use Rattle.ppd_ast.specs.declared.program.Program.{Program}
-use Rattle.ppd_cfg.specs.Flow.{follow, next_of, successors}
+use Rattle.ppd_sets.specs.Flow.{follow, next_of, successors}
 use Rattle.ppd_deps.specs.Edges.{scalar_written}
 use Rattle.ppd_model.proofs.Homes.{AreHome, IsHome, bodies-clear, bodies-write}
 use Rattle.ppd_model.proofs.Parents.{none_some}

@@ -8,8 +8,8 @@ use Rattle.ppd_ast.specs.Valid.{IsValid}
 use Rattle.ppd_ast.specs.declared.program.Kind.{Kind}
 use Rattle.ppd_ast.specs.declared.program.Program.{Program}
 use Rattle.ppd_ast.specs.declared.program.Var.{Var}
-use Rattle.ppd_cfg.specs.Flow.{next_of}
-use Rattle.ppd_cfg.specs.Reach.{Reached, next, start}
+use Rattle.ppd_sets.specs.Flow.{next_of}
+use Rattle.ppd_sets.specs.Reach.{Reached, next, start}
 use Rattle.ppd_deps.proofs.Arriving.{IsOwn}
 use Rattle.ppd_deps.proofs.Reaching.{kept_row_is}
 use Rattle.ppd_deps.proofs.Vocabulary.{is_cell, passes}

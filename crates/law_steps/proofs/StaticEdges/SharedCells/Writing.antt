@@ -11,8 +11,8 @@ use Rattle.ppd_ast.specs.Members.{has}
 use Rattle.ppd_ast.specs.Lookups.{kind_of, body_of}
 use Rattle.ppd_ast.proofs.Members.{filter_has, from_zero}
 use Rattle.ppd_ast.specs.Counting.{one_if}
-use Rattle.ppd_cfg.specs.Reach.{closure, leads}
-use Rattle.ppd_cfg.proofs.Leading.{leads-tests}
+use Rattle.ppd_sets.specs.Reach.{closure, leads}
+use Rattle.ppd_sets.proofs.Leading.{leads-tests}
 use Rattle.ppd_deps.specs.Named.{running}
 use Rattle.ppd_deps.proofs.Vocabulary.{processes}
 use Rattle.ppd_model.specs.FullTrace.{trace_by, trace_step}

@@ -1,7 +1,7 @@
 use Rattle.std.proofs.Common.{◌∙◌, ap, subst, length, true, List, ℕ}
 use Rattle.std.specs.List.{flat_map}
 use Rattle.ppd_ast.specs.Members.{those}
-use Rattle.ppd_cfg.specs.Reach.{closure, leads}
+use Rattle.ppd_sets.specs.Reach.{closure, leads}
 use Rattle.ppd_sets.specs.Gained.{HasCells}
 use Rattle.ppd_sets.specs.Used.{reads_at}
 use Rattle.ppd_blocks.proofs.Reading.{along_is}

@@ -1,5 +1,5 @@
 use Rattle.std.proofs.Common.{◌∙◌, sym, ap, subst, length}
-use Rattle.ppd_cfg.specs.WorkList.{AreRowsBelow}
+use Rattle.ppd_sets.specs.WorkList.{AreRowsBelow}
 use Rattle.ppd_blocks.proofs.Staying.{unit_rows_below, unit_rows_long}
 use Rattle.ppd_blocks.proofs.numbering.add_unit.Goals as goal
 

@@ -1,5 +1,5 @@
 use Rattle.std.proofs.Common.{◌≤◌, ◌^◌, arith, List, length, sym, subst}
-use Rattle.ppd_lex.specs.declared.token.Token.{Token}
+use Rattle.ppd_parse.specs.declared.token.Token.{Token}
 use Rattle.ppd_parse.proofs.Counted.{short_tokens}
 use Rattle.ppd_check.proofs.parsed.read_tree.Goals as goal
 

@@ -1,5 +1,5 @@
 use Rattle.std.proofs.Common.{◌∙◌, ap, arith}
-use Rattle.ppd_lex.specs.declared.token.Kind.TheVariants as K
+use Rattle.ppd_parse.specs.declared.token.Kind.TheVariants as K
 use Rattle.ppd_check_names.specs.Nodes.{label_name}
 use Rattle.ppd_check_names.specs.Reading.{same_kind}
 use Rattle.ppd_check_names.proofs.Declared.Parameters.{declares_function_at}

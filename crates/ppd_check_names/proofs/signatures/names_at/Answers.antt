@@ -1,5 +1,5 @@
 use Rattle.std.proofs.Common.{◌∙◌, sym, ap, ℕ, Bool, if◌then◌else◌}
-use Rattle.ppd_lex.specs.declared.token.Kind.TheVariants as K
+use Rattle.ppd_parse.specs.declared.token.Kind.TheVariants as K
 use Rattle.ppd_check_names.specs.Reading.{same_kind}
 use Rattle.ppd_check_names.proofs.signatures.names_at.Goals as goal
 

@@ -1,5 +1,5 @@
 use Rattle.std.proofs.Common.{◌≡◌, ◌∙◌, OnOk, sym, ap, subst, arith}
-use Rattle.ppd_lex.specs.declared.token.Kind.{Kind}
+use Rattle.ppd_parse.specs.declared.token.Kind.{Kind}
 use Rattle.ppd_check_names.proofs.Declared.Costs.{ok_any}
 use Rattle.ppd_check_names.specs.Nodes.{phrases_below}
 use Rattle.ppd_check_stmts.specs.Plain.{plain_word}

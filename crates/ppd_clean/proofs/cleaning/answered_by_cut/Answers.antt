@@ -1,6 +1,6 @@
 use Rattle.std.proofs.Common.{subst}
 use Rattle.ppd_clean.specs.Answers.{Fails, IsFound, answer_by}
-use Rattle.ppd_entry.specs.declared.entry.Logs.{Logs}
+use Rattle.ppd_model.specs.declared.entry.Logs.{Logs}
 use Rattle.ppd_clean.proofs.cleaning.answered_by_cut.Goals as goal
 
 pub returns : goal.returns

@@ -7,7 +7,7 @@ use Rattle.ppd_clean_past.specs.ByOrder.{last_edge}
 use Rattle.ppd_clean.specs.Firsts.{firsts_of}
 use Rattle.ppd_clean.proofs.Answered.{answered_by}
 use Rattle.ppd_clean.proofs.Missing.{sets_missed}
-use Rattle.ppd_flow_model.specs.Ends.{first_edge}
+use Rattle.ppd_graph.specs.Ends.{first_edge}
 use Rattle.ppd_flow_past.specs.declared.past.Past.{Past}
 use Rattle.ppd_model.specs.declared.graph.EdgeId.{EdgeId}
 use Rattle.ppd_clean.proofs.cleaning.clean_edges.Goals as goal

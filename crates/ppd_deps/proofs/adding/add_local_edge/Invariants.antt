@@ -1,6 +1,6 @@
 use Rattle.std.proofs.Common.{[], ◌∷◌}
 use Rattle.std.specs.Prelude.{◌&&◌, if◌then◌else◌}
-use Rattle.ppd_cfg.specs.WorkList.{is_marked}
+use Rattle.ppd_sets.specs.WorkList.{is_marked}
 use Rattle.ppd_deps.proofs.Added.{AddsFirst}
 use Rattle.ppd_deps.proofs.Vocabulary.{local_edge}
 use Rattle.ppd_deps.specs.Rows.{is_reader}

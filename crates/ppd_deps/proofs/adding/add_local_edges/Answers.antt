@@ -2,8 +2,8 @@ use Rattle.std.proofs.Common.{◌∙◌, ◌∷◌, [], sym, ap, subst, length}
 use Rattle.std.specs.Prelude.{slice_get, ◌&&◌, if◌then◌else◌}
 use Rattle.std.proofs.lemmas.Result.{on_ok_weaker}
 use Rattle.ppd_ast.specs.Members.{AreBelow}
-use Rattle.ppd_cfg.specs.Reach.{closure, leads}
-use Rattle.ppd_cfg.specs.WorkList.{is_marked}
+use Rattle.ppd_sets.specs.Reach.{closure, leads}
+use Rattle.ppd_sets.specs.WorkList.{is_marked}
 use Rattle.ppd_deps.proofs.Added.{adds_as, adds_none}
 use Rattle.ppd_deps.proofs.Arriving.{none_begin}
 use Rattle.ppd_deps.proofs.Graphs.{empty_is}

@@ -1,8 +1,8 @@
 use Rattle.std.proofs.Common.{◌∙◌, sym, ap, subst, length}
 use Rattle.std.specs.Prelude.{slice_get}
 use Rattle.ppd_ast.specs.Members.{AreBelow}
-use Rattle.ppd_cfg.specs.Reach.{closure, leads}
-use Rattle.ppd_cfg.specs.WorkList.{AreRowsBelow}
+use Rattle.ppd_sets.specs.Reach.{closure, leads}
+use Rattle.ppd_sets.specs.WorkList.{AreRowsBelow}
 use Rattle.ppd_deps.proofs.Reaching.{kept_below, kept_long, marks_lead}
 use Rattle.ppd_deps.proofs.locals.arrivals.Goals as goal
 use Rattle.ppd_ast.specs.Lookups.{body_numbered}

@@ -5,7 +5,7 @@ use Rattle.std.proofs.Common.{◌∙◌, ◌++◌, sym, ap}
 use Rattle.std.proofs.Common.{take}
 use Rattle.std.specs.List.{filter, flat_map}
 use Rattle.ppd_ast.specs.Members.{has}
-use Rattle.ppd_cfg.specs.Flow.{next_of}
+use Rattle.ppd_sets.specs.Flow.{next_of}
 use Rattle.ppd_deps.proofs.Tabled.{place_no, place_there, place_yes}
 use Rattle.ppd_deps.proofs.locals.begins_at.Goals as goal
 use Rattle.ppd_deps.proofs.locals.begins_at.Goals.{then-writes_local+in_ok-next+in_ok-append, else-writes_local}

@@ -4,7 +4,7 @@ use Rattle.ppd_deps.specs.Named.{own_vars}
 use Rattle.std.proofs.Common.{◌≡◌, take}
 use Rattle.std.specs.List.{filter, flat_map}
 use Rattle.ppd_ast.specs.Members.{has}
-use Rattle.ppd_cfg.specs.Flow.{next_of}
+use Rattle.ppd_sets.specs.Flow.{next_of}
 use Rattle.ppd_deps.proofs.locals.begins_at.Given as goal
 
 abbrev pub invariant-loop-place : goal.invariant-loop-place

@@ -2,7 +2,7 @@ use Rattle.std.proofs.Common.{◌∙◌, [], sym}
 use Rattle.std.specs.Prelude.{not, nat_eq, slice_get, ◌&&◌}
 use Rattle.std.proofs.lemmas.Bool.{cond-true}
 use Rattle.ppd_ast.specs.Lookups.{kind_of, body_of, body_numbered}
-use Rattle.ppd_cfg.specs.Flow.{next_of}
+use Rattle.ppd_sets.specs.Flow.{next_of}
 use Rattle.ppd_deps.proofs.Tabled.{ok_as}
 use Rattle.ppd_deps.specs.Edges.{ends_paths}
 use Rattle.ppd_deps.proofs.Vocabulary.{kept_next}

@@ -1,7 +1,7 @@
 use Rattle.std.proofs.Common.{◌≡◌, ◌∙◌, ℕ, List, sym, ap, subst, arith, length}
 use Rattle.ppd_ast.specs.Members.{those, AreBelow}
-use Rattle.ppd_cfg.specs.Reach.{closure, leads}
-use Rattle.ppd_cfg.specs.WorkList.{AreRowsBelow}
+use Rattle.ppd_sets.specs.Reach.{closure, leads}
+use Rattle.ppd_sets.specs.WorkList.{AreRowsBelow}
 use Rattle.ppd_sets.proofs.Calling.{call_rows_below, call_rows_long}
 use Rattle.ppd_sets.proofs.Meeting.{bodies_fit}
 use Rattle.ppd_sets.specs.Used.{call_rows}

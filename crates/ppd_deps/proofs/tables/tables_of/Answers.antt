@@ -1,7 +1,7 @@
 use Rattle.std.specs.Prelude.{false}
 use Rattle.std.proofs.Common.{◌∙◌}
 use Rattle.ppd_sets.specs.Used.{reads_at, writes_at}
-use Rattle.ppd_cfg.specs.Flow.{next_of}
+use Rattle.ppd_sets.specs.Flow.{next_of}
 use Rattle.ppd_deps.specs.Named.{shared_reads, own_vars}
 use Rattle.ppd_sets.proofs.Calling.{map_more}
 use Rattle.ppd_deps.proofs.tables.tables_of.Goals as goal

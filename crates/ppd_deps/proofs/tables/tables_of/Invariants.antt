@@ -2,7 +2,7 @@ use Rattle.std.specs.Prelude.{false}
 use Rattle.ppd_sets.specs.Used.{reads_at, writes_at}
 use Rattle.std.proofs.Common.{◌≡◌, map}
 use Rattle.std.specs.List.{range_with_len}
-use Rattle.ppd_cfg.specs.Flow.{next_of}
+use Rattle.ppd_sets.specs.Flow.{next_of}
 use Rattle.ppd_deps.specs.Named.{shared_reads, own_vars, running}
 use Rattle.ppd_deps.proofs.tables.tables_of.Given as goal
 

@@ -1,6 +1,6 @@
 use Rattle.std.proofs.Common.{rules, ◌≡◌, ◌+◌, ◌-◌, ◌∙◌, ◌≤◌, ◌<◌, ℕ, suc, Ok, Err, sym, subst, arith}
 use Rattle.std.proofs.lemmas.Result.{err_from_is_err_and}
-use Rattle.ppd_emul_model.specs.Replay.{Replayed, Replaying, done, more, replay_from, turn}
+use Rattle.ppd_model.specs.Replay.{Replayed, Replaying, done, more, replay_from, turn}
 use Rattle.ppd_emul_values.specs.Emulated.{replaying, turned}
 use Rattle.ppd_emul_values.specs.declared.replayer.Turned.{Turned}
 use Rattle.ppd_emul.proofs.Followed.{done_now, failed_so, more_next}

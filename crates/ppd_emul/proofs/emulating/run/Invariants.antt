@@ -1,6 +1,6 @@
 use Rattle.std.proofs.Common.{◌≡◌, ◌+◌, ◌-◌, ◌≤◌}
 use Rattle.ppd_emul_values.specs.Emulated.{IsGoing, replaying}
-use Rattle.ppd_emul_model.specs.Replay.{replay_from}
+use Rattle.ppd_model.specs.Replay.{replay_from}
 use Rattle.ppd_emul.proofs.emulating.run.Given as goal
 
 abbrev pub invariant-loop-turn : goal.invariant-loop-turn

@@ -2,9 +2,9 @@ use Rattle.std.proofs.Common.{FitsSigned, ap, rules, subst, sym, w64}
 use Rattle.std.proofs.lemmas.Int.{to_z-of_z}
 use Rattle.ppd_emul.specs.Turns.{Meets}
 use Rattle.ppd_emul.proofs.Meeting.{nested_begins, sync_event}
-use Rattle.ppd_emul_model.specs.Replay.{step_with as step_with_of}
+use Rattle.ppd_model.specs.Replay.{step_with as step_with_of}
 use Rattle.ppd_emul_values.specs.Emulated.{IsTurn, replaying}
-use Rattle.ppd_entry.specs.Pieces.{Piece, piece_of}
+use Rattle.ppd_model.specs.Pieces.{Piece, piece_of}
 use Rattle.ppd_emul.proofs.stepping.step_with.Goals as goal
 
 pub synchronize-requires-clause-next : goal.synchronize-requires-clause-next

@@ -1,6 +1,6 @@
 use Rattle.std.proofs.Common.{subst, sym}
 use Rattle.ppd_emul.proofs.Meeting.{alone_without, free_event}
-use Rattle.ppd_emul_model.specs.Replay.{Turn, step_without as step_without_of}
+use Rattle.ppd_model.specs.Replay.{Turn, step_without as step_without_of}
 use Rattle.ppd_emul_values.specs.Emulated.{IsAtNeed, IsTurn, replaying}
 use Rattle.ppd_sem.specs.declared.proc.Need.{Need}
 use Rattle.ppd_emul.proofs.stepping.step_without.Goals as goal

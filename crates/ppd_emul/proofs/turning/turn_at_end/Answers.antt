@@ -3,7 +3,7 @@ use Rattle.std.specs.Prelude.{if◌then◌else◌}
 use Rattle.ppd_ast.specs.declared.status.Status.{Status}
 use Rattle.ppd_ast.specs.declared.status.Status.TheVariants as status
 use Rattle.ppd_emul.proofs.Ending.{blocked, ends, no_trap, stays, trap_ends}
-use Rattle.ppd_emul_model.specs.Replay.{Turn, finished, goes_on as goes_on_of, turn_by_end as turn_by_end_of}
+use Rattle.ppd_model.specs.Replay.{Turn, finished, goes_on as goes_on_of, turn_by_end as turn_by_end_of}
 use Rattle.ppd_emul_values.specs.Emulated.{IsTurn, replaying}
 use Rattle.ppd_sem.specs.declared.proc.Need.{Need}
 use Rattle.ppd_emul.proofs.turning.turn_at_end.Goals as goal

@@ -1,7 +1,7 @@
 use Rattle.std.proofs.Common.{Option, None, ap, subst, sym, ◌∙◌}
 use Rattle.ppd_ast.specs.declared.status.Status.{Status}
 use Rattle.ppd_emul.proofs.Meeting.{wanted_turn, within_budget}
-use Rattle.ppd_emul_model.specs.Replay.{Turn, turn_by_end as turn_by_end_of}
+use Rattle.ppd_model.specs.Replay.{Turn, turn_by_end as turn_by_end_of}
 use Rattle.ppd_emul_values.specs.Emulated.{IsTurn, replaying}
 use Rattle.ppd_emul.proofs.turning.turn_by_end.Goals as goal
 

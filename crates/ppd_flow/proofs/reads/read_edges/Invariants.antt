@@ -1,6 +1,6 @@
 use Rattle.std.proofs.Common.{ℕ, List, drop, Result}
 use Rattle.ppd_model.specs.declared.flow.FlowEdge.{FlowEdge}
-use Rattle.ppd_flow_past.specs.declared.flow_error.FlowError.{FlowError}
+use Rattle.ppd_model.specs.declared.flow_error.FlowError.{FlowError}
 use Rattle.ppd_flow_shared.specs.SharedCells.{IsAnswerTo}
 use Rattle.ppd_flow.specs.Answers.{reads_at}
 use Rattle.ppd_flow.proofs.reads.read_edges.Given as goal

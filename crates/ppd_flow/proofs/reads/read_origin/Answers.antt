@@ -1,8 +1,8 @@
 use Rattle.std.proofs.Common.{Ok, sym, subst}
 use Rattle.ppd_sem.specs.declared.event.Spot.{Spot}
-use Rattle.ppd_flow_model.specs.Locals.{local_origin}
-use Rattle.ppd_flow_model.specs.Seen.{Seen}
-use Rattle.ppd_flow_model.specs.Shared.{of_process}
+use Rattle.ppd_graph.specs.Locals.{local_origin}
+use Rattle.ppd_graph.specs.Seen.{Seen}
+use Rattle.ppd_graph.specs.Shared.{of_process}
 use Rattle.ppd_flow_past.specs.ByReplays.{IsFoundBy}
 use Rattle.ppd_flow_shared.specs.SharedCells.{IsAnswerTo}
 use Rattle.ppd_flow.specs.Answers.{spot_origin}

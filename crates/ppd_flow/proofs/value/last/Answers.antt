@@ -1,4 +1,4 @@
-use Rattle.ppd_flow_model.specs.Shared.{found_last}
+use Rattle.ppd_graph.specs.Shared.{found_last}
 use Rattle.ppd_flow_shared.specs.SharedCells.{seens_in}
 use Rattle.ppd_flow.proofs.Costing.{costs_last}
 use Rattle.ppd_flow.proofs.Missing.{last_missed}

@@ -1,6 +1,6 @@
 use Rattle.std.proofs.Common.{◌≡◌, ◌∙◌, [], arith, ap, drop, sym}
 use Rattle.std.proofs.lemmas.List.{drop_all}
-use Rattle.ppd_flow_model.specs.Locals.{begun_scan}
+use Rattle.ppd_graph.specs.Locals.{begun_scan}
 use Rattle.ppd_flow_local.proofs.Scanned.{leaf_from, leaf_next, leaf_of_scan}
 use Rattle.ppd_flow_local.proofs.leaf.leaf_at.Goals as goal
 

@@ -1,5 +1,5 @@
 use Rattle.std.proofs.Common.{◌≡◌, drop}
-use Rattle.ppd_flow_model.specs.Locals.{leaf_at}
+use Rattle.ppd_graph.specs.Locals.{leaf_at}
 use Rattle.ppd_flow_local.proofs.Scanned.{leaf_from}
 use Rattle.ppd_flow_local.proofs.leaf.leaf_at.Given as goal
 

@@ -1,6 +1,6 @@
 use Rattle.std.proofs.Common.{◌≡◌, drop}
 use Rattle.std.specs.List.{list_any}
-use Rattle.ppd_flow_model.specs.Locals.{is_local}
+use Rattle.ppd_graph.specs.Locals.{is_local}
 use Rattle.ppd_flow_local.proofs.scan.writes.Given as goal
 
 abbrev pub invariant-loop-access : goal.invariant-loop-access

@@ -1,6 +1,6 @@
 use Rattle.std.proofs.Common.{◌≡◌, drop}
 use Rattle.std.specs.Prelude.{fold}
-use Rattle.ppd_flow_model.specs.Control.{Tests, last_test, test_item}
+use Rattle.ppd_graph.specs.Control.{Tests, last_test, test_item}
 use Rattle.ppd_flow_local.proofs.testing.last_test.Given as goal
 
 abbrev pub invariant-loop-i : goal.invariant-loop-i

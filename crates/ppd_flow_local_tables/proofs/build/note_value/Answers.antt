@@ -1,5 +1,5 @@
 use Rattle.std.proofs.Common.{◌+◌, ◌&&◌, eqb, length, [], ◌∷◌, ◌++◌, ◌∙◌, sym, arith}
-use Rattle.ppd_flow_model.specs.declared.writer.Writer.TheVariants.{Of}
+use Rattle.ppd_graph.specs.declared.writer.Writer.TheVariants.{Of}
 use Rattle.ppd_flow_local_tables.specs.Kept.{row_of}
 use Rattle.ppd_flow_local_tables.proofs.Noted.{noted_once, noted_received, on_ok, some_length, some_value}
 use Rattle.ppd_flow_local_tables.proofs.RowLemmas.{before_more}

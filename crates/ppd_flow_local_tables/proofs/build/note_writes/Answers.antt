@@ -3,8 +3,8 @@ use Rattle.std.specs.List.{list_any}
 use Rattle.std.proofs.lemmas.List.{get_or_default}
 use Rattle.ppd_sem.specs.declared.event.Access.{Access}
 use Rattle.ppd_sem.specs.declared.event.Spot.TheVariants.{Local}
-use Rattle.ppd_flow_model.specs.declared.writer.Writer.TheVariants.{At}
-use Rattle.ppd_flow_model.specs.Locals.{is_local}
+use Rattle.ppd_graph.specs.declared.writer.Writer.TheVariants.{At}
+use Rattle.ppd_graph.specs.Locals.{is_local}
 use Rattle.ppd_flow_local_tables.specs.Kept.{row_of}
 use Rattle.ppd_flow_local_tables.proofs.Noted.{any_next, before_now, noted_more}
 use Rattle.ppd_flow_local_tables.proofs.build.note_writes.Goals as goal

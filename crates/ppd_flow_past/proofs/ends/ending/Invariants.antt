@@ -1,5 +1,5 @@
 use Rattle.std.proofs.Common.{◌≡◌, ◌+◌, drop}
-use Rattle.ppd_flow_model.specs.Ends.{ending}
+use Rattle.ppd_graph.specs.Ends.{ending}
 use Rattle.ppd_flow_past.proofs.ends.ending.Given as goal
 
 -- so many entries stand before the end, and those that are looked for among the rest

@@ -2,7 +2,7 @@ use Rattle.std.specs.Prelude.{get_or, []}
 use Rattle.std.proofs.Common.{◌≡◌, ◌+◌, ◌<◌, ◌≤◌, ◌∙◌, List, ap, drop, length, subst, sym}
 use Rattle.std.proofs.lemmas.List.{drop_all}
 use Rattle.ppd_model.specs.Extents.{Extent, extents}
-use Rattle.ppd_flow_model.specs.Ends.{innermost_from}
+use Rattle.ppd_graph.specs.Ends.{innermost_from}
 use Rattle.ppd_flow_past.proofs.Edges.Standing.{extents_count, innermost_next}
 use Rattle.ppd_flow_past.proofs.ends.innermost_at.Goals as goal
 

@@ -1,4 +1,4 @@
-use Rattle.ppd_flow_model.specs.Ends.{innermost_from}
+use Rattle.ppd_graph.specs.Ends.{innermost_from}
 use Rattle.ppd_flow_past.proofs.ends.innermost_at.Given as goal
 use Rattle.ppd_model.specs.Extents.{extents}
 use Rattle.std.proofs.Common.{drop, ◌≡◌}

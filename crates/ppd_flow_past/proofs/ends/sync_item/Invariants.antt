@@ -1,6 +1,6 @@
 use Rattle.std.specs.Prelude.{get_or, []}
 use Rattle.std.proofs.Common.{◌≡◌, ◌+◌, drop}
-use Rattle.ppd_flow_model.specs.Ends.{first_edge, sync_item}
+use Rattle.ppd_graph.specs.Ends.{first_edge, sync_item}
 use Rattle.ppd_flow_past.proofs.ends.sync_item.Given as goal
 
 abbrev pub invariant-loop-place : goal.invariant-loop-place

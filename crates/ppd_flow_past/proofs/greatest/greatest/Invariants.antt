@@ -1,6 +1,6 @@
 use Rattle.std.proofs.Common.{◌≡◌, None, drop}
 use Rattle.ppd_flow_past.specs.Edges.Found.{IsEdgeIf, greatest_from}
-use Rattle.ppd_flow_model.specs.Shared.{is_before_in}
+use Rattle.ppd_graph.specs.Shared.{is_before_in}
 use Rattle.ppd_flow_past.proofs.greatest.greatest.Given as goal
 
 abbrev pub invariant-loop-p : goal.invariant-loop-p

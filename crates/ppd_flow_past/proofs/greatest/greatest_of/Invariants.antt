@@ -1,6 +1,6 @@
 use Rattle.std.proofs.Common.{◌≡◌, drop}
 use Rattle.ppd_flow_past.specs.Edges.Found.{IsEdgeIf, greatest_in}
-use Rattle.ppd_flow_model.specs.Shared.{is_before_in}
+use Rattle.ppd_graph.specs.Shared.{is_before_in}
 use Rattle.ppd_flow_past.proofs.greatest.greatest_of.Given as goal
 
 abbrev pub invariant-loop-i : goal.invariant-loop-i

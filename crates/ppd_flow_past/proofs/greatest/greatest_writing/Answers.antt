@@ -3,7 +3,7 @@ use Rattle.std.proofs.lemmas.Result.{IfOk-weaker}
 use Rattle.ppd_graph.specs.declared.sets.EdgeSets.{EdgeSets}
 use Rattle.ppd_graph.specs.LogRecord.{edge_sets_in}
 use Rattle.ppd_flow_past.specs.Edges.Found.{greatest_from}
-use Rattle.ppd_flow_model.specs.Shared.{is_before_in}
+use Rattle.ppd_graph.specs.Shared.{is_before_in}
 use Rattle.ppd_flow_past.proofs.Edges.WritingEdges.{of_every}
 use Rattle.ppd_flow_past.proofs.greatest.greatest_writing.Goals as goal
 

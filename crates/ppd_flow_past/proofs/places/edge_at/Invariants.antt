@@ -1,6 +1,6 @@
 use Rattle.std.proofs.Common.{◌≡◌, ◌+◌, drop}
 use Rattle.std.specs.Prelude.{sum_by, get_or, []}
-use Rattle.ppd_flow_model.specs.Ends.{first_edge, syncs_of_item}
+use Rattle.ppd_graph.specs.Ends.{first_edge, syncs_of_item}
 use Rattle.ppd_flow_past.proofs.places.edge_at.Given as goal
 
 -- with the synchronizations of the items that are left it is the edge after all

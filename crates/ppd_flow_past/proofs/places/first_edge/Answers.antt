@@ -1,6 +1,6 @@
 use Rattle.std.proofs.Common.{◌∙◌, List, None, Some, ap}
-use Rattle.ppd_entry.specs.declared.entry.Entry.{Entry}
-use Rattle.ppd_flow_model.specs.Ends.{syncs_before}
+use Rattle.ppd_model.specs.declared.entry.Entry.{Entry}
+use Rattle.ppd_graph.specs.Ends.{syncs_before}
 use Rattle.ppd_flow_past.proofs.Edges.Standing.{first_is}
 use Rattle.ppd_flow_past.proofs.places.first_edge.Goals as goal
 

@@ -1,6 +1,6 @@
 use Rattle.std.proofs.Common.{◌≡◌, ◌∙◌, ap, arith, drop, length, take, List}
 use Rattle.std.specs.Prelude.{filter_map}
-use Rattle.ppd_entry.specs.declared.entry.Entry.{Entry}
+use Rattle.ppd_model.specs.declared.entry.Entry.{Entry}
 use Rattle.ppd_model.specs.RecordedSets.{sync_in}
 use Rattle.ppd_flow_past.proofs.Edges.Counted.{found_between, found_fewer}
 use Rattle.ppd_flow_past.proofs.syncs.syncs_between.Goals as goal

@@ -1,5 +1,5 @@
 use Rattle.std.proofs.Common.{◌≡◌, drop}
-use Rattle.ppd_flow_model.specs.Walk.{value_to}
+use Rattle.ppd_graph.specs.Walk.{value_to}
 use Rattle.ppd_flow_shared.proofs.event.value_to.Given as goal
 
 -- what is left gives what all give

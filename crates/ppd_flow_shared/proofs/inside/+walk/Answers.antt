@@ -6,7 +6,7 @@ use Rattle.ppd_model.specs.declared.flow.Item.{Item}
 use Rattle.ppd_flow_tables.specs.ByReplays.{IsFoundBy}
 use Rattle.ppd_flow_tables.specs.SeenBy.{items_in}
 use Rattle.ppd_flow_tables.specs.Stops.{ArePassed}
-use Rattle.ppd_flow_model.specs.Walk.{back_from}
+use Rattle.ppd_graph.specs.Walk.{back_from}
 use Rattle.ppd_flow_shared.specs.Items.{is_passed, seen_for}
 use Rattle.ppd_flow_shared.proofs.Over.{over}
 use Rattle.ppd_flow_shared.proofs.Steps.{item_ended, item_failed, item_passed, items_jump, items_passed, whole_err, whole_ok}

@@ -1,5 +1,5 @@
 use Rattle.std.proofs.Common.{◌+◌, ◌*◌}
-use Rattle.ppd_flow_model.specs.Walk.{back_from}
+use Rattle.ppd_graph.specs.Walk.{back_from}
 use Rattle.ppd_flow_shared.specs.Items.{seen_for}
 use Rattle.ppd_flow_shared.proofs.Leads.{Leads}
 use Rattle.ppd_flow_shared.proofs.Over.{over}

@@ -2,7 +2,7 @@ use Rattle.std.proofs.Common.{◌≡◌, ◌∙◌, List, [], ◌∷◌, Ok, ref
 use Rattle.ppd_model.specs.declared.flow.Item.{Item}
 use Rattle.ppd_flow_tables.specs.ByReplays.{IsFoundBy}
 use Rattle.ppd_flow_tables.specs.SeenBy.{items_in}
-use Rattle.ppd_flow_model.specs.Seen.{place_of}
+use Rattle.ppd_graph.specs.Seen.{place_of}
 use Rattle.ppd_flow_shared.proofs.Steps.{before_ok, items_are}
 use Rattle.ppd_flow_shared.proofs.outward.over_before.Goals as goal
 

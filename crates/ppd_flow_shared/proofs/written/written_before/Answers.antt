@@ -1,8 +1,8 @@
 use Rattle.std.proofs.lemmas.Result.{err_from_is_err_and}
 use Rattle.ppd_model.specs.HappenedBefore.{edge}
 use Rattle.ppd_flow_tables.proofs.Found.{err_any}
-use Rattle.ppd_flow_model.specs.Shared.{of_process, written_at}
-use Rattle.ppd_flow_model.specs.Walk.{walk}
+use Rattle.ppd_graph.specs.Shared.{of_process, written_at}
+use Rattle.ppd_graph.specs.Walk.{walk}
 use Rattle.ppd_flow_shared.specs.Items.{seen_for}
 use Rattle.ppd_flow_shared.specs.SharedCells.{answer_of}
 use Rattle.ppd_flow_shared.proofs.written.written_before.Goals as goal

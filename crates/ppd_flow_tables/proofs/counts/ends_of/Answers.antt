@@ -1,5 +1,5 @@
 use Rattle.std.proofs.Common.{arith, refl}
-use Rattle.ppd_flow_model.specs.Ends.{ends_edge, syncs_before}
+use Rattle.ppd_graph.specs.Ends.{ends_edge, syncs_before}
 use Rattle.std.specs.Prelude.{◌&&◌, nat_eq}
 use Rattle.ppd_flow_tables.specs.Tables.{ends_there}
 use Rattle.ppd_flow_tables.proofs.EdgePlaces.{end_more}

@@ -2,7 +2,7 @@ use Rattle.std.proofs.Common.{◌≡◌, ◌+◌, ◌<◌, ◌≤◌, ◌∙◌,
 use Rattle.std.specs.Prelude.{slice_get, []}
 use Rattle.std.proofs.lemmas.List.{drop_all, length-replicate}
 use Rattle.ppd_model.specs.Extents.{Extent, extents}
-use Rattle.ppd_flow_model.specs.Ends.{innermost_from}
+use Rattle.ppd_graph.specs.Ends.{innermost_from}
 use Rattle.ppd_flow_past.specs.Edges.Found.{stands_there}
 use Rattle.ppd_flow_past.proofs.Edges.Standing.{extents_count, innermost_next}
 use Rattle.ppd_flow_tables.proofs.Painted.{zero_there}

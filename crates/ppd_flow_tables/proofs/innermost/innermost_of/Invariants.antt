@@ -1,4 +1,4 @@
-use Rattle.ppd_flow_model.specs.Ends.{innermost_from}
+use Rattle.ppd_graph.specs.Ends.{innermost_from}
 use Rattle.ppd_flow_tables.proofs.innermost.innermost_of.Given as goal
 use Rattle.ppd_model.specs.Extents.{extents}
 use Rattle.std.proofs.Common.{drop, get_or, length, ℕ, ◌+◌, ◌≡◌, ◌≤◌}

@@ -1,7 +1,7 @@
 use Rattle.std.specs.Option.{unwrap_or}
 use Rattle.std.proofs.Common.{Option, ℕ, ap, sym}
 use Rattle.std.proofs.lemmas.Iterator.Adapters.{position_from-zero}
-use Rattle.ppd_flow_model.specs.Seen.{is_item_of}
+use Rattle.ppd_graph.specs.Seen.{is_item_of}
 use Rattle.ppd_flow_tables.proofs.lookups.place_in.Goals as goal
 
 pub loop-place-init : goal.loop-place-init

@@ -1,7 +1,7 @@
 use Rattle.std.specs.List.{position_from}
 use Rattle.std.specs.Option.{unwrap_or}
 use Rattle.std.proofs.Common.{◌≡◌, drop}
-use Rattle.ppd_flow_model.specs.Seen.{is_item_of, place_of}
+use Rattle.ppd_graph.specs.Seen.{is_item_of, place_of}
 use Rattle.ppd_flow_tables.proofs.lookups.place_in.Given as goal
 
 abbrev pub invariant-loop-place : goal.invariant-loop-place

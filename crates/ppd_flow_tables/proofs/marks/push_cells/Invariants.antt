@@ -1,7 +1,7 @@
 use Rattle.std.proofs.Common.{◌≡◌, ℕ, ◌<◌, ◌^◌, ◌&&◌, ◌||◌, drop}
 use Rattle.std.specs.Prelude.{is_some, nat_eq}
 use Rattle.ppd_ast.specs.Members.{has}
-use Rattle.ppd_flow_model.specs.Walk.{value_to}
+use Rattle.ppd_graph.specs.Walk.{value_to}
 use Rattle.ppd_flow_tables.specs.Listed.{key}
 use Rattle.ppd_flow_tables.proofs.marks.push_cells.Given as goal
 

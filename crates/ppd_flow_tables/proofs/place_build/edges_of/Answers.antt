@@ -1,5 +1,5 @@
 use Rattle.std.proofs.Common.{◌≡◌, ◌∙◌, ◌+◌, ◌∷◌, [], List, ℕ, ap, get_or, length, length-append}
-use Rattle.ppd_entry.specs.declared.entry.Entry.{Entry}
+use Rattle.ppd_model.specs.declared.entry.Entry.{Entry}
 use Rattle.ppd_flow_tables.specs.Tables.{IsEdgeTable, edge_of}
 use Rattle.ppd_flow_tables.proofs.EdgePlaces.{edge_next, edges_more}
 use Rattle.ppd_flow_tables.proofs.place_build.edges_of.Goals as goal

@@ -1,5 +1,5 @@
 use Rattle.std.proofs.Common.{◌≡◌, ℕ, ◌+◌, ◌<◌, List, get_or, length}
-use Rattle.ppd_entry.specs.declared.entry.Entry.{Entry}
+use Rattle.ppd_model.specs.declared.entry.Entry.{Entry}
 use Rattle.ppd_flow_tables.specs.Tables.{IsEdgeTable, edge_of}
 use Rattle.ppd_flow_tables.proofs.place_build.edges_of.Given as goal
 

@@ -1,6 +1,6 @@
 use Rattle.std.specs.Prelude.{get_or, []}
 use Rattle.std.proofs.Common.{◌≤◌, arith, subst}
-use Rattle.ppd_flow_model.specs.Ends.{first_edge}
+use Rattle.ppd_graph.specs.Ends.{first_edge}
 use Rattle.ppd_flow_tables.proofs.Collected.{first_all, first_more, none_first}
 use Rattle.ppd_flow_tables.proofs.OfPast.{no_edge}
 use Rattle.ppd_flow_tables.proofs.spans.first_edges.Goals as goal

@@ -1,5 +1,5 @@
 use Rattle.std.specs.Prelude.{get_or, []}
-use Rattle.ppd_flow_model.specs.Ends.{first_edge}
+use Rattle.ppd_graph.specs.Ends.{first_edge}
 use Rattle.ppd_flow_tables.proofs.Collected.{AreFirst}
 use Rattle.ppd_flow_tables.proofs.spans.first_edges.Given as goal
 

@@ -1,7 +1,7 @@
 use Rattle.std.proofs.Common.{◌≤◌, arith, subst}
 use Rattle.std.specs.Prelude.{slice_get, get_or, []}
 use Rattle.ppd_model.specs.Extents.{extents}
-use Rattle.ppd_flow_model.specs.Ends.{syncs_inside}
+use Rattle.ppd_graph.specs.Ends.{syncs_inside}
 use Rattle.ppd_flow_tables.proofs.Collected.{first_all, first_more, none_first}
 use Rattle.ppd_flow_tables.proofs.OfPast.{no_syncs}
 use Rattle.ppd_flow_tables.proofs.spans.inner_syncs.Goals as goal

@@ -1,6 +1,6 @@
 use Rattle.std.specs.Prelude.{slice_get, get_or, []}
 use Rattle.ppd_model.specs.Extents.{extents}
-use Rattle.ppd_flow_model.specs.Ends.{syncs_inside}
+use Rattle.ppd_graph.specs.Ends.{syncs_inside}
 use Rattle.ppd_flow_tables.proofs.Collected.{AreFirst}
 use Rattle.ppd_flow_tables.proofs.spans.inner_syncs.Given as goal
 

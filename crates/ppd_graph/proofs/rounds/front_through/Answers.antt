@@ -1,4 +1,4 @@
-use Rattle.ppd_graph.proofs.Walked.{through_all, through_here, through_on}
+use Rattle.ppd_graph.proofs.RoundsWalked.{through_all, through_here, through_on}
 use Rattle.ppd_graph.proofs.rounds.front_through.Goals as goal
 
 pub returns-then-x-q : goal.returns-then-x-q

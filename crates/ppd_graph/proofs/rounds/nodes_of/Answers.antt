@@ -1,5 +1,5 @@
 use Rattle.ppd_graph.specs.Cycles.{cycle_of, first_or}
-use Rattle.ppd_graph.proofs.Walked.{runs_more}
+use Rattle.ppd_graph.proofs.RoundsWalked.{runs_more}
 use Rattle.ppd_graph.proofs.rounds.nodes_of.Goals as goal
 use Rattle.std.proofs.Common.{rules, arith}
 use Rattle.std.proofs.lemmas.Grind.{common_steps}

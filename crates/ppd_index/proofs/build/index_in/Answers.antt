@@ -3,7 +3,7 @@ use Rattle.std.specs.List.{All, sum_by}
 use Rattle.std.proofs.lemmas.List.{drop_all, take_all}
 use Rattle.std.proofs.lemmas.List.Elements.{All-push}
 use Rattle.std.proofs.lemmas.List.Sums.{sum_by-take-le, sum_by_more}
-use Rattle.ppd_entry.specs.declared.entry.Entry.{Entry}
+use Rattle.ppd_model.specs.declared.entry.Entry.{Entry}
 use Rattle.ppd_model.specs.Bounds.{AreEach}
 use Rattle.ppd_index.specs.declared.row.Row.{Row}
 use Rattle.ppd_index.specs.Indexes.{AreIntervals}

@@ -1,6 +1,6 @@
 use Rattle.std.proofs.Common.{◌≡◌, ◌∷◌, sym, ◌∙◌, ap, subst, reverse, length, Some, None, rules}
 use denote.Enum.Bare.{same_true, same_false}
-use Rattle.ppd_lex.specs.contracts.token.Kind.{the_type}
+use Rattle.ppd_parse.specs.contracts.token.Kind.{the_type}
 use Rattle.ppd_parse.specs.declared.symbol.Symbol.{Symbol}
 use Rattle.ppd_parse.specs.declared.symbol.Want.TheVariants.{Get}
 use Rattle.ppd_parse.specs.declared.growth.Step.TheVariants as M

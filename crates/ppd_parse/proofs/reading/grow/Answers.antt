@@ -1,6 +1,6 @@
 use Rattle.std.specs.Prelude.{IsErrAnd}
 use Rattle.std.proofs.Common.{◌≡◌, ◌≤◌, List, sym, ap, subst, reverse, length, rules, ◌∷◌, [], Result, Ok, Err, IfErr, arith}
-use Rattle.ppd_lex.specs.declared.token.Token.{Token}
+use Rattle.ppd_parse.specs.declared.token.Token.{Token}
 use Rattle.ppd_parse.specs.declared.error.SyntaxError.{SyntaxError}
 use Rattle.ppd_parse.specs.declared.growth.Grove.{Grove}
 use Rattle.ppd_parse.specs.declared.symbol.Symbol.TheVariants as S

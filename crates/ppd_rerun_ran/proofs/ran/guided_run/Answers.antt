@@ -5,14 +5,14 @@ use Rattle.ppd_ast.specs.declared.program.Program.{Program}
 use Rattle.ppd_sem.proofs.Validity.{valid-numbered}
 use Rattle.ppd_model.specs.RecordedSets.{record_in}
 use Rattle.ppd_model.specs.Synchronizations.{Sync}
-use Rattle.ppd_rerun_model.specs.Guided.{Guiding, guided_from}
+use Rattle.ppd_rerun_guide.specs.Guided.{Guiding, guided_from}
 use Rattle.ppd_rerun_guide.specs.Guides.{left_of}
 use Rattle.ppd_rerun_ran.specs.Holding.{Holding}
 use Rattle.ppd_rerun_ran.specs.Runs.{HasCome, begun_helds}
 use Rattle.ppd_rerun_ran.specs.Seeing.{seen}
 use Rattle.ppd_rerun_ran.proofs.Runs.{followed, follows, helds_begun}
 use Rattle.ppd_rerun_ran.proofs.ran.guided_run.Goals as goal
-use Rattle.ppd_rerun_model.proofs.MostSteps.{most_steps}
+use Rattle.ppd_rerun_guide.proofs.MostSteps.{most_steps}
 
 pub begin-requires-clause-plan : goal.begin-requires-clause-plan
 begin-requires-clause-plan c = valid-numbered c.args.setting.now.program.now c.args.setting.now.plan.now c.requires.program c.requires.plan

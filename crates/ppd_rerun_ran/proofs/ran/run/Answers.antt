@@ -3,13 +3,13 @@ use Rattle.std.proofs.Common.{◌≡◌, ℕ, suc, ◌+◌, ◌-◌, ◌*◌, Li
 use Rattle.std.proofs.lemmas.List.{append-nil}
 use Rattle.ppd_ast.specs.declared.plan.Plan.{Plan}
 use Rattle.ppd_ast.specs.declared.program.Program.{Program}
-use Rattle.ppd_rerun_model.specs.Guided.{Guiding, chosen, guide, guided_from}
+use Rattle.ppd_rerun_guide.specs.Guided.{Guiding, chosen, guide, guided_from}
 use Rattle.ppd_rerun_guide.specs.Guides.{guiding_of, left_of}
 use Rattle.ppd_rerun_ran.specs.Runs.{HasCome}
 use Rattle.ppd_rerun_ran.specs.Seeing.{seen}
 use Rattle.ppd_rerun_ran.proofs.Runs.{come_begun, come_on, rest_none, rest_on}
 use Rattle.ppd_rerun_ran.proofs.ran.run.Goals as goal
-use Rattle.ppd_rerun_model.proofs.MostSteps.{most_steps}
+use Rattle.ppd_rerun_guide.proofs.MostSteps.{most_steps}
 
 pub loop-step-init : goal.loop-step-init
 loop-step-init c = record {

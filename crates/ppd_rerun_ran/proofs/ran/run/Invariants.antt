@@ -1,11 +1,11 @@
 use Rattle.ppd_model.specs.Setting.{setting_of}
 use Rattle.std.proofs.Common.{◌≡◌, ◌++◌, ◌-◌, map}
-use Rattle.ppd_rerun_model.specs.Guided.{guided_from}
+use Rattle.ppd_rerun_guide.specs.Guided.{guided_from}
 use Rattle.ppd_rerun_guide.specs.Guides.{guiding_of, left_of}
 use Rattle.ppd_rerun_ran.specs.Runs.{HasCome}
 use Rattle.ppd_rerun_ran.specs.Seeing.{seen}
 use Rattle.ppd_rerun_ran.proofs.ran.run.Given as goal
-use Rattle.ppd_rerun_model.proofs.MostSteps.{most_steps}
+use Rattle.ppd_rerun_guide.proofs.MostSteps.{most_steps}
 
 abbrev pub invariant-loop-step : goal.invariant-loop-step
 invariant-loop-step l = record {

@@ -3,7 +3,7 @@ use Rattle.ppd_ast.specs.declared.plan.Plan.{Plan}
 use Rattle.ppd_ast.specs.declared.program.Program.{Program}
 use Rattle.ppd_sem.specs.Runs.{IsNumbered, IsRunnable, IsRunning}
 use Rattle.ppd_world.proofs.Reached.{numbered, runnable}
-use Rattle.ppd_rerun_model.proofs.Ending.{chosen_can}
+use Rattle.ppd_rerun_guide.proofs.Ending.{chosen_can}
 use Rattle.ppd_rerun_guide.specs.Guides.{guiding_of}
 use Rattle.ppd_rerun_ran.specs.Seeing.{seen}
 use Rattle.ppd_rerun_ran.proofs.Runs.{holds_by, is_there, ok_of, runs_at}

@@ -1,6 +1,6 @@
 use Rattle.std.proofs.Common.{◌≡◌, ◌∙◌, sym, ap, subst, arith, List, ℕ, length}
 use Rattle.std.specs.List.{flat_map}
-use Rattle.ppd_cfg.specs.WorkList.{AreRowsBelow}
+use Rattle.ppd_sets.specs.WorkList.{AreRowsBelow}
 use Rattle.ppd_sets.specs.declared.touched.Touched.{Touched}
 use Rattle.ppd_sets.specs.Gained.{HasBoth, reads_of, writes_of}
 use Rattle.ppd_sets.proofs.Calling.{call_rows_below, call_rows_long, one_below}

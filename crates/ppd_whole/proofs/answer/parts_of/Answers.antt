@@ -4,7 +4,7 @@ use Rattle.std.proofs.lemmas.List.{length-map}
 use Rattle.std.proofs.lemmas.Result.{IfOk-weaker}
 use Rattle.ppd_sem.specs.declared.event.Event.{Event}
 use Rattle.ppd_flow_past.specs.declared.past.Past.{Past}
-use Rattle.law_whole.specs.Linked.{joined_trace}
+use Rattle.law_flow.specs.Linked.{joined_trace}
 use Rattle.ppd_flow.specs.SharedCells.{seens_in}
 use Rattle.ppd_whole_origins.specs.Origins.{all_events}
 use Rattle.ppd_whole.specs.Told.{told_at}

@@ -1,5 +1,5 @@
 use Rattle.std.proofs.Common.{◌≡◌, ◌∙◌, Ok}
-use Rattle.ppd_whole_intervals.proofs.Intervals.{items_of_all}
+use Rattle.ppd_whole_origins.proofs.Intervals.{items_of_all}
 use Rattle.ppd_whole.proofs.answer.whole_shared.Goals as goal
 
 pub parts_of-requires-clause-rows : goal.parts_of-requires-clause-rows

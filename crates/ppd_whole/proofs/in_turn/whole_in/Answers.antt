@@ -1,5 +1,5 @@
 use Rattle.std.proofs.Common.{◌≡◌, ◌∙◌, Ok}
-use Rattle.ppd_whole_intervals.proofs.Intervals.{items_of_all}
+use Rattle.ppd_whole_origins.proofs.Intervals.{items_of_all}
 use Rattle.ppd_whole.proofs.in_turn.whole_in.Goals as goal
 
 pub text_in-requires-clause-rows : goal.text_in-requires-clause-rows

@@ -1,7 +1,7 @@
 use Rattle.std.proofs.Common.{◌≡◌, [], List, ℕ, get_or, map}
 use Rattle.std.proofs.lemmas.Result.{IfOk-weaker}
-use Rattle.law_whole.specs.Joined.{events_in}
-use Rattle.ppd_flow_model.specs.Seen.{Seen}
+use Rattle.law_flow.specs.Joined.{events_in}
+use Rattle.ppd_graph.specs.Seen.{Seen}
 use Rattle.ppd_flow_past.specs.SeenBy.{seen_in}
 use Rattle.ppd_flow.specs.SharedCells.{seens_in}
 use Rattle.ppd_whole.proofs.Events.Parts.{in_step}

@@ -7,7 +7,7 @@ use Rattle.rayon.proofs.ListFacts.{IfOk-then}
 use Rattle.rayon.proofs.ToStd.{nat_range-All}
 use Rattle.ppd_sem.specs.declared.event.Event.{Event}
 use Rattle.ppd_flow_past.specs.declared.past.Past.{Past}
-use Rattle.law_whole.specs.Joined.{events_in}
+use Rattle.law_flow.specs.Joined.{events_in}
 use Rattle.ppd_flow.specs.SharedCells.{seens_in}
 use Rattle.ppd_whole.proofs.Events.Parts.{below, made_in}
 use Rattle.ppd_whole.proofs.processes.events_by.Goals as goal

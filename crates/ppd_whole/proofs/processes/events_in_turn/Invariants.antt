@@ -1,5 +1,5 @@
 use Rattle.std.proofs.Common.{◌≡◌, map, take}
-use Rattle.law_whole.specs.Joined.{events_in}
+use Rattle.law_flow.specs.Joined.{events_in}
 use Rattle.ppd_flow.specs.SharedCells.{seens_in}
 use Rattle.ppd_whole.proofs.processes.events_in_turn.Given as goal
 

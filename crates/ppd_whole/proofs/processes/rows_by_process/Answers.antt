@@ -5,9 +5,9 @@ use Rattle.std.proofs.lemmas.List.{map-append}
 use Rattle.ppd_model.specs.declared.flow.Item.{Item}
 use Rattle.ppd_flow_past.specs.declared.past.Past.{Past}
 use Rattle.ppd_flow_past.specs.SeenBy.{seen_in}
-use Rattle.ppd_flow_model.specs.Seen.{Seen}
+use Rattle.ppd_graph.specs.Seen.{Seen}
 use Rattle.ppd_flow.specs.SharedCells.{seens_in}
-use Rattle.ppd_whole_intervals.proofs.Intervals.{seens_drop, seens_take}
+use Rattle.ppd_whole_origins.proofs.Intervals.{seens_drop, seens_take}
 use Rattle.ppd_whole.proofs.processes.rows_by_process.Goals as goal
 
 pub loop-p-preserved : goal.loop-p-preserved

@@ -1,7 +1,7 @@
 use Rattle.std.proofs.Common.{◌≡◌, ◌+◌, None, map, take}
 use Rattle.ppd_flow_past.specs.ByReplays.{first_failed_in}
 use Rattle.ppd_flow_past.specs.SeenBy.{items_in}
-use Rattle.ppd_whole_intervals.specs.Costs.{replays_cost}
+use Rattle.ppd_whole_origins.specs.IntervalCosts.{replays_cost}
 use Rattle.ppd_whole.proofs.replays_in_turn.rows_in.Given as goal
 
 abbrev pub invariant-loop-job : goal.invariant-loop-job

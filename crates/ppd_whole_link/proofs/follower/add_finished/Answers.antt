@@ -2,7 +2,7 @@ use Rattle.std.specs.Prelude.{OnOk}
 use Rattle.std.proofs.Common.{◌≡◌, refl, subst, sym}
 use Rattle.ppd_ast.specs.declared.program.Kind.{Kind}
 use Rattle.ppd_ast.proofs.Walks.{got_none, got_some}
-use Rattle.law_whole.specs.Following.{calls_by_kind}
+use Rattle.law_flow.specs.Following.{calls_by_kind}
 use Rattle.ppd_whole_link.proofs.KindLookups.{kind_found, kind_none}
 use Rattle.ppd_whole_link.proofs.follower.add_finished.Goals as goal
 

@@ -3,8 +3,8 @@ use Rattle.std.proofs.lemmas.Grind.{flat_map-append}
 use Rattle.std.proofs.lemmas.List.{append_assoc, append-nil, take_more, take_all}
 use Rattle.ppd_model.specs.declared.flow.Item.{Item}
 use Rattle.ppd_sem.specs.declared.event.Event.{Event}
-use Rattle.law_whole.specs.Joined.{events_of_item, events_of_items, joined}
-use Rattle.ppd_flow_model.specs.Seen.{Seen}
+use Rattle.law_flow.specs.Joined.{events_of_item, events_of_items, joined}
+use Rattle.ppd_graph.specs.Seen.{Seen}
 use Rattle.ppd_whole_writes.proofs.Joining.{joined_at}
 use Rattle.ppd_whole_writes.proofs.events.+joining.Goals as goal
 

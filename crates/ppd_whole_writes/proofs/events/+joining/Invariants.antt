@@ -1,6 +1,6 @@
 use Rattle.std.proofs.Common.{◌≡◌, ◌+◌, ◌-◌, ◌*◌, ◌++◌, map, take}
-use Rattle.law_whole.specs.Joined.{events_of_items, joined}
-use Rattle.ppd_flow_model.specs.Seen.{Seen}
+use Rattle.law_flow.specs.Joined.{events_of_items, joined}
+use Rattle.ppd_graph.specs.Seen.{Seen}
 use Rattle.ppd_whole_writes.proofs.events.+joining.Given as goal
 
 abbrev pub decreases-add_interval : goal.decreases-add_interval

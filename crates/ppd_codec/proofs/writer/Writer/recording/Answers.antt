@@ -1,7 +1,7 @@
 use Rattle.std.specs.List.{All}
 use Rattle.std.proofs.Common.{◌++◌, ◌∙◌, ◌<◌, ◌^◌, List, ℕ, length, ap, subst, sym}
 use Rattle.std.proofs.lemmas.Result.{on_ok_weaker}
-use Rattle.ppd_entry.specs.declared.entry.Entry.{Entry}
+use Rattle.ppd_model.specs.declared.entry.Entry.{Entry}
 use Rattle.ppd_codec.specs.Counted.{IsCountedLog}
 use Rattle.ppd_codec.specs.Format.{logs}
 use Rattle.ppd_codec.specs.Recordings.{facts_of}

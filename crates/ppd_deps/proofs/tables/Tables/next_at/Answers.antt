@@ -1,5 +1,5 @@
 use Rattle.std.proofs.Common.{◌∙◌, length}
-use Rattle.ppd_cfg.specs.Flow.{next_of}
+use Rattle.ppd_sets.specs.Flow.{next_of}
 use Rattle.ppd_deps.proofs.Tabled.{table_at, table_long}
 use Rattle.ppd_deps.proofs.tables.Tables.next_at.Goals as goal
 

@@ -2,7 +2,7 @@ use Rattle.std.proofs.Common.{◌≡◌, ◌∙◌, ◌∷◌, ◌++◌, [], ℕ
 use Rattle.std.specs.Prelude.{slice_set}
 use Rattle.std.proofs.lemmas.Int.{to_z-of_z}
 use Rattle.ppd_emul_values.specs.Held.{looked_up}
-use Rattle.ppd_emul_model.specs.Replay.{value_in_force}
+use Rattle.ppd_model.specs.Replay.{value_in_force}
 use Rattle.ppd_emul_values.proofs.Held.{put_found}
 use Rattle.ppd_emul_values.proofs.in_force.InForce.put.Goals as goal
 

@@ -1,6 +1,6 @@
 use Rattle.std.proofs.Common.{◌≡◌, drop}
 use Rattle.std.specs.Prelude.{fold}
-use Rattle.ppd_flow_model.specs.Locals.{scan_item}
+use Rattle.ppd_graph.specs.Locals.{scan_item}
 use Rattle.ppd_flow_local.specs.Scans.{scanned}
 use Rattle.ppd_flow_local.proofs.scan.Scan.items.Given as goal
 

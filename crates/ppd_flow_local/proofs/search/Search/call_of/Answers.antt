@@ -1,8 +1,8 @@
 use Rattle.std.proofs.Common.{◌∙◌, ap}
 use Rattle.std.specs.Prelude.{◌-◌}
 use Rattle.ppd_model.specs.declared.flow.Origin.TheVariants as origin
-use Rattle.ppd_flow_model.specs.Looked.{known}
-use Rattle.ppd_flow_model.specs.Seen.{outer_of, outer_place, place_of}
+use Rattle.ppd_graph.specs.Looked.{known}
+use Rattle.ppd_graph.specs.Seen.{outer_of, outer_place, place_of}
 use Rattle.ppd_flow_local.specs.Searches.{seen}
 use Rattle.ppd_flow_local.proofs.Rounds.{call_from, items_at, outer_fails}
 use Rattle.ppd_flow_local.proofs.search.Search.call_of.Goals as goal

@@ -1,6 +1,6 @@
-use Rattle.ppd_flow_model.specs.Control.{control_above, control_in}
-use Rattle.ppd_flow_model.specs.Looked.{known, look_or}
-use Rattle.ppd_flow_model.specs.Seen.{kind_at}
+use Rattle.ppd_graph.specs.Control.{control_above, control_in}
+use Rattle.ppd_graph.specs.Looked.{known, look_or}
+use Rattle.ppd_graph.specs.Seen.{kind_at}
 use Rattle.ppd_flow_local.specs.Searches.{plan_in, program_in, seen}
 use Rattle.ppd_flow_local.proofs.Joined.{known_else, known_origin, no_memory}
 use Rattle.ppd_flow_local.proofs.search.Search.control_origin.Goals as goal

@@ -1,6 +1,6 @@
 use Rattle.std.proofs.Common.{◌∙◌, ap}
-use Rattle.ppd_flow_model.specs.Control.{control_outside}
-use Rattle.ppd_flow_model.specs.Seen.{outer_of, outer_place, place_of}
+use Rattle.ppd_graph.specs.Control.{control_outside}
+use Rattle.ppd_graph.specs.Seen.{outer_of, outer_place, place_of}
 use Rattle.ppd_flow_local.specs.Searches.{plan_in, program_in, seen}
 use Rattle.ppd_flow_local.proofs.Rounds.{control_from, items_at, outer_fails, within_same}
 use Rattle.ppd_flow_local.proofs.search.Search.control_round.Goals as goal

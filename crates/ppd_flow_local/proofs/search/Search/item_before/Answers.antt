@@ -1,7 +1,7 @@
 use Rattle.std.proofs.Common.{◌∙◌, ap, sym}
 use Rattle.std.specs.Prelude.{◌-◌}
 use Rattle.ppd_model.specs.declared.flow.Origin.TheVariants as origin
-use Rattle.ppd_flow_model.specs.Looked.{known}
+use Rattle.ppd_graph.specs.Looked.{known}
 use Rattle.ppd_flow_local.proofs.Joined.{no_memory, nothing}
 use Rattle.ppd_flow_local.proofs.search.Search.item_before.Goals as goal
 

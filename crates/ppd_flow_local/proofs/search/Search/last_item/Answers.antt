@@ -1,6 +1,6 @@
 use Rattle.std.proofs.Common.{◌≡◌, List, ap, length, subst}
 use Rattle.std.specs.Prelude.{◌-◌}
-use Rattle.ppd_flow_model.specs.Looked.{known}
+use Rattle.ppd_graph.specs.Looked.{known}
 use Rattle.ppd_model.specs.declared.flow.Item.{Item}
 use Rattle.ppd_model.specs.declared.flow.Origin.TheVariants as origin
 use Rattle.ppd_flow_local.specs.Searches.{IsFound}

@@ -4,7 +4,7 @@ use Rattle.ppd_flow_local.proofs.Places.{table_at}
 use Rattle.std.proofs.Common.{◌∙◌, List, ap, arith, length}
 use Rattle.std.proofs.lemmas.List.{take_all}
 use Rattle.ppd_model.specs.declared.flow.Item.{Item}
-use Rattle.ppd_flow_model.specs.Locals.{scan}
+use Rattle.ppd_graph.specs.Locals.{scan}
 use Rattle.ppd_flow_local.proofs.search.Search.last_writer.Goals as goal
 
 pub returns-in-Some : goal.returns-in-Some

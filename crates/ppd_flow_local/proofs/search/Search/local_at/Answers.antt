@@ -1,5 +1,5 @@
 use Rattle.std.proofs.Common.{subst}
-use Rattle.ppd_flow_model.specs.Locals.{local_outside}
+use Rattle.ppd_graph.specs.Locals.{local_outside}
 use Rattle.ppd_flow_local.specs.Searches.{IsFound, plan_in, program_in, seen}
 use Rattle.ppd_flow_local.proofs.search.Search.local_at.Goals as goal
 

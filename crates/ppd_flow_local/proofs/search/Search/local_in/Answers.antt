@@ -1,6 +1,6 @@
 use Rattle.std.proofs.Common.{List, ap, refl, reverse, take, ℕ}
 use Rattle.std.specs.Prelude.{get_or, []}
-use Rattle.ppd_flow_model.specs.Locals.{scan}
+use Rattle.ppd_graph.specs.Locals.{scan}
 use Rattle.ppd_flow_local.specs.Searches.{plan_in, program_in, seen}
 use Rattle.ppd_flow_local.proofs.Places.{table_at}
 use Rattle.ppd_flow_local.specs.Scans.{scanned}

@@ -1,6 +1,6 @@
 use Rattle.std.proofs.Common.{◌∙◌, ap}
-use Rattle.ppd_flow_model.specs.Locals.{local_outside, outer_frame}
-use Rattle.ppd_flow_model.specs.Seen.{outer_of, outer_place, place_of}
+use Rattle.ppd_graph.specs.Locals.{local_outside, outer_frame}
+use Rattle.ppd_graph.specs.Seen.{outer_of, outer_place, place_of}
 use Rattle.ppd_flow_local.specs.Searches.{plan_in, program_in, seen}
 use Rattle.ppd_flow_local.proofs.Rounds.{items_at, local_from, outer_fails, within_same}
 use Rattle.ppd_flow_local.proofs.search.Search.local_round.Goals as goal

@@ -1,7 +1,7 @@
 use Rattle.std.proofs.Common.{Err, Ok}
 use Rattle.std.proofs.lemmas.Result.{err_from_is_err_and}
 use Rattle.ppd_ast.specs.declared.plan.BlockKind.TheVariants as block
-use Rattle.ppd_flow_model.specs.Own.{edges_of_nested}
+use Rattle.ppd_graph.specs.Own.{edges_of_nested}
 use Rattle.ppd_flow_local.specs.Searches.{plan_in, program_in, seen}
 use Rattle.ppd_flow_local.proofs.Joined.{no_memory}
 use Rattle.ppd_flow_local.proofs.Nested.{loop_failed, loop_found}

@@ -1,6 +1,6 @@
 use Rattle.std.proofs.Common.{◌∙◌, sym, subst}
 use Rattle.ppd_ast.specs.declared.plan.BlockKind.{BlockKind}
-use Rattle.ppd_flow_model.specs.Own.{edges_of_nested}
+use Rattle.ppd_graph.specs.Own.{edges_of_nested}
 use Rattle.ppd_flow_local.specs.Searches.{IsFound, plan_in, program_in, seen}
 use Rattle.ppd_flow_local.proofs.search.Search.nested_edges.Goals as goal
 

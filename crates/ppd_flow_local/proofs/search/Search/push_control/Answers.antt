@@ -3,8 +3,8 @@ use Rattle.std.proofs.lemmas.Result.{err_from_is_err_and}
 use Rattle.ppd_model.specs.declared.flow.EdgeKind.TheVariants.{Control}
 use Rattle.ppd_model.specs.declared.flow.FlowEdge.{FlowEdge}
 use Rattle.ppd_model.specs.FlowbackEdges.{bare_edge}
-use Rattle.ppd_flow_model.specs.Control.{control_origin}
-use Rattle.ppd_flow_model.specs.Looked.{look_map}
+use Rattle.ppd_graph.specs.Control.{control_origin}
+use Rattle.ppd_graph.specs.Looked.{look_map}
 use Rattle.ppd_flow_local.specs.Searches.{plan_in, program_in, seen}
 use Rattle.ppd_flow_local.proofs.Joined.{failed_alone, no_memory_with}
 use Rattle.ppd_flow_local.proofs.Nested.{control_added}

@@ -2,7 +2,7 @@ use Rattle.std.proofs.Common.{◌≡◌, subst}
 use Rattle.std.specs.Prelude.{IfOk}
 use Rattle.ppd_ast.specs.declared.plan.Plan.{Plan}
 use Rattle.ppd_ast.specs.declared.program.Program.{Program}
-use Rattle.ppd_flow_model.specs.Locals.{scan}
+use Rattle.ppd_graph.specs.Locals.{scan}
 use Rattle.ppd_flow_local.specs.Scans.{scanned}
 use Rattle.ppd_flow_local.specs.Searches.{plan_in}
 use Rattle.ppd_flow_local.specs.declared.scan.Scan.{Scan}

@@ -1,6 +1,6 @@
 use Rattle.std.specs.List.{list_any}
-use Rattle.ppd_flow_model.specs.declared.writer.Writer.TheVariants.{At}
-use Rattle.ppd_flow_model.specs.Locals.{is_local}
+use Rattle.ppd_graph.specs.declared.writer.Writer.TheVariants.{At}
+use Rattle.ppd_graph.specs.Locals.{is_local}
 use Rattle.ppd_flow_local_tables.specs.Kept.{row_of}
 use Rattle.ppd_flow_local_tables.proofs.Noted.{before_now}
 use Rattle.ppd_flow_local_tables.proofs.build.Building.event.Goals as goal

@@ -1,8 +1,8 @@
 use Rattle.std.proofs.Common.{None, Ok, Option, inl, inr, refl, subst, sym}
 use Rattle.std.proofs.lemmas.Result.{err_from_is_err_and}
-use Rattle.ppd_flow_model.specs.declared.walked.Walked.{Walked}
-use Rattle.ppd_flow_model.specs.declared.walked.Walked.TheVariants.{Stopped, Passed, Found}
-use Rattle.ppd_flow_model.specs.Shared.{edge_of_place, greatest_before}
+use Rattle.ppd_graph.specs.declared.walked.Walked.{Walked}
+use Rattle.ppd_graph.specs.declared.walked.Walked.TheVariants.{Stopped, Passed, Found}
+use Rattle.ppd_graph.specs.Shared.{edge_of_place, greatest_before}
 use Rattle.ppd_flow_shared.specs.SharedCells.{IsWalked, seens_in}
 use Rattle.ppd_flow_shared.proofs.SharedFound.{far_failed, far_found}
 use Rattle.ppd_flow_shared.proofs.search.CellSearch.far_edge.Goals as goal

@@ -1,8 +1,8 @@
 use Rattle.std.proofs.Common.{Ok, inl, inr, subst}
 use Rattle.std.proofs.lemmas.Result.{err_from_is_err_and}
-use Rattle.ppd_flow_model.specs.declared.walked.Walked.{Walked}
-use Rattle.ppd_flow_model.specs.Looked.{look_map}
-use Rattle.ppd_flow_model.specs.Shared.{edge_of_place, greatest_before, origin_in, written_or_start}
+use Rattle.ppd_graph.specs.declared.walked.Walked.{Walked}
+use Rattle.ppd_graph.specs.Looked.{look_map}
+use Rattle.ppd_graph.specs.Shared.{edge_of_place, greatest_before, origin_in, written_or_start}
 use Rattle.ppd_flow_shared.specs.SharedCells.{IsWalked, seens_in}
 use Rattle.ppd_flow_shared.proofs.SharedFound.{read_failed, read_own, read_passed, read_stopped}
 use Rattle.ppd_flow_shared.proofs.search.CellSearch.shared_origin.Goals as goal

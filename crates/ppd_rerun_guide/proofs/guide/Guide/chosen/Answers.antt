@@ -1,5 +1,5 @@
 use Rattle.std.proofs.Common.{◌<◌, length, sym, ◌∙◌, arith}
-use Rattle.ppd_rerun_model.specs.Guided.{Guiding, may_step}
+use Rattle.ppd_rerun_guide.specs.Guided.{Guiding, may_step}
 use Rattle.ppd_rerun_guide.specs.Guides.{guiding_of}
 use Rattle.ppd_rerun_guide.proofs.Guides.{first_here, first_on}
 use Rattle.ppd_rerun_guide.proofs.guide.Guide.chosen.Goals as goal

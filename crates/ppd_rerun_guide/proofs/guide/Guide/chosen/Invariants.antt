@@ -1,7 +1,7 @@
 use Rattle.std.specs.List.{range_with_len}
 use Rattle.std.specs.Prelude.{find}
 use Rattle.std.proofs.Common.{◌≡◌, ◌-◌, length}
-use Rattle.ppd_rerun_model.specs.Guided.{chosen, may_step}
+use Rattle.ppd_rerun_guide.specs.Guided.{chosen, may_step}
 use Rattle.ppd_rerun_guide.specs.Guides.{guiding_of}
 use Rattle.ppd_rerun_guide.proofs.guide.Guide.chosen.Given as goal
 

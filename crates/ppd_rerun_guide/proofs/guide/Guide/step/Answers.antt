@@ -1,4 +1,4 @@
-use Rattle.ppd_rerun_model.proofs.Ending.{chosen_can}
+use Rattle.ppd_rerun_guide.proofs.Ending.{chosen_can}
 use Rattle.ppd_rerun_guide.specs.Guides.{guiding_of}
 use Rattle.ppd_rerun_guide.proofs.guide.Guide.step.Goals as goal
 

@@ -1,5 +1,0 @@
-use Rattle.law_flow_own.proofs.Loops.OwnParts.{own_parts}
-use Rattle.law_flow_own.proofs.laws.loops.all_own_parts_are_found.Goals as goal
-
-pub returns : goal.returns
-returns c = own_parts

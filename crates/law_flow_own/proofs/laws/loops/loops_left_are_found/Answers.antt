@@ -1,5 +1,0 @@
-use Rattle.law_flow_own.proofs.Loops.LoopsLeft.{lefts_found}
-use Rattle.law_flow_own.proofs.laws.loops.loops_left_are_found.Goals as goal
-
-pub returns : goal.returns
-returns c = lefts_found

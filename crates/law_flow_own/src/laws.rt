@@ -1,7 +1,0 @@
-//! Laws of what the other calls give: each is the contract of a function that does nothing.
-
-pub mod control;
-pub mod locals;
-pub mod loops;
-pub mod missing;
-pub mod places;

@@ -1,2 +1,0 @@
--- What the proofs speak of: definitions that no contract cites.
-pub mod Events

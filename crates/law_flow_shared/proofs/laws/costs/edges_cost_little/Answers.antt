@@ -1,5 +1,0 @@
-use Rattle.law_flow_shared.proofs.Costs.EdgeCosts.{edges_cheap}
-use Rattle.law_flow_shared.proofs.laws.costs.edges_cost_little.Goals as goal
-
-pub returns : goal.returns
-returns c = edges_cheap

@@ -1,5 +1,0 @@
-use Rattle.law_flow_shared.proofs.laws.edges.edges_are_found.Goals as goal
-use Rattle.law_flow_shared.proofs.Edges.Assembled.{assembled}
-
-pub returns : goal.returns
-returns c = assembled

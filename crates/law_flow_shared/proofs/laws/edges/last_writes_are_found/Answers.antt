@@ -1,5 +1,0 @@
-use Rattle.law_flow_shared.proofs.laws.edges.last_writes_are_found.Goals as goal
-use Rattle.law_flow_shared.proofs.Edges.Sources.LastOrigins.{last_found}
-
-pub returns : goal.returns
-returns c = last_found

@@ -1,5 +1,0 @@
-use Rattle.law_replay.proofs.InForce.Answered.{reads_are_in_force}
-use Rattle.law_replay.proofs.laws.in_force.reads_are_in_force.Goals as goal
-
-pub returns : goal.returns
-returns c = reads_are_in_force

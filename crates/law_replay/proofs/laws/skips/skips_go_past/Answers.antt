@@ -1,5 +1,0 @@
-use Rattle.law_replay.proofs.Skips.Whole.{skips_go_past}
-use Rattle.law_replay.proofs.laws.skips.skips_go_past.Goals as goal
-
-pub returns : goal.returns
-returns c = skips_go_past

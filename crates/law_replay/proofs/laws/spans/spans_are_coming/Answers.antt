@@ -1,5 +1,0 @@
-use Rattle.law_replay.proofs.Spans.SpansComing.{spans_are_coming}
-use Rattle.law_replay.proofs.laws.spans.spans_are_coming.Goals as goal
-
-pub returns : goal.returns
-returns c = spans_are_coming

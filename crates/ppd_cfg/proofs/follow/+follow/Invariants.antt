@@ -1,4 +1,0 @@
-use Rattle.ppd_cfg.proofs.follow.+follow.Given as goal
-
-abbrev pub decreases-follow : goal.decreases-follow
-decreases-follow l = l.depth

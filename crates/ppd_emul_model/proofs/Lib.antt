@@ -1,4 +1,0 @@
-pub mod Turns
-pub mod Failures
-pub mod Ending
-pub mod Vocabulary

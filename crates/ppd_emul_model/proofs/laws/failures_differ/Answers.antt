@@ -1,5 +1,0 @@
-use Rattle.ppd_emul_model.proofs.laws.failures_differ.Goals as goal
-use Rattle.ppd_emul_model.proofs.Failures.{failures_differ}
-
-pub returns : goal.returns
-returns c = failures_differ
