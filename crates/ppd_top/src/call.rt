@@ -163,15 +163,25 @@ fn on_source<F: Shelf, I: Source, O: Sink, G: Gate, R: Threads + Wait + Sync>(
                     options: request.options,
                 };
                 match request.command {
-                    Command::Flow => flow(means, &task, input, output),
-                    Command::Show => show(means.alloc, &task, output),
+                    Command::Flow => {
+                        let outcome = flow(means, &task, input, output);
+                        drop(program);
+                        outcome
+                    }
+                    Command::Show => {
+                        let outcome = show(means.alloc, &task, output);
+                        drop(program);
+                        outcome
+                    }
                     Command::Run(recording) => {
                         let task = RecordTask {
                             task,
                             source: &source,
                             recording,
                         };
-                        record_run(means, &task, shelf, output)
+                        let outcome = record_run(means, &task, shelf, output);
+                        drop(program);
+                        outcome
                     }
                 }
             }

@@ -60,6 +60,10 @@ pub(crate) fn drill<O: Sink, G: Gate, R: Threads + Wait + Sync>(
     };
     match read_source(means.alloc, &source) {
         Err(error) => refuse(means.alloc, error, output),
-        Ok(program) => drill_program(means, &program, output),
+        Ok(program) => {
+            let outcome = drill_program(means, &program, output);
+            drop(program);
+            outcome
+        }
     }
 }

@@ -54,6 +54,10 @@ pub(crate) fn tell_query<O: Sink>(
             status: finish(output, &line, 6),
             schedule: Seq::new(alloc),
         },
-        Ok(recalled) => tell(rt, alloc, &recalled, query, output),
+        Ok(recalled) => {
+            let outcome = tell(rt, alloc, &recalled, query, output);
+            drop(recalled);
+            outcome
+        }
     }
 }

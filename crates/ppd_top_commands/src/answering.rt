@@ -28,8 +28,14 @@ fn tables(alloc: Global, program: &Program, options: &Options) -> Result<Vec<u8>
     ensures { IfOk result (λ text. text.items ≡ table_of program.now (plan_of program.now options.now.policy)) }
 {
     let sets = sets(alloc, program)?;
-    let plan = partition(alloc, program, &options.policy)?;
-    table(alloc, program, &sets, &plan)
+    let Ok(plan) = partition(alloc, program, &options.policy) else {
+        drop(sets);
+        return Err(Memory);
+    };
+    let text = table(alloc, program, &sets, &plan);
+    drop(plan);
+    drop(sets);
+    text
 }
 
 /// Writes the tables of a program.
@@ -69,6 +75,7 @@ pub fn flow<I: Source, O: Sink, G: Gate, R: Threads + Wait + Sync>(
         return ended(means.alloc, 5);
     };
     let status = tell(means.rt, means.alloc, &by.run, input, output);
+    drop(by.run);
     Outcome {
         status,
         schedule: by.schedule,

@@ -1,4 +1,6 @@
 // The command `debug`: the lines of the input are answered on a recording.
+ghost use Rattle.std.specs.Prelude.{ℕ, List, Option};
+ghost use Rattle.ppd_codec_runs.specs.Recordings.{IsNotRecalled};
 ghost use Rattle.ppd_top_commands.specs.Output.{standing};
 ghost use Rattle.ppd_top_commands.specs.Debugging.{Debugs};
 
@@ -8,6 +10,18 @@ use ppd_io::{Sink, Source};
 use ppd_top_output::finish;
 use std::alloc::Global;
 use std::thread::Threads;
+
+/// Writes why no recording is taken from bytes, and answers the status.
+fn refuse<O: Sink>(error: NoRecall, output: &mut O) -> u8
+    ensures { (bytes : List ℕ) (left last : Option (List ℕ)) (reads : ℕ) → IsNotRecalled bytes error → Debugs bytes
+        (standing left last reads (O.written output.old) (O.faults output.old))
+        (standing left last reads (O.written output.new) (O.faults output.new)) result }
+{
+    match error {
+        NoRecall::Memory => 5,
+        NoRecall::Refused(line) => finish(output, &line, 6),
+    }
+}
 
 /// Answers the lines of the input on the recording that these bytes are, or writes why they are refused, and answers
 /// the status.
@@ -25,8 +39,11 @@ pub fn debug<I: Source, O: Sink>(
         (I.faults input.new) (O.written output.new) (O.faults output.new)) result }
 {
     match recall(alloc, bytes) {
-        Err(NoRecall::Memory) => 5,
-        Err(NoRecall::Refused(line)) => finish(output, &line, 6),
-        Ok(recalled) => converse(rt, alloc, &recalled, input, output),
+        Err(error) => refuse(error, output),
+        Ok(recalled) => {
+            let status = converse(rt, alloc, &recalled, input, output);
+            drop(recalled);
+            status
+        }
     }
 }

@@ -61,5 +61,7 @@ pub(crate) fn converse<I: Source, O: Sink>(
         return 5;
     };
     let program = &recalled.recording.program;
-    talk_anew(alloc, program, &mut session, input, output)
+    let status = talk_anew(alloc, program, &mut session, input, output);
+    drop(session);
+    status
 }

@@ -109,6 +109,7 @@ pub fn record_run<F: Shelf, O: Sink, G: Gate, R: Threads + Wait + Sync>(
         return ended(means.alloc, 5);
     };
     let status = store(means.rt, means.alloc, task, &by.run, shelf, output);
+    drop(by.run);
     Outcome {
         status,
         schedule: by.schedule,

@@ -113,7 +113,9 @@ fn summarize_by(
         kept: &[],
     };
     let session = Session::new(rt, alloc, past)?;
-    summary(alloc, run.program, run.closed.ends.as_slice(), &session)
+    let text = summary(alloc, run.program, run.closed.ends.as_slice(), &session);
+    drop(session);
+    text
 }
 
 /// The summary of a run.
@@ -127,7 +129,9 @@ pub(crate) fn summarize(
         (races_among (edges_of_logs run.now.program.now run.now.closed.logs))) }
 {
     let tables = tables_of(alloc, run)?;
-    summarize_by(rt, alloc, run, &tables)
+    let text = summarize_by(rt, alloc, run, &tables);
+    drop(tables);
+    text
 }
 
 /// The same as `tell`, by these tables.
@@ -165,7 +169,9 @@ fn tell_by<I: Source, O: Sink>(
     let Ok(mut session) = Session::new(rt, alloc, past) else {
         return 5;
     };
-    tell_session(alloc, run, &mut session, input, output)
+    let status = tell_session(alloc, run, &mut session, input, output);
+    drop(session);
+    status
 }
 
 /// Writes the summary of a run, then answers the lines of the input, each before the next is read, and answers the
@@ -189,5 +195,7 @@ pub fn tell<I: Source, O: Sink>(
     let Ok(tables) = tables_of(alloc, run) else {
         return 5;
     };
-    tell_by(rt, alloc, run, &tables, input, output)
+    let status = tell_by(rt, alloc, run, &tables, input, output);
+    drop(tables);
+    status
 }

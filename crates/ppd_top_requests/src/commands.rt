@@ -1,7 +1,9 @@
-ghost use Rattle.std.specs.Prelude.{◌≡◌, None, IfOk, MatchOption, option_map};
+ghost use Rattle.std.specs.Prelude.{◌≡◌, Some, None, if◌then◌else◌, codes, IfOk, MatchOption, option_map};
+ghost use Rattle.std.specs.Str.{bytes_eq};
 ghost use Rattle.clap.specs.Matches.{first_value, found_of};
 ghost use Rattle.ppd_top_requests.specs.Commands.{command_gives, command_of as command_named, longs_of, names_of};
-ghost use Rattle.ppd_top_requests.specs.Spelling.{words_give};
+ghost use Rattle.ppd_top_requests.specs.Spelling.{HaveNoEquals, words_give};
+ghost use Rattle.ppd_top_requests.specs.declared.commands.CommandName.TheVariants as named;
 ghost use Rattle.ppd_top_requests.specs.Reads.{Reads, ReadsCommand};
 ghost use Rattle.ppd_top_requests.specs.GivenWords.{texts};
 
@@ -52,6 +54,27 @@ impl<'a> CommandWords<'a> {
     }
 }
 
+// The query that a word names.
+fn query_command_of(word: &str) -> Option<CommandName>
+    ensures { result ≡ (if bytes_eq word.now (codes "slice") then Some named.Slice
+        else if bytes_eq word.now (codes "rerun") then Some named.Rerun
+        else if bytes_eq word.now (codes "clean") then Some named.Clean
+        else if bytes_eq word.now (codes "whole") then Some named.Whole
+        else None) }
+{
+    if word == "slice" {
+        Some(CommandName::Slice)
+    } else if word == "rerun" {
+        Some(CommandName::Rerun)
+    } else if word == "clean" {
+        Some(CommandName::Clean)
+    } else if word == "whole" {
+        Some(CommandName::Whole)
+    } else {
+        None
+    }
+}
+
 /// The command that a word names: `flow`, `run`, `debug`, `show`, `drill`, `slice`, `rerun`, `clean` or `whole`; `None`
 /// for any other word.
 pub fn command_of(word: &str) -> Option<CommandName>
@@ -67,22 +90,41 @@ pub fn command_of(word: &str) -> Option<CommandName>
         Some(CommandName::Show)
     } else if word == "drill" {
         Some(CommandName::Drill)
-    } else if word == "slice" {
-        Some(CommandName::Slice)
-    } else if word == "rerun" {
-        Some(CommandName::Rerun)
-    } else if word == "clean" {
-        Some(CommandName::Clean)
-    } else if word == "whole" {
-        Some(CommandName::Whole)
     } else {
-        None
+        query_command_of(word)
     }
 }
 
-/// The words after the command's own.
+// The options of a command, by their long names.
+fn command_longs(command: CommandName) -> &'static [&'static str]
+    ensures are { texts result.now ≡ longs_of command }
+    ensures plain { HaveNoEquals (texts result.now) }
+{
+    match command {
+        CommandName::Flow | CommandName::Run => &["budget", "leaf", "loops"],
+        CommandName::Show => &["leaf", "loops"],
+        CommandName::Whole => &["workers"],
+        _ => &[],
+    }
+}
+
+// The names of a command.
+fn command_names(command: CommandName) -> &'static [&'static str]
+    ensures { texts result.now ≡ names_of command }
+{
+    match command {
+        CommandName::Flow | CommandName::Show => &["source"],
+        CommandName::Run => &["source", "recording"],
+        CommandName::Drill => &["number"],
+        CommandName::Slice | CommandName::Clean => &["recording", "process", "interval", "item"],
+        _ => &["recording"],
+    }
+}
+
+/// The words after the command's own, which is the title.
 fn read_rest<'a>(
     alloc: Global,
+    title: &'a str,
     command: CommandName,
     words: &'a [&'a str],
 ) -> Result<Option<ArgMatches<'a>>, Memory>
@@ -90,41 +132,13 @@ fn read_rest<'a>(
         (λ r. MatchOption r (words_give (longs_of command) (names_of command) (texts words.entry.now) ≡ None)
         (Reads (longs_of command) (names_of command) (texts words.entry.now))) }
 {
-    match command {
-        CommandName::Flow => read_words(
-            alloc,
-            "flow",
-            &["budget", "leaf", "loops"],
-            &["source"],
-            words,
-        ),
-        CommandName::Run => read_words(
-            alloc,
-            "run",
-            &["budget", "leaf", "loops"],
-            &["source", "recording"],
-            words,
-        ),
-        CommandName::Debug => read_words(alloc, "debug", &[], &["recording"], words),
-        CommandName::Show => read_words(alloc, "show", &["leaf", "loops"], &["source"], words),
-        CommandName::Drill => read_words(alloc, "drill", &[], &["number"], words),
-        CommandName::Slice => read_words(
-            alloc,
-            "slice",
-            &[],
-            &["recording", "process", "interval", "item"],
-            words,
-        ),
-        CommandName::Rerun => read_words(alloc, "rerun", &[], &["recording"], words),
-        CommandName::Clean => read_words(
-            alloc,
-            "clean",
-            &[],
-            &["recording", "process", "interval", "item"],
-            words,
-        ),
-        CommandName::Whole => read_words(alloc, "whole", &["workers"], &["recording"], words),
-    }
+    read_words(
+        alloc,
+        title,
+        command_longs(command),
+        command_names(command),
+        words,
+    )
 }
 
 /// Reads the words after the program's name by clap: the first names a command, and the others are its options
@@ -156,7 +170,7 @@ pub fn read_command<'a>(
     let Some(command) = command_of(word) else {
         return Ok(None);
     };
-    match read_rest(alloc, command, rest)? {
+    match read_rest(alloc, word, command, rest)? {
         Some(matches) => Ok(Some(CommandWords { command, matches })),
         None => Ok(None),
     }

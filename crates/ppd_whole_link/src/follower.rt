@@ -51,7 +51,6 @@ fn cells_of(program: &Program, process: u8) -> usize
 {
     match program
         .bodies
-        .as_slice()
         .get(program.functions as usize + process as usize)
     {
         Some(body) => body.cells as usize,
@@ -138,7 +137,7 @@ fn add_finished(
     ensures { OnOk result
         (calls.new ≡ calls_by_kind event.now.stmt (kind_of program.now event.now.stmt) calls.old) }
 {
-    match program.stmts.as_slice().get(event.stmt as usize) {
+    match program.stmts.get(event.stmt as usize) {
         Some(stmt) => add_call(calls, event.stmt, &stmt.kind),
         None => Ok(()),
     }

@@ -23,7 +23,7 @@ fn tag_finished<L: Ledger>(
         ≡ tagged_by_kind at.now.program.now at.now.call tag event.now
         (kind_of at.now.program.now event.now.stmt) runs.old) }
 {
-    match at.program.stmts.as_slice().get(event.stmt as usize) {
+    match at.program.stmts.get(event.stmt as usize) {
         Some(stmt) => tag_kind(at, tag, event, &stmt.kind, runs, steps),
         None => tag_writes(runs, tag, event.writes.as_slice(), steps),
     }

@@ -1,4 +1,5 @@
-use Rattle.std.proofs.Common.{◌≡◌, ◌∷◌, ◌∙◌, [], List, Option, Some, IfOk, ap, sym, subst, ℕ}
+use Rattle.std.proofs.lemmas.Grind.{common_steps}
+use Rattle.std.proofs.Common.{◌≡◌, ◌∷◌, ◌∙◌, [], List, Option, Some, IfOk, ap, sym, subst, ℕ, rules, arith}
 use Rattle.ppd_model.specs.declared.flow.Item.{Item}
 use Rattle.ppd_flow_past.proofs.Keeping.{on_both}
 use Rattle.ppd_flow.proofs.FarProcesses.{far_absent, far_there, rose_then}
@@ -46,3 +47,30 @@ returns-clause-is g c =
 
 pub returns-clause-cost : goal.returns-clause-cost
 returns-clause-cost g c = (c.args.at.interval ∷ [], c.in_ok-items.ensures.2)
+
+pub as_slice-items-requires : goal.as_slice-items-requires
+as_slice-items-requires c = search rules depth 1 fits 30
+
+pub items-requires : goal.items-requires
+items-requires c = search rules depth 1 fits 30
+
+pub new-requires : goal.new-requires
+new-requires c = search rules depth 1 fits 30
+
+pub new-requires-in-Nested : goal.new-requires-in-Nested
+new-requires-in-Nested c = search rules depth 1 fits 30
+
+pub returns-clause-error : goal.returns-clause-error
+returns-clause-error c = grind (arith, common_steps) steps 250000
+
+pub returns-in-Own-clause-error : goal.returns-in-Own-clause-error
+returns-in-Own-clause-error c = grind (arith, common_steps) steps 250000
+
+pub returns-in_err-items-clause-cost : goal.returns-in_err-items-clause-cost
+returns-in_err-items-clause-cost c = grind (arith, common_steps) steps 250000
+
+pub returns-in_err-items-clause-is : goal.returns-in_err-items-clause-is
+returns-in_err-items-clause-is c = grind (arith, common_steps) steps 250000
+
+pub returns-then-at-items-clause-error : goal.returns-then-at-items-clause-error
+returns-then-at-items-clause-error c = grind (arith, common_steps) steps 250000

@@ -1,5 +1,6 @@
+use Rattle.std.proofs.lemmas.Grind.{common_steps}
 use Rattle.ppd_model.specs.Setting.{Setting, setting_of}
-use Rattle.std.proofs.Common.{◌≡◌, ℕ, suc, ◌+◌, ◌-◌, ◌*◌, List, ◌++◌, Some, None, length, map, ap, ap₂, sym, subst, ◌∙◌, arith}
+use Rattle.std.proofs.Common.{◌≡◌, ℕ, suc, ◌+◌, ◌-◌, ◌*◌, List, ◌++◌, Some, None, length, map, ap, ap₂, sym, subst, ◌∙◌, arith, rules}
 use Rattle.std.proofs.lemmas.List.{append-nil}
 use Rattle.ppd_ast.specs.declared.plan.Plan.{Plan}
 use Rattle.ppd_ast.specs.declared.program.Program.{Program}
@@ -60,3 +61,39 @@ returns-in-None-clause-schedule c =
     sym (append-nil c.loop-step.schedule)
     ∙ ap (λ (xs : List ℕ). c.loop-step.schedule ++ xs) (sym (rest_none program plan (most_steps program c.args.budget - c.loop-step._step) old may))
     ∙ c.loop-step.invariant.rest
+
+pub chosen-requires : goal.chosen-requires
+chosen-requires c = search rules depth 1 fits 30
+
+pub loop-step-smaller : goal.loop-step-smaller
+loop-step-smaller c = search rules depth 1 fits 30
+
+pub most_steps-step-end-requires : goal.most_steps-step-end-requires
+most_steps-step-end-requires c = search rules depth 1 fits 30
+
+pub new-schedule-requires : goal.new-schedule-requires
+new-schedule-requires c = search rules depth 1 fits 30
+
+pub process_count-requires : goal.process_count-requires
+process_count-requires c = search rules depth 1 fits 30
+
+pub returns-clause-come : goal.returns-clause-come
+returns-clause-come c = search rules depth 1 fits 30
+
+pub returns-in-None-clause-come : goal.returns-in-None-clause-come
+returns-in-None-clause-come c = search rules depth 1 fits 30
+
+pub returns-in_err-take-in-Some : goal.returns-in_err-take-in-Some
+returns-in_err-take-in-Some c = grind (arith, common_steps) steps 250000
+
+pub take-requires-clause-may : goal.take-requires-clause-may
+take-requires-clause-may c = search rules depth 1 fits 30
+
+pub take-requires-clause-plan : goal.take-requires-clause-plan
+take-requires-clause-plan c = search rules depth 1 fits 30
+
+pub take-requires-clause-program : goal.take-requires-clause-program
+take-requires-clause-program c = search rules depth 1 fits 30
+
+pub take-requires-clause-reached : goal.take-requires-clause-reached
+take-requires-clause-reached c = search rules depth 1 fits 30

@@ -1,4 +1,5 @@
-use Rattle.std.proofs.Common.{map, subst}
+use Rattle.std.proofs.lemmas.Grind.{common_steps}
+use Rattle.std.proofs.Common.{map, subst, rules, arith}
 use Rattle.ppd_ast.specs.declared.plan.Plan.{Plan}
 use Rattle.ppd_ast.specs.declared.program.Program.{Program}
 use Rattle.ppd_sem.specs.Runs.{IsNumbered, IsRunnable, IsRunning}
@@ -29,3 +30,39 @@ returns-clause-held c =
     ok_of c.push.result
     (holds_by c.args.setting.now.program.now c.args.setting.now.plan.now c.args.guide.now.world c.args.p c.next-taken.result c.proc.result.now
     (map seen c.args.held.now.items) (map seen c.hold.new.held.items) c.requires.program c.requires.plan c.proc.ensures c.next-taken.ensures c.in_ok-hold.ensures)
+
+pub branch-hold-requires : goal.branch-hold-requires
+branch-hold-requires c = search rules depth 1 fits 30
+
+pub from_residual-requires : goal.from_residual-requires
+from_residual-requires c = search rules depth 1 fits 30
+
+pub hold-requires-clause-need : goal.hold-requires-clause-need
+hold-requires-clause-need c = search rules depth 1 fits 30
+
+pub next-taken-requires : goal.next-taken-requires
+next-taken-requires c = search rules depth 1 fits 30
+
+pub push-requires : goal.push-requires
+push-requires c = search rules depth 1 fits 30
+
+pub returns-clause-comes : goal.returns-clause-comes
+returns-clause-comes c = grind (arith, common_steps) steps 250000
+
+pub returns-clause-guided : goal.returns-clause-guided
+returns-clause-guided c = grind (arith, common_steps) steps 250000
+
+pub returns-clause-kept : goal.returns-clause-kept
+returns-clause-kept c = grind (arith, common_steps) steps 250000
+
+pub returns-clause-schedule : goal.returns-clause-schedule
+returns-clause-schedule c = search rules depth 1 fits 30
+
+pub returns-in_err-hold : goal.returns-in_err-hold
+returns-in_err-hold c = search rules depth 1 fits 30
+
+pub returns-in_err-step : goal.returns-in_err-step
+returns-in_err-step c = search rules depth 1 fits 30
+
+pub step-requires : goal.step-requires
+step-requires c = search rules depth 1 fits 30

@@ -93,3 +93,27 @@ returns-in_err-items-clause-tables c = search rules depth 1 fits 30
 
 pub returns-in_err-items-clause-value : goal.returns-in_err-items-clause-value
 returns-in_err-items-clause-value c = search rules depth 1 fits 30
+
+pub last_looked_up-requires-clause-last : goal.last_looked_up-requires-clause-last
+last_looked_up-requires-clause-last c = c.requires.last
+
+pub last_looked_up-requires-clause-past : goal.last_looked_up-requires-clause-past
+last_looked_up-requires-clause-past c = c.requires.past
+
+pub last_looked_up-requires-clause-uncut : goal.last_looked_up-requires-clause-uncut
+last_looked_up-requires-clause-uncut c = c.requires.uncut
+
+pub last_looked_up-requires-clause-tables : goal.last_looked_up-requires-clause-tables
+last_looked_up-requires-clause-tables c = c.find-in-Some.ensures c.args.past.now c.ask.ensures
+
+pub last_told-requires : goal.last_told-requires
+last_told-requires c = record {
+  past = c.requires.past;
+  uncut = c.requires.uncut;
+  last = c.requires.last;
+  told = c.in_ok-items.ensures.items ∙ ap (λ (is : List Item). Some (Ok is)) (sym c.as_slice.ensures);
+  tables = tt;
+}
+
+pub returns-in_err-found-clause-tables : goal.returns-in_err-found-clause-tables
+returns-in_err-found-clause-tables c = c.requires.tables

@@ -1,7 +1,8 @@
-use Rattle.std.proofs.Common.{◌∷◌, [], subst}
+use Rattle.std.proofs.lemmas.Grind.{common_steps}
+use Rattle.std.proofs.Common.{◌∷◌, ◌∙◌, [], Err, ap, subst, sym, rules, arith}
 use Rattle.std.proofs.lemmas.Result.{err_from_is_err_and}
 use Rattle.ppd_flow.specs.Far.{far_in}
-use Rattle.ppd_slice.specs.Asked.{IsThere}
+use Rattle.ppd_slice.specs.Asked.{IsAsked, IsThere}
 use Rattle.ppd_slice.proofs.Keeping.{failed_asked, kept_first, on_any, on_one, rose_still, unread_asked}
 use Rattle.ppd_slice.proofs.Kept.{kept_both, kept_only, no_item, rose_then}
 use Rattle.ppd_slice.proofs.asking.edges_by_kept.Goals as goal
@@ -9,12 +10,12 @@ use Rattle.ppd_slice.proofs.asking.edges_by_kept.Goals as goal
 pub returns-in_err-keep-clause-is : goal.returns-in_err-keep-clause-is
 returns-in_err-keep-clause-is g c =
     let e = err_from_is_err_and c.from_residual.result c.from_residual.ensures.1 in
-    rw (e.1, e.2) (failed_asked c.args.past.now c.args.at c.in_err-keep.field-0.0 c.in_err-keep.ensures.error)
+    subst (IsAsked c.args.past.now c.args.at) (sym (e.1 ∙ ap Err e.2)) (failed_asked c.args.past.now c.args.at c.in_err-keep.field-0.0 c.in_err-keep.ensures.error)
 
 pub returns-in_err-there-clause-is : goal.returns-in_err-there-clause-is
 returns-in_err-there-clause-is g c =
     let e = err_from_is_err_and c.from_residual-in_err-there.result c.from_residual-in_err-there.ensures.1 in
-    rw (e.1, e.2) (unread_asked c.args.past.now c.args.at c.in_err-there.field-0.0 c.in_err-there.ensures.error)
+    subst (IsAsked c.args.past.now c.args.at) (sym (e.1 ∙ ap Err e.2)) (unread_asked c.args.past.now c.args.at c.in_err-there.field-0.0 c.in_err-there.ensures.error)
 
 pub returns-then-not-there-clause-is : goal.returns-then-not-there-clause-is
 returns-then-not-there-clause-is g c =
@@ -33,7 +34,7 @@ returns-then-not-there-clause-cost g c =
 pub returns-in_err-keep_far-clause-is : goal.returns-in_err-keep_far-clause-is
 returns-in_err-keep_far-clause-is g c =
     let e = err_from_is_err_and c.from_residual-in_err-keep_far.result c.from_residual-in_err-keep_far.ensures.1 in
-    rw (e.1, e.2) (failed_asked c.args.past.now c.args.at c.in_err-keep_far.field-0.0 c.in_err-keep_far.ensures.error)
+    subst (IsAsked c.args.past.now c.args.at) (sym (e.1 ∙ ap Err e.2)) (failed_asked c.args.past.now c.args.at c.in_err-keep_far.field-0.0 c.in_err-keep_far.ensures.error)
 
 pub edges_known-requires-clause-own : goal.edges_known-requires-clause-own
 edges_known-requires-clause-own g c = c.in_ok-keep_far.ensures.still c.args.at.process c.in_ok-keep.ensures.all
@@ -57,3 +58,30 @@ returns-clause-cost g c =
     c.args.steps.now c.is_there.new.steps c.keep_far.new.steps
     (rose_still c.args.past.now c.args.kept.now.replays c.keep.new.kept.replays c.args.steps.now c.keep.new.steps c.is_there.new.steps
     c.in_ok-keep.ensures.cost (c.in_ok-there.ensures.cost c.in_ok-keep.ensures.all)) c.in_ok-keep_far.ensures.cost))
+
+pub is_there-requires : goal.is_there-requires
+is_there-requires c = search rules depth 1 fits 30
+
+pub keep-requires : goal.keep-requires
+keep-requires c = search rules depth 1 fits 30
+
+pub keep_far-requires : goal.keep_far-requires
+keep_far-requires c = grind (arith, common_steps) steps 250000
+
+pub returns-clause-is : goal.returns-clause-is
+returns-clause-is g c = c.edges_known.ensures.is
+
+pub returns-clause-kept : goal.returns-clause-kept
+returns-clause-kept g c = c.keep_far.ensures.kept
+
+pub returns-in_err-keep-clause-kept : goal.returns-in_err-keep-clause-kept
+returns-in_err-keep-clause-kept g c = c.keep.ensures.kept
+
+pub returns-in_err-keep_far-clause-kept : goal.returns-in_err-keep_far-clause-kept
+returns-in_err-keep_far-clause-kept g c = c.keep_far.ensures.kept
+
+pub returns-in_err-there-clause-kept : goal.returns-in_err-there-clause-kept
+returns-in_err-there-clause-kept g c = c.keep.ensures.kept
+
+pub returns-then-not-there-clause-kept : goal.returns-then-not-there-clause-kept
+returns-then-not-there-clause-kept g c = c.keep.ensures.kept

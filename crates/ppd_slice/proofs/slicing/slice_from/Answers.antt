@@ -1,4 +1,5 @@
-use Rattle.std.proofs.Common.{◌∙◌, sym, arith}
+use Rattle.std.proofs.lemmas.Grind.{common_steps}
+use Rattle.std.proofs.Common.{◌∙◌, sym, arith, rules}
 use Rattle.ppd_slice.proofs.Among.{among_first, among_sorted, got_process}
 use Rattle.ppd_slice.proofs.Kept.{rose_none, rose_then}
 use Rattle.ppd_slice.proofs.Sliced.{answers_more, begins, goes_on, is_slice, why_not}
@@ -40,3 +41,36 @@ loop-number-preserved g c = record {
   cost = rose_then c.args.past.now c.args.kept.now.replays c.loop-number.kept.replays c.expand.new.kept.replays c.args.steps.now c.loop-number.steps c.expand.new.steps
       c.loop-number.invariant.cost c.in_default-expand.ensures.cost;
 }
+
+pub expand-requires-clause-kept : goal.expand-requires-clause-kept
+expand-requires-clause-kept c = search rules depth 1 fits 30
+
+pub find-requires : goal.find-requires
+find-requires c = search rules depth 1 fits 30
+
+pub get-requires : goal.get-requires
+get-requires c = search rules depth 1 fits 30
+
+pub loop-number-smaller : goal.loop-number-smaller
+loop-number-smaller c = grind (arith, common_steps) steps 250000
+
+pub new-search-requires : goal.new-search-requires
+new-search-requires c = search rules depth 1 fits 30
+
+pub returns : goal.returns
+returns c = grind (arith, common_steps) steps 250000
+
+pub returns-in-Err-clause-among : goal.returns-in-Err-clause-among
+returns-in-Err-clause-among c = grind (arith, common_steps) steps 250000
+
+pub returns-in-Err-clause-cost : goal.returns-in-Err-clause-cost
+returns-in-Err-clause-cost c = grind (arith, common_steps) steps 250000
+
+pub returns-in_default-clause-cost : goal.returns-in_default-clause-cost
+returns-in_default-clause-cost c = search rules depth 1 fits 30
+
+pub same-search-in-loop-number : goal.same-search-in-loop-number
+same-search-in-loop-number c = search rules depth 1 fits 30
+
+pub sorted-requires : goal.sorted-requires
+sorted-requires c = search rules depth 1 fits 30

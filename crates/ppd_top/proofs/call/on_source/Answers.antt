@@ -25,15 +25,15 @@ returns-in-Err-read_source-clause-comes g c = λ words asks.
 pub returns-in-Flow-clause-comes : goal.returns-in-Flow-clause-comes
 returns-in-Flow-clause-comes g c = λ words asks.
     let loads : Loads (g.F.Shelf.held c.args.shelf.now) c.args.request.now.name.now MOST_BYTES c.deref.result.now = rw c.deref.ensures.value c.in-Ok.ensures.bytes in
-    flow_done c.args.request.now.name.now c.args.request.now.options c.deref.result.now c.in-Ok-read_source.program (subst (λ d. Asks words (on_source d c.args.request.now.name.now c.args.request.now.options)) (ap command_of c.in-Flow.is) asks) loads c.in-Ok-read_source.ensures.read (record { held = c.load.ensures.same; stores = c.load.ensures.stores }) c.flow.ensures
+    flow_done c.args.request.now.name.now c.args.request.now.options c.deref.result.now c.in-Ok-read_source.program (subst (λ d. Asks words (on_source d c.args.request.now.name.now c.args.request.now.options)) (ap command_of c.in-Flow.is) asks) loads c.in-Ok-read_source.ensures.read (record { held = c.load.ensures.same; stores = c.load.ensures.stores }) c.flow-outcome.ensures
 
 pub returns-in-Flow-clause-input : goal.returns-in-Flow-clause-input
-returns-in-Flow-clause-input g c = λ e. absurd (flow_not_early _ c.in-Ok-read_source.program c.args.request.now.options c.flow.result.schedule _ _ c.flow.result.status c.flow.ensures (λ n. n (ap command_of c.in-Flow.is)) e)
+returns-in-Flow-clause-input g c = λ e. absurd (flow_not_early _ c.in-Ok-read_source.program c.args.request.now.options c.flow-outcome.result.schedule _ _ c.flow-outcome.result.status c.flow-outcome.ensures (λ n. n (ap command_of c.in-Flow.is)) e)
 
 pub returns-in-Show-clause-comes : goal.returns-in-Show-clause-comes
 returns-in-Show-clause-comes g c = λ words asks.
     let loads : Loads (g.F.Shelf.held c.args.shelf.now) c.args.request.now.name.now MOST_BYTES c.deref.result.now = rw c.deref.ensures.value c.in-Ok.ensures.bytes in
-    show_done c.args.request.now.name.now c.args.request.now.options c.deref.result.now c.in-Ok-read_source.program (subst (λ d. Asks words (on_source d c.args.request.now.name.now c.args.request.now.options)) (ap command_of c.in-Show.is) asks) loads c.in-Ok-read_source.ensures.read (record { held = c.load.ensures.same; stores = c.load.ensures.stores }) (record { left = refl; last = refl; reads = refl }) (c.show.ensures (g.I.Source.left c.args.input.now) (g.I.Source.before_last c.args.input.now) (g.I.Source.faults c.args.input.now))
+    show_done c.args.request.now.name.now c.args.request.now.options c.deref.result.now c.in-Ok-read_source.program (subst (λ d. Asks words (on_source d c.args.request.now.name.now c.args.request.now.options)) (ap command_of c.in-Show.is) asks) loads c.in-Ok-read_source.ensures.read (record { held = c.load.ensures.same; stores = c.load.ensures.stores }) (record { left = refl; last = refl; reads = refl }) (c.show-outcome.ensures (g.I.Source.left c.args.input.now) (g.I.Source.before_last c.args.input.now) (g.I.Source.faults c.args.input.now))
 
 pub returns-clause-comes : goal.returns-clause-comes
 returns-clause-comes g c = λ words asks.
@@ -42,4 +42,4 @@ returns-clause-comes g c = λ words asks.
     let same : c.deref.result.now ≡ c.deref-in-Run.result.now = c.deref.ensures.value ∙ sym c.deref-in-Run.ensures.value in
     let read : IsRead c.deref-in-Run.result.now c.in-Ok-read_source.program = subst (λ b. IsRead b c.in-Ok-read_source.program) same c.in-Ok-read_source.ensures.read in
     run_done c.args.request.now.name.now c.in-Run.recording.now c.args.request.now.options c.deref-in-Run.result.now c.in-Ok-read_source.program (subst (λ d. Asks words (on_source d c.args.request.now.name.now c.args.request.now.options)) (ap command_of c.in-Run.is) asks) loads read (record { left = refl; last = refl; reads = refl })
-    (records_from (g.F.Shelf.held c.args.shelf.now) (g.F.Shelf.held c.load.new.self) (g.F.Shelf.failed_stores c.args.shelf.now) (g.F.Shelf.failed_stores c.load.new.self) (g.O.Sink.written c.args.output.now) (g.O.Sink.faults c.args.output.now) _ c.record_run.result.status c.load.ensures.same c.load.ensures.stores c.deref-in-Run.result.now c.in-Ok-read_source.program c.args.request.now.options c.in-Run.recording.now c.record_run.result.schedule c.record_run.ensures)
+    (records_from (g.F.Shelf.held c.args.shelf.now) (g.F.Shelf.held c.load.new.self) (g.F.Shelf.failed_stores c.args.shelf.now) (g.F.Shelf.failed_stores c.load.new.self) (g.O.Sink.written c.args.output.now) (g.O.Sink.faults c.args.output.now) _ c.record_run-outcome.result.status c.load.ensures.same c.load.ensures.stores c.deref-in-Run.result.now c.in-Ok-read_source.program c.args.request.now.options c.in-Run.recording.now c.record_run-outcome.result.schedule c.record_run-outcome.ensures)

@@ -14,4 +14,4 @@ returns-in-Err g c =
 pub returns : goal.returns
 returns g c =
     let e : c.deref.result.now ≡ generated c.args.number = c.deref.ensures.value ∙ c.in-Ok.ensures in
-    drilled c.in-Ok-read_source.program (subst (λ b. IsRead b c.in-Ok-read_source.program) e c.in-Ok-read_source.ensures.read) c.drill_program.ensures
+    drilled c.in-Ok-read_source.program (subst (λ b. IsRead b c.in-Ok-read_source.program) e c.in-Ok-read_source.ensures.read) c.drill_program-outcome.ensures

@@ -16,7 +16,7 @@ returns-in-Err-Refused g c =
     (subst (Finished (g.O.Sink.written c.args.output.now) (g.O.Sink.written c.finish.new.output) (g.O.Sink.faults c.args.output.now) (g.O.Sink.faults c.finish.new.output) c.finish.result 6) e c.finish.ensures.end)
 
 pub returns-in-Ok : goal.returns-in-Ok
-returns-in-Ok g c = told_by c.args.bytes.now (query_of c.args.query.now) c.tell.result.schedule (g.O.Sink.written c.args.output.now) (g.O.Sink.written c.tell.new.output) (g.O.Sink.faults c.args.output.now) (g.O.Sink.faults c.tell.new.output) c.tell.result.status c.in-Ok.recalled.recording c.in-Ok.ensures.ok c.tell.ensures
+returns-in-Ok g c = told_by c.args.bytes.now (query_of c.args.query.now) c.tell-outcome.result.schedule (g.O.Sink.written c.args.output.now) (g.O.Sink.written c.tell-outcome.new.output) (g.O.Sink.faults c.args.output.now) (g.O.Sink.faults c.tell-outcome.new.output) c.tell-outcome.result.status c.in-Ok.recalled.recording c.in-Ok.ensures.ok c.tell-outcome.ensures
 
-pub tell-requires-clause-askable : goal.tell-requires-clause-askable
-tell-requires-clause-askable g c κs within = askable c.args.bytes.now c.in-Ok.recalled c.in-Ok.ensures.ok c.in-Ok.ensures.together
+pub tell-outcome-requires-clause-askable : goal.tell-outcome-requires-clause-askable
+tell-outcome-requires-clause-askable g c κs within = askable c.args.bytes.now c.in-Ok.recalled c.in-Ok.ensures.ok c.in-Ok.ensures.together

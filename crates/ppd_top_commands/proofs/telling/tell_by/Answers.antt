@@ -15,5 +15,5 @@ new-requires-clause-past g c =
     together (run_setting c.args.run.now) c.args.run.now.closed c.args.tables.now.index c.args.tables.now.graph c.requires.told c.requires.index c.requires.fitting c.requires.graph in
     search rules
 
-pub tell_session-requires-clause-few : goal.tell_session-requires-clause-few
-tell_session-requires-clause-few g c = told_ends (run_setting c.args.run.now) c.args.run.now.closed c.requires.told
+pub tell_session-status-requires-clause-few : goal.tell_session-status-requires-clause-few
+tell_session-status-requires-clause-few g c = told_ends (run_setting c.args.run.now) c.args.run.now.closed c.requires.told

@@ -1,4 +1,5 @@
-use Rattle.std.proofs.Common.{◌≡◌, ℕ, suc, ◌+◌, ◌<◌, ◌≤◌, List, ◌∷◌, ◌++◌, add-one, ap, arith, append_assoc, drop, drop-cons, get_or, length, map, sym, ◌∙◌}
+use Rattle.std.proofs.lemmas.Grind.{common_steps}
+use Rattle.std.proofs.Common.{◌≡◌, ℕ, suc, ◌+◌, ◌<◌, ◌≤◌, List, ◌∷◌, ◌++◌, add-one, ap, arith, append_assoc, drop, drop-cons, get_or, length, map, sym, ◌∙◌, rules}
 use Rattle.std.specs.List.{sum_by}
 use Rattle.std.proofs.lemmas.List.Sums.{sum_by-cons}
 use Rattle.ppd_sem.specs.declared.event.Event.{Event}
@@ -40,3 +41,21 @@ loop-n-preserved g c =
       spent = spent_next (λ e. e.now) past c.args.events.now c.loop-n.n c.index-events-n.result lt c.index-events-n.is (event_cost past)
           c.loop-n.steps c.put_line.new.steps _ c.in_ok-put_line.ensures.cost c.loop-n.invariant.spent;
     }
+
+pub add-requires : goal.add-requires
+add-requires c = search rules depth 1 fits 30
+
+pub allocator-alloc-requires : goal.allocator-alloc-requires
+allocator-alloc-requires c = search rules depth 1 fits 30
+
+pub loop-n-init : goal.loop-n-init
+loop-n-init c = search rules depth 1 fits 30
+
+pub loop-n-smaller : goal.loop-n-smaller
+loop-n-smaller c = grind (arith, common_steps) steps 250000
+
+pub put_line-requires : goal.put_line-requires
+put_line-requires c = search rules depth 1 fits 30
+
+pub returns : goal.returns
+returns c = grind (arith, common_steps) steps 250000
