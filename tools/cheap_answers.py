@@ -25,7 +25,10 @@ WAYS = (
     ("grind (arith, common_steps) steps 250000", "grind (arith, common_steps) steps 250000"),
     ("grind (arith, elements) steps 250000", "grind (arith, elements) steps 250000"),
 )
-IMPORTS = {"Rattle.std.proofs.Common": ("rules", "arith"), "Rattle.std.proofs.lemmas.Grind": ("common_steps", "elements")}
+IMPORTS = {
+    "Rattle.std.proofs.Common": ("rules", "arith"),
+    "Rattle.std.proofs.lemmas.Grind": ("common_steps", "elements"),
+}
 # names near to those of most goals
 NEAR = "returns returns-in returns-clause x-requires x-requires-in loop-x-preserved loop-x-init".split()
 # goals that the check may ask for and that are worth an answer
@@ -37,6 +40,19 @@ REFUSED = re.compile(r"\./proofs/(.*)/Answers\.antt:\d+:\d+: error: `([^`]+)`")
 SAVED = 0.25
 
 
+def is_generic(crate, name):
+    """Whether the function, or the block of methods that has it, is generic over a type: its goals are of each type."""
+    path = name.split(".")
+    places = [os.path.join("src", *path[:count]) + ".rt" for count in range(1, len(path))]
+    for place in [*places, os.path.join("src", "lib.rt")]:
+        text = prove.text_of(os.path.join(prove.TOP, "crates", crate, place))
+        for found in re.finditer(rf"^( *)(?:pub(?:\(crate\))? )?fn {path[-1]}\b(<[^(]*>)?", text, re.MULTILINE):
+            block = re.findall(r"^impl(<.*?>)? ", text[: found.start()], re.MULTILINE) if found[1] else []
+            if any(re.search(r"[<,] *[A-Z]", given or "") for given in (found[2], *block[-1:])):
+                return True
+    return False
+
+
 class Function:
     """A function with its answers that stand, the goals that have none, and the ways found for these."""
 
@@ -45,7 +61,7 @@ class Function:
         self.file = os.path.join(prove.TOP, "crates", crate, "proofs", *name.split("."), "Answers.antt")
         self.text = prove.text_of(self.file)
         self.answered = set(re.findall(r"^pub (\S+) : ", self.text, re.MULTILINE))
-        self.goals = set()
+        self.goals, self.given = set(), "g c" if is_generic(crate, name) else "c"
 
     def whole(self, goal):
         """The goal of which this is one clause, or none."""
@@ -67,7 +83,7 @@ class Function:
         if not goals:
             head += f"use Rattle.{self.crate}.proofs.{self.name}.Goals as goal\n"
         where = goals[1] if goals else "goal"
-        added = [f"pub {goal} : {where}.{goal}\n{goal} c = {answer}\n" for goal, answer in sorted(answers.items())]
+        added = [f"pub {goal} : {where}.{goal}\n{goal} {self.given} = {answer}\n" for goal, answer in sorted(answers.items())]
         os.makedirs(os.path.dirname(self.file), exist_ok=True)
         with open(self.file, "w", encoding="utf-8") as file:
             file.write("\n".join(part for part in (head, rest and rest + "\n", "\n".join(added)) if part))
