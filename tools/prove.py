@@ -292,7 +292,7 @@ def prove(below, copies, whole):
             waiting.remove(ready[0])
             left = sum(seconds[crate] for crate in below if crate not in proved)
             share = weights[ready[0]] * len(copies) / left
-            least = max(1 + functions_in(ready[0]) // 80, 2 + int((share - 1.2) / 0.5) if share > 1.2 else 1)
+            least = max(1 + functions_in(ready[0]) // 100, 2 + int((share - 1.2) / 0.5) if share > 1.2 else 1)
             jobs = max(spare // len(ready), min(least, spare))
             checks.append(Check(ready[0], free.pop(0), jobs, seconds[ready[0]]))
             if not waiting:

@@ -1,4 +1,5 @@
-use Rattle.std.proofs.Common.{◌∙◌, arith, get_or}
+use Rattle.std.proofs.lemmas.Grind.{common_steps}
+use Rattle.std.proofs.Common.{◌∙◌, arith, get_or, rules}
 use Rattle.std.proofs.lemmas.List.{get_or_default}
 use Rattle.ppd_check_stmts.proofs.Table.Arguments.{argued_more}
 use Rattle.ppd_check_stmts.proofs.Costs.Children.{next_child, child_part, all_children}
@@ -25,3 +26,33 @@ pub returns-in_err-argument-clause-cost : goal.returns-in_err-argument-clause-co
 returns-in_err-argument-clause-cost g c =
     let part = child_part c.args.source.nodes.now c.args.id c.loop-child.child-index c.children_of-child-items.result.now c.children_of-child-items.ensures.children (omega (arith, c.loop-child-test.true)) in
     omega (arith, c.loop-child.invariant.cost, c.tick.ensures, c.argument.ensures.cost, part.0, part.1, part.2)
+
+pub argument-requires : goal.argument-requires
+argument-requires g c = search rules depth 1 fits 30
+
+pub branch-argument-requires : goal.branch-argument-requires
+branch-argument-requires g c = search rules depth 1 fits 30
+
+pub children_of-child-items-requires : goal.children_of-child-items-requires
+children_of-child-items-requires g c = search rules depth 1 fits 30
+
+pub loop-child-init : goal.loop-child-init
+loop-child-init g c = search rules depth 1 fits 30
+
+pub loop-child-smaller : goal.loop-child-smaller
+loop-child-smaller g c = search rules depth 1 fits 30
+
+pub returns-clause-argued : goal.returns-clause-argued
+returns-clause-argued g c = grind (arith, common_steps) steps 250000
+
+pub returns-clause-stmts : goal.returns-clause-stmts
+returns-clause-stmts g c = search rules depth 1 fits 30
+
+pub returns-in_err-argument-clause-argued : goal.returns-in_err-argument-clause-argued
+returns-in_err-argument-clause-argued g c = grind (arith, common_steps) steps 250000
+
+pub returns-in_err-argument-clause-stmts : goal.returns-in_err-argument-clause-stmts
+returns-in_err-argument-clause-stmts g c = search rules depth 1 fits 30
+
+pub tick-requires : goal.tick-requires
+tick-requires g c = search rules depth 1 fits 30

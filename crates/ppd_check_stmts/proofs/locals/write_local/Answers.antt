@@ -1,4 +1,4 @@
-use Rattle.std.proofs.Common.{sym, ap, subst, arith}
+use Rattle.std.proofs.Common.{sym, ap, subst, arith, rules}
 use Rattle.ppd_check_names.specs.Nodes.{phrase_of, phrases_below}
 use Rattle.ppd_check_stmts.specs.Statements.{after_row}
 use Rattle.ppd_check_stmts.specs.Writing.{WroteRow}
@@ -14,3 +14,18 @@ returns-in_default g c =
       frame = ap (λ r. after_row r c.args.frame.now) e;
       cost = omega arith;
     }
+
+pub returns-in-Change : goal.returns-in-Change
+returns-in-Change g c = search rules depth 1 fits 30
+
+pub returns-in-Litem : goal.returns-in-Litem
+returns-in-Litem g c = search rules depth 1 fits 30
+
+pub rule_of-requires : goal.rule_of-requires
+rule_of-requires g c = search rules depth 1 fits 30
+
+pub write_changed-requires : goal.write_changed-requires
+write_changed-requires g c = search rules depth 1 fits 30
+
+pub write_local_item-requires : goal.write_local_item-requires
+write_local_item-requires g c = search rules depth 1 fits 30

@@ -1,4 +1,4 @@
-use Rattle.std.proofs.Common.{◌∙◌, ap, subst}
+use Rattle.std.proofs.Common.{◌∙◌, ap, subst, rules}
 use Rattle.ppd_check_names.specs.Nodes.{label_name, phrases_below}
 use Rattle.ppd_check_names.specs.Syntax.{Simple}
 use Rattle.ppd_check_stmts.specs.Statements.{after}
@@ -42,3 +42,33 @@ pub returns-in_default-clause-frame : goal.returns-in_default-clause-frame
 returns-in_default-clause-frame g c =
     let ps = phrases_below c.args.level.source.nodes.now c.args.id in
     ok_map c.write_fresh-in_default.result _ _ (λ e. e ∙ ap (λ (s : Simple). after s c.args.frame.now) (item_fresh c.kind_at.result (label_name c.label_at-name.result) ps c.in_default.not-LeftBracket c.in_default.not-AssignMark c.kind_at.ensures c.label_at-name.ensures)) c.write_fresh-in_default.ensures.frame
+
+pub kind_at-requires : goal.kind_at-requires
+kind_at-requires g c = search rules depth 1 fits 30
+
+pub label_at-name-requires : goal.label_at-name-requires
+label_at-name-requires g c = search rules depth 1 fits 30
+
+pub returns-in-AssignMark-clause-cost : goal.returns-in-AssignMark-clause-cost
+returns-in-AssignMark-clause-cost g c = search rules depth 1 fits 30
+
+pub returns-in-LeftBracket-clause-cost : goal.returns-in-LeftBracket-clause-cost
+returns-in-LeftBracket-clause-cost g c = search rules depth 1 fits 30
+
+pub returns-in_default-clause-cost : goal.returns-in_default-clause-cost
+returns-in_default-clause-cost g c = search rules depth 1 fits 30
+
+pub size_at-size-requires : goal.size_at-size-requires
+size_at-size-requires g c = search rules depth 1 fits 30
+
+pub value_at-value-requires : goal.value_at-value-requires
+value_at-value-requires g c = search rules depth 1 fits 30
+
+pub write_array-requires : goal.write_array-requires
+write_array-requires g c = search rules depth 1 fits 30
+
+pub write_fresh-requires : goal.write_fresh-requires
+write_fresh-requires g c = search rules depth 1 fits 30
+
+pub write_fresh-requires-in_default : goal.write_fresh-requires-in_default
+write_fresh-requires-in_default g c = search rules depth 1 fits 30

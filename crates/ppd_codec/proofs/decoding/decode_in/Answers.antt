@@ -1,3 +1,4 @@
+use Rattle.std.proofs.lemmas.Grind.{common_steps, elements}
 use Rattle.std.proofs.Common.{◌≢◌, ◌≤◌, length, arith, subst, sym, rules}
 use Rattle.ppd_ast.specs.declared.limits.TheConstants.{MOST_RECORDING_BYTES}
 use Rattle.ppd_ast.specs.Valid.{IsValid}
@@ -63,3 +64,39 @@ returns-clause-decoding g c =
       err = map_err c.made.result (λ e is m. absurd (m is)) c.made.ensures.err;
       early = map_err c.made.result (λ e _ m. past_front c.args.bytes.now (front_of f.version f.header f.source.now) c.front.new.self.at c.front.new.self.rest.now short came) c.made.ensures.err;
     }
+
+pub branch-front-requires : goal.branch-front-requires
+branch-front-requires g c = search rules depth 1 fits 30
+
+pub drop-requires : goal.drop-requires
+drop-requires g c = search rules depth 1 fits 30
+
+pub front-requires : goal.front-requires
+front-requires g c = search rules depth 1 fits 30
+
+pub last_of-requires : goal.last_of-requires
+last_of-requires g c = search rules depth 1 fits 30
+
+pub made-requires : goal.made-requires
+made-requires g c = grind (arith, elements) steps 250000
+
+pub new-cursor-requires : goal.new-cursor-requires
+new-cursor-requires g c = search rules depth 1 fits 30
+
+pub refusal-requires : goal.refusal-requires
+refusal-requires g c = search rules depth 1 fits 30
+
+pub returns-clause-cost : goal.returns-clause-cost
+returns-clause-cost g c = grind (arith, common_steps) steps 250000
+
+pub returns-in-Err-clause-cost : goal.returns-in-Err-clause-cost
+returns-in-Err-clause-cost g c = search rules depth 1 fits 30
+
+pub returns-in-Err-last_of-clause-cost : goal.returns-in-Err-last_of-clause-cost
+returns-in-Err-last_of-clause-cost g c = grind (arith, common_steps) steps 250000
+
+pub returns-in_err-front-clause-cost : goal.returns-in_err-front-clause-cost
+returns-in_err-front-clause-cost g c = search rules depth 1 fits 30
+
+pub returns-then-bytes-gt-MOST_RECORDING_BYTES-clause-cost : goal.returns-then-bytes-gt-MOST_RECORDING_BYTES-clause-cost
+returns-then-bytes-gt-MOST_RECORDING_BYTES-clause-cost g c = search rules depth 1 fits 30

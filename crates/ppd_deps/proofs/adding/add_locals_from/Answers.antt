@@ -1,4 +1,4 @@
-use Rattle.std.proofs.Common.{◌∙◌, ap}
+use Rattle.std.proofs.Common.{◌∙◌, ap, rules}
 use Rattle.std.proofs.lemmas.Result.{on_ok_weaker}
 use Rattle.ppd_ast.proofs.Vocabulary.{kind_of_stmt}
 use Rattle.ppd_deps.proofs.Added.{adds_as}
@@ -20,3 +20,18 @@ returns-in_default c =
     let x = c.index-as_slice-stmt.result in
     let at = stmt_got p c.as_slice.result.now s x c.as_slice.ensures c.requires.there c.index-as_slice-stmt.is in
     on_ok_weaker c.add_locals-in_default.result (λ added. adds_as _ _ _ _ (λ t lt. own_edges p s t x x.kind at (own_by p x.kind c.in_default.not-Call c.in_default.not-Return)) added) c.add_locals-in_default.ensures
+
+pub add_locals-requires : goal.add_locals-requires
+add_locals-requires c = search rules depth 1 fits 30
+
+pub add_locals-requires-in_default : goal.add_locals-requires-in_default
+add_locals-requires-in_default c = search rules depth 1 fits 30
+
+pub add_locals_of_all-requires : goal.add_locals_of_all-requires
+add_locals_of_all-requires c = search rules depth 1 fits 30
+
+pub as_slice-requires : goal.as_slice-requires
+as_slice-requires c = search rules depth 1 fits 30
+
+pub returns-in-Return : goal.returns-in-Return
+returns-in-Return c = search rules depth 1 fits 30

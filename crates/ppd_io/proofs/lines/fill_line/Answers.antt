@@ -85,3 +85,24 @@ returns g c =
       room = c.loop-bytes.invariant.room;
       few = c.loop-bytes.invariant.few;
     }
+
+pub is_err-requires : goal.is_err-requires
+is_err-requires g c = search rules depth 1 fits 30
+
+pub len-requires : goal.len-requires
+len-requires g c = search rules depth 1 fits 30
+
+pub loop-bytes-init : goal.loop-bytes-init
+loop-bytes-init g c = search rules depth 1 fits 30
+
+pub loop-bytes-smaller : goal.loop-bytes-smaller
+loop-bytes-smaller g c = search rules depth 1 fits 30
+
+pub next-requires : goal.next-requires
+next-requires g c = search rules depth 1 fits 30
+
+pub push-requires : goal.push-requires
+push-requires g c = search rules depth 1 fits 30
+
+pub unreachable-requires : goal.unreachable-requires
+unreachable-requires g c = search rules depth 1 fits 30

@@ -1,4 +1,5 @@
-use Rattle.std.proofs.Common.{◌≡◌, ◌≤◌, ◌<◌, ◌+◌, ℕ, List, ◌∷◌, sym, ◌∙◌, subst, reverse, length, arith}
+use Rattle.std.proofs.lemmas.Grind.{common_steps}
+use Rattle.std.proofs.Common.{◌≡◌, ◌≤◌, ◌<◌, ◌+◌, ℕ, List, ◌∷◌, sym, ◌∙◌, subst, reverse, length, arith, rules}
 use Rattle.ppd_parse.specs.declared.growth.Step.{Step}
 use Rattle.ppd_parse.specs.declared.growth.Step.TheVariants as M
 use Rattle.ppd_parse.specs.declared.symbol.Want.{Want}
@@ -81,3 +82,45 @@ returns-in-Refused g c =
       room = room_same c.loop-want.peak c.args.peak.now c.loop-want.steps c.tick.new.self c.args.steps.now c.tick.ensures inv.room;
       later = inv.later;
     }
+
+pub from_residual-requires : goal.from_residual-requires
+from_residual-requires g c = search rules depth 1 fits 30
+
+pub len-requires : goal.len-requires
+len-requires g c = search rules depth 1 fits 30
+
+pub pop-requires : goal.pop-requires
+pop-requires g c = search rules depth 1 fits 30
+
+pub returns-clause-cost : goal.returns-clause-cost
+returns-clause-cost g c = search rules depth 1 fits 30
+
+pub returns-clause-held : goal.returns-clause-held
+returns-clause-held g c = search rules depth 1 fits 30
+
+pub returns-clause-later : goal.returns-clause-later
+returns-clause-later g c = search rules depth 1 fits 30
+
+pub returns-clause-paid : goal.returns-clause-paid
+returns-clause-paid g c = search rules depth 1 fits 30
+
+pub returns-clause-room : goal.returns-clause-room
+returns-clause-room g c = search rules depth 1 fits 30
+
+pub returns-in_err-advance-clause-held : goal.returns-in_err-advance-clause-held
+returns-in_err-advance-clause-held g c = grind (arith, common_steps) steps 250000
+
+pub returns-in_err-advance-clause-later : goal.returns-in_err-advance-clause-later
+returns-in_err-advance-clause-later g c = search rules depth 1 fits 30
+
+pub returns-in_err-advance-clause-paid : goal.returns-in_err-advance-clause-paid
+returns-in_err-advance-clause-paid g c = grind (arith, common_steps) steps 250000
+
+pub returns-in_err-advance-clause-room : goal.returns-in_err-advance-clause-room
+returns-in_err-advance-clause-room g c = search rules depth 1 fits 30
+
+pub returns-in_err-advance-clause-taken : goal.returns-in_err-advance-clause-taken
+returns-in_err-advance-clause-taken g c = grind (arith, common_steps) steps 250000
+
+pub tick-requires : goal.tick-requires
+tick-requires g c = search rules depth 1 fits 30

@@ -34,3 +34,36 @@ returns-clause-ends g c =
     let w = c.loop-want.grove in
     let none : c.loop-want.wants.items ≡ [] = first_of (search rules, grind (arith, common_steps)) in
     ends_as (state_of c.args.wants.now.items c.args.grove.now) (state_of c.loop-want.wants.items w) (ap reverse none) c.loop-want.invariant.ends
+
+pub branch-close-requires : goal.branch-close-requires
+branch-close-requires g c = search rules depth 1 fits 30
+
+pub close-requires : goal.close-requires
+close-requires g c = search rules depth 1 fits 30
+
+pub from_residual-requires : goal.from_residual-requires
+from_residual-requires g c = search rules depth 1 fits 30
+
+pub loop-want-init : goal.loop-want-init
+loop-want-init g c = search rules depth 1 fits 30
+
+pub loop-want-smaller : goal.loop-want-smaller
+loop-want-smaller g c = search rules depth 1 fits 30
+
+pub loop-want-smaller-in-Continue-1 : goal.loop-want-smaller-in-Continue-1
+loop-want-smaller-in-Continue-1 g c = search rules depth 1 fits 30
+
+pub pop-requires : goal.pop-requires
+pop-requires g c = search rules depth 1 fits 30
+
+pub returns-clause-cost : goal.returns-clause-cost
+returns-clause-cost g c = search rules depth 1 fits 30
+
+pub returns-in_err-close-in-Close-clause-cost : goal.returns-in_err-close-in-Close-clause-cost
+returns-in_err-close-in-Close-clause-cost g c = grind (arith, common_steps) steps 250000
+
+pub returns-in_err-close-in-Close-clause-ends : goal.returns-in_err-close-in-Close-clause-ends
+returns-in_err-close-in-Close-clause-ends g c = grind (arith, common_steps) steps 250000
+
+pub tick-requires : goal.tick-requires
+tick-requires g c = search rules depth 1 fits 30

@@ -1,4 +1,5 @@
-use Rattle.std.proofs.Common.{◌≡◌, ◌+◌, ◌≤◌, drop, sym, subst, arith}
+use Rattle.std.proofs.lemmas.Grind.{common_steps}
+use Rattle.std.proofs.Common.{◌≡◌, ◌+◌, ◌≤◌, drop, sym, subst, arith, rules}
 use Rattle.ppd_sem.specs.Process.{cost, head_deed}
 use Rattle.ppd_sem.specs.declared.proc.Need.{Need}
 use Rattle.ppd_sem.specs.declared.proc.Proc.{Proc}
@@ -56,3 +57,33 @@ charge-requires-in-Trap-clause-paid c =
 
 pub charge-requires-in-Trap-clause-steps : goal.charge-requires-in-Trap-clause-steps
 charge-requires-in-Trap-clause-steps c = c.requires.proc.steps
+
+pub enter-requires : goal.enter-requires
+enter-requires c = grind (arith, common_steps) steps 250000
+
+pub finish-requires : goal.finish-requires
+finish-requires c = search rules depth 1 fits 30
+
+pub from_residual-requires : goal.from_residual-requires
+from_residual-requires c = search rules depth 1 fits 30
+
+pub offer-requires : goal.offer-requires
+offer-requires c = grind (arith, common_steps) steps 250000
+
+pub returns-in-Budget : goal.returns-in-Budget
+returns-in-Budget c = search rules depth 1 fits 30
+
+pub returns-in-Done : goal.returns-in-Done
+returns-in-Done c = search rules depth 1 fits 30
+
+pub returns-in-Enter : goal.returns-in-Enter
+returns-in-Enter c = search rules depth 1 fits 30
+
+pub returns-in-Offer : goal.returns-in-Offer
+returns-in-Offer c = search rules depth 1 fits 30
+
+pub returns-in-Stopped : goal.returns-in-Stopped
+returns-in-Stopped c = search rules depth 1 fits 30
+
+pub returns-in-Trap : goal.returns-in-Trap
+returns-in-Trap c = search rules depth 1 fits 30

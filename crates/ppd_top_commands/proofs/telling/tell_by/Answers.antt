@@ -1,5 +1,6 @@
+use Rattle.std.proofs.lemmas.Grind.{common_steps}
 use Rattle.ppd_top_runs.specs.Runs.{run_setting}
-use Rattle.std.proofs.Common.{[], rules}
+use Rattle.std.proofs.Common.{[], rules, arith}
 use Rattle.ppd_codec_runs.specs.Pasts.{BelongTogether}
 use Rattle.ppd_top_commands.proofs.Conversing.{nothing_yet}
 use Rattle.ppd_top_commands.proofs.Pasts.{together}
@@ -17,3 +18,12 @@ new-requires-clause-past g c =
 
 pub tell_session-status-requires-clause-few : goal.tell_session-status-requires-clause-few
 tell_session-status-requires-clause-few g c = told_ends (run_setting c.args.run.now) c.args.run.now.closed c.requires.told
+
+pub new-requires-clause-uncut : goal.new-requires-clause-uncut
+new-requires-clause-uncut g c = search rules depth 1 fits 30
+
+pub returns : goal.returns
+returns g c = grind (arith, common_steps) steps 250000
+
+pub tell_session-status-requires-clause-program : goal.tell_session-status-requires-clause-program
+tell_session-status-requires-clause-program g c = grind (arith, common_steps) steps 250000

@@ -1,4 +1,5 @@
-use Rattle.std.proofs.Common.{◌≡◌, ◌++◌, ◌∷◌, [], ap, sym, ◌∙◌, map, true, false}
+use Rattle.std.proofs.lemmas.Grind.{elements}
+use Rattle.std.proofs.Common.{◌≡◌, ◌++◌, ◌∷◌, [], ap, sym, ◌∙◌, map, true, false, rules, arith}
 use Rattle.std.proofs.lemmas.List.{append-nil, append_assoc}
 use Rattle.ppd_ast.specs.declared.plan.Start.TheVariants.{Enter, Exit}
 use Rattle.ppd_ast.specs.Bare.{bare_unit}
@@ -22,3 +23,30 @@ returns c =
     ∙ append_assoc c.args.list.now (bare_unit (Enter c.args.number) ∷ []) (bare_unit (Exit c.args.number) ∷ [])
     ∙ ap (λ l. c.args.list.now ++ map bare_unit l) (sym (starts_loop c.args.program.now.stmts c.args.policy c.args.number c.index-stmts-number.result c.requires (cc (c.index-stmts-number.is, c.as_slice-stmts.ensures)) (sym c.is_left.ensures ∙ c.if-is_left.false) is)))
     c.add_unit-3.ensures
+
+pub add_unit-requires : goal.add_unit-requires
+add_unit-requires c = search rules depth 1 fits 30
+
+pub add_unit-requires-2 : goal.add_unit-requires-2
+add_unit-requires-2 c = search rules depth 1 fits 30
+
+pub add_unit-requires-3 : goal.add_unit-requires-3
+add_unit-requires-3 c = search rules depth 1 fits 30
+
+pub branch-add_unit-requires : goal.branch-add_unit-requires
+branch-add_unit-requires c = search rules depth 1 fits 30
+
+pub from_residual-requires : goal.from_residual-requires
+from_residual-requires c = search rules depth 1 fits 30
+
+pub is_block_loop-requires : goal.is_block_loop-requires
+is_block_loop-requires c = search rules depth 1 fits 30
+
+pub is_left-requires : goal.is_left-requires
+is_left-requires c = search rules depth 1 fits 30
+
+pub returns-in_err-add_unit : goal.returns-in_err-add_unit
+returns-in_err-add_unit c = search rules depth 1 fits 30
+
+pub returns-then-is_left : goal.returns-then-is_left
+returns-then-is_left c = grind (arith, elements) steps 250000

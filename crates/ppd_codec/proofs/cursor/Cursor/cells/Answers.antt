@@ -1,3 +1,4 @@
+use Rattle.std.proofs.lemmas.Grind.{common_steps, elements}
 use Rattle.std.specs.Int.{w16}
 use Rattle.ppd_codec.specs.Form.{number}
 use Rattle.std.proofs.Common.{◌+◌, ◌∙◌, ap, arith, rules}
@@ -26,3 +27,36 @@ loop-left-preserved g c = record {
   within = omega (arith, c.loop-left.invariant.within, c.cell.ensures.within);
   cost = omega (arith, c.loop-left.invariant.cost, c.cell.ensures.cost);
 }
+
+pub branch-left-requires : goal.branch-left-requires
+branch-left-requires c = search rules depth 1 fits 30
+
+pub cell-requires : goal.cell-requires
+cell-requires c = search rules depth 1 fits 30
+
+pub from-low-requires : goal.from-low-requires
+from-low-requires c = search rules depth 1 fits 30
+
+pub loop-left-init : goal.loop-left-init
+loop-left-init c = grind (arith, elements) steps 250000
+
+pub loop-left-smaller : goal.loop-left-smaller
+loop-left-smaller c = grind (arith, common_steps) steps 250000
+
+pub new-found-requires : goal.new-found-requires
+new-found-requires c = search rules depth 1 fits 30
+
+pub number_2-requires : goal.number_2-requires
+number_2-requires c = search rules depth 1 fits 30
+
+pub push-requires : goal.push-requires
+push-requires c = search rules depth 1 fits 30
+
+pub returns-in_err-left : goal.returns-in_err-left
+returns-in_err-left c = grind (arith, common_steps) steps 250000
+
+pub returns-in_err-push : goal.returns-in_err-push
+returns-in_err-push c = grind (arith, elements) steps 250000
+
+pub same-found-in-loop-left : goal.same-found-in-loop-left
+same-found-in-loop-left c = search rules depth 1 fits 30

@@ -1,3 +1,4 @@
+use Rattle.std.proofs.lemmas.Grind.{elements}
 use Rattle.std.specs.Int.{w32}
 use Rattle.ppd_codec.specs.Form.{number}
 use Rattle.std.proofs.Common.{◌∙◌, refl, arith, rules}
@@ -27,3 +28,21 @@ loop-left-preserved g c = record {
   within = omega (arith, c.loop-left.invariant.within, c.entry.ensures.within);
   cost = omega (arith, c.loop-left.invariant.cost, c.entry.ensures.cost);
 }
+
+pub branch-left-requires : goal.branch-left-requires
+branch-left-requires c = search rules depth 1 fits 30
+
+pub entry-requires : goal.entry-requires
+entry-requires c = search rules depth 1 fits 30
+
+pub loop-left-init : goal.loop-left-init
+loop-left-init c = grind (arith, elements) steps 250000
+
+pub new-found-requires : goal.new-found-requires
+new-found-requires c = search rules depth 1 fits 30
+
+pub number_4-requires : goal.number_4-requires
+number_4-requires c = search rules depth 1 fits 30
+
+pub push-requires : goal.push-requires
+push-requires c = search rules depth 1 fits 30

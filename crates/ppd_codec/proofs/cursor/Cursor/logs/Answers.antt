@@ -1,3 +1,4 @@
+use Rattle.std.proofs.lemmas.Grind.{common_steps, elements}
 use Rattle.std.proofs.Common.{◌∙◌, refl, arith, rules}
 use Rattle.std.proofs.lemmas.Result.{err_from_is_err_and}
 use Rattle.std.specs.Prelude.{⊤}
@@ -25,3 +26,27 @@ loop-left-preserved g c = record {
   within = omega (arith, c.loop-left.invariant.within, c.log.ensures.within);
   cost = omega (arith, c.loop-left.invariant.cost, c.log.ensures.cost);
 }
+
+pub branch-left-requires : goal.branch-left-requires
+branch-left-requires c = search rules depth 1 fits 30
+
+pub log-requires : goal.log-requires
+log-requires c = search rules depth 1 fits 30
+
+pub loop-left-init : goal.loop-left-init
+loop-left-init c = grind (arith, elements) steps 250000
+
+pub loop-left-smaller : goal.loop-left-smaller
+loop-left-smaller c = grind (arith, common_steps) steps 250000
+
+pub new-found-requires : goal.new-found-requires
+new-found-requires c = search rules depth 1 fits 30
+
+pub push-requires : goal.push-requires
+push-requires c = search rules depth 1 fits 30
+
+pub returns-in_err-left : goal.returns-in_err-left
+returns-in_err-left c = grind (arith, elements) steps 250000
+
+pub same-found-in-loop-left : goal.same-found-in-loop-left
+same-found-in-loop-left c = search rules depth 1 fits 30

@@ -1,5 +1,6 @@
+use Rattle.std.proofs.lemmas.Grind.{common_steps}
 use Rattle.std.specs.Int.{w32}
-use Rattle.std.proofs.Common.{◌≡◌, ℕ, ◌++◌, ◌∷◌, List, ◌∙◌, ap, sym, subst, rules, FitsSigned, w64}
+use Rattle.std.proofs.Common.{◌≡◌, ℕ, ◌++◌, ◌∷◌, List, ◌∙◌, ap, sym, subst, rules, FitsSigned, w64, arith}
 use Rattle.std.proofs.lemmas.Int.{to_z-of_z}
 use Rattle.std.proofs.lemmas.List.{append_assoc}
 use Rattle.ppd_model.specs.declared.entry.Entry.TheVariants as entry
@@ -51,3 +52,60 @@ returns-in_ok-ending-in-End-clause-ok g c =
     link n0 (5 ∷ status_code s ∷ (number w32).bytes n) n1 ((cells f.shared).bytes r ++ (cells f.shared).bytes w) n2 c.in_ok-ending-in-End.ensures.ok e2 in
     subst (λ (e : Entry). n2 ≡ n0 ++ (an_entry f).bytes e) (sym is) all)
     c.accesses-in-End.ensures.ok
+
+pub accesses-requires : goal.accesses-requires
+accesses-requires c = grind (arith, common_steps) steps 250000
+
+pub accesses-requires-in-End : goal.accesses-requires-in-End
+accesses-requires-in-End c = grind (arith, common_steps) steps 250000
+
+pub as_slice-requires : goal.as_slice-requires
+as_slice-requires c = search rules depth 1 fits 30
+
+pub as_slice-requires-in-End : goal.as_slice-requires-in-End
+as_slice-requires-in-End c = search rules depth 1 fits 30
+
+pub as_slice-requires-in-End-2 : goal.as_slice-requires-in-End-2
+as_slice-requires-in-End-2 c = search rules depth 1 fits 30
+
+pub as_slice-requires-in-Postlog : goal.as_slice-requires-in-Postlog
+as_slice-requires-in-Postlog c = search rules depth 1 fits 30
+
+pub as_slice-requires-in-Sync : goal.as_slice-requires-in-Sync
+as_slice-requires-in-Sync c = search rules depth 1 fits 30
+
+pub as_slice-requires-in-Sync-2 : goal.as_slice-requires-in-Sync-2
+as_slice-requires-in-Sync-2 c = search rules depth 1 fits 30
+
+pub as_slice-requires-in-Unit : goal.as_slice-requires-in-Unit
+as_slice-requires-in-Unit c = search rules depth 1 fits 30
+
+pub ending-requires : goal.ending-requires
+ending-requires c = search rules depth 1 fits 30
+
+pub event-requires : goal.event-requires
+event-requires c = search rules depth 1 fits 30
+
+pub numbered-requires : goal.numbered-requires
+numbered-requires c = grind (arith, common_steps) steps 250000
+
+pub numbered-requires-in-Postlog : goal.numbered-requires-in-Postlog
+numbered-requires-in-Postlog c = grind (arith, common_steps) steps 250000
+
+pub numbered-requires-in-Unit : goal.numbered-requires-in-Unit
+numbered-requires-in-Unit c = grind (arith, common_steps) steps 250000
+
+pub returns-in-Postlog : goal.returns-in-Postlog
+returns-in-Postlog c = grind (arith, common_steps) steps 250000
+
+pub returns-in-Prelog : goal.returns-in-Prelog
+returns-in-Prelog c = grind (arith, common_steps) steps 250000
+
+pub returns-in-Unit : goal.returns-in-Unit
+returns-in-Unit c = grind (arith, common_steps) steps 250000
+
+pub returns-in_ok-ending-in-End-clause-cost : goal.returns-in_ok-ending-in-End-clause-cost
+returns-in_ok-ending-in-End-clause-cost c = search rules depth 1 fits 30
+
+pub returns-in_ok-event-in-Sync-clause-cost : goal.returns-in_ok-event-in-Sync-clause-cost
+returns-in_ok-event-in-Sync-clause-cost c = search rules depth 1 fits 30

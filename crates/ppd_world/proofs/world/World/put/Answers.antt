@@ -1,6 +1,6 @@
 use Rattle.ppd_model.specs.Setting.{setting_of}
 use Rattle.std.specs.Prelude.{slice_get}
-use Rattle.std.proofs.Common.{◌<◌, List, length, map, arith, refl, ap, sym, ◌∙◌, subst}
+use Rattle.std.proofs.Common.{◌<◌, List, length, map, arith, refl, ap, sym, ◌∙◌, subst, rules}
 use Rattle.ppd_model.specs.declared.state.Logging.{Logging}
 use Rattle.std.proofs.lemmas.List.{length-map}
 use Rattle.std.proofs.lemmas.Option.{slice_get_within}
@@ -60,3 +60,9 @@ invariant_of-self c =
     let f = c.self.inside in
     kept_after f.code.program.now f.code.plan.now (gone_on c.args.proc c.args.steps) c.args.p f.loggings.items c.go_on.new.loggings.items f.needs.items c.set_need.new.needs.items c.look_at-need.result
     c.self.invariant c.go_on.ensures (c.look_at-need.ensures ∙ ap (λ (x : List Logging). need_of_logging f.code.program.now f.code.plan.now (slice_get x c.args.p)) c.as_slice.ensures.value) c.set_need.ensures
+
+pub as_slice-requires : goal.as_slice-requires
+as_slice-requires c = search rules depth 1 fits 30
+
+pub set_need-requires : goal.set_need-requires
+set_need-requires c = search rules depth 1 fits 30

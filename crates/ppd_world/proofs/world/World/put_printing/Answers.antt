@@ -1,6 +1,7 @@
+use Rattle.std.proofs.lemmas.Grind.{elements}
 use Rattle.ppd_model.specs.Setting.{setting_of}
 use Rattle.std.specs.Prelude.{slice_get}
-use Rattle.std.proofs.Common.{◌∙◌, ◌<◌, List, length, map, arith, refl, ap, sym, subst}
+use Rattle.std.proofs.Common.{◌∙◌, ◌<◌, List, length, map, arith, refl, ap, sym, subst, rules}
 use Rattle.ppd_model.specs.declared.state.Logging.{Logging}
 use Rattle.std.proofs.lemmas.List.{length-map}
 use Rattle.std.proofs.lemmas.Option.{slice_get_within}
@@ -73,3 +74,21 @@ invariant_of-self-2 c =
     let f = c.self.inside in
     kept_after f.code.program.now f.code.plan.now (gone_on_printing c.args.after c.args.steps) c.args.p f.loggings.items c.go_on_printing.new.loggings.items f.needs.items c.set_need.new.needs.items c.look_at-need.result
     c.self.invariant c.in_ok-go_on_printing.ensures.ok (c.look_at-need.ensures ∙ ap (λ (x : List Logging). need_of_logging f.code.program.now f.code.plan.now (slice_get x c.args.p)) c.as_slice.ensures.value) c.set_need.ensures
+
+pub as_slice-requires : goal.as_slice-requires
+as_slice-requires c = search rules depth 1 fits 30
+
+pub branch-go_on_printing-requires : goal.branch-go_on_printing-requires
+branch-go_on_printing-requires c = search rules depth 1 fits 30
+
+pub from_residual-requires : goal.from_residual-requires
+from_residual-requires c = search rules depth 1 fits 30
+
+pub returns-clause-err : goal.returns-clause-err
+returns-clause-err c = search rules depth 1 fits 30
+
+pub returns-in_err-go_on_printing : goal.returns-in_err-go_on_printing
+returns-in_err-go_on_printing c = grind (arith, elements) steps 250000
+
+pub set_need-requires : goal.set_need-requires
+set_need-requires c = search rules depth 1 fits 30

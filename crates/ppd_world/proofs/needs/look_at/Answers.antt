@@ -1,0 +1,15 @@
+use Rattle.std.proofs.Common.{rules, arith}
+use Rattle.std.proofs.lemmas.Grind.{elements}
+use Rattle.ppd_world.proofs.needs.look_at.Goals as goal
+
+pub get-requires : goal.get-requires
+get-requires c = search rules depth 1 fits 30
+
+pub look_of-requires : goal.look_of-requires
+look_of-requires c = grind (arith, elements) steps 250000
+
+pub returns-in-None : goal.returns-in-None
+returns-in-None c = grind (arith, elements) steps 250000
+
+pub returns-in-Some : goal.returns-in-Some
+returns-in-Some c = grind (arith, elements) steps 250000
